@@ -1,0 +1,9 @@
+pub mod Item
+pub mod Layout
+pub mod Faults
+pub mod Reading
+pub mod Laws
+pub mod Values
+pub mod Apart
+pub mod Wired
+pub mod Told

@@ -1,0 +1,19 @@
+//! Jute: the primitives and lists of ZooKeeper's records, as bytes.
+#![tactic(auto)]
+
+mod fault;
+mod list;
+mod number;
+mod pair;
+mod run;
+mod text;
+mod value;
+mod wire;
+
+pub use fault::{ItemFault, Reason};
+pub use number::{bool_at, int_at, long_at};
+pub use value::{Blob, Bytes, Chars, Items, List, Text};
+pub use wire::{Spell, Wire, laws};
+
+#[cfg(test)]
+mod tests;

@@ -1,0 +1,94 @@
+//! Values that stand as bytes in a payload.
+ghost use Rattle.std.specs.Prelude.{◌≡◌, ℕ, ◌≤◌, ◌<◌, ◌++◌, List, length, IfOk, IfErr, IsTrue, OnOk, OnErr};
+ghost use Rattle.zk_jute.specs.declared.fault.Reason.{Reason};
+ghost use Rattle.zk_jute.specs.Faults.{IsFault};
+ghost use Rattle.zk_jute.specs.Item.{Item, bytes_of, HaveBytes, Fit, Keeps, IsSizeWithin};
+ghost use Rattle.zk_jute.specs.Layout.{Layout, Unfolds, IsValueOf, HasFields, takes_none};
+ghost use Rattle.zk_jute.specs.Told.{StandsAt, HasToldFault, IsToldFault};
+ghost use Rattle.zk_jute.specs.Reading.{Fails, Gives, Scans, seen, items_at};
+
+use crate::fault::ItemFault;
+use std::alloc::{AllocError, Global};
+
+/// What is written as bytes.
+pub trait Spell {
+    /// The items that it unfolds into.
+    ghost items: { Self → List Item };
+
+    /// Appends the value's bytes; where memory is refused, what stood in `out` still begins it.
+    fn put(&self, out: &mut Vec<u8>) -> Result<(), AllocError>
+        requires { Fit 2147483647 (items self.now) }
+        ensures ok { OnOk result (out.new.items ≡ out.old.items ++ bytes_of (items self.now)) }
+        ensures err { OnErr result (Keeps out.old.items out.new.items) };
+
+    /// Appends the value's bytes; where memory is refused, `out` is unchanged.
+    final fn write(&self, out: &mut Vec<u8>) -> Result<(), AllocError>
+        requires { Fit 2147483647 (items self.now) }
+        ensures ok { OnOk result (out.new.items ≡ out.old.items ++ bytes_of (items self.now)) }
+        ensures err { OnErr result (out.new.items ≡ out.old.items) }
+    {
+        let start = out.len();
+        if let Err(e) = self.put(out) {
+            out.truncate(start);
+            return Err(e);
+        }
+        Ok(())
+    }
+
+    /// The number of the value's bytes, where it has bytes and at most `limit` of them.
+    fn size_within(&self, limit: u32) -> Option<u32>
+        ensures { IsSizeWithin limit (items self.now) result };
+}
+
+/// A value that stands as bytes in a payload.
+pub trait Wire: Spell + Sized + Drop {
+    /// The table of the type's fields.
+    ghost layout: { Layout };
+
+    /// As `read`, field by field.
+    fn decode(alloc: Global, src: &[u8], place: usize) -> Result<(Self, usize), ItemFault>
+        requires { place ≤ length src.now }
+        ensures exact { Gives (λ x. (Self.items x.0, x.1)) result (items_at layout src.now place) }
+        ensures plain { IsTrue (takes_none layout) → IfErr result (λ e. Fails e (items_at layout src.now place)) }
+        ensures within { IfOk result (λ x. x.1 ≤ length src.now) };
+
+    /// The value that stands at `place`, and the place after it.
+    final fn read(alloc: Global, src: &[u8], place: usize) -> Result<(Self, usize), ItemFault>
+        requires { place ≤ length src.now }
+        // What is read stands there, each byte of it.
+        ensures found { IfOk result (λ x. IsValueOf layout (Self.items x.0) × StandsAt (Self.items x.0) src.now place x.1) }
+        // What stands there is read, unless memory is wanted.
+        ensures only { (value : List Item) (end : ℕ) → IsValueOf layout value → StandsAt value src.now place end → Gives (seen Self.items) result (Ok (value, end)) }
+        // Nothing stands there where a fault is answered, and the items fix which one it is.
+        ensures fault { IfErr result (λ e. IsToldFault (IsValueOf layout) src.now place e) }
+        // Numbers, booleans and records of these want no memory.
+        ensures plain { IsTrue (takes_none layout) → IfErr result (λ e. HasToldFault (IsValueOf layout) src.now place e) }
+        ensures within { IfOk result (λ x. x.1 ≤ length src.now) }
+    {
+        Self::decode(alloc, src, place)
+    }
+
+    /// The place after the value that stands at `place`.
+    fn scan(src: &[u8], place: usize) -> Result<usize, ItemFault>
+        requires { place ≤ length src.now }
+        ensures exact { Scans result (items_at layout src.now place) }
+        ensures within { IfOk result (λ after. after ≤ length src.now) };
+
+    ghost unfolds: { (x : Self) → Unfolds layout (Self.items x) };
+
+    ghost tells_apart: { (x y : Self) → Self.items x ≡ Self.items y → x ≡ y };
+
+    ghost has_fields: { HasFields layout };
+}
+
+/// The laws of each type's values as bytes.
+pub fn laws<T: Wire>()
+    // The bytes of a value are read again, whatever follows them.
+    ensures again { (x : T) (more : List ℕ) → HaveBytes (T.items x) → items_at T.layout (bytes_of (T.items x) ++ more) 0 ≡ Ok (T.items x, length (bytes_of (T.items x))) }
+    // No two values' bytes stand at one place, so those of no value begin those of another.
+    ensures only { (x y : T) (more others : List ℕ) → HaveBytes (T.items x) → HaveBytes (T.items y) → bytes_of (T.items x) ++ more ≡ bytes_of (T.items y) ++ others → (x ≡ y) × (more ≡ others) }
+    // Bytes that are those of no value have one fault.
+    ensures fault { (bytes : List ℕ) (place other : ℕ) (reason because : Reason) → IsFault (IsValueOf T.layout) bytes place reason → IsFault (IsValueOf T.layout) bytes other because → (place ≡ other) × (reason ≡ because) }
+    // Each value has a byte.
+    ensures byte { (x : T) → 0 < length (bytes_of (T.items x)) }
+{}

@@ -1,0 +1,29 @@
+-- The numbers of operations (ZooKeeper 3.4, ZooDefs.OpCode), as tables.
+use Rattle.std.specs.Prelude.{ℤ, pos, negsuc}
+use Rattle.zk_records.specs.declared.op.Op.{Op}
+use Rattle.zk_records.specs.declared.op.Op.TheVariants as ops
+use Rattle.zk_records.specs.declared.op.PartOp.{PartOp}
+use Rattle.zk_records.specs.declared.op.PartOp.TheVariants as parts
+
+abbrev pub op_number : Op → ℤ
+op_number ops.Create = pos 1
+op_number ops.Delete = pos 2
+op_number ops.Exists = pos 3
+op_number ops.GetData = pos 4
+op_number ops.SetData = pos 5
+op_number ops.GetAcl = pos 6
+op_number ops.SetAcl = pos 7
+op_number ops.GetChildren = pos 8
+op_number ops.Sync = pos 9
+op_number ops.Ping = pos 11
+op_number ops.GetChildren2 = pos 12
+op_number ops.Multi = pos 14
+op_number ops.Auth = pos 100
+op_number ops.SetWatches = pos 101
+op_number ops.CloseSession = negsuc 10
+
+abbrev pub part_number : PartOp → ℤ
+part_number parts.Create = pos 1
+part_number parts.Delete = pos 2
+part_number parts.SetData = pos 5
+part_number parts.Check = pos 13

@@ -1,0 +1,132 @@
+//! The bodies of replies of more than one field.
+
+use crate::acl::Acl;
+use crate::stat::Stat;
+use std::alloc::{AllocError, Global};
+use zk_jute::{Blob, ItemFault, List, Spell, Text, Wire};
+
+/// What a node holds.
+#[derive(Drop)]
+pub struct DataBody {
+    pub blob: Blob,
+    pub stat: Stat,
+}
+
+impl Spell for DataBody {
+    ghost use Rattle.zk_records.specs.Records.{data_body};
+
+    ghost items = { data_body.items };
+
+    fn put(&self, out: &mut Vec<u8>) -> Result<(), AllocError> {
+        (&self.blob, &self.stat).put(out)
+    }
+
+    fn size_within(&self, limit: u32) -> Option<u32> {
+        (&self.blob, &self.stat).size_within(limit)
+    }
+}
+
+impl Wire for DataBody {
+    ghost use Rattle.zk_records.specs.Records.{data_body};
+
+    ghost layout = { data_body.layout };
+
+    fn decode(alloc: Global, src: &[u8], place: usize) -> Result<(Self, usize), ItemFault> {
+        let ((blob, stat), place) = <(Blob, Stat)>::decode(alloc, src, place)?;
+        Ok((DataBody { blob, stat }, place))
+    }
+
+    fn scan(src: &[u8], place: usize) -> Result<usize, ItemFault> {
+        <(Blob, Stat)>::scan(src, place)
+    }
+
+    ghost unfolds = { data_body.unfolds };
+
+    ghost tells_apart = { data_body.tells_apart };
+
+    ghost has_fields = { data_body.has_fields };
+}
+
+/// Who may do what with it.
+#[derive(Drop)]
+pub struct AclBody {
+    pub acl: List<Acl>,
+    pub stat: Stat,
+}
+
+impl Spell for AclBody {
+    ghost use Rattle.zk_records.specs.Records.{acl_body};
+
+    ghost items = { acl_body.items };
+
+    fn put(&self, out: &mut Vec<u8>) -> Result<(), AllocError> {
+        (&self.acl, &self.stat).put(out)
+    }
+
+    fn size_within(&self, limit: u32) -> Option<u32> {
+        (&self.acl, &self.stat).size_within(limit)
+    }
+}
+
+impl Wire for AclBody {
+    ghost use Rattle.zk_records.specs.Records.{acl_body};
+
+    ghost layout = { acl_body.layout };
+
+    fn decode(alloc: Global, src: &[u8], place: usize) -> Result<(Self, usize), ItemFault> {
+        let ((acl, stat), place) = <(List<Acl>, Stat)>::decode(alloc, src, place)?;
+        Ok((AclBody { acl, stat }, place))
+    }
+
+    fn scan(src: &[u8], place: usize) -> Result<usize, ItemFault> {
+        <(List<Acl>, Stat)>::scan(src, place)
+    }
+
+    ghost unfolds = { acl_body.unfolds };
+
+    ghost tells_apart = { acl_body.tells_apart };
+
+    ghost has_fields = { acl_body.has_fields };
+}
+
+/// The names below it.
+#[derive(Drop)]
+pub struct ChildrenBody {
+    pub names: List<Text>,
+    pub stat: Stat,
+}
+
+impl Spell for ChildrenBody {
+    ghost use Rattle.zk_records.specs.Records.{children_body};
+
+    ghost items = { children_body.items };
+
+    fn put(&self, out: &mut Vec<u8>) -> Result<(), AllocError> {
+        (&self.names, &self.stat).put(out)
+    }
+
+    fn size_within(&self, limit: u32) -> Option<u32> {
+        (&self.names, &self.stat).size_within(limit)
+    }
+}
+
+impl Wire for ChildrenBody {
+    ghost use Rattle.zk_records.specs.Records.{children_body};
+
+    ghost layout = { children_body.layout };
+
+    fn decode(alloc: Global, src: &[u8], place: usize) -> Result<(Self, usize), ItemFault> {
+        let ((names, stat), place) = <(List<Text>, Stat)>::decode(alloc, src, place)?;
+        Ok((ChildrenBody { names, stat }, place))
+    }
+
+    fn scan(src: &[u8], place: usize) -> Result<usize, ItemFault> {
+        <(List<Text>, Stat)>::scan(src, place)
+    }
+
+    ghost unfolds = { children_body.unfolds };
+
+    ghost tells_apart = { children_body.tells_apart };
+
+    ghost has_fields = { children_body.has_fields };
+}

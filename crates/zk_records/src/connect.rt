@@ -1,0 +1,138 @@
+//! The first payload of each side: `ConnectRequest` and `ConnectResponse` of zookeeper.jute.
+
+use std::alloc::{AllocError, Global};
+use zk_jute::{Blob, ItemFault, Spell, Wire};
+
+/// A client asks for a session.
+#[derive(Drop)]
+pub struct ConnectRequest {
+    pub protocol_version: i32,
+    pub last_zxid_seen: i64,
+    pub time_out: i32,
+    pub session_id: i64,
+    pub passwd: Blob,
+}
+
+impl Spell for ConnectRequest {
+    ghost use Rattle.zk_records.specs.Records.{connect_request};
+
+    ghost items = { connect_request.items };
+
+    fn put(&self, out: &mut Vec<u8>) -> Result<(), AllocError> {
+        (
+            &self.protocol_version,
+            (
+                &self.last_zxid_seen,
+                (&self.time_out, (&self.session_id, &self.passwd)),
+            ),
+        )
+            .put(out)
+    }
+
+    fn size_within(&self, limit: u32) -> Option<u32> {
+        (
+            &self.protocol_version,
+            (
+                &self.last_zxid_seen,
+                (&self.time_out, (&self.session_id, &self.passwd)),
+            ),
+        )
+            .size_within(limit)
+    }
+}
+
+impl Wire for ConnectRequest {
+    ghost use Rattle.zk_records.specs.Records.{connect_request};
+
+    ghost layout = { connect_request.layout };
+
+    fn decode(alloc: Global, src: &[u8], place: usize) -> Result<(Self, usize), ItemFault> {
+        let ((protocol_version, (last_zxid_seen, (time_out, (session_id, passwd)))), place) = <(
+            i32,
+            (i64, (i32, (i64, Blob))),
+        )>::decode(alloc, src, place)?;
+        Ok((
+            ConnectRequest {
+                protocol_version,
+                last_zxid_seen,
+                time_out,
+                session_id,
+                passwd,
+            },
+            place,
+        ))
+    }
+
+    fn scan(src: &[u8], place: usize) -> Result<usize, ItemFault> {
+        <(i32, (i64, (i32, (i64, Blob))))>::scan(src, place)
+    }
+
+    ghost unfolds = { connect_request.unfolds };
+
+    ghost tells_apart = { connect_request.tells_apart };
+
+    ghost has_fields = { connect_request.has_fields };
+}
+
+/// A server grants a session.
+#[derive(Drop)]
+pub struct ConnectResponse {
+    pub protocol_version: i32,
+    pub time_out: i32,
+    pub session_id: i64,
+    pub passwd: Blob,
+}
+
+impl Spell for ConnectResponse {
+    ghost use Rattle.zk_records.specs.Records.{connect_response};
+
+    ghost items = { connect_response.items };
+
+    fn put(&self, out: &mut Vec<u8>) -> Result<(), AllocError> {
+        (
+            &self.protocol_version,
+            (&self.time_out, (&self.session_id, &self.passwd)),
+        )
+            .put(out)
+    }
+
+    fn size_within(&self, limit: u32) -> Option<u32> {
+        (
+            &self.protocol_version,
+            (&self.time_out, (&self.session_id, &self.passwd)),
+        )
+            .size_within(limit)
+    }
+}
+
+impl Wire for ConnectResponse {
+    ghost use Rattle.zk_records.specs.Records.{connect_response};
+
+    ghost layout = { connect_response.layout };
+
+    fn decode(alloc: Global, src: &[u8], place: usize) -> Result<(Self, usize), ItemFault> {
+        let ((protocol_version, (time_out, (session_id, passwd))), place) = <(
+            i32,
+            (i32, (i64, Blob)),
+        )>::decode(alloc, src, place)?;
+        Ok((
+            ConnectResponse {
+                protocol_version,
+                time_out,
+                session_id,
+                passwd,
+            },
+            place,
+        ))
+    }
+
+    fn scan(src: &[u8], place: usize) -> Result<usize, ItemFault> {
+        <(i32, (i32, (i64, Blob)))>::scan(src, place)
+    }
+
+    ghost unfolds = { connect_response.unfolds };
+
+    ghost tells_apart = { connect_response.tells_apart };
+
+    ghost has_fields = { connect_response.has_fields };
+}

@@ -1,0 +1,24 @@
+//! The records of ZooKeeper 3.4, and the numbers of its operations.
+#![tactic(auto)]
+
+mod acl;
+mod ask;
+mod body;
+mod connect;
+mod event;
+mod header;
+mod op;
+mod query;
+mod session;
+mod stat;
+
+pub use acl::{Acl, Id};
+pub use ask::{CheckAsk, CreateAsk, DeleteAsk, SetAclAsk, SetDataAsk};
+pub use body::{AclBody, ChildrenBody, DataBody};
+pub use connect::{ConnectRequest, ConnectResponse};
+pub use event::WatcherEvent;
+pub use header::{MultiHeader, ReplyHeader, RequestHeader};
+pub use op::{Op, PartOp, op_number, op_of, part_number, part_of};
+pub use query::{PathAsk, WatchAsk};
+pub use session::{AuthAsk, SetWatchesAsk};
+pub use stat::Stat;

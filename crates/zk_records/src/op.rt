@@ -1,0 +1,106 @@
+//! The numbers of operations: `ZooDefs.OpCode` of ZooKeeper 3.4.
+ghost use Rattle.std.specs.Prelude.{◌≡◌, ◌≢◌, MatchOption};
+ghost use Rattle.zk_records.specs.Codes as codes;
+ghost use Rattle.zk_records.specs.declared.op.Op.{Op};
+ghost use Rattle.zk_records.specs.declared.op.PartOp.{PartOp};
+
+/// An operation outside a multi.
+#[derive(Clone, Copy, Debug, PartialEq, Eq)]
+pub enum Op {
+    Create,
+    Delete,
+    Exists,
+    GetData,
+    SetData,
+    GetAcl,
+    SetAcl,
+    GetChildren,
+    Sync,
+    Ping,
+    GetChildren2,
+    Multi,
+    Auth,
+    SetWatches,
+    CloseSession,
+}
+
+/// An operation within a multi.
+#[derive(Clone, Copy, Debug, PartialEq, Eq)]
+pub enum PartOp {
+    Create,
+    Delete,
+    SetData,
+    Check,
+}
+
+/// The operation of a request header's type; None where it has none.
+pub fn op_of(kind: i32) -> Option<Op>
+    ensures { MatchOption result ((op : Op) → kind ≢ codes.op_number op) (λ op. kind ≡ codes.op_number op) }
+{
+    match kind {
+        1 => Some(Op::Create),
+        2 => Some(Op::Delete),
+        3 => Some(Op::Exists),
+        4 => Some(Op::GetData),
+        5 => Some(Op::SetData),
+        6 => Some(Op::GetAcl),
+        7 => Some(Op::SetAcl),
+        8 => Some(Op::GetChildren),
+        9 => Some(Op::Sync),
+        11 => Some(Op::Ping),
+        12 => Some(Op::GetChildren2),
+        14 => Some(Op::Multi),
+        100 => Some(Op::Auth),
+        101 => Some(Op::SetWatches),
+        -11 => Some(Op::CloseSession),
+        _ => None,
+    }
+}
+
+/// The number that a request header has for the operation.
+pub fn op_number(op: Op) -> i32
+    ensures { result ≡ codes.op_number op }
+{
+    match op {
+        Op::Create => 1,
+        Op::Delete => 2,
+        Op::Exists => 3,
+        Op::GetData => 4,
+        Op::SetData => 5,
+        Op::GetAcl => 6,
+        Op::SetAcl => 7,
+        Op::GetChildren => 8,
+        Op::Sync => 9,
+        Op::Ping => 11,
+        Op::GetChildren2 => 12,
+        Op::Multi => 14,
+        Op::Auth => 100,
+        Op::SetWatches => 101,
+        Op::CloseSession => -11,
+    }
+}
+
+/// The part of a multi header's type; None where it has none.
+pub fn part_of(kind: i32) -> Option<PartOp>
+    ensures { MatchOption result ((op : PartOp) → kind ≢ codes.part_number op) (λ op. kind ≡ codes.part_number op) }
+{
+    match kind {
+        1 => Some(PartOp::Create),
+        2 => Some(PartOp::Delete),
+        5 => Some(PartOp::SetData),
+        13 => Some(PartOp::Check),
+        _ => None,
+    }
+}
+
+/// The number that a multi header has for the part.
+pub fn part_number(op: PartOp) -> i32
+    ensures { result ≡ codes.part_number op }
+{
+    match op {
+        PartOp::Create => 1,
+        PartOp::Delete => 2,
+        PartOp::SetData => 5,
+        PartOp::Check => 13,
+    }
+}

@@ -1,0 +1,116 @@
+//! The bodies of requests about the session.
+
+use std::alloc::{AllocError, Global};
+use zk_jute::{Blob, ItemFault, List, Spell, Text, Wire};
+
+/// Who the client is.
+#[derive(Drop)]
+pub struct AuthAsk {
+    pub kind: i32,
+    pub scheme: Text,
+    pub auth: Blob,
+}
+
+impl Spell for AuthAsk {
+    ghost use Rattle.zk_records.specs.Records.{auth_ask};
+
+    ghost items = { auth_ask.items };
+
+    fn put(&self, out: &mut Vec<u8>) -> Result<(), AllocError> {
+        (&self.kind, (&self.scheme, &self.auth)).put(out)
+    }
+
+    fn size_within(&self, limit: u32) -> Option<u32> {
+        (&self.kind, (&self.scheme, &self.auth)).size_within(limit)
+    }
+}
+
+impl Wire for AuthAsk {
+    ghost use Rattle.zk_records.specs.Records.{auth_ask};
+
+    ghost layout = { auth_ask.layout };
+
+    fn decode(alloc: Global, src: &[u8], place: usize) -> Result<(Self, usize), ItemFault> {
+        let ((kind, (scheme, auth)), place) = <(i32, (Text, Blob))>::decode(alloc, src, place)?;
+        Ok((AuthAsk { kind, scheme, auth }, place))
+    }
+
+    fn scan(src: &[u8], place: usize) -> Result<usize, ItemFault> {
+        <(i32, (Text, Blob))>::scan(src, place)
+    }
+
+    ghost unfolds = { auth_ask.unfolds };
+
+    ghost tells_apart = { auth_ask.tells_apart };
+
+    ghost has_fields = { auth_ask.has_fields };
+}
+
+/// Watches are to be set again.
+#[derive(Drop)]
+pub struct SetWatchesAsk {
+    pub zxid: i64,
+    pub data_watches: List<Text>,
+    pub exist_watches: List<Text>,
+    pub child_watches: List<Text>,
+}
+
+impl Spell for SetWatchesAsk {
+    ghost use Rattle.zk_records.specs.Records.{set_watches_ask};
+
+    ghost items = { set_watches_ask.items };
+
+    fn put(&self, out: &mut Vec<u8>) -> Result<(), AllocError> {
+        (
+            &self.zxid,
+            (
+                &self.data_watches,
+                (&self.exist_watches, &self.child_watches),
+            ),
+        )
+            .put(out)
+    }
+
+    fn size_within(&self, limit: u32) -> Option<u32> {
+        (
+            &self.zxid,
+            (
+                &self.data_watches,
+                (&self.exist_watches, &self.child_watches),
+            ),
+        )
+            .size_within(limit)
+    }
+}
+
+impl Wire for SetWatchesAsk {
+    ghost use Rattle.zk_records.specs.Records.{set_watches_ask};
+
+    ghost layout = { set_watches_ask.layout };
+
+    fn decode(alloc: Global, src: &[u8], place: usize) -> Result<(Self, usize), ItemFault> {
+        let ((zxid, (data_watches, (exist_watches, child_watches))), place) = <(
+            i64,
+            (List<Text>, (List<Text>, List<Text>)),
+        )>::decode(alloc, src, place)?;
+        Ok((
+            SetWatchesAsk {
+                zxid,
+                data_watches,
+                exist_watches,
+                child_watches,
+            },
+            place,
+        ))
+    }
+
+    fn scan(src: &[u8], place: usize) -> Result<usize, ItemFault> {
+        <(i64, (List<Text>, (List<Text>, List<Text>)))>::scan(src, place)
+    }
+
+    ghost unfolds = { set_watches_ask.unfolds };
+
+    ghost tells_apart = { set_watches_ask.tells_apart };
+
+    ghost has_fields = { set_watches_ask.has_fields };
+}
