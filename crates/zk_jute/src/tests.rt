@@ -97,22 +97,3 @@ fn lists(rt: HostRuntime) -> Result<(), Fail> {
     // Nothing grows by a count that is only claimed.
     refused::<List<Text>>(&rt, rt.alloc(), b"\x7f\xff\xff\xff", 4, Reason::Short)
 }
-
-    let bytes = b"\0\0\0\x1f\0\0\0\x05world\0\0\0\x06anyone";
-    let acl: Acl = whole(&rt, rt.alloc(), bytes)?;
-    assert_eq!(rt; acl.perms, 31);
-    let stat: Stat = whole(
-        &rt,
-        rt.alloc(),
-        b"\0\0\0\0\0\0\0\x04\0\0\0\0\0\0\0\x04\0\0\0\0\0\0\x03\xe8\0\0\0\0\0\0\x03\xe8\0\0\0\0\0\0\0\0\0\0\0\0\0\0\0\0\0\0\0\0\0\0\0\x03\0\0\0\0\0\0\0\0\0\0\0\x04",
-    )?;
-    assert_eq!(rt; stat.ctime, 1000);
-    assert_eq!(rt; stat.pzxid, 4);
-    refused::<Acl>(
-        &rt,
-        rt.alloc(),
-        b"\0\0\0\x1f\0\0\0\x05world\0\0\0\x06anyon",
-        13,
-        Reason::Short,
-    )
-}
