@@ -7,3 +7,4 @@ pub mod Values
 pub mod Apart
 pub mod Wired
 pub mod Told
+pub mod Flagged

@@ -5,6 +5,7 @@ mod fault;
 mod list;
 mod number;
 mod pair;
+mod payload;
 mod run;
 mod text;
 mod value;
@@ -12,6 +13,7 @@ mod wire;
 
 pub use fault::{ItemFault, Reason};
 pub use number::{bool_at, int_at, long_at};
+pub use payload::read_flagged;
 pub use value::{Blob, Bytes, Chars, Items, List, Text};
 pub use wire::{Spell, Wire, laws};
 
