@@ -7,3 +7,4 @@ pub mod Rests
 pub mod Events
 pub mod Bodies
 pub mod Replies
+pub mod Outcomes

@@ -14,6 +14,8 @@ use Rattle.zk_records.specs.Codes.{part_number}
 use Rattle.zk_records.specs.Records.{multi_header, stat}
 use Rattle.zk_answers.specs.declared.frame.PartDone.{PartDone}
 use Rattle.zk_answers.specs.declared.frame.PartDone.TheVariants as done
+use Rattle.zk_answers.specs.declared.multi.Mark.{Mark}
+use Rattle.zk_answers.specs.declared.multi.Mark.TheVariants as mark
 
 -- the header before a part's result, the one before an error, and the one behind the last result
 abbrev pub result_header : PartOp → MultiHeader
@@ -78,3 +80,9 @@ pub data IsDoneFault : List PartOp → List ℕ → ℕ → Reason → Type 0 wh
       → IsDoneFault (op ∷ ops) bytes 0 BadPart
   behind_done : (op : PartOp) (ops : List PartOp) (d : PartDone) (bytes rest : List ℕ) (behind : ℕ) (reason : Reason) → Answers op d → HaveBytes (done_items d) → Opens bytes (done_items d) rest
       → IsDoneFault ops rest behind reason → IsDoneFault (op ∷ ops) bytes (length (bytes_of (done_items d)) + behind) reason
+
+-- what a header stands before, while a part is left
+abbrev pub ItsPlace : PartOp → MultiHeader → Mark → Type 0
+ItsPlace op header mark.Result = header ≡ result_header op
+ItsPlace op header mark.Error = header ≡ error_header header.err
+ItsPlace op header mark.Bad = (header ≢ result_header op) × ((e : ℤ) → header ≢ error_header e)

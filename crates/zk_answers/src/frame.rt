@@ -101,7 +101,10 @@ pub enum ServerFrame {
     },
     Answered(Reply),
     /// What a watch saw; nobody asked just now.
-    Event { zxid: i64, event: WatcherEvent },
+    Event {
+        zxid: i64,
+        event: WatcherEvent,
+    },
 }
 
 fn op_of(body: &Body) -> Op
