@@ -1,0 +1,4 @@
+pub mod Codes
+pub mod Forms
+pub mod Faults
+pub mod Frames
