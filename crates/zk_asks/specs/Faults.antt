@@ -1,27 +1,23 @@
 -- Where and why a payload has no client form: the first case, from left to right.
-use Rattle.std.specs.Prelude.{◌≡◌, ◌≢◌, ℕ, ◌+◌, ℤ, List, [], ◌++◌, length}
+use Rattle.std.specs.Prelude.{◌≢◌, ℕ, ◌+◌, ℤ, List, ◌++◌, length}
 use Rattle.zk_jute.specs.declared.fault.Reason.{Reason}
 use Rattle.zk_jute.specs.declared.fault.Reason.TheVariants.{Trailing, UnknownOp, XidOp, BadPart}
 use Rattle.zk_jute.specs.Item.{Item, bytes_of, HaveBytes}
 use Rattle.zk_jute.specs.Layout.{IsValueOf}
 use Rattle.zk_jute.specs.Faults.{IsFault, IsTrailing, Opens}
-use Rattle.zk_records.specs.Records.{request_header, multi_header}
+use Rattle.zk_jute.specs.Flagged.{IsFlaggedFault}
+use Rattle.zk_records.specs.Records.{connect_request, request_header, multi_header}
 use Rattle.zk_records.specs.declared.header.MultiHeader.{MultiHeader}
 use Rattle.zk_records.specs.declared.op.Op.{Op}
 use Rattle.zk_records.specs.declared.op.PartOp.{PartOp}
 use Rattle.zk_records.specs.Codes.{op_number}
 use Rattle.zk_asks.specs.Codes.{IsAllowed}
-use Rattle.zk_asks.specs.Forms.{hello_layout, flag_layout, part_layout, part_header, MayStand, marked, header_items, Body, Fields, Parts, body_of, IsAsk}
+use Rattle.zk_asks.specs.Forms.{part_layout, part_header, MayStand, marked, header_items, Body, Fields, Parts, body_of, IsAsk}
 
 -- ---- the first payload
 
-pub data IsFirstFault : List ℕ → ℕ → Reason → Type 0 where
-  in_hello : (bytes : List ℕ) (place : ℕ) (reason : Reason) → IsFault (IsValueOf hello_layout) bytes place reason → IsFirstFault bytes place reason
-  -- bytes behind the record are judged as the boolean
-  in_flag : (bytes rest : List ℕ) (hello : List Item) (behind : ℕ) (reason : Reason) → IsValueOf hello_layout hello → Opens bytes hello rest → rest ≢ []
-      → IsFault (IsValueOf flag_layout) rest behind reason → IsFirstFault bytes (length (bytes_of hello) + behind) reason
-  behind_flag : (bytes rest : List ℕ) (hello flag : List Item) → IsValueOf hello_layout hello → IsValueOf flag_layout flag → Opens bytes (hello ++ flag) rest → rest ≢ []
-      → IsFirstFault bytes (length (bytes_of (hello ++ flag))) Trailing
+abbrev pub IsFirstFault : List ℕ → ℕ → Reason → Type 0
+IsFirstFault bytes place reason = IsFlaggedFault connect_request.layout bytes place reason
 
 -- ---- the parts of a multi, as far as the end marker
 
@@ -37,11 +33,11 @@ pub data IsMultiFault : List ℕ → ℕ → Reason → Type 0 where
 -- ---- a request
 
 abbrev pub IsFaultOf : Body → List ℕ → ℕ → Reason → Type 0
-IsFaultOf (Fields l) bytes place reason = IsFault (IsValueOf l) bytes place reason
-IsFaultOf Parts bytes place reason = IsMultiFault bytes place reason
+IsFaultOf (Fields l) = IsFault (IsValueOf l)
+IsFaultOf Parts = IsMultiFault
 
 abbrev pub IsBodyFault : Op → List ℕ → ℕ → Reason → Type 0
-IsBodyFault op bytes place reason = IsFaultOf (body_of op) bytes place reason
+IsBodyFault op = IsFaultOf (body_of op)
 
 pub data IsAskFault : List ℕ → ℕ → Reason → Type 0 where
   in_header : (bytes : List ℕ) (place : ℕ) (reason : Reason) → IsFault (IsValueOf request_header.layout) bytes place reason → IsAskFault bytes place reason

@@ -1,7 +1,8 @@
 -- The forms of client payloads, as lists of items.
-use Rattle.std.specs.Prelude.{◌≡◌, ℤ, negsuc, true, false, List, [], ◌∷◌, ◌++◌, ◌⊎◌}
-use Rattle.zk_jute.specs.Item.{Boolean, Item, HaveBytes}
-use Rattle.zk_jute.specs.Layout.{Layout, End, One, IsValueOf}
+use Rattle.std.specs.Prelude.{◌≡◌, ℤ, negsuc, true, false, List, ◌++◌, ◌⊎◌}
+use Rattle.zk_jute.specs.Item.{Item, HaveBytes}
+use Rattle.zk_jute.specs.Layout.{Layout, End, IsValueOf}
+use Rattle.zk_jute.specs.Flagged.{IsFlagged}
 use Rattle.zk_records.specs.Records.{connect_request, request_header, multi_header, create_ask, delete_ask, watch_ask, set_data_ask, path_ask, set_acl_ask, auth_ask, set_watches_ask, check_ask}
 use Rattle.zk_records.specs.declared.header.MultiHeader.{MultiHeader}
 use Rattle.zk_records.specs.declared.op.Op.{Op}
@@ -13,15 +14,8 @@ use Rattle.zk_asks.specs.Codes.{IsAllowed}
 
 -- ---- a connect request, and one boolean that may follow it
 
-abbrev pub hello_layout : Layout
-hello_layout = connect_request.layout
-
-abbrev pub flag_layout : Layout
-flag_layout = One Boolean End
-
-pub data IsHello : List Item → Type 0 where
-  alone : (hello : List Item) → IsValueOf hello_layout hello → IsHello hello
-  flagged : (hello flag : List Item) → IsValueOf hello_layout hello → IsValueOf flag_layout flag → IsHello (hello ++ flag)
+abbrev pub IsHello : List Item → Type 0
+IsHello items = IsFlagged connect_request.layout items
 
 -- ---- the parts of a multi (MultiTransactionRecord)
 

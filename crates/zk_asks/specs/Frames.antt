@@ -1,9 +1,8 @@
 -- The items of client frames, and which frames have a payload.
-use Rattle.std.specs.Prelude.{◌≡◌, ℕ, Bool, List, [], ◌∷◌, ◌++◌, map, Option, Some, None, Result, Ok, Err}
+use Rattle.std.specs.Prelude.{ℕ, List, [], ◌++◌, map}
 use Rattle.std.specs.List.{flat_map}
-use Rattle.zk_jute.specs.declared.fault.ItemFault.{ItemFault}
-use Rattle.zk_jute.specs.Item.{Item, ABoolean, bytes_of, HaveBytes}
-use Rattle.zk_jute.specs.Reading.{no_memory}
+use Rattle.zk_jute.specs.Item.{Item, bytes_of, HaveBytes}
+use Rattle.zk_jute.specs.Flagged.{flag_items}
 use Rattle.zk_records.specs.Records.{connect_request, create_ask, delete_ask, watch_ask, set_data_ask, path_ask, set_acl_ask, auth_ask, set_watches_ask, check_ask}
 use Rattle.zk_records.specs.declared.op.Op.{Op}
 use Rattle.zk_records.specs.declared.op.Op.TheVariants as ops
@@ -85,10 +84,6 @@ ops_of_ask a = map op_of_part (parts_of_ask a)
 
 -- ---- frames
 
-abbrev pub flag_items : Option Bool → List Item
-flag_items None = []
-flag_items (Some b) = ABoolean b ∷ []
-
 abbrev pub frame_items : ClientFrame → List Item
 frame_items (frame.Connect hello flag) = connect_request.items hello ++ flag_items flag
 frame_items (frame.Ask xid a) = header_items xid (op_number (op_of_ask a)) ++ body_items a
@@ -111,8 +106,3 @@ IsLater (frame.Ask xid a) = Unit {0}
 
 abbrev pub payload : ClientFrame → List ℕ
 payload f = bytes_of (frame_items f)
-
--- the frame is read, unless memory was wanted
-abbrev pub IsReadAs : ClientFrame → Result ClientFrame ItemFault → Type 0
-IsReadAs f (Ok g) = g ≡ f
-IsReadAs f (Err e) = e ≡ no_memory

@@ -2,3 +2,4 @@ pub mod Codes
 pub mod Forms
 pub mod Faults
 pub mod Frames
+pub mod Multi

@@ -97,5 +97,8 @@ pub enum ClientFrame {
         read_only: Option<bool>,
     },
     /// A request, under the number that its reply has.
-    Ask { xid: i32, ask: Ask },
+    Ask {
+        xid: i32,
+        ask: Ask,
+    },
 }

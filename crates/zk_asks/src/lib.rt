@@ -4,7 +4,12 @@
 mod asked;
 mod codes;
 mod frame;
+mod laws;
+mod multi;
+mod read;
 
 pub use asked::{Asked, asked_laws};
 pub use codes::allowed;
 pub use frame::{Ask, ClientFrame, Part};
+pub use laws::{ask_laws, first_laws};
+pub use read::{read_ask, read_first};
