@@ -1,4 +1,4 @@
-//! Multi.
+//! The parts of a multi (`MultiTransactionRecord.deserialize`).
 ghost use Rattle.std.specs.Prelude.{◌≡◌, ◌≤◌, length, IfOk, IfErr, ◌++◌, drop};
 ghost use Rattle.zk_jute.specs.Item.{bytes_of, HaveBytes};
 ghost use Rattle.zk_jute.specs.Layout.{IsValueOf};
@@ -48,23 +48,17 @@ fn part_at(alloc: Global, src: &[u8], place: usize, op: PartOp) -> Result<(Part,
     ensures fault { IfErr result (λ e. IsToldFault (IsValueOf (part_layout op)) src.now place e) }
     ensures within { IfOk result (λ x. x.1 ≤ length src.now) }
 {
+    macro_rules! read {
+        ($record:ty, $part:path) => {{
+            let (body, end) = <$record>::read(alloc, src, place)?;
+            Ok(($part(body), end))
+        }};
+    }
     match op {
-        PartOp::Create => {
-            let (a, place) = CreateAsk::read(alloc, src, place)?;
-            Ok((Part::Create(a), place))
-        }
-        PartOp::Delete => {
-            let (a, place) = DeleteAsk::read(alloc, src, place)?;
-            Ok((Part::Delete(a), place))
-        }
-        PartOp::SetData => {
-            let (a, place) = SetDataAsk::read(alloc, src, place)?;
-            Ok((Part::SetData(a), place))
-        }
-        PartOp::Check => {
-            let (a, place) = CheckAsk::read(alloc, src, place)?;
-            Ok((Part::Check(a), place))
-        }
+        PartOp::Create => read!(CreateAsk, Part::Create),
+        PartOp::Delete => read!(DeleteAsk, Part::Delete),
+        PartOp::SetData => read!(SetDataAsk, Part::SetData),
+        PartOp::Check => read!(CheckAsk, Part::Check),
     }
 }
 
