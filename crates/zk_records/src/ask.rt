@@ -1,15 +1,19 @@
-//! The bodies of requests that change a node, and of a check.
+//! The bodies of requests that change a node, and of a check: `CreateRequest`, `DeleteRequest`,
+//! `SetDataRequest`, `SetACLRequest` and `CheckVersionRequest` of zookeeper.jute.
 
 use crate::acl::Acl;
+use crate::fields::fields;
 use std::alloc::{AllocError, Global};
 use zk_jute::{Blob, ItemFault, List, Spell, Text, Wire};
 
-/// A node is to be made.
+/// A node is to be made: `CreateRequest`.
 #[derive(Drop)]
 pub struct CreateAsk {
     pub path: Text,
+    /// `data` in jute.
     pub blob: Blob,
     pub acl: List<Acl>,
+    /// 0 persistent, 1 ephemeral, 2 and 3 the same with a sequence number; any number is taken.
     pub flags: i32,
 }
 
@@ -19,11 +23,11 @@ impl Spell for CreateAsk {
     ghost items = { create_ask.items };
 
     fn put(&self, out: &mut Vec<u8>) -> Result<(), AllocError> {
-        (&self.path, (&self.blob, (&self.acl, &self.flags))).put(out)
+        fields!(&self.path, &self.blob, &self.acl, &self.flags).put(out)
     }
 
     fn size_within(&self, limit: u32) -> Option<u32> {
-        (&self.path, (&self.blob, (&self.acl, &self.flags))).size_within(limit)
+        fields!(&self.path, &self.blob, &self.acl, &self.flags).size_within(limit)
     }
 }
 
@@ -33,9 +37,7 @@ impl Wire for CreateAsk {
     ghost layout = { create_ask.layout };
 
     fn decode(alloc: Global, src: &[u8], place: usize) -> Result<(Self, usize), ItemFault> {
-        let ((path, (blob, (acl, flags))), place) = <(Text, (Blob, (List<Acl>, i32)))>::decode(
-            alloc, src, place,
-        )?;
+        let (fields!(path, blob, acl, flags), place) = Wire::decode(alloc, src, place)?;
         Ok((
             CreateAsk {
                 path,
@@ -48,7 +50,7 @@ impl Wire for CreateAsk {
     }
 
     fn scan(src: &[u8], place: usize) -> Result<usize, ItemFault> {
-        <(Text, (Blob, (List<Acl>, i32)))>::scan(src, place)
+        <fields!(Text, Blob, List<Acl>, i32)>::scan(src, place)
     }
 
     ghost unfolds = { create_ask.unfolds };
@@ -58,10 +60,11 @@ impl Wire for CreateAsk {
     ghost has_fields = { create_ask.has_fields };
 }
 
-/// A node is to be removed.
+/// A node is to be removed: `DeleteRequest`.
 #[derive(Drop)]
 pub struct DeleteAsk {
     pub path: Text,
+    /// The data's version that is wanted, -1 for any.
     pub version: i32,
 }
 
@@ -71,11 +74,11 @@ impl Spell for DeleteAsk {
     ghost items = { delete_ask.items };
 
     fn put(&self, out: &mut Vec<u8>) -> Result<(), AllocError> {
-        (&self.path, &self.version).put(out)
+        fields!(&self.path, &self.version).put(out)
     }
 
     fn size_within(&self, limit: u32) -> Option<u32> {
-        (&self.path, &self.version).size_within(limit)
+        fields!(&self.path, &self.version).size_within(limit)
     }
 }
 
@@ -85,12 +88,12 @@ impl Wire for DeleteAsk {
     ghost layout = { delete_ask.layout };
 
     fn decode(alloc: Global, src: &[u8], place: usize) -> Result<(Self, usize), ItemFault> {
-        let ((path, version), place) = <(Text, i32)>::decode(alloc, src, place)?;
+        let (fields!(path, version), place) = Wire::decode(alloc, src, place)?;
         Ok((DeleteAsk { path, version }, place))
     }
 
     fn scan(src: &[u8], place: usize) -> Result<usize, ItemFault> {
-        <(Text, i32)>::scan(src, place)
+        <fields!(Text, i32)>::scan(src, place)
     }
 
     ghost unfolds = { delete_ask.unfolds };
@@ -100,11 +103,13 @@ impl Wire for DeleteAsk {
     ghost has_fields = { delete_ask.has_fields };
 }
 
-/// A node is to hold data.
+/// A node's data is to be set: `SetDataRequest`.
 #[derive(Drop)]
 pub struct SetDataAsk {
     pub path: Text,
+    /// `data` in jute.
     pub blob: Blob,
+    /// The data's version that is wanted, -1 for any.
     pub version: i32,
 }
 
@@ -114,11 +119,11 @@ impl Spell for SetDataAsk {
     ghost items = { set_data_ask.items };
 
     fn put(&self, out: &mut Vec<u8>) -> Result<(), AllocError> {
-        (&self.path, (&self.blob, &self.version)).put(out)
+        fields!(&self.path, &self.blob, &self.version).put(out)
     }
 
     fn size_within(&self, limit: u32) -> Option<u32> {
-        (&self.path, (&self.blob, &self.version)).size_within(limit)
+        fields!(&self.path, &self.blob, &self.version).size_within(limit)
     }
 }
 
@@ -128,7 +133,7 @@ impl Wire for SetDataAsk {
     ghost layout = { set_data_ask.layout };
 
     fn decode(alloc: Global, src: &[u8], place: usize) -> Result<(Self, usize), ItemFault> {
-        let ((path, (blob, version)), place) = <(Text, (Blob, i32))>::decode(alloc, src, place)?;
+        let (fields!(path, blob, version), place) = Wire::decode(alloc, src, place)?;
         Ok((
             SetDataAsk {
                 path,
@@ -140,7 +145,7 @@ impl Wire for SetDataAsk {
     }
 
     fn scan(src: &[u8], place: usize) -> Result<usize, ItemFault> {
-        <(Text, (Blob, i32))>::scan(src, place)
+        <fields!(Text, Blob, i32)>::scan(src, place)
     }
 
     ghost unfolds = { set_data_ask.unfolds };
@@ -150,11 +155,12 @@ impl Wire for SetDataAsk {
     ghost has_fields = { set_data_ask.has_fields };
 }
 
-/// Who may do what.
+/// A node's access list is to be set: `SetACLRequest`.
 #[derive(Drop)]
 pub struct SetAclAsk {
     pub path: Text,
     pub acl: List<Acl>,
+    /// The access list's version that is wanted, -1 for any.
     pub version: i32,
 }
 
@@ -164,11 +170,11 @@ impl Spell for SetAclAsk {
     ghost items = { set_acl_ask.items };
 
     fn put(&self, out: &mut Vec<u8>) -> Result<(), AllocError> {
-        (&self.path, (&self.acl, &self.version)).put(out)
+        fields!(&self.path, &self.acl, &self.version).put(out)
     }
 
     fn size_within(&self, limit: u32) -> Option<u32> {
-        (&self.path, (&self.acl, &self.version)).size_within(limit)
+        fields!(&self.path, &self.acl, &self.version).size_within(limit)
     }
 }
 
@@ -178,14 +184,12 @@ impl Wire for SetAclAsk {
     ghost layout = { set_acl_ask.layout };
 
     fn decode(alloc: Global, src: &[u8], place: usize) -> Result<(Self, usize), ItemFault> {
-        let ((path, (acl, version)), place) = <(Text, (List<Acl>, i32))>::decode(
-            alloc, src, place,
-        )?;
+        let (fields!(path, acl, version), place) = Wire::decode(alloc, src, place)?;
         Ok((SetAclAsk { path, acl, version }, place))
     }
 
     fn scan(src: &[u8], place: usize) -> Result<usize, ItemFault> {
-        <(Text, (List<Acl>, i32))>::scan(src, place)
+        <fields!(Text, List<Acl>, i32)>::scan(src, place)
     }
 
     ghost unfolds = { set_acl_ask.unfolds };
@@ -195,10 +199,11 @@ impl Wire for SetAclAsk {
     ghost has_fields = { set_acl_ask.has_fields };
 }
 
-/// A version is to be checked.
+/// A node's version is to be checked, within a multi: `CheckVersionRequest`.
 #[derive(Drop)]
 pub struct CheckAsk {
     pub path: Text,
+    /// The data's version that is wanted, -1 for any.
     pub version: i32,
 }
 
@@ -208,11 +213,11 @@ impl Spell for CheckAsk {
     ghost items = { check_ask.items };
 
     fn put(&self, out: &mut Vec<u8>) -> Result<(), AllocError> {
-        (&self.path, &self.version).put(out)
+        fields!(&self.path, &self.version).put(out)
     }
 
     fn size_within(&self, limit: u32) -> Option<u32> {
-        (&self.path, &self.version).size_within(limit)
+        fields!(&self.path, &self.version).size_within(limit)
     }
 }
 
@@ -222,12 +227,12 @@ impl Wire for CheckAsk {
     ghost layout = { check_ask.layout };
 
     fn decode(alloc: Global, src: &[u8], place: usize) -> Result<(Self, usize), ItemFault> {
-        let ((path, version), place) = <(Text, i32)>::decode(alloc, src, place)?;
+        let (fields!(path, version), place) = Wire::decode(alloc, src, place)?;
         Ok((CheckAsk { path, version }, place))
     }
 
     fn scan(src: &[u8], place: usize) -> Result<usize, ItemFault> {
-        <(Text, i32)>::scan(src, place)
+        <fields!(Text, i32)>::scan(src, place)
     }
 
     ghost unfolds = { check_ask.unfolds };

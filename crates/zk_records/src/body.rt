@@ -1,13 +1,16 @@
-//! The bodies of replies of more than one field.
+//! The bodies of replies of more than one field: `GetDataResponse`, `GetACLResponse` and
+//! `GetChildren2Response` of zookeeper.jute.
 
 use crate::acl::Acl;
+use crate::fields::fields;
 use crate::stat::Stat;
 use std::alloc::{AllocError, Global};
 use zk_jute::{Blob, ItemFault, List, Spell, Text, Wire};
 
-/// What a node holds.
+/// What a node holds: `GetDataResponse`.
 #[derive(Drop)]
 pub struct DataBody {
+    /// `data` in jute.
     pub blob: Blob,
     pub stat: Stat,
 }
@@ -18,11 +21,11 @@ impl Spell for DataBody {
     ghost items = { data_body.items };
 
     fn put(&self, out: &mut Vec<u8>) -> Result<(), AllocError> {
-        (&self.blob, &self.stat).put(out)
+        fields!(&self.blob, &self.stat).put(out)
     }
 
     fn size_within(&self, limit: u32) -> Option<u32> {
-        (&self.blob, &self.stat).size_within(limit)
+        fields!(&self.blob, &self.stat).size_within(limit)
     }
 }
 
@@ -32,12 +35,12 @@ impl Wire for DataBody {
     ghost layout = { data_body.layout };
 
     fn decode(alloc: Global, src: &[u8], place: usize) -> Result<(Self, usize), ItemFault> {
-        let ((blob, stat), place) = <(Blob, Stat)>::decode(alloc, src, place)?;
+        let (fields!(blob, stat), place) = Wire::decode(alloc, src, place)?;
         Ok((DataBody { blob, stat }, place))
     }
 
     fn scan(src: &[u8], place: usize) -> Result<usize, ItemFault> {
-        <(Blob, Stat)>::scan(src, place)
+        <fields!(Blob, Stat)>::scan(src, place)
     }
 
     ghost unfolds = { data_body.unfolds };
@@ -47,7 +50,7 @@ impl Wire for DataBody {
     ghost has_fields = { data_body.has_fields };
 }
 
-/// Who may do what with it.
+/// Who may do what with a node: `GetACLResponse`.
 #[derive(Drop)]
 pub struct AclBody {
     pub acl: List<Acl>,
@@ -60,11 +63,11 @@ impl Spell for AclBody {
     ghost items = { acl_body.items };
 
     fn put(&self, out: &mut Vec<u8>) -> Result<(), AllocError> {
-        (&self.acl, &self.stat).put(out)
+        fields!(&self.acl, &self.stat).put(out)
     }
 
     fn size_within(&self, limit: u32) -> Option<u32> {
-        (&self.acl, &self.stat).size_within(limit)
+        fields!(&self.acl, &self.stat).size_within(limit)
     }
 }
 
@@ -74,12 +77,12 @@ impl Wire for AclBody {
     ghost layout = { acl_body.layout };
 
     fn decode(alloc: Global, src: &[u8], place: usize) -> Result<(Self, usize), ItemFault> {
-        let ((acl, stat), place) = <(List<Acl>, Stat)>::decode(alloc, src, place)?;
+        let (fields!(acl, stat), place) = Wire::decode(alloc, src, place)?;
         Ok((AclBody { acl, stat }, place))
     }
 
     fn scan(src: &[u8], place: usize) -> Result<usize, ItemFault> {
-        <(List<Acl>, Stat)>::scan(src, place)
+        <fields!(List<Acl>, Stat)>::scan(src, place)
     }
 
     ghost unfolds = { acl_body.unfolds };
@@ -89,9 +92,10 @@ impl Wire for AclBody {
     ghost has_fields = { acl_body.has_fields };
 }
 
-/// The names below it.
+/// The names below a node: `GetChildren2Response`.
 #[derive(Drop)]
 pub struct ChildrenBody {
+    /// `children` in jute.
     pub names: List<Text>,
     pub stat: Stat,
 }
@@ -102,11 +106,11 @@ impl Spell for ChildrenBody {
     ghost items = { children_body.items };
 
     fn put(&self, out: &mut Vec<u8>) -> Result<(), AllocError> {
-        (&self.names, &self.stat).put(out)
+        fields!(&self.names, &self.stat).put(out)
     }
 
     fn size_within(&self, limit: u32) -> Option<u32> {
-        (&self.names, &self.stat).size_within(limit)
+        fields!(&self.names, &self.stat).size_within(limit)
     }
 }
 
@@ -116,12 +120,12 @@ impl Wire for ChildrenBody {
     ghost layout = { children_body.layout };
 
     fn decode(alloc: Global, src: &[u8], place: usize) -> Result<(Self, usize), ItemFault> {
-        let ((names, stat), place) = <(List<Text>, Stat)>::decode(alloc, src, place)?;
+        let (fields!(names, stat), place) = Wire::decode(alloc, src, place)?;
         Ok((ChildrenBody { names, stat }, place))
     }
 
     fn scan(src: &[u8], place: usize) -> Result<usize, ItemFault> {
-        <(List<Text>, Stat)>::scan(src, place)
+        <fields!(List<Text>, Stat)>::scan(src, place)
     }
 
     ghost unfolds = { children_body.unfolds };

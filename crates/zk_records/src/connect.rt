@@ -1,15 +1,21 @@
 //! The first payload of each side: `ConnectRequest` and `ConnectResponse` of zookeeper.jute.
 
+use crate::fields::fields;
 use std::alloc::{AllocError, Global};
 use zk_jute::{Blob, ItemFault, Spell, Wire};
 
-/// A client asks for a session.
+/// A client asks for a session: `ConnectRequest`.
 #[derive(Drop)]
 pub struct ConnectRequest {
+    /// 0 in every release.
     pub protocol_version: i32,
+    /// The newest transaction that the client has seen.
     pub last_zxid_seen: i64,
+    /// Milliseconds.
     pub time_out: i32,
+    /// 0 for a new session.
     pub session_id: i64,
+    /// The session's password, usually 16 bytes.
     pub passwd: Blob,
 }
 
@@ -19,25 +25,25 @@ impl Spell for ConnectRequest {
     ghost items = { connect_request.items };
 
     fn put(&self, out: &mut Vec<u8>) -> Result<(), AllocError> {
-        (
+        fields!(
             &self.protocol_version,
-            (
-                &self.last_zxid_seen,
-                (&self.time_out, (&self.session_id, &self.passwd)),
-            ),
+            &self.last_zxid_seen,
+            &self.time_out,
+            &self.session_id,
+            &self.passwd
         )
-            .put(out)
+        .put(out)
     }
 
     fn size_within(&self, limit: u32) -> Option<u32> {
-        (
+        fields!(
             &self.protocol_version,
-            (
-                &self.last_zxid_seen,
-                (&self.time_out, (&self.session_id, &self.passwd)),
-            ),
+            &self.last_zxid_seen,
+            &self.time_out,
+            &self.session_id,
+            &self.passwd
         )
-            .size_within(limit)
+        .size_within(limit)
     }
 }
 
@@ -47,10 +53,16 @@ impl Wire for ConnectRequest {
     ghost layout = { connect_request.layout };
 
     fn decode(alloc: Global, src: &[u8], place: usize) -> Result<(Self, usize), ItemFault> {
-        let ((protocol_version, (last_zxid_seen, (time_out, (session_id, passwd)))), place) = <(
-            i32,
-            (i64, (i32, (i64, Blob))),
-        )>::decode(alloc, src, place)?;
+        let (
+            fields!(
+                protocol_version,
+                last_zxid_seen,
+                time_out,
+                session_id,
+                passwd
+            ),
+            place,
+        ) = Wire::decode(alloc, src, place)?;
         Ok((
             ConnectRequest {
                 protocol_version,
@@ -64,7 +76,7 @@ impl Wire for ConnectRequest {
     }
 
     fn scan(src: &[u8], place: usize) -> Result<usize, ItemFault> {
-        <(i32, (i64, (i32, (i64, Blob))))>::scan(src, place)
+        <fields!(i32, i64, i32, i64, Blob)>::scan(src, place)
     }
 
     ghost unfolds = { connect_request.unfolds };
@@ -74,12 +86,15 @@ impl Wire for ConnectRequest {
     ghost has_fields = { connect_request.has_fields };
 }
 
-/// A server grants a session.
+/// A server grants a session: `ConnectResponse`.
 #[derive(Drop)]
 pub struct ConnectResponse {
+    /// 0 in every release.
     pub protocol_version: i32,
+    /// Milliseconds; 0 or below where the session has expired.
     pub time_out: i32,
     pub session_id: i64,
+    /// The session's password, usually 16 bytes.
     pub passwd: Blob,
 }
 
@@ -89,19 +104,23 @@ impl Spell for ConnectResponse {
     ghost items = { connect_response.items };
 
     fn put(&self, out: &mut Vec<u8>) -> Result<(), AllocError> {
-        (
+        fields!(
             &self.protocol_version,
-            (&self.time_out, (&self.session_id, &self.passwd)),
+            &self.time_out,
+            &self.session_id,
+            &self.passwd
         )
-            .put(out)
+        .put(out)
     }
 
     fn size_within(&self, limit: u32) -> Option<u32> {
-        (
+        fields!(
             &self.protocol_version,
-            (&self.time_out, (&self.session_id, &self.passwd)),
+            &self.time_out,
+            &self.session_id,
+            &self.passwd
         )
-            .size_within(limit)
+        .size_within(limit)
     }
 }
 
@@ -111,10 +130,9 @@ impl Wire for ConnectResponse {
     ghost layout = { connect_response.layout };
 
     fn decode(alloc: Global, src: &[u8], place: usize) -> Result<(Self, usize), ItemFault> {
-        let ((protocol_version, (time_out, (session_id, passwd))), place) = <(
-            i32,
-            (i32, (i64, Blob)),
-        )>::decode(alloc, src, place)?;
+        let (fields!(protocol_version, time_out, session_id, passwd), place) = Wire::decode(
+            alloc, src, place,
+        )?;
         Ok((
             ConnectResponse {
                 protocol_version,
@@ -127,7 +145,7 @@ impl Wire for ConnectResponse {
     }
 
     fn scan(src: &[u8], place: usize) -> Result<usize, ItemFault> {
-        <(i32, (i32, (i64, Blob)))>::scan(src, place)
+        <fields!(i32, i32, i64, Blob)>::scan(src, place)
     }
 
     ghost unfolds = { connect_response.unfolds };

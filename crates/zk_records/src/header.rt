@@ -1,12 +1,16 @@
-//! What stands before a request, a reply and each part of a multi: the headers of zookeeper.jute.
+//! What stands before a request, a reply and each part of a multi: `RequestHeader`, `ReplyHeader`
+//! and `MultiHeader` of zookeeper.jute.
 
+use crate::fields::fields;
 use std::alloc::{AllocError, Global};
 use zk_jute::{ItemFault, Spell, Wire};
 
-/// What comes before each request.
+/// What stands before each request: `RequestHeader`, 8 bytes.
 #[derive(Drop)]
 pub struct RequestHeader {
+    /// The client's number of the request.
     pub xid: i32,
+    /// `type` in jute: a number of `ZooDefs.OpCode`.
     pub kind: i32,
 }
 
@@ -16,11 +20,11 @@ impl Spell for RequestHeader {
     ghost items = { request_header.items };
 
     fn put(&self, out: &mut Vec<u8>) -> Result<(), AllocError> {
-        (&self.xid, &self.kind).put(out)
+        fields!(&self.xid, &self.kind).put(out)
     }
 
     fn size_within(&self, limit: u32) -> Option<u32> {
-        (&self.xid, &self.kind).size_within(limit)
+        fields!(&self.xid, &self.kind).size_within(limit)
     }
 }
 
@@ -30,12 +34,12 @@ impl Wire for RequestHeader {
     ghost layout = { request_header.layout };
 
     fn decode(alloc: Global, src: &[u8], place: usize) -> Result<(Self, usize), ItemFault> {
-        let ((xid, kind), place) = <(i32, i32)>::decode(alloc, src, place)?;
+        let (fields!(xid, kind), place) = Wire::decode(alloc, src, place)?;
         Ok((RequestHeader { xid, kind }, place))
     }
 
     fn scan(src: &[u8], place: usize) -> Result<usize, ItemFault> {
-        <(i32, i32)>::scan(src, place)
+        <fields!(i32, i32)>::scan(src, place)
     }
 
     ghost unfolds = { request_header.unfolds };
@@ -45,11 +49,14 @@ impl Wire for RequestHeader {
     ghost has_fields = { request_header.has_fields };
 }
 
-/// What comes before each reply.
+/// What stands before each reply and event: `ReplyHeader`, 16 bytes.
 #[derive(Drop)]
 pub struct ReplyHeader {
+    /// That of the request; -1 for an event.
     pub xid: i32,
+    /// The newest transaction that the server has seen.
     pub zxid: i64,
+    /// A number of `KeeperException.Code`.
     pub err: i32,
 }
 
@@ -59,11 +66,11 @@ impl Spell for ReplyHeader {
     ghost items = { reply_header.items };
 
     fn put(&self, out: &mut Vec<u8>) -> Result<(), AllocError> {
-        (&self.xid, (&self.zxid, &self.err)).put(out)
+        fields!(&self.xid, &self.zxid, &self.err).put(out)
     }
 
     fn size_within(&self, limit: u32) -> Option<u32> {
-        (&self.xid, (&self.zxid, &self.err)).size_within(limit)
+        fields!(&self.xid, &self.zxid, &self.err).size_within(limit)
     }
 }
 
@@ -73,12 +80,12 @@ impl Wire for ReplyHeader {
     ghost layout = { reply_header.layout };
 
     fn decode(alloc: Global, src: &[u8], place: usize) -> Result<(Self, usize), ItemFault> {
-        let ((xid, (zxid, err)), place) = <(i32, (i64, i32))>::decode(alloc, src, place)?;
+        let (fields!(xid, zxid, err), place) = Wire::decode(alloc, src, place)?;
         Ok((ReplyHeader { xid, zxid, err }, place))
     }
 
     fn scan(src: &[u8], place: usize) -> Result<usize, ItemFault> {
-        <(i32, (i64, i32))>::scan(src, place)
+        <fields!(i32, i64, i32)>::scan(src, place)
     }
 
     ghost unfolds = { reply_header.unfolds };
@@ -88,11 +95,14 @@ impl Wire for ReplyHeader {
     ghost has_fields = { reply_header.has_fields };
 }
 
-/// What comes before each part.
+/// What stands before each part of a multi and behind the last: `MultiHeader`, 9 bytes.
 #[derive(Drop)]
 pub struct MultiHeader {
+    /// `type` in jute: a number of `ZooDefs.OpCode`.
     pub kind: i32,
+    /// Whether no part follows.
     pub done: bool,
+    /// A number of `KeeperException.Code`.
     pub err: i32,
 }
 
@@ -102,11 +112,11 @@ impl Spell for MultiHeader {
     ghost items = { multi_header.items };
 
     fn put(&self, out: &mut Vec<u8>) -> Result<(), AllocError> {
-        (&self.kind, (&self.done, &self.err)).put(out)
+        fields!(&self.kind, &self.done, &self.err).put(out)
     }
 
     fn size_within(&self, limit: u32) -> Option<u32> {
-        (&self.kind, (&self.done, &self.err)).size_within(limit)
+        fields!(&self.kind, &self.done, &self.err).size_within(limit)
     }
 }
 
@@ -116,12 +126,12 @@ impl Wire for MultiHeader {
     ghost layout = { multi_header.layout };
 
     fn decode(alloc: Global, src: &[u8], place: usize) -> Result<(Self, usize), ItemFault> {
-        let ((kind, (done, err)), place) = <(i32, (bool, i32))>::decode(alloc, src, place)?;
+        let (fields!(kind, done, err), place) = Wire::decode(alloc, src, place)?;
         Ok((MultiHeader { kind, done, err }, place))
     }
 
     fn scan(src: &[u8], place: usize) -> Result<usize, ItemFault> {
-        <(i32, (bool, i32))>::scan(src, place)
+        <fields!(i32, bool, i32)>::scan(src, place)
     }
 
     ghost unfolds = { multi_header.unfolds };

@@ -6,6 +6,7 @@ mod ask;
 mod body;
 mod connect;
 mod event;
+mod fields;
 mod header;
 mod names;
 mod op;

@@ -1,12 +1,16 @@
-//! The bodies of requests that look at a node.
+//! The bodies of requests that look at a node: `ExistsRequest`, `GetDataRequest`,
+//! `GetChildrenRequest`, `GetChildren2Request`, `GetACLRequest` and `SyncRequest` of zookeeper.jute.
 
+use crate::fields::fields;
 use std::alloc::{AllocError, Global};
 use zk_jute::{ItemFault, Spell, Text, Wire};
 
-/// A node is asked for.
+/// A node is looked at, and may be watched: `ExistsRequest`, `GetDataRequest`, `GetChildrenRequest`
+/// and `GetChildren2Request`.
 #[derive(Drop)]
 pub struct WatchAsk {
     pub path: Text,
+    /// Whether the client wants to be told of a change.
     pub watch: bool,
 }
 
@@ -16,11 +20,11 @@ impl Spell for WatchAsk {
     ghost items = { watch_ask.items };
 
     fn put(&self, out: &mut Vec<u8>) -> Result<(), AllocError> {
-        (&self.path, &self.watch).put(out)
+        fields!(&self.path, &self.watch).put(out)
     }
 
     fn size_within(&self, limit: u32) -> Option<u32> {
-        (&self.path, &self.watch).size_within(limit)
+        fields!(&self.path, &self.watch).size_within(limit)
     }
 }
 
@@ -30,12 +34,12 @@ impl Wire for WatchAsk {
     ghost layout = { watch_ask.layout };
 
     fn decode(alloc: Global, src: &[u8], place: usize) -> Result<(Self, usize), ItemFault> {
-        let ((path, watch), place) = <(Text, bool)>::decode(alloc, src, place)?;
+        let (fields!(path, watch), place) = Wire::decode(alloc, src, place)?;
         Ok((WatchAsk { path, watch }, place))
     }
 
     fn scan(src: &[u8], place: usize) -> Result<usize, ItemFault> {
-        <(Text, bool)>::scan(src, place)
+        <fields!(Text, bool)>::scan(src, place)
     }
 
     ghost unfolds = { watch_ask.unfolds };
@@ -45,7 +49,7 @@ impl Wire for WatchAsk {
     ghost has_fields = { watch_ask.has_fields };
 }
 
-/// A path.
+/// A path alone: `GetACLRequest` and `SyncRequest`.
 #[derive(Drop)]
 pub struct PathAsk {
     pub path: Text,
@@ -71,7 +75,7 @@ impl Wire for PathAsk {
     ghost layout = { path_ask.layout };
 
     fn decode(alloc: Global, src: &[u8], place: usize) -> Result<(Self, usize), ItemFault> {
-        let (path, place) = Text::decode(alloc, src, place)?;
+        let (path, place) = Wire::decode(alloc, src, place)?;
         Ok((PathAsk { path }, place))
     }
 

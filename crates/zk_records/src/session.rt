@@ -1,13 +1,17 @@
-//! The bodies of requests about the session.
+//! The bodies of requests about the session: `AuthPacket` and `SetWatches` of zookeeper.jute.
 
+use crate::fields::fields;
 use std::alloc::{AllocError, Global};
 use zk_jute::{Blob, ItemFault, List, Spell, Text, Wire};
 
-/// Who the client is.
+/// Who the client is: `AuthPacket`.
 #[derive(Drop)]
 pub struct AuthAsk {
+    /// `type` in jute: 0 in every release.
     pub kind: i32,
+    /// As `digest`.
     pub scheme: Text,
+    /// What the scheme wants.
     pub auth: Blob,
 }
 
@@ -17,11 +21,11 @@ impl Spell for AuthAsk {
     ghost items = { auth_ask.items };
 
     fn put(&self, out: &mut Vec<u8>) -> Result<(), AllocError> {
-        (&self.kind, (&self.scheme, &self.auth)).put(out)
+        fields!(&self.kind, &self.scheme, &self.auth).put(out)
     }
 
     fn size_within(&self, limit: u32) -> Option<u32> {
-        (&self.kind, (&self.scheme, &self.auth)).size_within(limit)
+        fields!(&self.kind, &self.scheme, &self.auth).size_within(limit)
     }
 }
 
@@ -31,12 +35,12 @@ impl Wire for AuthAsk {
     ghost layout = { auth_ask.layout };
 
     fn decode(alloc: Global, src: &[u8], place: usize) -> Result<(Self, usize), ItemFault> {
-        let ((kind, (scheme, auth)), place) = <(i32, (Text, Blob))>::decode(alloc, src, place)?;
+        let (fields!(kind, scheme, auth), place) = Wire::decode(alloc, src, place)?;
         Ok((AuthAsk { kind, scheme, auth }, place))
     }
 
     fn scan(src: &[u8], place: usize) -> Result<usize, ItemFault> {
-        <(i32, (Text, Blob))>::scan(src, place)
+        <fields!(i32, Text, Blob)>::scan(src, place)
     }
 
     ghost unfolds = { auth_ask.unfolds };
@@ -46,12 +50,16 @@ impl Wire for AuthAsk {
     ghost has_fields = { auth_ask.has_fields };
 }
 
-/// Watches are to be set again.
+/// Watches are to be set again after a reconnect: `SetWatches`.
 #[derive(Drop)]
 pub struct SetWatchesAsk {
+    /// `relativeZxid` in jute: the newest transaction that the client has seen.
     pub zxid: i64,
+    /// Paths.
     pub data_watches: List<Text>,
+    /// Paths.
     pub exist_watches: List<Text>,
+    /// Paths.
     pub child_watches: List<Text>,
 }
 
@@ -61,25 +69,23 @@ impl Spell for SetWatchesAsk {
     ghost items = { set_watches_ask.items };
 
     fn put(&self, out: &mut Vec<u8>) -> Result<(), AllocError> {
-        (
+        fields!(
             &self.zxid,
-            (
-                &self.data_watches,
-                (&self.exist_watches, &self.child_watches),
-            ),
+            &self.data_watches,
+            &self.exist_watches,
+            &self.child_watches
         )
-            .put(out)
+        .put(out)
     }
 
     fn size_within(&self, limit: u32) -> Option<u32> {
-        (
+        fields!(
             &self.zxid,
-            (
-                &self.data_watches,
-                (&self.exist_watches, &self.child_watches),
-            ),
+            &self.data_watches,
+            &self.exist_watches,
+            &self.child_watches
         )
-            .size_within(limit)
+        .size_within(limit)
     }
 }
 
@@ -89,10 +95,9 @@ impl Wire for SetWatchesAsk {
     ghost layout = { set_watches_ask.layout };
 
     fn decode(alloc: Global, src: &[u8], place: usize) -> Result<(Self, usize), ItemFault> {
-        let ((zxid, (data_watches, (exist_watches, child_watches))), place) = <(
-            i64,
-            (List<Text>, (List<Text>, List<Text>)),
-        )>::decode(alloc, src, place)?;
+        let (fields!(zxid, data_watches, exist_watches, child_watches), place) = Wire::decode(
+            alloc, src, place,
+        )?;
         Ok((
             SetWatchesAsk {
                 zxid,
@@ -105,7 +110,7 @@ impl Wire for SetWatchesAsk {
     }
 
     fn scan(src: &[u8], place: usize) -> Result<usize, ItemFault> {
-        <(i64, (List<Text>, (List<Text>, List<Text>)))>::scan(src, place)
+        <fields!(i64, List<Text>, List<Text>, List<Text>)>::scan(src, place)
     }
 
     ghost unfolds = { set_watches_ask.unfolds };

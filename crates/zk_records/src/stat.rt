@@ -1,21 +1,32 @@
-//! What is known of a node: the record `Stat` of zookeeper.jute.
+//! What is known of a node: `Stat` of zookeeper.jute.
 
+use crate::fields::fields;
 use std::alloc::{AllocError, Global};
 use zk_jute::{ItemFault, Spell, Wire};
 
-/// What is known of a node.
+/// What is known of a node: `Stat`, 68 bytes.
 #[derive(Drop)]
 pub struct Stat {
+    /// The transaction that made the node.
     pub czxid: i64,
+    /// The transaction that last set its data.
     pub mzxid: i64,
+    /// When it was made, in milliseconds since 1970.
     pub ctime: i64,
+    /// When its data was last set, in milliseconds since 1970.
     pub mtime: i64,
+    /// How often its data was set.
     pub version: i32,
+    /// How often its children changed.
     pub cversion: i32,
+    /// How often its access list was set.
     pub aversion: i32,
+    /// The session that it ends with; 0 for none.
     pub ephemeral_owner: i64,
+    /// Bytes.
     pub data_length: i32,
     pub num_children: i32,
+    /// The transaction that last changed its children.
     pub pzxid: i64,
 }
 
@@ -25,61 +36,37 @@ impl Spell for Stat {
     ghost items = { stat.items };
 
     fn put(&self, out: &mut Vec<u8>) -> Result<(), AllocError> {
-        (
+        fields!(
             &self.czxid,
-            (
-                &self.mzxid,
-                (
-                    &self.ctime,
-                    (
-                        &self.mtime,
-                        (
-                            &self.version,
-                            (
-                                &self.cversion,
-                                (
-                                    &self.aversion,
-                                    (
-                                        &self.ephemeral_owner,
-                                        (&self.data_length, (&self.num_children, &self.pzxid)),
-                                    ),
-                                ),
-                            ),
-                        ),
-                    ),
-                ),
-            ),
+            &self.mzxid,
+            &self.ctime,
+            &self.mtime,
+            &self.version,
+            &self.cversion,
+            &self.aversion,
+            &self.ephemeral_owner,
+            &self.data_length,
+            &self.num_children,
+            &self.pzxid
         )
-            .put(out)
+        .put(out)
     }
 
     fn size_within(&self, limit: u32) -> Option<u32> {
-        (
+        fields!(
             &self.czxid,
-            (
-                &self.mzxid,
-                (
-                    &self.ctime,
-                    (
-                        &self.mtime,
-                        (
-                            &self.version,
-                            (
-                                &self.cversion,
-                                (
-                                    &self.aversion,
-                                    (
-                                        &self.ephemeral_owner,
-                                        (&self.data_length, (&self.num_children, &self.pzxid)),
-                                    ),
-                                ),
-                            ),
-                        ),
-                    ),
-                ),
-            ),
+            &self.mzxid,
+            &self.ctime,
+            &self.mtime,
+            &self.version,
+            &self.cversion,
+            &self.aversion,
+            &self.ephemeral_owner,
+            &self.data_length,
+            &self.num_children,
+            &self.pzxid
         )
-            .size_within(limit)
+        .size_within(limit)
     }
 }
 
@@ -90,36 +77,21 @@ impl Wire for Stat {
 
     fn decode(alloc: Global, src: &[u8], place: usize) -> Result<(Self, usize), ItemFault> {
         let (
-            (
+            fields!(
                 czxid,
-                (
-                    mzxid,
-                    (
-                        ctime,
-                        (
-                            mtime,
-                            (
-                                version,
-                                (
-                                    cversion,
-                                    (
-                                        aversion,
-                                        (ephemeral_owner, (data_length, (num_children, pzxid))),
-                                    ),
-                                ),
-                            ),
-                        ),
-                    ),
-                ),
+                mzxid,
+                ctime,
+                mtime,
+                version,
+                cversion,
+                aversion,
+                ephemeral_owner,
+                data_length,
+                num_children,
+                pzxid
             ),
             place,
-        ) = <(
-            i64,
-            (
-                i64,
-                (i64, (i64, (i32, (i32, (i32, (i64, (i32, (i32, i64)))))))),
-            ),
-        )>::decode(alloc, src, place)?;
+        ) = Wire::decode(alloc, src, place)?;
         Ok((
             Stat {
                 czxid,
@@ -139,13 +111,7 @@ impl Wire for Stat {
     }
 
     fn scan(src: &[u8], place: usize) -> Result<usize, ItemFault> {
-        <(
-            i64,
-            (
-                i64,
-                (i64, (i64, (i32, (i32, (i32, (i64, (i32, (i32, i64)))))))),
-            ),
-        )>::scan(src, place)
+        <fields!(i64, i64, i64, i64, i32, i32, i32, i64, i32, i32, i64)>::scan(src, place)
     }
 
     ghost unfolds = { stat.unfolds };
