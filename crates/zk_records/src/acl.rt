@@ -1,11 +1,12 @@
 //! Who may do what: the records `Id` and `ACL` of zookeeper.jute.
+ghost use Rattle.zk_records.specs.Records.{id, acl};
 
-use crate::fields::fields;
+use crate::fields::{decode, fields};
 use std::alloc::{AllocError, Global};
 use zk_jute::{ItemFault, Spell, Text, Wire};
 
 /// Who someone is under a scheme: `Id`.
-#[derive(Drop)]
+#[derive(Debug, Drop)]
 pub struct Id {
     /// As `world`, `auth`, `digest`, `ip`.
     pub scheme: Text,
@@ -14,27 +15,22 @@ pub struct Id {
 }
 
 impl Spell for Id {
-    ghost use Rattle.zk_records.specs.Records.{id};
-
     ghost items = { id.items };
 
     fn put(&self, out: &mut Vec<u8>) -> Result<(), AllocError> {
-        fields!(&self.scheme, &self.ident).put(out)
+        fields!(self: scheme, ident).put(out)
     }
 
     fn size_within(&self, limit: u32) -> Option<u32> {
-        fields!(&self.scheme, &self.ident).size_within(limit)
+        fields!(self: scheme, ident).size_within(limit)
     }
 }
 
 impl Wire for Id {
-    ghost use Rattle.zk_records.specs.Records.{id};
-
     ghost layout = { id.layout };
 
     fn decode(alloc: Global, src: &[u8], place: usize) -> Result<(Self, usize), ItemFault> {
-        let (fields!(scheme, ident), place) = Wire::decode(alloc, src, place)?;
-        Ok((Id { scheme, ident }, place))
+        decode!(alloc, src, place => Id { scheme, ident })
     }
 
     fn scan(src: &[u8], place: usize) -> Result<usize, ItemFault> {
@@ -49,7 +45,7 @@ impl Wire for Id {
 }
 
 /// What someone may do: `ACL`.
-#[derive(Drop)]
+#[derive(Debug, Drop)]
 pub struct Acl {
     /// A sum of read 1, write 2, create 4, delete 8 and admin 16; any number is taken.
     pub perms: i32,
@@ -58,27 +54,22 @@ pub struct Acl {
 }
 
 impl Spell for Acl {
-    ghost use Rattle.zk_records.specs.Records.{acl};
-
     ghost items = { acl.items };
 
     fn put(&self, out: &mut Vec<u8>) -> Result<(), AllocError> {
-        fields!(&self.perms, &self.who).put(out)
+        fields!(self: perms, who).put(out)
     }
 
     fn size_within(&self, limit: u32) -> Option<u32> {
-        fields!(&self.perms, &self.who).size_within(limit)
+        fields!(self: perms, who).size_within(limit)
     }
 }
 
 impl Wire for Acl {
-    ghost use Rattle.zk_records.specs.Records.{acl};
-
     ghost layout = { acl.layout };
 
     fn decode(alloc: Global, src: &[u8], place: usize) -> Result<(Self, usize), ItemFault> {
-        let (fields!(perms, who), place) = Wire::decode(alloc, src, place)?;
-        Ok((Acl { perms, who }, place))
+        decode!(alloc, src, place => Acl { perms, who })
     }
 
     fn scan(src: &[u8], place: usize) -> Result<usize, ItemFault> {

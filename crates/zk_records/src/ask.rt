@@ -1,13 +1,14 @@
 //! The bodies of requests that change a node, and of a check: `CreateRequest`, `DeleteRequest`,
 //! `SetDataRequest`, `SetACLRequest` and `CheckVersionRequest` of zookeeper.jute.
+ghost use Rattle.zk_records.specs.Records.{create_ask, delete_ask, set_data_ask, set_acl_ask, check_ask};
 
 use crate::acl::Acl;
-use crate::fields::fields;
+use crate::fields::{decode, fields};
 use std::alloc::{AllocError, Global};
 use zk_jute::{Blob, ItemFault, List, Spell, Text, Wire};
 
 /// A node is to be made: `CreateRequest`.
-#[derive(Drop)]
+#[derive(Debug, Drop)]
 pub struct CreateAsk {
     pub path: Text,
     /// `data` in jute.
@@ -18,35 +19,22 @@ pub struct CreateAsk {
 }
 
 impl Spell for CreateAsk {
-    ghost use Rattle.zk_records.specs.Records.{create_ask};
-
     ghost items = { create_ask.items };
 
     fn put(&self, out: &mut Vec<u8>) -> Result<(), AllocError> {
-        fields!(&self.path, &self.blob, &self.acl, &self.flags).put(out)
+        fields!(self: path, blob, acl, flags).put(out)
     }
 
     fn size_within(&self, limit: u32) -> Option<u32> {
-        fields!(&self.path, &self.blob, &self.acl, &self.flags).size_within(limit)
+        fields!(self: path, blob, acl, flags).size_within(limit)
     }
 }
 
 impl Wire for CreateAsk {
-    ghost use Rattle.zk_records.specs.Records.{create_ask};
-
     ghost layout = { create_ask.layout };
 
     fn decode(alloc: Global, src: &[u8], place: usize) -> Result<(Self, usize), ItemFault> {
-        let (fields!(path, blob, acl, flags), place) = Wire::decode(alloc, src, place)?;
-        Ok((
-            CreateAsk {
-                path,
-                blob,
-                acl,
-                flags,
-            },
-            place,
-        ))
+        decode!(alloc, src, place => CreateAsk { path, blob, acl, flags })
     }
 
     fn scan(src: &[u8], place: usize) -> Result<usize, ItemFault> {
@@ -61,7 +49,7 @@ impl Wire for CreateAsk {
 }
 
 /// A node is to be removed: `DeleteRequest`.
-#[derive(Drop)]
+#[derive(Debug, Drop)]
 pub struct DeleteAsk {
     pub path: Text,
     /// The data's version that is wanted, -1 for any.
@@ -69,27 +57,22 @@ pub struct DeleteAsk {
 }
 
 impl Spell for DeleteAsk {
-    ghost use Rattle.zk_records.specs.Records.{delete_ask};
-
     ghost items = { delete_ask.items };
 
     fn put(&self, out: &mut Vec<u8>) -> Result<(), AllocError> {
-        fields!(&self.path, &self.version).put(out)
+        fields!(self: path, version).put(out)
     }
 
     fn size_within(&self, limit: u32) -> Option<u32> {
-        fields!(&self.path, &self.version).size_within(limit)
+        fields!(self: path, version).size_within(limit)
     }
 }
 
 impl Wire for DeleteAsk {
-    ghost use Rattle.zk_records.specs.Records.{delete_ask};
-
     ghost layout = { delete_ask.layout };
 
     fn decode(alloc: Global, src: &[u8], place: usize) -> Result<(Self, usize), ItemFault> {
-        let (fields!(path, version), place) = Wire::decode(alloc, src, place)?;
-        Ok((DeleteAsk { path, version }, place))
+        decode!(alloc, src, place => DeleteAsk { path, version })
     }
 
     fn scan(src: &[u8], place: usize) -> Result<usize, ItemFault> {
@@ -104,7 +87,7 @@ impl Wire for DeleteAsk {
 }
 
 /// A node's data is to be set: `SetDataRequest`.
-#[derive(Drop)]
+#[derive(Debug, Drop)]
 pub struct SetDataAsk {
     pub path: Text,
     /// `data` in jute.
@@ -114,34 +97,22 @@ pub struct SetDataAsk {
 }
 
 impl Spell for SetDataAsk {
-    ghost use Rattle.zk_records.specs.Records.{set_data_ask};
-
     ghost items = { set_data_ask.items };
 
     fn put(&self, out: &mut Vec<u8>) -> Result<(), AllocError> {
-        fields!(&self.path, &self.blob, &self.version).put(out)
+        fields!(self: path, blob, version).put(out)
     }
 
     fn size_within(&self, limit: u32) -> Option<u32> {
-        fields!(&self.path, &self.blob, &self.version).size_within(limit)
+        fields!(self: path, blob, version).size_within(limit)
     }
 }
 
 impl Wire for SetDataAsk {
-    ghost use Rattle.zk_records.specs.Records.{set_data_ask};
-
     ghost layout = { set_data_ask.layout };
 
     fn decode(alloc: Global, src: &[u8], place: usize) -> Result<(Self, usize), ItemFault> {
-        let (fields!(path, blob, version), place) = Wire::decode(alloc, src, place)?;
-        Ok((
-            SetDataAsk {
-                path,
-                blob,
-                version,
-            },
-            place,
-        ))
+        decode!(alloc, src, place => SetDataAsk { path, blob, version })
     }
 
     fn scan(src: &[u8], place: usize) -> Result<usize, ItemFault> {
@@ -156,7 +127,7 @@ impl Wire for SetDataAsk {
 }
 
 /// A node's access list is to be set: `SetACLRequest`.
-#[derive(Drop)]
+#[derive(Debug, Drop)]
 pub struct SetAclAsk {
     pub path: Text,
     pub acl: List<Acl>,
@@ -165,27 +136,22 @@ pub struct SetAclAsk {
 }
 
 impl Spell for SetAclAsk {
-    ghost use Rattle.zk_records.specs.Records.{set_acl_ask};
-
     ghost items = { set_acl_ask.items };
 
     fn put(&self, out: &mut Vec<u8>) -> Result<(), AllocError> {
-        fields!(&self.path, &self.acl, &self.version).put(out)
+        fields!(self: path, acl, version).put(out)
     }
 
     fn size_within(&self, limit: u32) -> Option<u32> {
-        fields!(&self.path, &self.acl, &self.version).size_within(limit)
+        fields!(self: path, acl, version).size_within(limit)
     }
 }
 
 impl Wire for SetAclAsk {
-    ghost use Rattle.zk_records.specs.Records.{set_acl_ask};
-
     ghost layout = { set_acl_ask.layout };
 
     fn decode(alloc: Global, src: &[u8], place: usize) -> Result<(Self, usize), ItemFault> {
-        let (fields!(path, acl, version), place) = Wire::decode(alloc, src, place)?;
-        Ok((SetAclAsk { path, acl, version }, place))
+        decode!(alloc, src, place => SetAclAsk { path, acl, version })
     }
 
     fn scan(src: &[u8], place: usize) -> Result<usize, ItemFault> {
@@ -200,7 +166,7 @@ impl Wire for SetAclAsk {
 }
 
 /// A node's version is to be checked, within a multi: `CheckVersionRequest`.
-#[derive(Drop)]
+#[derive(Debug, Drop)]
 pub struct CheckAsk {
     pub path: Text,
     /// The data's version that is wanted, -1 for any.
@@ -208,27 +174,22 @@ pub struct CheckAsk {
 }
 
 impl Spell for CheckAsk {
-    ghost use Rattle.zk_records.specs.Records.{check_ask};
-
     ghost items = { check_ask.items };
 
     fn put(&self, out: &mut Vec<u8>) -> Result<(), AllocError> {
-        fields!(&self.path, &self.version).put(out)
+        fields!(self: path, version).put(out)
     }
 
     fn size_within(&self, limit: u32) -> Option<u32> {
-        fields!(&self.path, &self.version).size_within(limit)
+        fields!(self: path, version).size_within(limit)
     }
 }
 
 impl Wire for CheckAsk {
-    ghost use Rattle.zk_records.specs.Records.{check_ask};
-
     ghost layout = { check_ask.layout };
 
     fn decode(alloc: Global, src: &[u8], place: usize) -> Result<(Self, usize), ItemFault> {
-        let (fields!(path, version), place) = Wire::decode(alloc, src, place)?;
-        Ok((CheckAsk { path, version }, place))
+        decode!(alloc, src, place => CheckAsk { path, version })
     }
 
     fn scan(src: &[u8], place: usize) -> Result<usize, ItemFault> {

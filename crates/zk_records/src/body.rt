@@ -1,14 +1,15 @@
 //! The bodies of replies of more than one field: `GetDataResponse`, `GetACLResponse` and
 //! `GetChildren2Response` of zookeeper.jute.
+ghost use Rattle.zk_records.specs.Records.{data_body, acl_body, children_body};
 
 use crate::acl::Acl;
-use crate::fields::fields;
+use crate::fields::{decode, fields};
 use crate::stat::Stat;
 use std::alloc::{AllocError, Global};
 use zk_jute::{Blob, ItemFault, List, Spell, Text, Wire};
 
 /// What a node holds: `GetDataResponse`.
-#[derive(Drop)]
+#[derive(Debug, Drop)]
 pub struct DataBody {
     /// `data` in jute.
     pub blob: Blob,
@@ -16,27 +17,22 @@ pub struct DataBody {
 }
 
 impl Spell for DataBody {
-    ghost use Rattle.zk_records.specs.Records.{data_body};
-
     ghost items = { data_body.items };
 
     fn put(&self, out: &mut Vec<u8>) -> Result<(), AllocError> {
-        fields!(&self.blob, &self.stat).put(out)
+        fields!(self: blob, stat).put(out)
     }
 
     fn size_within(&self, limit: u32) -> Option<u32> {
-        fields!(&self.blob, &self.stat).size_within(limit)
+        fields!(self: blob, stat).size_within(limit)
     }
 }
 
 impl Wire for DataBody {
-    ghost use Rattle.zk_records.specs.Records.{data_body};
-
     ghost layout = { data_body.layout };
 
     fn decode(alloc: Global, src: &[u8], place: usize) -> Result<(Self, usize), ItemFault> {
-        let (fields!(blob, stat), place) = Wire::decode(alloc, src, place)?;
-        Ok((DataBody { blob, stat }, place))
+        decode!(alloc, src, place => DataBody { blob, stat })
     }
 
     fn scan(src: &[u8], place: usize) -> Result<usize, ItemFault> {
@@ -51,34 +47,29 @@ impl Wire for DataBody {
 }
 
 /// Who may do what with a node: `GetACLResponse`.
-#[derive(Drop)]
+#[derive(Debug, Drop)]
 pub struct AclBody {
     pub acl: List<Acl>,
     pub stat: Stat,
 }
 
 impl Spell for AclBody {
-    ghost use Rattle.zk_records.specs.Records.{acl_body};
-
     ghost items = { acl_body.items };
 
     fn put(&self, out: &mut Vec<u8>) -> Result<(), AllocError> {
-        fields!(&self.acl, &self.stat).put(out)
+        fields!(self: acl, stat).put(out)
     }
 
     fn size_within(&self, limit: u32) -> Option<u32> {
-        fields!(&self.acl, &self.stat).size_within(limit)
+        fields!(self: acl, stat).size_within(limit)
     }
 }
 
 impl Wire for AclBody {
-    ghost use Rattle.zk_records.specs.Records.{acl_body};
-
     ghost layout = { acl_body.layout };
 
     fn decode(alloc: Global, src: &[u8], place: usize) -> Result<(Self, usize), ItemFault> {
-        let (fields!(acl, stat), place) = Wire::decode(alloc, src, place)?;
-        Ok((AclBody { acl, stat }, place))
+        decode!(alloc, src, place => AclBody { acl, stat })
     }
 
     fn scan(src: &[u8], place: usize) -> Result<usize, ItemFault> {
@@ -93,7 +84,7 @@ impl Wire for AclBody {
 }
 
 /// The names below a node: `GetChildren2Response`.
-#[derive(Drop)]
+#[derive(Debug, Drop)]
 pub struct ChildrenBody {
     /// `children` in jute.
     pub names: List<Text>,
@@ -101,27 +92,22 @@ pub struct ChildrenBody {
 }
 
 impl Spell for ChildrenBody {
-    ghost use Rattle.zk_records.specs.Records.{children_body};
-
     ghost items = { children_body.items };
 
     fn put(&self, out: &mut Vec<u8>) -> Result<(), AllocError> {
-        fields!(&self.names, &self.stat).put(out)
+        fields!(self: names, stat).put(out)
     }
 
     fn size_within(&self, limit: u32) -> Option<u32> {
-        fields!(&self.names, &self.stat).size_within(limit)
+        fields!(self: names, stat).size_within(limit)
     }
 }
 
 impl Wire for ChildrenBody {
-    ghost use Rattle.zk_records.specs.Records.{children_body};
-
     ghost layout = { children_body.layout };
 
     fn decode(alloc: Global, src: &[u8], place: usize) -> Result<(Self, usize), ItemFault> {
-        let (fields!(names, stat), place) = Wire::decode(alloc, src, place)?;
-        Ok((ChildrenBody { names, stat }, place))
+        decode!(alloc, src, place => ChildrenBody { names, stat })
     }
 
     fn scan(src: &[u8], place: usize) -> Result<usize, ItemFault> {

@@ -1,11 +1,12 @@
 //! The first payload of each side: `ConnectRequest` and `ConnectResponse` of zookeeper.jute.
+ghost use Rattle.zk_records.specs.Records.{connect_request, connect_response};
 
-use crate::fields::fields;
+use crate::fields::{decode, fields};
 use std::alloc::{AllocError, Global};
 use zk_jute::{Blob, ItemFault, Spell, Wire};
 
 /// A client asks for a session: `ConnectRequest`.
-#[derive(Drop)]
+#[derive(Debug, Drop)]
 pub struct ConnectRequest {
     /// 0 in every release.
     pub protocol_version: i32,
@@ -20,59 +21,24 @@ pub struct ConnectRequest {
 }
 
 impl Spell for ConnectRequest {
-    ghost use Rattle.zk_records.specs.Records.{connect_request};
-
     ghost items = { connect_request.items };
 
     fn put(&self, out: &mut Vec<u8>) -> Result<(), AllocError> {
-        fields!(
-            &self.protocol_version,
-            &self.last_zxid_seen,
-            &self.time_out,
-            &self.session_id,
-            &self.passwd
-        )
-        .put(out)
+        fields!(self: protocol_version, last_zxid_seen, time_out, session_id, passwd).put(out)
     }
 
     fn size_within(&self, limit: u32) -> Option<u32> {
-        fields!(
-            &self.protocol_version,
-            &self.last_zxid_seen,
-            &self.time_out,
-            &self.session_id,
-            &self.passwd
+        fields!(self: protocol_version, last_zxid_seen, time_out, session_id, passwd).size_within(
+            limit,
         )
-        .size_within(limit)
     }
 }
 
 impl Wire for ConnectRequest {
-    ghost use Rattle.zk_records.specs.Records.{connect_request};
-
     ghost layout = { connect_request.layout };
 
     fn decode(alloc: Global, src: &[u8], place: usize) -> Result<(Self, usize), ItemFault> {
-        let (
-            fields!(
-                protocol_version,
-                last_zxid_seen,
-                time_out,
-                session_id,
-                passwd
-            ),
-            place,
-        ) = Wire::decode(alloc, src, place)?;
-        Ok((
-            ConnectRequest {
-                protocol_version,
-                last_zxid_seen,
-                time_out,
-                session_id,
-                passwd,
-            },
-            place,
-        ))
+        decode!(alloc, src, place => ConnectRequest { protocol_version, last_zxid_seen, time_out, session_id, passwd })
     }
 
     fn scan(src: &[u8], place: usize) -> Result<usize, ItemFault> {
@@ -87,7 +53,7 @@ impl Wire for ConnectRequest {
 }
 
 /// A server grants a session: `ConnectResponse`.
-#[derive(Drop)]
+#[derive(Debug, Drop)]
 pub struct ConnectResponse {
     /// 0 in every release.
     pub protocol_version: i32,
@@ -99,49 +65,22 @@ pub struct ConnectResponse {
 }
 
 impl Spell for ConnectResponse {
-    ghost use Rattle.zk_records.specs.Records.{connect_response};
-
     ghost items = { connect_response.items };
 
     fn put(&self, out: &mut Vec<u8>) -> Result<(), AllocError> {
-        fields!(
-            &self.protocol_version,
-            &self.time_out,
-            &self.session_id,
-            &self.passwd
-        )
-        .put(out)
+        fields!(self: protocol_version, time_out, session_id, passwd).put(out)
     }
 
     fn size_within(&self, limit: u32) -> Option<u32> {
-        fields!(
-            &self.protocol_version,
-            &self.time_out,
-            &self.session_id,
-            &self.passwd
-        )
-        .size_within(limit)
+        fields!(self: protocol_version, time_out, session_id, passwd).size_within(limit)
     }
 }
 
 impl Wire for ConnectResponse {
-    ghost use Rattle.zk_records.specs.Records.{connect_response};
-
     ghost layout = { connect_response.layout };
 
     fn decode(alloc: Global, src: &[u8], place: usize) -> Result<(Self, usize), ItemFault> {
-        let (fields!(protocol_version, time_out, session_id, passwd), place) = Wire::decode(
-            alloc, src, place,
-        )?;
-        Ok((
-            ConnectResponse {
-                protocol_version,
-                time_out,
-                session_id,
-                passwd,
-            },
-            place,
-        ))
+        decode!(alloc, src, place => ConnectResponse { protocol_version, time_out, session_id, passwd })
     }
 
     fn scan(src: &[u8], place: usize) -> Result<usize, ItemFault> {

@@ -1,11 +1,12 @@
 //! What a watcher is told: `WatcherEvent` of zookeeper.jute.
+ghost use Rattle.zk_records.specs.Records.{watcher_event};
 
-use crate::fields::fields;
+use crate::fields::{decode, fields};
 use std::alloc::{AllocError, Global};
 use zk_jute::{ItemFault, Spell, Text, Wire};
 
 /// What a watch saw: `WatcherEvent`.
-#[derive(Drop)]
+#[derive(Debug, Drop)]
 pub struct WatcherEvent {
     /// `type` in jute: a number of `Watcher.Event.EventType`.
     pub kind: i32,
@@ -15,27 +16,22 @@ pub struct WatcherEvent {
 }
 
 impl Spell for WatcherEvent {
-    ghost use Rattle.zk_records.specs.Records.{watcher_event};
-
     ghost items = { watcher_event.items };
 
     fn put(&self, out: &mut Vec<u8>) -> Result<(), AllocError> {
-        fields!(&self.kind, &self.state, &self.path).put(out)
+        fields!(self: kind, state, path).put(out)
     }
 
     fn size_within(&self, limit: u32) -> Option<u32> {
-        fields!(&self.kind, &self.state, &self.path).size_within(limit)
+        fields!(self: kind, state, path).size_within(limit)
     }
 }
 
 impl Wire for WatcherEvent {
-    ghost use Rattle.zk_records.specs.Records.{watcher_event};
-
     ghost layout = { watcher_event.layout };
 
     fn decode(alloc: Global, src: &[u8], place: usize) -> Result<(Self, usize), ItemFault> {
-        let (fields!(kind, state, path), place) = Wire::decode(alloc, src, place)?;
-        Ok((WatcherEvent { kind, state, path }, place))
+        decode!(alloc, src, place => WatcherEvent { kind, state, path })
     }
 
     fn scan(src: &[u8], place: usize) -> Result<usize, ItemFault> {

@@ -1,12 +1,13 @@
 //! What stands before a request, a reply and each part of a multi: `RequestHeader`, `ReplyHeader`
 //! and `MultiHeader` of zookeeper.jute.
+ghost use Rattle.zk_records.specs.Records.{request_header, reply_header, multi_header};
 
-use crate::fields::fields;
+use crate::fields::{decode, fields};
 use std::alloc::{AllocError, Global};
 use zk_jute::{ItemFault, Spell, Wire};
 
 /// What stands before each request: `RequestHeader`, 8 bytes.
-#[derive(Drop)]
+#[derive(Debug, Drop)]
 pub struct RequestHeader {
     /// The client's number of the request.
     pub xid: i32,
@@ -15,27 +16,22 @@ pub struct RequestHeader {
 }
 
 impl Spell for RequestHeader {
-    ghost use Rattle.zk_records.specs.Records.{request_header};
-
     ghost items = { request_header.items };
 
     fn put(&self, out: &mut Vec<u8>) -> Result<(), AllocError> {
-        fields!(&self.xid, &self.kind).put(out)
+        fields!(self: xid, kind).put(out)
     }
 
     fn size_within(&self, limit: u32) -> Option<u32> {
-        fields!(&self.xid, &self.kind).size_within(limit)
+        fields!(self: xid, kind).size_within(limit)
     }
 }
 
 impl Wire for RequestHeader {
-    ghost use Rattle.zk_records.specs.Records.{request_header};
-
     ghost layout = { request_header.layout };
 
     fn decode(alloc: Global, src: &[u8], place: usize) -> Result<(Self, usize), ItemFault> {
-        let (fields!(xid, kind), place) = Wire::decode(alloc, src, place)?;
-        Ok((RequestHeader { xid, kind }, place))
+        decode!(alloc, src, place => RequestHeader { xid, kind })
     }
 
     fn scan(src: &[u8], place: usize) -> Result<usize, ItemFault> {
@@ -50,7 +46,7 @@ impl Wire for RequestHeader {
 }
 
 /// What stands before each reply and event: `ReplyHeader`, 16 bytes.
-#[derive(Drop)]
+#[derive(Debug, Drop)]
 pub struct ReplyHeader {
     /// That of the request; -1 for an event.
     pub xid: i32,
@@ -61,27 +57,22 @@ pub struct ReplyHeader {
 }
 
 impl Spell for ReplyHeader {
-    ghost use Rattle.zk_records.specs.Records.{reply_header};
-
     ghost items = { reply_header.items };
 
     fn put(&self, out: &mut Vec<u8>) -> Result<(), AllocError> {
-        fields!(&self.xid, &self.zxid, &self.err).put(out)
+        fields!(self: xid, zxid, err).put(out)
     }
 
     fn size_within(&self, limit: u32) -> Option<u32> {
-        fields!(&self.xid, &self.zxid, &self.err).size_within(limit)
+        fields!(self: xid, zxid, err).size_within(limit)
     }
 }
 
 impl Wire for ReplyHeader {
-    ghost use Rattle.zk_records.specs.Records.{reply_header};
-
     ghost layout = { reply_header.layout };
 
     fn decode(alloc: Global, src: &[u8], place: usize) -> Result<(Self, usize), ItemFault> {
-        let (fields!(xid, zxid, err), place) = Wire::decode(alloc, src, place)?;
-        Ok((ReplyHeader { xid, zxid, err }, place))
+        decode!(alloc, src, place => ReplyHeader { xid, zxid, err })
     }
 
     fn scan(src: &[u8], place: usize) -> Result<usize, ItemFault> {
@@ -96,7 +87,7 @@ impl Wire for ReplyHeader {
 }
 
 /// What stands before each part of a multi and behind the last: `MultiHeader`, 9 bytes.
-#[derive(Drop)]
+#[derive(Debug, Drop)]
 pub struct MultiHeader {
     /// `type` in jute: a number of `ZooDefs.OpCode`.
     pub kind: i32,
@@ -107,27 +98,22 @@ pub struct MultiHeader {
 }
 
 impl Spell for MultiHeader {
-    ghost use Rattle.zk_records.specs.Records.{multi_header};
-
     ghost items = { multi_header.items };
 
     fn put(&self, out: &mut Vec<u8>) -> Result<(), AllocError> {
-        fields!(&self.kind, &self.done, &self.err).put(out)
+        fields!(self: kind, done, err).put(out)
     }
 
     fn size_within(&self, limit: u32) -> Option<u32> {
-        fields!(&self.kind, &self.done, &self.err).size_within(limit)
+        fields!(self: kind, done, err).size_within(limit)
     }
 }
 
 impl Wire for MultiHeader {
-    ghost use Rattle.zk_records.specs.Records.{multi_header};
-
     ghost layout = { multi_header.layout };
 
     fn decode(alloc: Global, src: &[u8], place: usize) -> Result<(Self, usize), ItemFault> {
-        let (fields!(kind, done, err), place) = Wire::decode(alloc, src, place)?;
-        Ok((MultiHeader { kind, done, err }, place))
+        decode!(alloc, src, place => MultiHeader { kind, done, err })
     }
 
     fn scan(src: &[u8], place: usize) -> Result<usize, ItemFault> {

@@ -1,13 +1,14 @@
 //! The bodies of requests that look at a node: `ExistsRequest`, `GetDataRequest`,
 //! `GetChildrenRequest`, `GetChildren2Request`, `GetACLRequest` and `SyncRequest` of zookeeper.jute.
+ghost use Rattle.zk_records.specs.Records.{watch_ask, path_ask};
 
-use crate::fields::fields;
+use crate::fields::{decode, fields};
 use std::alloc::{AllocError, Global};
 use zk_jute::{ItemFault, Spell, Text, Wire};
 
 /// A node is looked at, and may be watched: `ExistsRequest`, `GetDataRequest`, `GetChildrenRequest`
 /// and `GetChildren2Request`.
-#[derive(Drop)]
+#[derive(Debug, Drop)]
 pub struct WatchAsk {
     pub path: Text,
     /// Whether the client wants to be told of a change.
@@ -15,27 +16,22 @@ pub struct WatchAsk {
 }
 
 impl Spell for WatchAsk {
-    ghost use Rattle.zk_records.specs.Records.{watch_ask};
-
     ghost items = { watch_ask.items };
 
     fn put(&self, out: &mut Vec<u8>) -> Result<(), AllocError> {
-        fields!(&self.path, &self.watch).put(out)
+        fields!(self: path, watch).put(out)
     }
 
     fn size_within(&self, limit: u32) -> Option<u32> {
-        fields!(&self.path, &self.watch).size_within(limit)
+        fields!(self: path, watch).size_within(limit)
     }
 }
 
 impl Wire for WatchAsk {
-    ghost use Rattle.zk_records.specs.Records.{watch_ask};
-
     ghost layout = { watch_ask.layout };
 
     fn decode(alloc: Global, src: &[u8], place: usize) -> Result<(Self, usize), ItemFault> {
-        let (fields!(path, watch), place) = Wire::decode(alloc, src, place)?;
-        Ok((WatchAsk { path, watch }, place))
+        decode!(alloc, src, place => WatchAsk { path, watch })
     }
 
     fn scan(src: &[u8], place: usize) -> Result<usize, ItemFault> {
@@ -50,14 +46,12 @@ impl Wire for WatchAsk {
 }
 
 /// A path alone: `GetACLRequest` and `SyncRequest`.
-#[derive(Drop)]
+#[derive(Debug, Drop)]
 pub struct PathAsk {
     pub path: Text,
 }
 
 impl Spell for PathAsk {
-    ghost use Rattle.zk_records.specs.Records.{path_ask};
-
     ghost items = { path_ask.items };
 
     fn put(&self, out: &mut Vec<u8>) -> Result<(), AllocError> {
@@ -70,13 +64,10 @@ impl Spell for PathAsk {
 }
 
 impl Wire for PathAsk {
-    ghost use Rattle.zk_records.specs.Records.{path_ask};
-
     ghost layout = { path_ask.layout };
 
     fn decode(alloc: Global, src: &[u8], place: usize) -> Result<(Self, usize), ItemFault> {
-        let (path, place) = Wire::decode(alloc, src, place)?;
-        Ok((PathAsk { path }, place))
+        decode!(alloc, src, place => PathAsk { path })
     }
 
     fn scan(src: &[u8], place: usize) -> Result<usize, ItemFault> {

@@ -1,11 +1,12 @@
 //! The bodies of requests about the session: `AuthPacket` and `SetWatches` of zookeeper.jute.
+ghost use Rattle.zk_records.specs.Records.{auth_ask, set_watches_ask};
 
-use crate::fields::fields;
+use crate::fields::{decode, fields};
 use std::alloc::{AllocError, Global};
 use zk_jute::{Blob, ItemFault, List, Spell, Text, Wire};
 
 /// Who the client is: `AuthPacket`.
-#[derive(Drop)]
+#[derive(Debug, Drop)]
 pub struct AuthAsk {
     /// `type` in jute: 0 in every release.
     pub kind: i32,
@@ -16,27 +17,22 @@ pub struct AuthAsk {
 }
 
 impl Spell for AuthAsk {
-    ghost use Rattle.zk_records.specs.Records.{auth_ask};
-
     ghost items = { auth_ask.items };
 
     fn put(&self, out: &mut Vec<u8>) -> Result<(), AllocError> {
-        fields!(&self.kind, &self.scheme, &self.auth).put(out)
+        fields!(self: kind, scheme, auth).put(out)
     }
 
     fn size_within(&self, limit: u32) -> Option<u32> {
-        fields!(&self.kind, &self.scheme, &self.auth).size_within(limit)
+        fields!(self: kind, scheme, auth).size_within(limit)
     }
 }
 
 impl Wire for AuthAsk {
-    ghost use Rattle.zk_records.specs.Records.{auth_ask};
-
     ghost layout = { auth_ask.layout };
 
     fn decode(alloc: Global, src: &[u8], place: usize) -> Result<(Self, usize), ItemFault> {
-        let (fields!(kind, scheme, auth), place) = Wire::decode(alloc, src, place)?;
-        Ok((AuthAsk { kind, scheme, auth }, place))
+        decode!(alloc, src, place => AuthAsk { kind, scheme, auth })
     }
 
     fn scan(src: &[u8], place: usize) -> Result<usize, ItemFault> {
@@ -51,7 +47,7 @@ impl Wire for AuthAsk {
 }
 
 /// Watches are to be set again after a reconnect: `SetWatches`.
-#[derive(Drop)]
+#[derive(Debug, Drop)]
 pub struct SetWatchesAsk {
     /// `relativeZxid` in jute: the newest transaction that the client has seen.
     pub zxid: i64,
@@ -64,49 +60,22 @@ pub struct SetWatchesAsk {
 }
 
 impl Spell for SetWatchesAsk {
-    ghost use Rattle.zk_records.specs.Records.{set_watches_ask};
-
     ghost items = { set_watches_ask.items };
 
     fn put(&self, out: &mut Vec<u8>) -> Result<(), AllocError> {
-        fields!(
-            &self.zxid,
-            &self.data_watches,
-            &self.exist_watches,
-            &self.child_watches
-        )
-        .put(out)
+        fields!(self: zxid, data_watches, exist_watches, child_watches).put(out)
     }
 
     fn size_within(&self, limit: u32) -> Option<u32> {
-        fields!(
-            &self.zxid,
-            &self.data_watches,
-            &self.exist_watches,
-            &self.child_watches
-        )
-        .size_within(limit)
+        fields!(self: zxid, data_watches, exist_watches, child_watches).size_within(limit)
     }
 }
 
 impl Wire for SetWatchesAsk {
-    ghost use Rattle.zk_records.specs.Records.{set_watches_ask};
-
     ghost layout = { set_watches_ask.layout };
 
     fn decode(alloc: Global, src: &[u8], place: usize) -> Result<(Self, usize), ItemFault> {
-        let (fields!(zxid, data_watches, exist_watches, child_watches), place) = Wire::decode(
-            alloc, src, place,
-        )?;
-        Ok((
-            SetWatchesAsk {
-                zxid,
-                data_watches,
-                exist_watches,
-                child_watches,
-            },
-            place,
-        ))
+        decode!(alloc, src, place => SetWatchesAsk { zxid, data_watches, exist_watches, child_watches })
     }
 
     fn scan(src: &[u8], place: usize) -> Result<usize, ItemFault> {

@@ -1,11 +1,12 @@
 //! What is known of a node: `Stat` of zookeeper.jute.
+ghost use Rattle.zk_records.specs.Records.{stat};
 
-use crate::fields::fields;
+use crate::fields::{decode, fields};
 use std::alloc::{AllocError, Global};
 use zk_jute::{ItemFault, Spell, Wire};
 
 /// What is known of a node: `Stat`, 68 bytes.
-#[derive(Drop)]
+#[derive(Debug, Drop)]
 pub struct Stat {
     /// The transaction that made the node.
     pub czxid: i64,
@@ -31,83 +32,27 @@ pub struct Stat {
 }
 
 impl Spell for Stat {
-    ghost use Rattle.zk_records.specs.Records.{stat};
-
     ghost items = { stat.items };
 
     fn put(&self, out: &mut Vec<u8>) -> Result<(), AllocError> {
-        fields!(
-            &self.czxid,
-            &self.mzxid,
-            &self.ctime,
-            &self.mtime,
-            &self.version,
-            &self.cversion,
-            &self.aversion,
-            &self.ephemeral_owner,
-            &self.data_length,
-            &self.num_children,
-            &self.pzxid
-        )
-        .put(out)
+        let fields = fields!(self: czxid, mzxid, ctime, mtime, version, cversion, aversion,
+            ephemeral_owner, data_length, num_children, pzxid);
+        fields.put(out)
     }
 
     fn size_within(&self, limit: u32) -> Option<u32> {
-        fields!(
-            &self.czxid,
-            &self.mzxid,
-            &self.ctime,
-            &self.mtime,
-            &self.version,
-            &self.cversion,
-            &self.aversion,
-            &self.ephemeral_owner,
-            &self.data_length,
-            &self.num_children,
-            &self.pzxid
-        )
-        .size_within(limit)
+        let fields = fields!(self: czxid, mzxid, ctime, mtime, version, cversion, aversion,
+            ephemeral_owner, data_length, num_children, pzxid);
+        fields.size_within(limit)
     }
 }
 
 impl Wire for Stat {
-    ghost use Rattle.zk_records.specs.Records.{stat};
-
     ghost layout = { stat.layout };
 
     fn decode(alloc: Global, src: &[u8], place: usize) -> Result<(Self, usize), ItemFault> {
-        let (
-            fields!(
-                czxid,
-                mzxid,
-                ctime,
-                mtime,
-                version,
-                cversion,
-                aversion,
-                ephemeral_owner,
-                data_length,
-                num_children,
-                pzxid
-            ),
-            place,
-        ) = Wire::decode(alloc, src, place)?;
-        Ok((
-            Stat {
-                czxid,
-                mzxid,
-                ctime,
-                mtime,
-                version,
-                cversion,
-                aversion,
-                ephemeral_owner,
-                data_length,
-                num_children,
-                pzxid,
-            },
-            place,
-        ))
+        decode!(alloc, src, place => Stat { czxid, mzxid, ctime, mtime, version, cversion, aversion,
+            ephemeral_owner, data_length, num_children, pzxid })
     }
 
     fn scan(src: &[u8], place: usize) -> Result<usize, ItemFault> {
