@@ -1,4 +1,4 @@
--- A value, and then nothing or one boolean: the payloads that open a connection (ZooKeeper 3.4, ClientCnxn.primeConnection and ZooKeeperServer.finishSessionInit).
+-- A value, and then nothing or one boolean: the payloads that open a connection (ZooKeeper 3.4, ClientCnxnSocket.readConnectResult and ZooKeeperServer.processConnectRequest).
 use Rattle.std.specs.Prelude.{◌≡◌, ◌≢◌, ℕ, ◌+◌, Bool, List, [], ◌∷◌, ◌++◌, length, Option, Some, None, Result, Ok, Err}
 use Rattle.zk_jute.specs.declared.fault.ItemFault.{ItemFault}
 use Rattle.zk_jute.specs.declared.fault.Reason.{Reason}
