@@ -3,8 +3,8 @@ use Rattle.std.proofs.Common.{◌≡◌, ℕ, List, Option, Bool, inl, inr, sym,
 use Rattle.std.specs.Prelude.{Result, Ok, Err, IfOk, IfErr}
 use Rattle.zk_jute.specs.declared.fault.ItemFault.{ItemFault}
 use Rattle.zk_jute.specs.declared.fault.Reason.{Reason}
-use Rattle.zk_jute.specs.Flagged.{flag_items, IsReadAs}
-use Rattle.zk_jute.specs.Told.{IsTold}
+use Rattle.zk_jute.specs.Flagged.{flag_items}
+use Rattle.zk_jute.specs.Told.{IsTold, IsReadAs}
 use Rattle.zk_jute.proofs.Layouts.{have_parts}
 use Rattle.zk_jute.proofs.Flagged.{flagged_unique, flagged_excludes, flagged_injective}
 use Rattle.zk_jute.proofs.Sequels.{Same}

@@ -2,7 +2,7 @@
 ghost use Rattle.std.specs.Prelude.{◌≡◌, ◌≤◌, length, IfOk, IfErr};
 ghost use Rattle.zk_jute.specs.Item.{HaveBytes};
 ghost use Rattle.zk_jute.specs.Told.{StandsAt, IsTold, IsToldAt};
-ghost use Rattle.zk_jute.specs.Flagged.{IsReadAs};
+ghost use Rattle.zk_jute.specs.Told.{IsReadAs};
 ghost use Rattle.zk_asks.specs.Frames.{IsSent, IsFirst, IsLater, op_of_ask, body_items};
 ghost use Rattle.zk_asks.specs.Frames as frames;
 ghost use Rattle.zk_asks.specs.declared.frame.ClientFrame.{ClientFrame};
