@@ -1,17 +1,19 @@
 #!/usr/bin/env python3
 """Times zkdump over recordings, beside cat over the same file.
 
-    measure.py [--words check,show] [--times N] [--program PATH] RECORDING ..
+    measure.py [--words check,show] [--times N] [--program PATH] [--beside COMMAND] RECORDING ..
 
 Each command reads the recording from a file as its standard input and writes to nothing (/dev/null). It is run
 N times (3 unless told), one at a time, and its fastest run counts. Printed are megabytes (1,000,000
 bytes) of recording a second, seconds, and the greatest memory that the process had (its resident set).
-The first run of cat brings the file into the system's cache, and isn't counted.
+The first run of cat brings the file into the system's cache, and isn't counted. With --beside, another
+command that reads a recording is timed too.
 """
 
 import argparse
 import os
 import pathlib
+import shlex
 import subprocess
 import sys
 import time
@@ -47,6 +49,7 @@ def main():
     parser.add_argument("recordings", type=pathlib.Path, nargs="+")
     parser.add_argument("--words", default="check")
     parser.add_argument("--times", type=int, default=3)
+    parser.add_argument("--beside", default="", help="another command that reads a recording")
     parser.add_argument("--program", default=str(BUILT if BUILT.exists() else TOP / "zkdump"))
     options = parser.parse_args()
     for path in options.recordings:
@@ -54,6 +57,8 @@ def main():
         measure("cat", ["cat"], path, options.times)
         for word in options.words.split(","):
             measure(word, [options.program, word], path, options.times)
+        if options.beside:
+            measure("beside", shlex.split(options.beside), path, options.times)
     return 0
 
 
