@@ -5,22 +5,49 @@
 
 Each command reads the recording from a file as its standard input and writes to nothing (/dev/null). It is run
 N times (3 unless told), one at a time, and its fastest run counts. Printed are megabytes (1,000,000
-bytes) of recording a second, seconds, and the greatest memory that the process had (its resident set).
+bytes) of recording a second, seconds, and the greatest memory that the process had (its resident set,
+looked at a hundred times a second).
 The first run of cat brings the file into the system's cache, and isn't counted. With --beside, another
 command that reads a recording is timed too.
 """
 
 import argparse
-import os
 import pathlib
 import shlex
 import subprocess
 import sys
+import threading
 import time
 
 HERE = pathlib.Path(__file__).resolve().parent
 TOP = HERE.parent
 BUILT = TOP / "crates" / "zkdump" / "out" / "zkdump"
+
+
+def greatest_memory(pid):
+    """The greatest resident set of a process so far, in bytes; 0 where it can't be told (any more)."""
+    try:
+        with open(f"/proc/{pid}/status", encoding="ascii") as status:
+            for line in status:
+                if line.startswith("VmHWM:"):
+                    return int(line.split()[1]) * 1024
+    except OSError:
+        pass
+    return 0
+
+
+class Watch(threading.Thread):
+    """Looks at a process's memory until it ends. (What wait4 tells has this script's memory in it.)"""
+
+    def __init__(self, pid):
+        super().__init__(daemon=True)
+        self.pid = pid
+        self.greatest = 0
+        self.ended = threading.Event()
+
+    def run(self):
+        while not self.ended.wait(0.01):
+            self.greatest = max(self.greatest, greatest_memory(self.pid))
 
 
 def run(command, path):
@@ -29,10 +56,13 @@ def run(command, path):
         start = time.perf_counter()
         process = subprocess.Popen(command, stdin=recording, stdout=subprocess.DEVNULL,
                                    stderr=subprocess.DEVNULL)
-        _, status, usage = os.wait4(process.pid, 0)
+        watch = Watch(process.pid)
+        watch.start()
+        status = process.wait()
         seconds = time.perf_counter() - start
-        process.returncode = os.waitstatus_to_exitcode(status)
-    return seconds, usage.ru_maxrss * 1024, process.returncode
+        watch.ended.set()
+        watch.join()
+    return seconds, watch.greatest, status
 
 
 def measure(name, command, path, times):
