@@ -196,6 +196,8 @@ fn what_was_asked(rt: HostRuntime) -> Result<(), Fail> {
     asked_laws::<Wanted>();
     first_laws();
     ask_laws();
+    form_laws();
+    opening_laws();
     assert_eq!(rt; part_of(&Wanted { op: Op::Sync }), (Op::Sync, 0, None));
     Ok(())
 }
