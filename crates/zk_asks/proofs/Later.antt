@@ -22,7 +22,7 @@ use Rattle.zk_records.specs.Codes.{op_number}
 use Rattle.zk_asks.specs.Codes.{IsAllowed}
 use Rattle.zk_asks.specs.Forms.{header_items, Body, Fields, Parts, body_of, IsOf, IsBody, IsAsk, asks}
 use Rattle.zk_asks.specs.Faults.{IsFaultOf, IsBodyFault, IsAskFault, in_header, unknown_op, bad_xid, in_body, behind_body}
-use Rattle.zk_asks.specs.Frames.{op_of_ask, body_items, multi_items, IsSent, IsLater, payload}
+use Rattle.zk_asks.specs.Frames.{op_of_ask, body_items, multi_items, frame_items, IsSent, IsLater, payload}
 use Rattle.zk_jute.specs.Told.{IsReadAs}
 use Rattle.zk_jute.specs.Told.{IsTold}
 use Rattle.zk_jute.specs.Wired.{Wired}
