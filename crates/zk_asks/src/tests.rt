@@ -143,30 +143,39 @@ fn refusals(rt: HostRuntime) -> Result<(), Fail> {
 }
 
 #[test]
-fn multis(rt: HostRuntime) -> Result<(), Fail> {
-    let alloc = rt.alloc();
+fn empty_multi(rt: HostRuntime) -> Result<(), Fail> {
     let none = b"\0\0\0\x01\0\0\0\x0e\xff\xff\xff\xff\x01\xff\xff\xff\xff";
-    let (_, ask) = asked(&rt, alloc, none)?;
+    let (_, ask) = asked(&rt, rt.alloc(), none)?;
     assert_eq!(rt; ask.op(), Op::Multi);
     assert_eq!(rt; ask.parts().len(), 0);
-    let (_, ask) = asked(&rt, alloc, THREE)?;
-    let parts = ask.parts();
-    assert_eq!(rt; parts.len(), 3);
-    assert_eq!(rt; parts[0].op(), PartOp::Create);
-    assert_eq!(rt; parts[1].op(), PartOp::Check);
-    assert_eq!(rt; parts[2].op(), PartOp::SetData);
-    let rows: [(&[u8], u32, Reason); 4] = [
-        // A multi within a multi.
-        (b"\0\0\0\x01\0\0\0\x0e\0\0\0\x0e\0\xff\xff\xff\xff\xff\xff\xff\xff\x01\xff\xff\xff\xff", 8, Reason::BadPart),
-        // A header that can't be one of a part is still read to its end.
-        (b"\0\0\0\x01\0\0\0\x0e\0\0\0\x0e\x02", 12, Reason::BadBool),
-        (b"\0\0\0\x01\0\0\0\x0e\0\0\0\x0e\0\xff", 13, Reason::Short),
-        (b"\0\0\0\x01\0\0\0\x0e\0\0\0\x0d\0\xff\xff\xff\xff\0\0\0\x02/a\0\0", 23, Reason::Short),
-    ];
-    for (payload, place, reason) in rows {
-        refused(&rt, read_ask(alloc, payload), place, reason)?;
-    }
     Ok(())
+}
+
+#[test]
+fn three_parts(rt: HostRuntime) -> Result<(), Fail> {
+    let (_, ask) = asked(&rt, rt.alloc(), THREE)?;
+    let [first, second, third] = ask.parts() else {
+        return Err("not three parts")?;
+    };
+    assert_eq!(rt; first.op(), PartOp::Create);
+    assert_eq!(rt; second.op(), PartOp::Check);
+    assert_eq!(rt; third.op(), PartOp::SetData);
+    Ok(())
+}
+
+#[test]
+fn multi_refusals(rt: HostRuntime) -> Result<(), Fail> {
+    let alloc = rt.alloc();
+    // A multi within a multi.
+    let nested = b"\0\0\0\x01\0\0\0\x0e\0\0\0\x0e\0\xff\xff\xff\xff\xff\xff\xff\xff\x01\xff\xff\xff\xff";
+    refused(&rt, read_ask(alloc, nested), 8, Reason::BadPart)?;
+    // A header that can't be one of a part is still read to its end.
+    let flag = b"\0\0\0\x01\0\0\0\x0e\0\0\0\x0e\x02";
+    refused(&rt, read_ask(alloc, flag), 12, Reason::BadBool)?;
+    let cut = b"\0\0\0\x01\0\0\0\x0e\0\0\0\x0e\0\xff";
+    refused(&rt, read_ask(alloc, cut), 13, Reason::Short)?;
+    let record = b"\0\0\0\x01\0\0\0\x0e\0\0\0\x0d\0\xff\xff\xff\xff\0\0\0\x02/a\0\0";
+    refused(&rt, read_ask(alloc, record), 23, Reason::Short)
 }
 
 /// A request for an operation, and for the parts of its multi.
