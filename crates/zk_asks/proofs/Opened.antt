@@ -42,7 +42,7 @@ boolean_is (AUstring t) e = absurd cc
 boolean_is (ABuffer b) e = absurd cc
 boolean_is (ACount n) e = absurd cc
 
-mark_shape : (items : List Item) → IsValueOf multi_header.layout items → (h : MultiHeader) × (items ≡ marked h)
+pub mark_shape : (items : List Item) → IsValueOf multi_header.layout items → (h : MultiHeader) × (items ≡ marked h)
 unfolding ◌then◌
 mark_shape items v =
     let a = v.0 in
@@ -62,10 +62,10 @@ mark_shape items v =
     (h, cc)
 
 -- a header of the same first numbers that stands before no part
-loose : MultiHeader → MultiHeader
+pub loose : MultiHeader → MultiHeader
 loose h = record { kind = h.kind; done = h.done; err = pos 0 }
 
-loose_begins : (o : List Item) (i : Item) (m : List Item) (h : MultiHeader) → o ++ (i ∷ m) ≡ marked h → (more : List Item) × (marked (loose h) ≡ o ++ more)
+pub loose_begins : (o : List Item) (i : Item) (m : List Item) (h : MultiHeader) → o ++ (i ∷ m) ≡ marked h → (more : List Item) × (marked (loose h) ≡ o ++ more)
 unfolding loose
 loose_begins [] i m h e = (marked (loose h), refl)
 loose_begins (x ∷ []) i m h e = let same : AnInt h.kind ≡ x = cc in (ABoolean h.done ∷ AnInt (pos 0) ∷ [], ap (λ (z : Item). z ∷ ABoolean h.done ∷ AnInt (pos 0) ∷ []) same)
@@ -80,7 +80,7 @@ unfolding loose
 loose_headed h have = last (loose h) (have.0, (tt, (omega (arith, ints), tt))) (λ op e. let wrong : pos 0 ≡ negsuc 0 = ap (λ (x : MultiHeader). x.err) e in absurd cc)
 
 -- the kinds of a header's items
-kinds_same : (a b : MultiHeader) → map kind_of (marked a) ≡ map kind_of (marked b)
+pub kinds_same : (a b : MultiHeader) → map kind_of (marked a) ≡ map kind_of (marked b)
 kinds_same a b = refl
 
 -- ---- the cases of the reader, over openings
@@ -167,7 +167,7 @@ multi_opened (behind_part bytes rest op part q r v e f) =
 
 -- ---- openings, by the cases of the reader
 
-first_kind : (more : List Item) (k : Kind) (ks : List Kind) (n : Kind) → map kind_of more ≡ k ∷ ks → k ≡ n → NextIs more n
+pub first_kind : (more : List Item) (k : Kind) (ks : List Kind) (n : Kind) → map kind_of more ≡ k ∷ ks → k ≡ n → NextIs more n
 first_kind [] k ks n e same = absurd cc
 first_kind (j ∷ js) k ks n e same = let one : kind_of j ≡ k = cc in (j, js, refl, one ∙ same)
 
