@@ -1,5 +1,6 @@
 pub mod Item
 pub mod Layout
+pub mod Names
 pub mod Faults
 pub mod Reading
 pub mod Laws

@@ -11,7 +11,7 @@ mod text;
 mod value;
 mod wire;
 
-pub use fault::{ItemFault, Reason};
+pub use fault::{ItemFault, Reason, reason_name};
 pub use number::{bool_at, int_at, long_at};
 pub use payload::read_flagged;
 pub use value::{Blob, Bytes, Chars, Items, List, Text};
