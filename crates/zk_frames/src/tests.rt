@@ -39,7 +39,7 @@ fn frames_in_pieces_of_one_byte(rt: HostRuntime) -> Result<(), Fail> {
             ends.push(frames.payload().len())?;
         }
     }
-    assert_eq!(rt; ends.as_slice(), &[4, 0, 9, 1, 16, 3]);
+    assert_eq!(rt; ends.as_slice(), [4, 0, 9, 1, 16, 3].as_slice());
     Ok(())
 }
 
@@ -67,7 +67,7 @@ fn bytes_are_forgotten_and_taken_again(rt: HostRuntime) -> Result<(), Fail> {
     frames.untake(4);
     assert_eq!(rt; frames.held(), 3);
     assert_eq!(rt; frames.take(&STREAM[12..]), took(4, true));
-    assert_eq!(rt; frames.payload(), b"bcd");
+    assert_eq!(rt; frames.payload(), b"bcd".as_slice());
     cut_in_one_way();
     Ok(())
 }
