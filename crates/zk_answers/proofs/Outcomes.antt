@@ -18,7 +18,8 @@ use Rattle.zk_records.specs.declared.header.MultiHeader.{MultiHeader}
 use Rattle.zk_records.specs.declared.op.PartOp.{PartOp}
 use Rattle.zk_records.specs.Records.{multi_header}
 use Rattle.zk_answers.specs.declared.frame.PartDone.{PartDone}
-use Rattle.zk_answers.specs.Results.{marked, result_header, error_header, result_layout, done_items, Answers, AnswerAll, MayAnswer, IsDoneFault, in_mark, bad_mark, in_result, in_error, other_error, behind_done}
+use Rattle.zk_asks.specs.Forms.{marked}
+use Rattle.zk_answers.specs.Results.{result_header, error_header, result_layout, done_items, Answers, AnswerAll, MayAnswer, IsDoneFault, in_mark, bad_mark, in_result, in_error, other_error, behind_done}
 
 pub result_mark : (ops : List PartOp) (src : List ℕ) (place : ℕ) (e : ItemFault) → IsToldFault (IsValueOf multi_header.layout) src place e → IsToldAt (IsDoneFault ops) src place e
 unfolding IsToldAt
