@@ -1,3 +1,5 @@
+ghost use Rattle.zk_asks.specs.Frames.{MaySend};
+
 use super::*;
 use std::alloc::Global;
 use std::process::Abort;
@@ -17,10 +19,17 @@ fn again(
     alloc: Global,
     frame: ClientFrame,
     payload: &[u8],
-) -> Result<ClientFrame, Fail> {
-    let size = payload.len() as u32;
-    assert_eq!(rt; frame.size_within(size), Some(size));
-    assert_eq!(rt; frame.size_within(size - 1), None);
+) -> Result<ClientFrame, Fail>
+    requires { MaySend frame }
+{
+    let Some(size) = frame.size_within(i32::MAX as u32) else {
+        return Err("no size")?;
+    };
+    assert_eq!(rt; size as usize, payload.len());
+    assert!(rt; frame.size_within(size).is_some());
+    if size > 0 {
+        assert!(rt; frame.size_within(size - 1).is_none());
+    }
     let mut out = Vec::new(alloc);
     write_client(&frame, &mut out)?;
     assert_eq!(rt; out.as_slice(), payload);
@@ -196,6 +205,8 @@ fn what_was_asked(rt: HostRuntime) -> Result<(), Fail> {
     asked_laws::<Wanted>();
     first_laws();
     ask_laws();
+    form_laws();
+    opening_laws();
     assert_eq!(rt; part_of(&Wanted { op: Op::Sync }), (Op::Sync, 0, None));
     Ok(())
 }

@@ -1,11 +1,12 @@
 -- The names of operations, errors and events (ZooKeeper 3.4: ZooDefs.OpCode, KeeperException.Code, Watcher.Event.EventType), as tables.
-use Rattle.std.specs.Prelude.{ℕ, List, [], ◌∷◌, Option, ℤ, pos, negsuc, codes}
+use Rattle.std.specs.Prelude.{ℕ, List, [], ◌∷◌, Option, ℤ, pos, codes}
 use Rattle.std.specs.Map.{lookup}
 use Rattle.std.specs.Ordering.{int_eq}
 use Rattle.zk_records.specs.declared.op.Op.{Op}
 use Rattle.zk_records.specs.declared.op.Op.TheVariants as ops
 use Rattle.zk_records.specs.declared.op.PartOp.{PartOp}
 use Rattle.zk_records.specs.declared.op.PartOp.TheVariants as parts
+use Rattle.zk_records.specs.Codes.{minus}
 
 abbrev pub op_name : Op → List ℕ
 op_name ops.Create = codes "create"
@@ -33,32 +34,32 @@ part_name parts.Check = codes "check"
 abbrev pub errors : List (ℤ × List ℕ)
 errors =
     (pos 0, codes "OK") ∷
-    (negsuc 0, codes "SYSTEMERROR") ∷
-    (negsuc 1, codes "RUNTIMEINCONSISTENCY") ∷
-    (negsuc 2, codes "DATAINCONSISTENCY") ∷
-    (negsuc 3, codes "CONNECTIONLOSS") ∷
-    (negsuc 4, codes "MARSHALLINGERROR") ∷
-    (negsuc 5, codes "UNIMPLEMENTED") ∷
-    (negsuc 6, codes "OPERATIONTIMEOUT") ∷
-    (negsuc 7, codes "BADARGUMENTS") ∷
-    (negsuc 99, codes "APIERROR") ∷
-    (negsuc 100, codes "NONODE") ∷
-    (negsuc 101, codes "NOAUTH") ∷
-    (negsuc 102, codes "BADVERSION") ∷
-    (negsuc 107, codes "NOCHILDRENFOREPHEMERALS") ∷
-    (negsuc 109, codes "NODEEXISTS") ∷
-    (negsuc 110, codes "NOTEMPTY") ∷
-    (negsuc 111, codes "SESSIONEXPIRED") ∷
-    (negsuc 112, codes "INVALIDCALLBACK") ∷
-    (negsuc 113, codes "INVALIDACL") ∷
-    (negsuc 114, codes "AUTHFAILED") ∷
-    (negsuc 117, codes "SESSIONMOVED") ∷
-    (negsuc 118, codes "NOTREADONLY") ∷
+    (minus 1, codes "SYSTEMERROR") ∷
+    (minus 2, codes "RUNTIMEINCONSISTENCY") ∷
+    (minus 3, codes "DATAINCONSISTENCY") ∷
+    (minus 4, codes "CONNECTIONLOSS") ∷
+    (minus 5, codes "MARSHALLINGERROR") ∷
+    (minus 6, codes "UNIMPLEMENTED") ∷
+    (minus 7, codes "OPERATIONTIMEOUT") ∷
+    (minus 8, codes "BADARGUMENTS") ∷
+    (minus 100, codes "APIERROR") ∷
+    (minus 101, codes "NONODE") ∷
+    (minus 102, codes "NOAUTH") ∷
+    (minus 103, codes "BADVERSION") ∷
+    (minus 108, codes "NOCHILDRENFOREPHEMERALS") ∷
+    (minus 110, codes "NODEEXISTS") ∷
+    (minus 111, codes "NOTEMPTY") ∷
+    (minus 112, codes "SESSIONEXPIRED") ∷
+    (minus 113, codes "INVALIDCALLBACK") ∷
+    (minus 114, codes "INVALIDACL") ∷
+    (minus 115, codes "AUTHFAILED") ∷
+    (minus 118, codes "SESSIONMOVED") ∷
+    (minus 119, codes "NOTREADONLY") ∷
     []
 
 abbrev pub events : List (ℤ × List ℕ)
 events =
-    (negsuc 0, codes "None") ∷
+    (minus 1, codes "None") ∷
     (pos 1, codes "NodeCreated") ∷
     (pos 2, codes "NodeDeleted") ∷
     (pos 3, codes "NodeDataChanged") ∷
