@@ -98,12 +98,15 @@ goes_on false limit before part taken payloads c h =
     record { whole = ap (λ z. z ++ part) c.whole ∙ append_assoc (frames payloads) before part; within = c.within; beginning = h }
 goes_on true limit before part taken payloads c h =
     let p = h.0 in
-    let whole : taken ++ part ≡ frames (payloads ++ p ∷ []) ++ [] = ap (λ z. z ++ part) c.whole ∙ append_assoc (frames payloads) before part ∙ ap (λ z. frames payloads ++ z) h.1 ∙ sym (frames_push payloads p) ∙ sym (append-nil (frames (payloads ++ p ∷ []))) in
-    (p, h.1, record {
-      whole = whole;
-      within = AllByRecursion-push (λ z. length z ≤ limit) payloads p c.within h.2;
-      beginning = inl (omega arith);
-    })
+    let whole : taken ++ part ≡ frames (payloads ++ p ∷ []) ++ [] = ap (λ z. z ++ part) c.whole ∙ append_assoc (frames payloads) before part ∙ ap (λ z. frames payloads ++ z) h.1 ∙ sym (frames_push payloads p) ∙ sym (append-nil (frames (payloads ++ p ∷ []))) in (
+      p,
+      h.1,
+      record {
+        whole = whole;
+        within = AllByRecursion-push (λ z. length z ≤ limit) payloads p c.within h.2;
+        beginning = inl (omega arith);
+      },
+    )
 
 ends_well : (whole : Bool) (limit used all : ℕ) (after : List ℕ) → EndsAt (standing_of whole) used all → Holds limit (standing_of whole) after → EndsWell limit whole used all after
 ends_well false limit used all after e h = (e, h)
