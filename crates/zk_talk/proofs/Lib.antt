@@ -25,3 +25,7 @@ pub mod Advancing
 pub mod Telling
 pub mod Sides
 pub mod Answering
+pub mod Framed
+pub mod Saying
+pub mod Speaking
+pub mod Spoken

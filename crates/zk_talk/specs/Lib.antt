@@ -14,3 +14,4 @@ pub mod Judged
 pub mod Advance
 pub mod Taking
 pub mod Answer
+pub mod Said

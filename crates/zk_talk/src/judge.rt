@@ -33,7 +33,7 @@ fn read_client(alloc: Global, count: u64, payload: &[u8]) -> Result<ClientFrame,
 }
 
 /// The client's frame waits for its reply, if it is to have one.
-fn remember(alloc: Global, waiting: &mut Waiting, frame: &ClientFrame) -> Result<(), ItemFault>
+pub fn remember(alloc: Global, waiting: &mut Waiting, frame: &ClientFrame) -> Result<(), ItemFault>
     requires { length (client_payload frame.now) < 2 ^ 32 }
     ensures max { waiting.new.max ≡ waiting.old.max }
     ensures ok { OnOk result (IsRemembered frame.now waiting.old waiting.new) }
@@ -131,7 +131,7 @@ fn read_server(
 }
 
 /// What the server's frame answers waits no more.
-fn forget(waiting: &mut Waiting, frame: &ServerFrame)
+pub fn forget(waiting: &mut Waiting, frame: &ServerFrame)
     requires { HasAsk frame.now waiting.old }
     ensures max { waiting.new.max ≡ waiting.old.max }
     ensures forgotten { IsForgotten frame.now waiting.old waiting.new }

@@ -6,10 +6,16 @@ mod judge;
 mod limits;
 mod message;
 mod read;
+mod round;
+mod say;
+mod speaker;
 mod stream;
 mod talk;
 
 pub use limits::Limits;
 pub use message::{Ended, Ending, Fault, Message, Side};
 pub use read::read_all;
+pub use round::{read_is_said, said_is_read};
+pub use say::{SayFault, say_name};
+pub use speaker::Speaker;
 pub use talk::{Taken, Talk};

@@ -1,0 +1,24 @@
+use Rattle.std.proofs.Common.{◌≡◌, ◌≤◌, arith, true, subst}
+use Rattle.zk_jute.specs.Item.{Fit}
+use Rattle.zk_asks.specs.Frames.{frame_items}
+use Rattle.zk_talk.proofs.Saying.{client_said, client_full, unequal}
+use Rattle.zk_talk.proofs.Speaking.{small_payload, either_way}
+use Rattle.zk_talk.proofs.say.say_client.Goals as goal
+
+pub put_request-requires : goal.put_request-requires
+put_request-requires c =
+    let small : c.args.limits.client ≤ 16777216 = omega (arith, c.args.limits.in_range) in
+    small_payload c.args.limits.client c.args.message.now small (subst (λ z. Fit z (frame_items c.args.message.now)) c.client.ensures c.in-Ok.ensures.fits)
+
+pub returns-in-Ok-put_request-clause-said : goal.returns-in-Ok-put_request-clause-said
+returns-in-Ok-put_request-clause-said c = λ welcomed v heard.
+    let sent : c.may_send.result ≡ true = cc in
+    let fits = subst (λ z. Fit z (frame_items c.args.message.now)) c.client.ensures c.in-Ok.ensures.fits in
+    client_said c.args.limits c.args.asked welcomed c.args.waiting.now v heard c.args.message.now c.is_connect.result c.is_connect.ensures (unequal _ _ c.if-is_connect-asked.false) c.put_request.new.waiting c.requires.room (c.may_send.ensures.0 sent) fits c.in-Ok-put_request.ensures.ok
+
+pub returns-in-Err-put_request-clause-err : goal.returns-in-Err-put_request-clause-err
+returns-in-Err-put_request-clause-err c =
+    let sent : c.may_send.result ≡ true = cc in
+    let fits = subst (λ z. Fit z (frame_items c.args.message.now)) c.client.ensures c.in-Ok.ensures.fits in
+    either_way c.in-Err-put_request.e _ _ (λ welcomed v heard.
+        client_full c.args.limits c.args.asked welcomed c.args.waiting.now v heard c.args.message.now c.is_connect.result c.is_connect.ensures (unequal _ _ c.if-is_connect-asked.false) c.in-Err-put_request.e c.requires.room (c.may_send.ensures.0 sent) fits c.in-Err-put_request.ensures.err)

@@ -1,0 +1,7 @@
+use Rattle.std.proofs.Common.{ap, ◌∙◌}
+use Rattle.zk_talk.proofs.Start.{no_lanes}
+use Rattle.zk_talk.proofs.Speaking.{starts}
+use Rattle.zk_talk.proofs.speaker.Speaker.new.Goals as goal
+
+pub returns-clause-says : goal.returns-clause-says
+returns-clause-says c = starts c.args.limits c.new.result (c.new.ensures ∙ ap no_lanes c.waiting.ensures)

@@ -1,0 +1,27 @@
+//! What was said is read again.
+ghost use Rattle.std.specs.Prelude.{◌≡◌, List, []};
+ghost use Rattle.zk_talk.specs.declared.limits.Limits.{Limits};
+ghost use Rattle.zk_talk.specs.declared.message.Message.{Message};
+ghost use Rattle.zk_talk.specs.declared.message.Ending.{Ending};
+ghost use Rattle.zk_talk.specs.declared.message.Ending.TheVariants.{Whole};
+ghost use Rattle.zk_talk.specs.History.{History};
+ghost use Rattle.zk_talk.specs.Conversation.{Conversation};
+ghost use Rattle.zk_talk.specs.Good.{Good, IsOrder};
+ghost use Rattle.zk_talk.specs.Ending.{IsEnding, unanswered};
+ghost use Rattle.zk_talk.specs.Answer.{AreMessages};
+ghost use Rattle.zk_talk.specs.Said.{AreSaid, AreSized, AreFrames, said, conversation_of};
+
+/// What is said may be read: the frames of messages that were said, one after another, are a
+/// history of just these messages in their order, and it ends whole.
+pub fn said_is_read()
+    // The frames are a good history of the messages in their order.
+    ensures good { (limits : Limits) (messages : List Message) → AreSaid limits messages → AreSized messages → Good limits (said messages) (conversation_of messages) [] [] × IsOrder limits (said messages) (conversation_of messages) messages }
+    // What a reader of these frames answers is the messages, and that they end whole.
+    ensures read { (limits : Limits) (messages answered : List Message) (ending : Ending) → AreSaid limits messages → AreSized messages → AreMessages limits (said messages) answered ending → IsEnding limits (said messages) ending → (answered ≡ messages) × (ending ≡ Whole (unanswered (conversation_of messages))) }
+{}
+
+/// What was read may be said again: where a history of whole frames, one after another, is good and
+/// ends whole, its messages, said in their order, give its bytes.
+pub fn read_is_said()
+    ensures { (limits : Limits) (h : History) (v : Conversation) (messages : List Message) → AreFrames limits h → Good limits h v [] [] → IsOrder limits h v messages → AreSaid limits messages × (said messages ≡ h) }
+{}

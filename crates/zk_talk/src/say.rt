@@ -1,0 +1,266 @@
+//! One message more: whether it may be said, and its frame.
+ghost use Rattle.std.specs.Prelude.{◌≡◌, ◌≤◌, ◌<◌, ◌+◌, ◌^◌, ◌++◌, ◌⊎◌, ◌∷◌, [], pos, length, Bool, true, OnOk, OnErr, IfErr, MatchBool, IsTrue, ◌↔◌};
+ghost use Rattle.zk_jute.specs.Item.{Fit, int_bytes};
+ghost use Rattle.zk_asks.specs.Frames as asks;
+ghost use Rattle.zk_answers.specs.Frames as answers;
+ghost use Rattle.zk_frames.specs.Framing.{frame};
+ghost use Rattle.zk_talk.specs.declared.limits.Limits.{Limits};
+ghost use Rattle.zk_talk.specs.declared.say.SayFault.TheVariants.{NoMemory};
+ghost use Rattle.zk_talk.specs.Payloads.{client_payload, server_payload};
+ghost use Rattle.zk_talk.specs.Conversation.{Conversation, with_client, with_server};
+ghost use Rattle.zk_talk.specs.Judged.{IsRemembered};
+ghost use Rattle.zk_talk.specs.Said.{Heard, IsClientRefusal, IsServerRefusal, IsUnwritten, IsUnput, FitsNext, IsUnfit, MayAnswer, CannotAnswer, IsSaidClient, IsSaidServer};
+
+use crate::judge::{forget, remember};
+use crate::limits::Limits;
+use std::alloc::{AllocError, Global};
+use zk_answers::{Outcome, Reply, ServerFrame, fits, write_server};
+use zk_asks::{ClientFrame, allowed, write_client};
+use zk_jute::Reason;
+use zk_waiting::{Waiting, lane_of};
+
+/// Why a message can't be said, in the order of the checks.
+#[derive(Clone, Copy, Debug, PartialEq, Eq)]
+pub enum SayFault {
+    /// A connect message where its side has spoken, or another where it has not.
+    NotFirst,
+    /// No request of the lane waits, or there was no connect request.
+    Unasked,
+    /// The lane's oldest request has another xid.
+    XidOrder { expected: i32, got: i32 },
+    /// The xid isn't allowed for the operation, or the reply doesn't fit its request.
+    Misfit,
+    /// The payload is longer than its side's limit.
+    TooLong,
+    /// What waits would weigh more than may wait.
+    QueueFull,
+    /// A growth was refused.
+    NoMemory,
+}
+
+/// The name of a fault.
+pub fn say_name(fault: &SayFault) -> &'static str {
+    match fault {
+        SayFault::NotFirst => "NotFirst",
+        SayFault::Unasked => "Unasked",
+        SayFault::XidOrder { .. } => "XidOrder",
+        SayFault::Misfit => "Misfit",
+        SayFault::TooLong => "TooLong",
+        SayFault::QueueFull => "QueueFull",
+        SayFault::NoMemory => "NoMemory",
+    }
+}
+
+/// Appends the length that stands before a payload.
+fn put_length(size: u32, out: &mut Vec<u8>) -> Result<(), AllocError>
+    requires { size < 2 ^ 31 }
+    ensures ok { OnOk result (out.new.items ≡ out.old.items ++ int_bytes (pos size)) }
+    ensures err { OnErr result (out.new.items ≡ out.old.items) }
+{
+    out.extend_from_slice(&(size as i32).to_be_bytes())?;
+    Ok(())
+}
+
+/// Appends the frame of a message of the client.
+fn put_client(message: &ClientFrame, limit: u32, out: &mut Vec<u8>) -> Result<(), SayFault>
+    requires allowed { asks.MaySend message.now }
+    requires limit { limit ≤ 16777216 }
+    ensures fits { OnOk result (Fit limit (asks.frame_items message.now)) }
+    ensures ok { OnOk result (out.new.items ≡ out.old.items ++ frame (client_payload message.now)) }
+    ensures same { OnErr result (out.new.items ≡ out.old.items) }
+    ensures err { IfErr result (IsUnwritten limit (asks.frame_items message.now)) }
+{
+    let Some(size) = message.size_within(limit) else {
+        return Err(SayFault::TooLong);
+    };
+    let start = out.len();
+    let Ok(()) = put_length(size, out) else {
+        return Err(SayFault::NoMemory);
+    };
+    let Ok(()) = write_client(message, out) else {
+        out.truncate(start);
+        return Err(SayFault::NoMemory);
+    };
+    Ok(())
+}
+
+/// Appends the frame of a message of the server.
+fn put_server(message: &ServerFrame, limit: u32, out: &mut Vec<u8>) -> Result<(), SayFault>
+    requires xid { answers.HasItsXid message.now }
+    requires limit { limit ≤ 16777216 }
+    ensures fits { OnOk result (Fit limit (answers.frame_items message.now)) }
+    ensures ok { OnOk result (out.new.items ≡ out.old.items ++ frame (server_payload message.now)) }
+    ensures same { OnErr result (out.new.items ≡ out.old.items) }
+    ensures err { IfErr result (IsUnwritten limit (answers.frame_items message.now)) }
+{
+    let Some(size) = message.size_within(limit) else {
+        return Err(SayFault::TooLong);
+    };
+    let start = out.len();
+    let Ok(()) = put_length(size, out) else {
+        return Err(SayFault::NoMemory);
+    };
+    let Ok(()) = write_server(message, out) else {
+        out.truncate(start);
+        return Err(SayFault::NoMemory);
+    };
+    Ok(())
+}
+
+fn is_connect(message: &ClientFrame) -> bool
+    ensures { MatchBool result (asks.IsFirst message.now) (asks.IsLater message.now) }
+{
+    matches!(message, ClientFrame::Connect { .. })
+}
+
+fn is_connected(message: &ServerFrame) -> bool
+    ensures { MatchBool result (answers.IsConnected message.now) (answers.IsConnected message.now → ⊥) }
+{
+    matches!(message, ServerFrame::Connected { .. })
+}
+
+fn may_send(message: &ClientFrame) -> bool
+    ensures { IsTrue result ↔ asks.MaySend message.now }
+{
+    match message {
+        ClientFrame::Connect { .. } => true,
+        ClientFrame::Ask { xid, ask } => allowed(*xid, ask.op()),
+    }
+}
+
+/// The request waits for its reply.
+fn put_request(
+    alloc: Global,
+    waiting: &mut Waiting,
+    message: &ClientFrame,
+) -> Result<(), SayFault>
+    requires { length (client_payload message.now) < 2 ^ 32 }
+    ensures max { waiting.new.max ≡ waiting.old.max }
+    ensures ok { OnOk result (IsRemembered message.now waiting.old waiting.new) }
+    ensures same { OnErr result (waiting.new ≡ waiting.old) }
+    ensures err { IfErr result (IsUnput message.now waiting.old) }
+{
+    match remember(alloc, waiting, message) {
+        Ok(()) => Ok(()),
+        Err(e) => match e.reason {
+            Reason::QueueFull => Err(SayFault::QueueFull),
+            _ => Err(SayFault::NoMemory),
+        },
+    }
+}
+
+/// Says a message of the client, whose request then waits for its reply.
+pub fn say_client(
+    alloc: Global,
+    limits: Limits,
+    asked: bool,
+    waiting: &mut Waiting,
+    message: &ClientFrame,
+    out: &mut Vec<u8>,
+) -> Result<(), SayFault>
+    requires room { waiting.old.max ≡ limits.waiting }
+    ensures max { waiting.new.max ≡ waiting.old.max }
+    ensures bytes { OnOk result (out.new.items ≡ out.old.items ++ frame (client_payload message.now)) }
+    ensures said { OnOk result ((welcomed : Bool) (v : Conversation) → Heard asked welcomed waiting.old v → IsSaidClient limits v message.now × Heard true welcomed waiting.new (with_client v message.now)) }
+    ensures same { OnErr result ((waiting.new ≡ waiting.old) × (out.new.items ≡ out.old.items)) }
+    ensures err { IfErr result (λ e. (e ≡ NoMemory) ⊎ ((welcomed : Bool) (v : Conversation) → Heard asked welcomed waiting.old v → IsClientRefusal limits v message.now e)) }
+{
+    if is_connect(message) == asked {
+        return Err(SayFault::NotFirst);
+    }
+    if !may_send(message) {
+        return Err(SayFault::Misfit);
+    }
+    let start = out.len();
+    match put_client(message, limits.client(), out) {
+        Ok(()) => {}
+        Err(e) => return Err(e),
+    }
+    match put_request(alloc, waiting, message) {
+        Ok(()) => Ok(()),
+        Err(e) => {
+            out.truncate(start);
+            Err(e)
+        }
+    }
+}
+
+/// The failure of an outcome is an error's number.
+fn told(outcome: &Outcome)
+    ensures { answers.IsOutcome outcome.now }
+{
+    if let Outcome::Failed(_, failure) = outcome {
+        let _number = failure.number();
+    }
+}
+
+/// Whether the reply fits the oldest request of its lane.
+fn reply_fits(waiting: &Waiting, reply: &Reply) -> Result<(), SayFault>
+    ensures ok { OnOk result (FitsNext waiting.now reply.now) }
+    ensures err { IfErr result (IsUnfit waiting.now reply.now) }
+{
+    let got = reply.xid;
+    if got == -1 {
+        return Err(SayFault::Misfit);
+    }
+    let Some(slot) = waiting.oldest(lane_of(got)) else {
+        return Err(SayFault::Unasked);
+    };
+    let expected = slot.xid();
+    if expected != got {
+        return Err(SayFault::XidOrder { expected, got });
+    }
+    if !fits(&slot, reply) {
+        return Err(SayFault::Misfit);
+    }
+    told(&reply.outcome);
+    Ok(())
+}
+
+/// Whether what the message answers is there.
+fn may_answer(asked: bool, waiting: &Waiting, message: &ServerFrame) -> Result<(), SayFault>
+    ensures ok { OnOk result (MayAnswer asked waiting.now message.now) }
+    ensures err { IfErr result (CannotAnswer asked waiting.now message.now) }
+{
+    match message {
+        ServerFrame::Connected { .. } => {
+            if asked {
+                Ok(())
+            } else {
+                Err(SayFault::Unasked)
+            }
+        }
+        ServerFrame::Answered(reply) => reply_fits(waiting, reply),
+        ServerFrame::Event { .. } => Ok(()),
+    }
+}
+
+/// Says a message of the server; what it answers waits no more.
+pub fn say_server(
+    limits: Limits,
+    asked: bool,
+    welcomed: bool,
+    waiting: &mut Waiting,
+    message: &ServerFrame,
+    out: &mut Vec<u8>,
+) -> Result<(), SayFault>
+    ensures max { waiting.new.max ≡ waiting.old.max }
+    ensures bytes { OnOk result (out.new.items ≡ out.old.items ++ frame (server_payload message.now)) }
+    ensures said { OnOk result ((v : Conversation) → Heard asked welcomed waiting.old v → IsSaidServer limits v message.now × Heard asked true waiting.new (with_server v message.now)) }
+    ensures same { OnErr result ((waiting.new ≡ waiting.old) × (out.new.items ≡ out.old.items)) }
+    ensures err { IfErr result (λ e. (e ≡ NoMemory) ⊎ ((v : Conversation) → Heard asked welcomed waiting.old v → IsServerRefusal limits v message.now e)) }
+{
+    if is_connected(message) == welcomed {
+        return Err(SayFault::NotFirst);
+    }
+    match may_answer(asked, waiting, message) {
+        Ok(()) => {}
+        Err(e) => return Err(e),
+    }
+    match put_server(message, limits.server(), out) {
+        Ok(()) => {}
+        Err(e) => return Err(e),
+    }
+    forget(waiting, message);
+    Ok(())
+}

@@ -1,0 +1,112 @@
+//! Messages to bytes.
+ghost use Rattle.std.specs.Prelude.{◌≡◌, ◌++◌, ◌⊎◌, ◌∷◌, [], List, false, OnOk, OnErr, IfErr};
+ghost use Rattle.zk_frames.specs.Framing.{frame};
+ghost use Rattle.zk_talk.specs.declared.message.Message.{Message};
+ghost use Rattle.zk_talk.specs.declared.say.SayFault.TheVariants.{NoMemory};
+ghost use Rattle.zk_talk.specs.Ending.{unanswered};
+ghost use Rattle.zk_talk.specs.Said.{Says, MaySay, IsSayFault, payload_of, conversation_of};
+
+use crate::limits::Limits;
+use crate::message::Message;
+use crate::say::{SayFault, say_client, say_server};
+use std::alloc::Global;
+use std::marker::Model;
+use zk_waiting::Waiting;
+
+/// What was said of a conversation so far.
+#[derive(Drop)]
+pub struct Speaker {
+    alloc: Global,
+    limits: Limits,
+    asked: bool,
+    welcomed: bool,
+    waiting: Waiting,
+}
+
+impl Model for Speaker {
+    ghost use Rattle.std.specs.Prelude.{◌≡◌};
+    ghost use Rattle.zk_talk.specs.Said.{SpeakerState};
+
+    ghost Value = { SpeakerState };
+
+    ghost view = { λ s. record { limits = s.limits; asked = s.asked; welcomed = s.welcomed; waiting = s.waiting } };
+
+    ghost invariant = { λ s. s.waiting.max ≡ s.limits.waiting };
+}
+
+impl Speaker {
+    /// Nothing was said yet.
+    pub fn new(alloc: Global, limits: Limits) -> Self
+        ensures limits { result.limits ≡ limits }
+        ensures says { Says result [] }
+    {
+        Speaker {
+            alloc,
+            limits,
+            asked: false,
+            welcomed: false,
+            waiting: Waiting::new(alloc, limits.waiting()),
+        }
+    }
+
+    /// Appends the message's frame to `out`, if the messages said so far and it, frame after frame,
+    /// are a conversation within the limits.
+    ///
+    /// # Errors
+    ///
+    /// The first of `SayFault`'s cases that applies; `NoMemory` where a growth was refused. The
+    /// speaker and `out` are then unchanged.
+    pub fn say(&mut self, message: &Message, out: &mut Vec<u8>) -> Result<(), SayFault>
+        ensures limits { self.new.limits ≡ self.old.limits }
+        ensures bytes { OnOk result (out.new.items ≡ out.old.items ++ frame (payload_of message.now)) }
+        // It may be said, and was said.
+        ensures said { OnOk result ((before : List Message) → Says self.old before → MaySay self.old.limits before message.now × Says self.new (before ++ message.now ∷ [])) }
+        ensures same { OnErr result ((self.new ≡ self.old) × (out.new.items ≡ out.old.items)) }
+        // Want of memory, or the case that refuses it.
+        ensures err { IfErr result (λ e. (e ≡ NoMemory) ⊎ ((before : List Message) → Says self.old before → IsSayFault self.old.limits before message.now e)) }
+    {
+        match message {
+            Message::Client(frame) => {
+                match say_client(
+                    self.alloc,
+                    self.limits,
+                    self.asked,
+                    &mut self.waiting,
+                    frame,
+                    out,
+                ) {
+                    Ok(()) => {}
+                    Err(e) => return Err(e),
+                }
+                self.asked = true;
+            }
+            Message::Server(frame) => {
+                match say_server(
+                    self.limits,
+                    self.asked,
+                    self.welcomed,
+                    &mut self.waiting,
+                    frame,
+                    out,
+                ) {
+                    Ok(()) => {}
+                    Err(e) => return Err(e),
+                }
+                self.welcomed = true;
+            }
+        }
+        Ok(())
+    }
+
+    /// How many messages of the client have no answer, the connect request included.
+    pub fn unanswered(&self) -> u32
+        ensures { (before : List Message) → Says self.now before → result ≡ unanswered (conversation_of before) }
+    {
+        let waiting = self.waiting.count();
+        if self.asked && !self.welcomed {
+            waiting + 1
+        } else {
+            waiting
+        }
+    }
+}
