@@ -26,7 +26,7 @@ module _ (src : List ℕ) (fits : IsBytes src) where
 
   refused : (e : ItemFault) → Fails e (items_at reply_header.layout src 0) → IsShort e
   refused e h =
-      let f = plain_fault reply_header.layout reply_header.items src 0 fits (omega arith) (Err e) h in
+      let f = (plain_fault reply_header.layout reply_header.items src 0 fits (omega arith) (Err e) h).0 in
       let same : 0 + f.0 ≡ f.0 = omega arith in
       (f.0, f.1, f.2 ∙ ap told_place same)
 

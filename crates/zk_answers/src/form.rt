@@ -9,7 +9,7 @@ use zk_asks::{Ask, Asked};
 use zk_records::{Op, PartOp};
 
 /// The operation of a request, and those of its parts.
-#[derive(Drop)]
+#[derive(Debug, Drop)]
 pub struct Form {
     pub op: Op,
     /// At most 4,294,967,295, and none where the operation isn't multi.

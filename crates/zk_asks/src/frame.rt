@@ -87,7 +87,7 @@ impl Ask {
     }
 }
 
-/// What a client sends in one frame.
+/// What a client sends in one frame (`ClientCnxn`).
 #[derive(Debug, Drop)]
 pub enum ClientFrame {
     /// The connect request, and the boolean that newer clients write behind it: whether a
@@ -96,7 +96,7 @@ pub enum ClientFrame {
         hello: ConnectRequest,
         read_only: Option<bool>,
     },
-    /// A request, under the number that its reply has.
+    /// A request, under the number that its reply repeats.
     Ask {
         xid: i32,
         ask: Ask,

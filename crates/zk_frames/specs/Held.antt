@@ -28,6 +28,11 @@ abbrev pub EndsWell : ℕ → Bool → ℕ → ℕ → List ℕ → Type 0
 EndsWell limit true used all after = (0 < used) × IsFrame limit after
 EndsWell limit false used all after = (used ≡ all) × IsBeginning limit after
 
+-- what is held now, where a frame is whole and where none is
+abbrev pub IsNow : Bool → Held → Type 0
+IsNow true h = IsWhole h
+IsNow false h = IsBeginning h.limit h.bytes
+
 -- The shortest front of the piece with which the frame is whole, or all of it: each shorter front leaves a beginning.
 pub record IsTaken (limit : ℕ) (before piece : List ℕ) (took : Took) (after : List ℕ) : Type 0 where
   pub part : took.used ≤ length piece

@@ -1,8 +1,8 @@
 //! The frame that one direction is at.
-ghost use Rattle.std.specs.Prelude.{◌≡◌, ◌≤◌, ◌+◌, ◌-◌, ℕ, List, [], ◌++◌, length, take, drop, IfOk, IfErr, Err};
+ghost use Rattle.std.specs.Prelude.{◌≡◌, ◌≤◌, ◌+◌, ◌-◌, ℕ, List, [], ◌++◌, length, take, drop, IfOk, IfErr, OnOk, Err};
 ghost use Rattle.zk_frames.specs.declared.frames.FrameFault.TheVariants.{LengthRange};
 ghost use Rattle.zk_frames.specs.Framing.{frame, IsCut};
-ghost use Rattle.zk_frames.specs.Held.{IsWhole, IsRefused, IsHeld, IsLeft, IsTaken, IsRefusal, GoesOn};
+ghost use Rattle.zk_frames.specs.Held.{IsWhole, IsRefused, IsHeld, IsNow, IsLeft, IsTaken, IsRefusal, GoesOn};
 ghost use Rattle.zk_frames.specs.Advance.{left_of, IsAnswer};
 
 use crate::cutter::{Standing, cut};
@@ -68,6 +68,8 @@ impl Frames {
     /// `NoMemory` where a growth was refused: no byte of the piece was taken.
     pub fn take(&mut self, piece: &[u8]) -> Result<Took, FrameFault>
         ensures limit { self.new.limit ≡ self.old.limit }
+        ensures now { IfOk result (λ t. IsNow t.whole self.new) }
+        ensures ready { OnOk result (IsRefused self.new → ⊥) }
         // The shortest front of the piece that makes a frame whole, or all of it.
         ensures ok { IfOk result (λ t. (before : List ℕ) → IsLeft self.old before → IsTaken self.old.limit before piece.now t self.new.bytes) }
         ensures err { IfErr result (λ e. (before : List ℕ) → IsLeft self.old before → IsRefusal self.old.limit before piece.now e self.new.bytes) }

@@ -8,3 +8,6 @@ mod waiting;
 pub use lane::{Lane, lane_of};
 pub use slot::Slot;
 pub use waiting::{PutFault, Waiting};
+
+#[cfg(test)]
+mod tests;

@@ -134,7 +134,8 @@ impl Waiting {
 
     /// How many requests wait.
     pub fn count(&self) -> u32
-        ensures { result ≡ count_of self.now }
+        ensures value { result ≡ count_of self.now }
+        ensures within { result ≤ self.now.max }
     {
         (self.ping.len() + self.auth.len() + self.watches.len() + self.plain.len()) as u32
     }

@@ -2,7 +2,7 @@ use Rattle.std.proofs.Common.{◌≡◌, ◌<◌, ◌^◌, ◌∙◌, ◌++◌, 
 use Rattle.zk_frames.specs.Framing.{IsCut}
 use Rattle.zk_frames.specs.Advance.{Holds}
 use Rattle.zk_frames.specs.Held.{Held, IsLeft, IsTaken, IsRefusal, IsRefused, GoesOn}
-use Rattle.zk_frames.proofs.Taking.{refused_left, wants_memory, never_refused, answer_ok, answer_err, answer_stream}
+use Rattle.zk_frames.proofs.Taking.{refused_left, wants_memory, never_refused, answer_ok, answer_err, answer_now, answer_ready, answer_stream}
 use Rattle.zk_frames.proofs.frames.Frames.take.Goals as goal
 
 pub returns-in-Refused-clause-err : goal.returns-in-Refused-clause-err
@@ -63,3 +63,25 @@ returns-clause-stream c =
     let holds = subst (λ z. Holds x.limit a.standing (z ++ take a.used piece)) c.deref.ensures.value c.cut-advance.ensures.holds in
     subst (λ (h : Held). IfOk c.answer.result (λ t. (before taken : List ℕ) (payloads : List (List ℕ)) → IsLeft h before → IsCut h.limit taken payloads before → GoesOn h.limit taken payloads (take t.used piece) t.whole after)) c.self.view_is
     (answer_stream x.limit x.standing x.bytes.items small c.in_default.not-Refused c.self.invariant.holds left c.give_up.ensures piece a.used a.standing c.cut-advance.ensures.ends holds after c.in-Ok.ensures.items c.answer.result c.answer.ensures)
+
+pub returns-clause-now : goal.returns-clause-now
+returns-clause-now c =
+    let x = c.self.inside in
+    let piece = c.args.piece.now in
+    let a = c.cut-advance.result in
+    let left = c.give_up.new.bytes.items in
+    let after = c.extend_from_slice.new.self.items in
+    let small : x.limit < 2 ^ 31 = omega (arith, c.self.invariant.small) in
+    let holds = subst (λ z. Holds x.limit a.standing (z ++ take a.used piece)) c.deref.ensures.value c.cut-advance.ensures.holds in
+    answer_now x.limit x.standing x.bytes.items small c.in_default.not-Refused c.self.invariant.holds left c.give_up.ensures piece a.used a.standing c.cut-advance.ensures.ends holds after c.in-Ok.ensures.items c.answer.result c.answer.ensures
+
+pub returns-clause-ready : goal.returns-clause-ready
+returns-clause-ready c =
+    let x = c.self.inside in
+    let piece = c.args.piece.now in
+    let a = c.cut-advance.result in
+    let left = c.give_up.new.bytes.items in
+    let after = c.extend_from_slice.new.self.items in
+    let small : x.limit < 2 ^ 31 = omega (arith, c.self.invariant.small) in
+    let holds = subst (λ z. Holds x.limit a.standing (z ++ take a.used piece)) c.deref.ensures.value c.cut-advance.ensures.holds in
+    answer_ready x.limit x.standing x.bytes.items small c.in_default.not-Refused c.self.invariant.holds left c.give_up.ensures piece a.used a.standing c.cut-advance.ensures.ends holds after c.in-Ok.ensures.items c.answer.result c.answer.ensures
