@@ -1,0 +1,5 @@
+pub mod Codes
+pub mod Forms
+pub mod Faults
+pub mod Frames
+pub mod Multi
