@@ -1,0 +1,10 @@
+pub mod Heads
+pub mod Connected
+pub mod Placed
+pub mod Dones
+pub mod Results
+pub mod Rests
+pub mod Events
+pub mod Bodies
+pub mod Replies
+pub mod Outcomes
