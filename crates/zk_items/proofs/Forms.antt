@@ -2,11 +2,16 @@
 use Rattle.std.proofs.Common.{◌≡◌, ℕ, List, [], ◌∷◌, ◌++◌, Option, Some, None, Bool, true, false, ◌==◌, refl, ap, sym, subst, ◌∙◌, append_assoc, cond, eq-eqb, eqb-true}
 use Rattle.zk_items.specs.Form.{Form, Read, ◌>>=◌, stops, word_at, read_map, led, closed, fields, ◌and◌}
 
-pub record Lawful {X : Type 0} (f : Form X) : Type 0 where
-  -- a spelling is read again, whatever an item may be followed by
-  pub again : (x : X) (rest : List ℕ) → f.fits x → stops rest ≡ true → f.at (f.spell x ++ rest) ≡ Some (x, rest)
+-- the laws, where what stands behind the form is of a kind
+pub record LawfulBefore {X : Type 0} (behind : List ℕ → Bool) (f : Form X) : Type 0 where
+  -- a spelling is read again, whatever of the kind follows it
+  pub again : (x : X) (rest : List ℕ) → f.fits x → behind rest ≡ true → f.at (f.spell x ++ rest) ≡ Some (x, rest)
   -- what is read was spelled
   pub sound : (bytes : List ℕ) (x : X) (rest : List ℕ) → f.at bytes ≡ Some (x, rest) → (bytes ≡ f.spell x ++ rest) × f.fits x
+
+-- the laws of an item
+abbrev pub Lawful : {X : Type 0} → Form X → Type 0
+Lawful f = LawfulBefore stops f
 
 -- ---- options
 
@@ -53,8 +58,8 @@ word_some w bytes rest e = subst (λ (b : List ℕ). word_at w b ≡ Some rest) 
 
 -- ---- a word in front
 
-module _ {X : Type 0} (w : List ℕ) (f : Form X) (is : Lawful f) where
-  led_again : (x : X) (rest : List ℕ) → f.fits x → stops rest ≡ true → (led w f).at ((w ++ f.spell x) ++ rest) ≡ Some (x, rest)
+module _ {X : Type 0} {behind : List ℕ → Bool} (w : List ℕ) (f : Form X) (is : LawfulBefore behind f) where
+  led_again : (x : X) (rest : List ℕ) → f.fits x → behind rest ≡ true → (led w f).at ((w ++ f.spell x) ++ rest) ≡ Some (x, rest)
   led_again x rest fit stop =
       ap (led w f).at (append_assoc w (f.spell x) rest) ∙ ap (λ (r : Option (List ℕ)). r >>= f.at) (word_again w (f.spell x ++ rest)) ∙ is.again x rest fit stop
 
@@ -64,7 +69,7 @@ module _ {X : Type 0} (w : List ℕ) (f : Form X) (is : Lawful f) where
       let t = is.sound s.0 x rest s.2 in
       (word_sound w bytes s.0 s.1 ∙ ap (λ (r : List ℕ). w ++ r) t.0 ∙ sym (append_assoc w (f.spell x) rest), t.1)
 
-  pub led_is : Lawful (led w f)
+  pub led_is : LawfulBefore behind (led w f)
   led_is = record { again = led_again; sound = led_sound }
 
 -- ---- a word behind
@@ -100,8 +105,8 @@ led_opens w f opens x rest = ap stops (append_assoc w (f.spell x) rest) ∙ open
 pub and_opens : {X Y : Type 0} (f : Form X) (g : Form Y) → Opens f → Opens (f and g)
 and_opens f g opens p rest = ap stops (append_assoc (f.spell p.0) (g.spell p.1) rest) ∙ opens p.0 (g.spell p.1 ++ rest)
 
-module _ {X Y : Type 0} (f : Form X) (left : Lawful f) (g : Form Y) (right : Lawful g) (opens : Opens g) where
-  and_again : (p : X × Y) (rest : List ℕ) → (f and g).fits p → stops rest ≡ true → (f and g).at ((f.spell p.0 ++ g.spell p.1) ++ rest) ≡ Some (p, rest)
+module _ {X Y : Type 0} {behind : List ℕ → Bool} (f : Form X) (left : Lawful f) (g : Form Y) (right : LawfulBefore behind g) (opens : Opens g) where
+  and_again : (p : X × Y) (rest : List ℕ) → (f and g).fits p → behind rest ≡ true → (f and g).at ((f.spell p.0 ++ g.spell p.1) ++ rest) ≡ Some (p, rest)
   and_again p rest fit stop =
       ap (f and g).at (append_assoc (f.spell p.0) (g.spell p.1) rest)
       ∙ ap (λ (r : Read X). r >>= λ p. g.at p.1 >>= λ q. Some ((p.0, q.0), q.1)) (left.again p.0 (g.spell p.1 ++ rest) fit.0 (opens p.1 rest))
@@ -118,13 +123,13 @@ module _ {X Y : Type 0} (f : Form X) (left : Lawful f) (g : Form Y) (right : Law
           first.0 ∙ ap (λ (r : List ℕ). f.spell a.0.0 ++ r) (second.0 ∙ ap (λ (r : List ℕ). g.spell b.0.0 ++ r) ends.1) ∙ sym (append_assoc (f.spell a.0.0) (g.spell b.0.0) rest) in
       subst (λ (p : X × Y). (bytes ≡ (f.spell p.0 ++ g.spell p.1) ++ rest) × (f and g).fits p) ends.0 (whole, (first.1, second.1))
 
-  pub and_is : Lawful (f and g)
+  pub and_is : LawfulBefore behind (f and g)
   and_is = record { again = and_again; sound = and_sound }
 
 -- ---- a record by its fields
 
-module _ {X Y : Type 0} (f : Form Y) (is : Lawful f) (out : X → Y) (made : Y → X) (same : (x : X) → made (out x) ≡ x) (back : (y : Y) → out (made y) ≡ y) where
-  fields_again : (x : X) (rest : List ℕ) → f.fits (out x) → stops rest ≡ true → (fields f out made).at (f.spell (out x) ++ rest) ≡ Some (x, rest)
+module _ {X Y : Type 0} {behind : List ℕ → Bool} (f : Form Y) (is : LawfulBefore behind f) (out : X → Y) (made : Y → X) (same : (x : X) → made (out x) ≡ x) (back : (y : Y) → out (made y) ≡ y) where
+  fields_again : (x : X) (rest : List ℕ) → f.fits (out x) → behind rest ≡ true → (fields f out made).at (f.spell (out x) ++ rest) ≡ Some (x, rest)
   fields_again x rest fit stop =
       ap (λ (r : Read Y). r >>= λ q. Some (made q.0, q.1)) (is.again (out x) rest fit stop) ∙ ap (λ (x : X). Some (x, rest)) (same x)
 
@@ -139,7 +144,7 @@ module _ {X Y : Type 0} (f : Form Y) (is : Lawful f) (out : X → Y) (made : Y �
       (s.0 ∙ ap (λ (y : Y). f.spell y ++ a.0.1) inner ∙ ap (λ (r : List ℕ). f.spell (out x) ++ r) behind,
        subst (λ (y : Y). f.fits y) inner s.1)
 
-  pub fields_is : Lawful (fields f out made)
+  pub fields_is : LawfulBefore behind (fields f out made)
   fields_is = record { again = fields_again; sound = fields_sound }
 
 -- ---- a field: a form that an item may end before
@@ -151,3 +156,6 @@ pub record IsField {X : Type 0} (f : Form X) : Type 0 where
 infixr 20 ◌with◌
 pub ◌with◌ : {X Y : Type 0} {f : Form X} {g : Form Y} → IsField f → IsField g → IsField (f and g)
 ◌with◌ {f} {g} left right = record { lawful = and_is f left.lawful g right.lawful right.opens; opens = and_opens f g left.opens }
+
+pub record_is : {X Y : Type 0} (f : Form Y) → IsField f → (out : X → Y) (made : Y → X) → ((x : X) → made (out x) ≡ x) → ((y : Y) → out (made y) ≡ y) → IsField (fields f out made)
+record_is f is out made same back = record { lawful = fields_is f is.lawful out made same back; opens = λ x rest. is.opens (out x) rest }

@@ -2,10 +2,8 @@ pub mod Forms
 pub mod Runs
 pub mod Numbers
 pub mod Flags
+pub mod Many
 pub mod Texts
 pub mod Blobs
-pub mod Many
-pub mod Series
 pub mod Codes
 pub mod Words
-pub mod Records

@@ -2,7 +2,7 @@
 use Rattle.std.proofs.Common.{◌≡◌, ◌≢◌, ℕ, zero, suc, ◌+◌, ◌-◌, ◌<◌, ◌≤◌, List, [], ◌∷◌, ◌++◌, length, Option, Some, None, Bool, true, false, refl, sym, subst, ap, ◌∙◌, append_assoc, cond, arith}
 use Rattle.std.specs.List.{flat_map, AllByRecursion}
 use Rattle.zk_items.specs.Form.{Read, ◌>>=◌}
-use Rattle.zk_items.specs.Series.{many_at, then_more, with_first}
+use Rattle.zk_items.specs.Many.{many_at, then_more, with_first}
 use Rattle.zk_items.proofs.Forms.{bind_some, some_is}
 
 module _ {X : Type 0} (at : List ℕ → Read (Option X)) (spell : X → List ℕ) (fits : X → Type 0) (close : ℕ) (after : List ℕ → Bool)

@@ -7,7 +7,7 @@ use Rattle.std.proofs.lemmas.Str.{IsUtf8-from_is_utf8, is_utf8-from_IsUtf8}
 use Rattle.zk_jute.specs.declared.value.Text.{Text}
 use Rattle.zk_jute.specs.declared.value.Text.TheVariants as texts
 use Rattle.zk_items.specs.Form.{Read, ◌>>=◌, stops}
-use Rattle.zk_items.specs.Series.{many_at}
+use Rattle.zk_items.specs.Many.{many_at}
 use Rattle.zk_items.specs.Leaf.{is_plain, hex_digit, hex_value, symbol_spell, text_spell, text_fits, symbol_at, text_at, text, checked, escape_at}
 use Rattle.zk_items.proofs.Forms.{Lawful, bind_some, some_is, if_some, if_not}
 use Rattle.zk_items.proofs.Many.{many_again, many_sound}

@@ -11,7 +11,7 @@ use Rattle.zk_jute.specs.declared.value.Text.TheVariants as texts
 use Rattle.zk_jute.specs.declared.value.Blob.{Blob}
 use Rattle.zk_jute.specs.declared.value.Blob.TheVariants as blobs
 use Rattle.zk_items.specs.Form.{Form, Read, ◌>>=◌}
-use Rattle.zk_items.specs.Series.{many_at}
+use Rattle.zk_items.specs.Many.{many_at}
 
 -- ---- num
 

@@ -1,6 +1,6 @@
 pub mod Form
-pub mod Series
+pub mod Many
 pub mod Words
 pub mod Leaf
 pub mod Codes
-pub mod Records
+pub mod Reasons

@@ -1,5 +1,8 @@
 //! Why a line is refused, and where.
 
+ghost use Rattle.std.specs.Prelude.{◌≡◌};
+ghost use Rattle.zk_items.specs.Reasons.{reason_name};
+
 use std::alloc::{AllocError, AllocFailed};
 
 /// Why a line is refused.
@@ -56,5 +59,21 @@ impl<T: Drop> From<AllocFailed<T>> for LineFault {
             column: 0,
             reason: LineReason::NoMemory,
         }
+    }
+}
+
+/// A reason's name.
+pub fn line_reason_name(reason: &LineReason) -> &'static str
+    ensures { result.now ≡ reason_name reason.now }
+{
+    match reason {
+        LineReason::Word => "Word",
+        LineReason::Number => "Number",
+        LineReason::Text => "Text",
+        LineReason::Blob => "Blob",
+        LineReason::Name => "Name",
+        LineReason::Rest => "Rest",
+        LineReason::NoMemory => "NoMemory",
+        LineReason::Ending => "Ending",
     }
 }

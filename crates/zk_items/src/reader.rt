@@ -4,7 +4,7 @@ ghost use Rattle.std.specs.List.{prefix_len};
 ghost use Rattle.zk_items.specs.Form.{Gives, GivesSeen, Passes, word_at};
 ghost use Rattle.zk_items.specs.Leaf.{in_name, in_word, num_at, bit_at, ro_at, text_at, blob_at, symbol_at};
 ghost use Rattle.zk_items.specs.Codes.{is_next};
-ghost use Rattle.zk_items.specs.Series.{many_at};
+ghost use Rattle.zk_items.specs.Many.{many_at};
 ghost use Rattle.zk_items.specs.Words.{word_of};
 
 use crate::fault::{LineFault, LineReason};

@@ -1,7 +1,7 @@
 use Rattle.std.proofs.Common.{◌≡◌, ◌≢◌, ◌+◌, ◌-◌, length, sym, ◌∙◌, arith, ap, List, ℕ, Some, None, Option}
 use Rattle.std.proofs.lemmas.List.{append-nil}
 use Rattle.zk_items.specs.Leaf.{symbol_at}
-use Rattle.zk_items.specs.Series.{many_at}
+use Rattle.zk_items.specs.Many.{many_at}
 use Rattle.zk_items.proofs.Many.{step_some, step_end, step_none, with_front}
 use Rattle.zk_items.proofs.reader.Reader.inside.Goals as goal
 

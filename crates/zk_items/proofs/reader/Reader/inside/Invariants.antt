@@ -1,6 +1,6 @@
 use Rattle.std.proofs.Common.{◌≡◌, ◌≤◌, ◌-◌, length}
 use Rattle.zk_items.specs.Leaf.{symbol_at}
-use Rattle.zk_items.specs.Series.{many_at}
+use Rattle.zk_items.specs.Many.{many_at}
 use Rattle.zk_items.proofs.Many.{with_front}
 use Rattle.zk_items.proofs.reader.Reader.inside.Given as goal
 

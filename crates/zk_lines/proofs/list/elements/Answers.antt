@@ -1,9 +1,9 @@
 use Rattle.std.proofs.Common.{◌≡◌, ◌≢◌, ◌+◌, ◌-◌, length, sym, ◌∙◌, arith, ap, List, ℕ, Some, None, Option}
 use Rattle.std.proofs.lemmas.List.{append-nil}
-use Rattle.zk_items.specs.Series.{element_at}
-use Rattle.zk_items.specs.Series.{many_at}
+use Rattle.zk_lines.specs.Series.{element_at}
+use Rattle.zk_items.specs.Many.{many_at}
 use Rattle.zk_items.proofs.Many.{step_some, step_end, step_none, with_front}
-use Rattle.zk_items.proofs.list.elements.Goals as goal
+use Rattle.zk_lines.proofs.list.elements.Goals as goal
 
 pub loop-turn-preserved : goal.loop-turn-preserved
 loop-turn-preserved g c =

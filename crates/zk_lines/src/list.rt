@@ -2,12 +2,12 @@
 ghost use Rattle.std.specs.Prelude.{◌≡◌, ◌++◌, ◌∷◌, [], length, OnOk};
 ghost use Rattle.std.specs.List.{flat_map};
 ghost use Rattle.zk_items.specs.Form.{Gives, GivesSeen};
-ghost use Rattle.zk_items.specs.Series.{element_at, list_at, series_at, list_spell, series_spell, many_at, with_first};
+ghost use Rattle.zk_lines.specs.Series.{element_at, list_at, series_at, list_spell, series_spell};
+ghost use Rattle.zk_items.specs.Many.{many_at, with_first};
 
-use crate::fault::{LineFault, LineReason};
 use crate::item::Item;
-use crate::reader::Reader;
 use std::alloc::{AllocError, Global};
+use zk_items::{LineFault, LineReason, Reader};
 use zk_jute::{Items, List};
 
 /// The sign that parts the items, and the sign behind the last.

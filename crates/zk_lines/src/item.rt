@@ -3,13 +3,10 @@ ghost use Rattle.std.specs.Prelude.{◌≡◌, ◌++◌, List, ℕ, OnOk};
 ghost use Rattle.zk_items.specs.Form.{Gives, Read};
 ghost use Rattle.zk_items.specs.Words.{field_at, word_of};
 
-use crate::fault::LineFault;
-use crate::reader::Reader;
-use crate::word::Word;
-use crate::write::{
-    put_bit, put_blob, put_int, put_long, put_read_only, put_text, put_word,
-};
 use std::alloc::AllocError;
+use zk_items::{
+    LineFault, Reader, Word, put_bit, put_blob, put_int, put_long, put_read_only, put_text, put_word,
+};
 use zk_jute::{Blob, Text};
 
 /// A value that is an item of a line.

@@ -1,18 +1,15 @@
 //! The records that are items of a line: an entry of an access list, and what is known of a node.
 ghost use Rattle.std.specs.Prelude.{◌≡◌, ◌++◌, OnOk};
 ghost use Rattle.zk_items.specs.Form.{Gives};
-ghost use Rattle.zk_items.specs.Records as records;
+ghost use Rattle.zk_lines.specs.Records as records;
 
-use crate::fault::LineFault;
 use crate::item::{Item, put_field, read_field};
-use crate::reader::Reader;
-use crate::word::Word;
-use crate::write::{put_int, put_word};
 use std::alloc::AllocError;
+use zk_items::{LineFault, Reader, Word, put_int, put_word};
 use zk_records::{Acl, Id, Stat};
 
 impl Item for Acl {
-    ghost use Rattle.zk_items.specs.Records.{acl};
+    ghost use Rattle.zk_lines.specs.Records.{acl};
 
     ghost spell = { acl.spell };
     ghost at = { acl.at };
@@ -35,7 +32,7 @@ impl Item for Acl {
 }
 
 impl Item for Stat {
-    ghost use Rattle.zk_items.specs.Records.{stat};
+    ghost use Rattle.zk_lines.specs.Records.{stat};
 
     ghost spell = { stat.spell };
     ghost at = { stat.at };

@@ -3,6 +3,7 @@ use Rattle.std.specs.Prelude.{◌≡◌, ℕ, zero, suc, List, [], ◌∷◌, �
 use Rattle.std.specs.List.{flat_map, AllByRecursion}
 use Rattle.zk_jute.specs.declared.value.List.{List as Vector}
 use Rattle.zk_jute.specs.declared.value.List.TheVariants as list
+use Rattle.zk_items.specs.Many.{many_at, with_first}
 use Rattle.zk_items.specs.Form.{Form, Read, ◌>>=◌, read_map, word_at}
 
 -- the items joined by a sign, and the sign behind them
@@ -10,21 +11,8 @@ abbrev pub series_spell : {X : Type 0} → ℕ → ℕ → (X → List ℕ) → 
 series_spell sep close spell [] = close ∷ []
 series_spell sep close spell (x ∷ xs) = spell x ++ (flat_map (λ y. sep ∷ spell y) xs ++ (close ∷ []))
 
--- with an item in front
-abbrev pub with_first : {X : Type 0} → X → Read (List X) → Read (List X)
-with_first x read = read >>= λ q. Some (x ∷ q.0, q.1)
-
-abbrev pub then_more : {X : Type 0} → (List ℕ → Read (List X)) → Option X × List ℕ → Read (List X)
-then_more next (None, rest) = Some ([], rest)
-then_more next (Some x, rest) = with_first x (next rest)
-
--- fewer than so many, and the end
-abbrev pub many_at : {X : Type 0} → (List ℕ → Read (Option X)) → ℕ → List ℕ → Read (List X)
-many_at at zero bytes = None
-many_at at (suc n) bytes = at bytes >>= then_more (many_at at n)
-
 -- what stands there if the sign does, else the other reading
-abbrev pub if_passed : {X : Type 0} → Option (List ℕ) → (List ℕ → Read X) → Read X → Read X
+abbrev pub if_passed : {A : Type 0} → Option (List ℕ) → (List ℕ → Option A) → Option A → Option A
 if_passed (Some rest) f other = f rest
 if_passed None f other = other
 

@@ -5,7 +5,8 @@ use Rattle.std.specs.List.{flat_map, AllByRecursion}
 use Rattle.zk_jute.specs.declared.value.List.{List as Vector}
 use Rattle.zk_jute.specs.declared.value.List.TheVariants as list
 use Rattle.zk_items.specs.Form.{Form, Read, ◌>>=◌, read_map, stops, word_at}
-use Rattle.zk_items.specs.Series.{series, series_at, series_spell, element_at, if_passed, many_at, with_first, list_of, list_at, list_spell, list_fits}
+use Rattle.zk_lines.specs.Series.{series, series_at, series_spell, element_at, if_passed, list_of, list_at, list_spell, list_fits}
+use Rattle.zk_items.specs.Many.{many_at, with_first}
 use Rattle.zk_items.proofs.Forms.{Lawful, bind_some, some_is, word_again, word_sound, word_none}
 use Rattle.zk_items.proofs.Many.{many_again, many_sound}
 
@@ -25,18 +26,18 @@ module _ {X : Type 0} (sep close : ℕ) (apart : close ≢ sep) (parts : (rest :
   element_again : (x : X) (rest : List ℕ) → f.fits x → stops rest ≡ true → element_at sep close f.at (piece x ++ rest) ≡ Some (Some x, rest)
   unfolding element_at
   element_again x rest fit stop =
-      ap (λ (o : Option (List ℕ)). if_passed o (λ rest. Some (None, rest)) (word_at (sep ∷ []) (piece x ++ rest) >>= λ rest. f.at rest >>= λ q. Some (Some q.0, q.1))) (other_word close sep (f.spell x ++ rest) apart)
+      ap (λ (o : Option (List ℕ)). if_passed {A = Option X × List ℕ} o (λ rest. Some (None, rest)) (word_at (sep ∷ []) (piece x ++ rest) >>= λ rest. f.at rest >>= λ q. Some (Some q.0, q.1))) (other_word close sep (f.spell x ++ rest) apart)
       ∙ ap (λ (o : Option (List ℕ)). o >>= λ rest. f.at rest >>= λ q. Some (Some q.0, q.1)) (word_again (sep ∷ []) (f.spell x ++ rest))
       ∙ ap (λ (r : Read X). r >>= λ q. Some (Some q.0, q.1)) (is.again x rest fit stop)
 
   element_end : (rest : List ℕ) → element_at sep close f.at (close ∷ rest) ≡ Some (None, rest)
   unfolding element_at
-  element_end rest = ap (λ (o : Option (List ℕ)). if_passed o (λ rest. Some (None, rest)) (word_at (sep ∷ []) (close ∷ rest) >>= λ rest. f.at rest >>= λ q. Some (Some q.0, q.1))) (word_again (close ∷ []) rest)
+  element_end rest = ap (λ (o : Option (List ℕ)). if_passed {A = Option X × List ℕ} o (λ rest. Some (None, rest)) (word_at (sep ∷ []) (close ∷ rest) >>= λ rest. f.at rest >>= λ q. Some (Some q.0, q.1))) (word_again (close ∷ []) rest)
 
   element_sound : (bytes : List ℕ) (x : X) (rest : List ℕ) → element_at sep close f.at bytes ≡ Some (Some x, rest) → (bytes ≡ piece x ++ rest) × f.fits x
   unfolding element_at
   element_sound bytes x rest e = pick (word_at (close ∷ []) bytes) e where
-    pick : (o : Option (List ℕ)) → if_passed o (λ rest. Some (None, rest)) (word_at (sep ∷ []) bytes >>= λ rest. f.at rest >>= λ q. Some (Some q.0, q.1)) ≡ Some (Some x, rest) → (bytes ≡ piece x ++ rest) × f.fits x
+    pick : (o : Option (List ℕ)) → if_passed {A = Option X × List ℕ} o (λ rest. Some (None, rest)) (word_at (sep ∷ []) bytes >>= λ rest. f.at rest >>= λ q. Some (Some q.0, q.1)) ≡ Some (Some x, rest) → (bytes ≡ piece x ++ rest) × f.fits x
     pick (Some behind) e = let h = some_is (None, behind) (Some x, rest) e in let k = h.0 in absurd cc
     pick None e =
         let a = bind_some (word_at (sep ∷ []) bytes) (λ rest. f.at rest >>= λ q. Some (Some q.0, q.1)) (Some x, rest) e in
@@ -49,7 +50,7 @@ module _ {X : Type 0} (sep close : ℕ) (apart : close ≢ sep) (parts : (rest :
   element_ended : (bytes rest : List ℕ) → element_at sep close f.at bytes ≡ Some (None, rest) → bytes ≡ close ∷ rest
   unfolding element_at
   element_ended bytes rest e = pick (word_at (close ∷ []) bytes) refl e where
-    pick : (o : Option (List ℕ)) → word_at (close ∷ []) bytes ≡ o → if_passed o (λ rest. Some (None, rest)) (word_at (sep ∷ []) bytes >>= λ rest. f.at rest >>= λ q. Some (Some q.0, q.1)) ≡ Some (None, rest) → bytes ≡ close ∷ rest
+    pick : (o : Option (List ℕ)) → word_at (close ∷ []) bytes ≡ o → if_passed {A = Option X × List ℕ} o (λ rest. Some (None, rest)) (word_at (sep ∷ []) bytes >>= λ rest. f.at rest >>= λ q. Some (Some q.0, q.1)) ≡ Some (None, rest) → bytes ≡ close ∷ rest
     pick (Some behind) is e = let h = some_is (None, behind) (None, rest) e in word_sound (close ∷ []) bytes behind is ∙ ap (λ (r : List ℕ). close ∷ r) h.1
     pick None is e =
         let a = bind_some (word_at (sep ∷ []) bytes) (λ rest. f.at rest >>= λ q. Some (Some q.0, q.1)) (None, rest) e in
@@ -73,13 +74,13 @@ module _ {X : Type 0} (sep close : ℕ) (apart : close ≢ sep) (parts : (rest :
 
   series_again : (xs : List X) (rest : List ℕ) → AllByRecursion f.fits xs → stops rest ≡ true → series_at sep close f.at (series_spell sep close f.spell xs ++ rest) ≡ Some (xs, rest)
   unfolding series_at
-  series_again [] rest fit stop = ap (λ (o : Option (List ℕ)). if_passed o (λ rest. Some ([], rest)) (f.at (close ∷ rest) >>= λ q. with_first q.0 (many_at (element_at sep close f.at) (length q.1) q.1))) (word_again (close ∷ []) rest)
+  series_again [] rest fit stop = ap (λ (o : Option (List ℕ)). if_passed {A = List X × List ℕ} o (λ rest. Some ([], rest)) (f.at (close ∷ rest) >>= λ q. with_first q.0 (many_at (element_at sep close f.at) (length q.1) q.1))) (word_again (close ∷ []) rest)
   series_again (x ∷ xs) rest fit stop =
       let behind = flat_map piece xs ++ (close ∷ rest) in
       let regrouped : series_spell sep close f.spell (x ∷ xs) ++ rest ≡ f.spell x ++ behind =
           append_assoc (f.spell x) (flat_map piece xs ++ (close ∷ [])) rest ∙ ap (λ (r : List ℕ). f.spell x ++ r) (append_assoc (flat_map piece xs) (close ∷ []) rest) in
       ap (series_at sep close f.at) regrouped
-      ∙ ap (λ (o : Option (List ℕ)). if_passed o (λ rest. Some ([], rest)) (f.at (f.spell x ++ behind) >>= λ q. with_first q.0 (many_at (element_at sep close f.at) (length q.1) q.1))) (begins x behind fit.0)
+      ∙ ap (λ (o : Option (List ℕ)). if_passed {A = List X × List ℕ} o (λ rest. Some ([], rest)) (f.at (f.spell x ++ behind) >>= λ q. with_first q.0 (many_at (element_at sep close f.at) (length q.1) q.1))) (begins x behind fit.0)
       ∙ ap (λ (r : Read X). r >>= λ q. with_first q.0 (many_at (element_at sep close f.at) (length q.1) q.1)) (is.again x behind fit.0 (others_stop xs rest))
       ∙ ap (with_first x) (others_again xs rest fit.1)
 
@@ -88,7 +89,7 @@ module _ {X : Type 0} (sep close : ℕ) (apart : close ≢ sep) (parts : (rest :
   series_sound bytes xs rest e = pick (word_at (close ∷ []) bytes) refl e where
     Spelled : List X → Type 0
     Spelled xs = (bytes ≡ series_spell sep close f.spell xs ++ rest) × AllByRecursion f.fits xs
-    pick : (o : Option (List ℕ)) → word_at (close ∷ []) bytes ≡ o → if_passed o (λ rest. Some ([], rest)) (f.at bytes >>= λ q. with_first q.0 (many_at (element_at sep close f.at) (length q.1) q.1)) ≡ Some (xs, rest) → Spelled xs
+    pick : (o : Option (List ℕ)) → word_at (close ∷ []) bytes ≡ o → if_passed {A = List X × List ℕ} o (λ rest. Some ([], rest)) (f.at bytes >>= λ q. with_first q.0 (many_at (element_at sep close f.at) (length q.1) q.1)) ≡ Some (xs, rest) → Spelled xs
     pick (Some behind) is e =
         let h = some_is ([], behind) (xs, rest) e in
         subst Spelled h.0 (word_sound (close ∷ []) bytes behind is ∙ ap (λ (r : List ℕ). close ∷ r) h.1, tt)
@@ -122,7 +123,7 @@ module _ {X : Type 0} (f : Form X) (is : Lawful f) (begins : NeverBegins f 93) w
   list_sound bytes x rest e = pick (word_at (codes "~") bytes) refl e where
     Spelled : Vector X → Type 0
     Spelled x = (bytes ≡ list_spell f.spell x ++ rest) × list_fits f.fits x
-    pick : (o : Option (List ℕ)) → word_at (codes "~") bytes ≡ o → if_passed o (λ rest. Some (list.Null, rest)) (word_at (codes "[") bytes >>= λ rest. read_map list.Full (series_at 44 93 f.at rest)) ≡ Some (x, rest) → Spelled x
+    pick : (o : Option (List ℕ)) → word_at (codes "~") bytes ≡ o → if_passed {A = Vector X × List ℕ} o (λ rest. Some (list.Null, rest)) (word_at (codes "[") bytes >>= λ rest. read_map list.Full (series_at 44 93 f.at rest)) ≡ Some (x, rest) → Spelled x
     pick (Some behind) is e =
         let h = some_is (list.Null, behind) (x, rest) e in
         subst Spelled h.0 (word_sound (codes "~") bytes behind is ∙ ap (λ (r : List ℕ). 126 ∷ r) h.1, tt)

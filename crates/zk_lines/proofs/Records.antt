@@ -3,7 +3,7 @@ use Rattle.std.proofs.Common.{◌≡◌, ℤ, refl}
 use Rattle.zk_items.specs.Form.{Form, ◌and◌}
 use Rattle.zk_items.specs.Leaf.{int, long, text}
 use Rattle.zk_items.specs.Words.{word_of, field}
-use Rattle.zk_items.specs.Records.{acl, stat, times, versions, sizes}
+use Rattle.zk_lines.specs.Records.{acl, stat, times, versions, sizes}
 use Rattle.zk_items.specs.declared.word.Word.{Word}
 use Rattle.zk_items.specs.declared.word.Word.TheVariants.{Close, Colon, Comma, Open}
 use Rattle.zk_items.proofs.Forms.{Lawful, IsField, closed_is, and_is, fields_is, ◌with◌}
