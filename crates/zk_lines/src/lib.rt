@@ -14,3 +14,8 @@ mod request;
 pub use ending::ending_line;
 pub use line::{line_of, read_line};
 pub use zk_items::{LineFault, LineReason, line_reason_name};
+
+#[cfg(test)]
+mod samples;
+#[cfg(test)]
+mod tests;
