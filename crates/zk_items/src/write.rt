@@ -80,7 +80,8 @@ fn put_symbol(out: &mut Vec<u8>, b: u8) -> Result<(), AllocError>
     ensures { OnOk result (out.new.items ≡ out.old.items ++ symbol_spell b) }
 {
     if is_plain(b) {
-        out.extend_from_slice(&[b])
+        out.push(b)?;
+        Ok(())
     } else {
         out.extend_from_slice(&[b'\\', hex_digit(b / 16), hex_digit(b % 16)])
     }

@@ -13,6 +13,9 @@ use zk_asks::ClientFrame;
 use zk_items::{LineFault, LineReason, Reader};
 use zk_talk::Message;
 
+/// Room for most lines, so that few of them grow twice.
+const USUAL: usize = 256;
+
 fn put_message(out: &mut Vec<u8>, message: &Message) -> Result<(), AllocError>
     ensures { OnOk result (out.new.items ≡ out.old.items ++ lines.line message.now) }
 {
@@ -26,7 +29,7 @@ fn put_message(out: &mut Vec<u8>, message: &Message) -> Result<(), AllocError>
 pub fn line_of(alloc: Global, message: &Message) -> Result<Vec<u8>, AllocError>
     ensures { IfOk result (λ line. line.items ≡ lines.line message.now) }
 {
-    let mut line = Vec::new(alloc);
+    let mut line = Vec::with_capacity(alloc, USUAL)?;
     put_message(&mut line, message)?;
     Ok(line)
 }
