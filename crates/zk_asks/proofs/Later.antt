@@ -22,8 +22,8 @@ use Rattle.zk_records.specs.Codes.{op_number}
 use Rattle.zk_asks.specs.Codes.{IsAllowed}
 use Rattle.zk_asks.specs.Forms.{header_items, Body, Fields, Parts, body_of, IsOf, IsBody, IsAsk, asks}
 use Rattle.zk_asks.specs.Faults.{IsFaultOf, IsBodyFault, IsAskFault, in_header, unknown_op, bad_xid, in_body, behind_body}
-use Rattle.zk_asks.specs.Frames.{op_of_ask, body_items, multi_items, IsSent, IsLater, payload}
-use Rattle.zk_jute.specs.Flagged.{IsReadAs}
+use Rattle.zk_asks.specs.Frames.{op_of_ask, body_items, multi_items, frame_items, IsSent, IsLater, payload}
+use Rattle.zk_jute.specs.Told.{IsReadAs}
 use Rattle.zk_jute.specs.Told.{IsTold}
 use Rattle.zk_jute.specs.Wired.{Wired}
 use Rattle.zk_records.proofs.Numbers.{op_number_apart}
@@ -142,7 +142,7 @@ ask_unique bytes p q r s f g =
     kind_same a.0 a.1 rest p q r s a.3 two)
     p q r s (sequel f) (sequel g)
 
--- ---- a fault excludes each frame
+-- ---- a fault excludes each form
 
 ask_not : (xid : ℤ) (op : Op) (body : List Item) (p : ℕ) (r : Reason) → IsAllowed xid op → IsBody op body → AfterKind xid (op_number op) (bytes_of body) p r → ⊥
 ask_not xid op body p r may v a =
@@ -160,19 +160,26 @@ ask_not xid op body p r may v a =
           ]
     ]
 
-pub ask_excludes : (f : ClientFrame) (p : ℕ) (r : Reason) → IsLater f → IsSent f → IsAskFault (payload f) p r → ⊥
-ask_excludes (frame.Connect hello flag) p r later sent fault = absurd later
-ask_excludes (frame.Ask xid a) p r later sent fault =
-    let op = op_of_ask a in
+pub form_not : {items : List Item} → IsAsk items → (bytes : List ℕ) → bytes ≡ bytes_of items → (p : ℕ) (r : Reason) → IsAskFault bytes p r → ⊥
+form_not (asks xid op body have may v) bytes e p r fault =
     let header = header_items xid (op_number op) in
-    let h = have_parts header (body_items a) sent.1 in
-    sequel_not request_header.layout AfterHeader (payload (frame.Ask xid a)) header (bytes_of (body_items a)) (header_is xid (op_number op) h.0) (bytes_both header (body_items a)) p r
+    sequel_not request_header.layout AfterHeader bytes header (bytes_of body) (header_is xid (op_number op) have) (e ∙ bytes_both header body) p r
     (λ k.
     let same = header_same k.0 k.1 xid (op_number op) (sym k.2) in
-    let one : AfterKind xid k.1 (bytes_of (body_items a)) p r = subst (λ (z : ℤ). AfterKind z k.1 (bytes_of (body_items a)) p r) same.0 k.3 in
-    let two : AfterKind xid (op_number op) (bytes_of (body_items a)) p r = subst (λ (z : ℤ). AfterKind xid z (bytes_of (body_items a)) p r) same.1 one in
-    ask_not xid op (body_items a) p r sent.0 (body_is a h.1) two)
+    let one : AfterKind xid k.1 (bytes_of body) p r = subst (λ (z : ℤ). AfterKind z k.1 (bytes_of body) p r) same.0 k.3 in
+    let two : AfterKind xid (op_number op) (bytes_of body) p r = subst (λ (z : ℤ). AfterKind xid z (bytes_of body) p r) same.1 one in
+    ask_not xid op body p r may v two)
     (sequel fault)
+
+-- a request's items are of the form
+pub is_ask : (f : ClientFrame) → IsLater f → IsSent f → IsAsk (frame_items f)
+is_ask (frame.Connect hello flag) later sent = absurd later
+is_ask (frame.Ask xid a) later sent =
+    let h = have_parts (header_items xid (op_number (op_of_ask a))) (body_items a) sent.1 in
+    asks xid (op_of_ask a) (body_items a) h.0 sent.0 (body_is a h.1)
+
+pub ask_excludes : (f : ClientFrame) (p : ℕ) (r : Reason) → IsLater f → IsSent f → IsAskFault (payload f) p r → ⊥
+ask_excludes f p r later sent fault = form_not (is_ask f later sent) (payload f) refl p r fault
 
 -- ---- frames tell their payloads apart
 

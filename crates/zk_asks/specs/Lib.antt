@@ -3,3 +3,4 @@ pub mod Forms
 pub mod Faults
 pub mod Frames
 pub mod Multi
+pub mod Openings

@@ -9,7 +9,7 @@ use zk_records::{
 };
 
 /// A part of a multi: what `MultiTransactionRecord` may hold.
-#[derive(Drop)]
+#[derive(Debug, Drop)]
 pub enum Part {
     Create(CreateAsk),
     Delete(DeleteAsk),
@@ -33,7 +33,7 @@ impl Part {
 
 /// What is asked: the record that follows a request's header, by the operations of
 /// `ZooDefs.OpCode`.
-#[derive(Drop)]
+#[derive(Debug, Drop)]
 pub enum Ask {
     Create(CreateAsk),
     Delete(DeleteAsk),
@@ -87,8 +87,8 @@ impl Ask {
     }
 }
 
-/// What a client sends in one frame.
-#[derive(Drop)]
+/// What a client sends in one frame (`ClientCnxn`).
+#[derive(Debug, Drop)]
 pub enum ClientFrame {
     /// The connect request, and the boolean that newer clients write behind it: whether a
     /// read-only server will do.
@@ -96,7 +96,7 @@ pub enum ClientFrame {
         hello: ConnectRequest,
         read_only: Option<bool>,
     },
-    /// A request, under the number that its reply has.
+    /// A request, under the number that its reply repeats.
     Ask {
         xid: i32,
         ask: Ask,

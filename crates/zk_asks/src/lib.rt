@@ -12,7 +12,7 @@ mod write;
 pub use asked::{Asked, asked_laws};
 pub use codes::allowed;
 pub use frame::{Ask, ClientFrame, Part};
-pub use laws::{ask_laws, first_laws};
+pub use laws::{ask_laws, first_laws, form_laws, opening_laws};
 pub use read::{read_ask, read_first};
 pub use write::write_client;
 

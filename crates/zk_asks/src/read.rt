@@ -2,7 +2,7 @@
 ghost use Rattle.std.specs.Prelude.{◌≡◌, ◌≤◌, length, IfOk, IfErr};
 ghost use Rattle.zk_jute.specs.Item.{HaveBytes};
 ghost use Rattle.zk_jute.specs.Told.{StandsAt, IsTold, IsToldAt};
-ghost use Rattle.zk_jute.specs.Flagged.{IsReadAs};
+ghost use Rattle.zk_jute.specs.Told.{IsReadAs};
 ghost use Rattle.zk_asks.specs.Frames.{IsSent, IsFirst, IsLater, op_of_ask, body_items};
 ghost use Rattle.zk_asks.specs.Frames as frames;
 ghost use Rattle.zk_asks.specs.declared.frame.ClientFrame.{ClientFrame};
@@ -83,7 +83,10 @@ fn ask_of(alloc: Global, src: &[u8]) -> Result<ClientFrame, ItemFault>
     })
 }
 
-/// The first frame of a client.
+/// The first payload of a client: a `ConnectRequest`, and one boolean where more bytes follow it
+/// (`ZooKeeperServer.processConnectRequest`). Refused by the first that applies of: the record's
+/// items in order; the boolean; `Trailing` behind it. `NoMemory`, at place 0, where memory is
+/// refused.
 pub fn read_first(alloc: Global, payload: &[u8]) -> Result<ClientFrame, ItemFault>
     // What is read has the form, and is the payload's one value.
     ensures found { IfOk result (λ f. IsFirst f × IsSent f × (payload.now ≡ frames.payload f)) }
@@ -95,7 +98,11 @@ pub fn read_first(alloc: Global, payload: &[u8]) -> Result<ClientFrame, ItemFaul
     first_of(alloc, payload)
 }
 
-/// A later frame of a client.
+/// A later payload of a client: a `RequestHeader`, and the record of its operation
+/// (`FinalRequestProcessor.processRequest`). Refused by the first that applies of: the header's
+/// items; `UnknownOp` at 4, a type that is no operation; `XidOp` at 4, an xid that the operation
+/// may not have; the record's items in order, in a multi also `BadPart` at a header that may not
+/// stand there; `Trailing` behind the record. `NoMemory`, at place 0, where memory is refused.
 pub fn read_ask(alloc: Global, payload: &[u8]) -> Result<ClientFrame, ItemFault>
     // What is read has the form, and is the payload's one value.
     ensures found { IfOk result (λ f. IsLater f × IsSent f × (payload.now ≡ frames.payload f)) }

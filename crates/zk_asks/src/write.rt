@@ -121,7 +121,8 @@ impl ClientFrame {
     }
 }
 
-/// Appends a frame's payload; where memory is refused, `out` is unchanged.
+/// Appends a frame's payload: header and record, as `ClientCnxn.Packet.createBB` writes them behind
+/// the length. Where memory is refused, `out` is unchanged.
 pub fn write_client(frame: &ClientFrame, out: &mut Vec<u8>) -> Result<(), AllocError>
     requires allowed { MaySend frame.now }
     requires size { Fit 2147483647 (frame_items frame.now) }

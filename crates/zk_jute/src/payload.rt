@@ -2,8 +2,8 @@
 //! old peers leave the boolean out (`ClientCnxnSocket.readConnectResult` of ZooKeeper 3.4).
 ghost use Rattle.std.specs.Prelude.{◌≡◌, ◌++◌, Option, Bool, IfOk, IfErr};
 ghost use Rattle.zk_jute.specs.Item.{bytes_of, HaveBytes};
-ghost use Rattle.zk_jute.specs.Told.{IsTold};
-ghost use Rattle.zk_jute.specs.Flagged.{flag_items, IsFlaggedFault, IsReadAs};
+ghost use Rattle.zk_jute.specs.Told.{IsReadAs, IsTold};
+ghost use Rattle.zk_jute.specs.Flagged.{flag_items, IsFlaggedFault};
 
 use crate::fault::{ItemFault, Reason};
 use crate::wire::{Spell, Wire};

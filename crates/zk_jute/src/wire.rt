@@ -1,12 +1,13 @@
 //! Values that stand as bytes in a payload: `BinaryInputArchive` and `BinaryOutputArchive` of
 //! ZooKeeper's jute.
-ghost use Rattle.std.specs.Prelude.{◌≡◌, ℕ, ◌≤◌, ◌<◌, ◌++◌, List, length, IfOk, IfErr, IsTrue, OnOk, OnErr};
+ghost use Rattle.std.specs.Prelude.{◌≡◌, ◌≢◌, ℕ, ◌≤◌, ◌<◌, ◌++◌, List, length, IfOk, IfErr, IsTrue, OnOk, OnErr};
 ghost use Rattle.zk_jute.specs.declared.fault.Reason.{Reason};
+ghost use Rattle.zk_jute.specs.declared.fault.Reason.TheVariants.{NoMemory};
 ghost use Rattle.zk_jute.specs.Faults.{IsFault};
 ghost use Rattle.zk_jute.specs.Item.{Item, bytes_of, HaveBytes, Fit, Keeps, IsSizeWithin};
 ghost use Rattle.zk_jute.specs.Layout.{Layout, Unfolds, IsValueOf, HasFields, takes_none};
-ghost use Rattle.zk_jute.specs.Told.{StandsAt, HasToldFault, IsToldFault};
-ghost use Rattle.zk_jute.specs.Reading.{Fails, Gives, Scans, seen, items_at};
+ghost use Rattle.zk_jute.specs.Told.{StandsAt, IsReadAs, HasToldFault, IsToldFault};
+ghost use Rattle.zk_jute.specs.Reading.{Fails, Gives, Scans, items_at};
 
 use crate::fault::ItemFault;
 use std::alloc::{AllocError, Global};
@@ -61,11 +62,11 @@ pub trait Wire: Spell + Sized + Drop {
         // What is read stands there, each byte of it.
         ensures found { IfOk result (λ x. IsValueOf layout (Self.items x.0) × StandsAt (Self.items x.0) src.now place x.1) }
         // What stands there is read, unless memory is wanted.
-        ensures only { (value : List Item) (end : ℕ) → IsValueOf layout value → StandsAt value src.now place end → Gives (seen Self.items) result (Ok (value, end)) }
+        ensures only { (x : Self) (end : ℕ) → HaveBytes (Self.items x) → StandsAt (Self.items x) src.now place end → IsReadAs (x, end) result }
         // Nothing stands there where a fault is answered, and the items fix which one it is.
         ensures fault { IfErr result (λ e. IsToldFault (IsValueOf layout) src.now place e) }
-        // Numbers, booleans and records of these want no memory.
-        ensures plain { IsTrue (takes_none layout) → IfErr result (λ e. HasToldFault (IsValueOf layout) src.now place e) }
+        // Numbers, booleans and records of these never want memory.
+        ensures plain { IsTrue (takes_none layout) → IfErr result (λ e. HasToldFault (IsValueOf layout) src.now place e × (e.reason ≢ NoMemory)) }
         ensures within { IfOk result (λ x. x.1 ≤ length src.now) }
     {
         Self::decode(alloc, src, place)
