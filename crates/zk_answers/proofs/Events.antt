@@ -14,7 +14,7 @@ use Rattle.zk_records.specs.Records.{reply_header, watcher_event}
 use Rattle.zk_answers.specs.declared.frame.ServerFrame.{ServerFrame}
 use Rattle.zk_answers.specs.declared.frame.ServerFrame.TheVariants as frame
 use Rattle.zk_answers.specs.Frames.{event_header, IsEvent, IsSent, payload}
-use Rattle.zk_answers.specs.Faults.{Fields, IsHead, IsRestFault, IsEventFault, in_head, bad_err, in_rest}
+use Rattle.zk_answers.specs.Faults.{Fields, IsHead, IsRestFault, IsEventFault, in_header, bad_err, in_event}
 use Rattle.zk_answers.proofs.Heads.{Headed, headed_unique, headed_excludes, head_unique, stands_head}
 use Rattle.zk_answers.proofs.Rests.{rest_unique, rest_excludes}
 
@@ -22,9 +22,9 @@ abbrev Judged : ReplyHeader → List ℕ → ℕ → Reason → Type 0
 Judged header rest p r = ((header.err ≢ pos 0) × (p ≡ 12) × (r ≡ EventErr)) ⊎ ((header.err ≡ pos 0) × (behind : ℕ) × (p ≡ 16 + behind) × IsRestFault (Fields watcher_event.layout) rest behind r)
 
 headed : {bytes : List ℕ} {p : ℕ} {r : Reason} → IsEventFault bytes p r → Headed Judged bytes p r
-headed (in_head bytes place reason f) = inl f
+headed (in_header bytes place reason f) = inl f
 headed (bad_err bytes rest header h not) = inr (header, rest, h, inl (not, refl, refl))
-headed (in_rest bytes rest header behind reason h is f) = inr (header, rest, h, inr (is, behind, refl, f))
+headed (in_event bytes rest header behind reason h is f) = inr (header, rest, h, inr (is, behind, refl, f))
 
 judged_same : (header : ReplyHeader) (rest : List ℕ) (p q : ℕ) (r s : Reason) → Judged header rest p r → Judged header rest q s → Same p r q s
 judged_same header rest p q r s f g =

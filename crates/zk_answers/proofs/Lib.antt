@@ -8,3 +8,9 @@ pub mod Events
 pub mod Bodies
 pub mod Replies
 pub mod Outcomes
+pub mod Forms
+pub mod Refusals
+pub mod Shorts
+pub mod Opened
+pub mod Cased
+pub mod Covered

@@ -9,7 +9,7 @@ use Rattle.zk_jute.proofs.Decided.{one_fault}
 use Rattle.zk_jute.proofs.Sequels.{Same, excluded}
 use Rattle.zk_answers.specs.declared.frame.PartDone.{PartDone}
 use Rattle.zk_answers.specs.Results.{multi_items}
-use Rattle.zk_answers.specs.Faults.{Shape, Fields, Results, IsOfShape, IsShapeFault, IsRestFault, inside, behind}
+use Rattle.zk_answers.specs.Faults.{Shape, Fields, Results, IsOfShape, IsShapeFault, IsRestFault, in_shape, past_shape}
 use Rattle.zk_answers.proofs.Results.{done_unique, done_excludes, multi_only}
 
 shape_unique : (shape : Shape) (bytes : List ℕ) (p q : ℕ) (r s : Reason) → IsShapeFault shape bytes p r → IsShapeFault shape bytes q s → Same p r q s
@@ -27,13 +27,13 @@ shape_only (Results parts) a b x y v w e =
     (v.3 ∙ ap (λ (ds : List PartDone). multi_items ds) same.0 ∙ sym w.3, same.1)
 
 pub rest_unique : (shape : Shape) (bytes : List ℕ) (p q : ℕ) (r s : Reason) → IsRestFault shape bytes p r → IsRestFault shape bytes q s → Same p r q s
-rest_unique shape bytes p q r s (inside _ _ _ f) (inside _ _ _ g) = shape_unique shape bytes p q r s f g
-rest_unique shape bytes p q r s (inside _ _ _ f) (behind _ more whole v e some) = absurd (shape_excludes shape whole bytes more p r v e f)
-rest_unique shape bytes p q r s (behind _ more whole v e some) (inside _ _ _ g) = absurd (shape_excludes shape whole bytes more q s v e g)
-rest_unique shape bytes p q r s (behind _ more whole v e some) (behind _ other all w d _) =
+rest_unique shape bytes p q r s (in_shape _ _ _ f) (in_shape _ _ _ g) = shape_unique shape bytes p q r s f g
+rest_unique shape bytes p q r s (in_shape _ _ _ f) (past_shape _ more whole v e some) = absurd (shape_excludes shape whole bytes more p r v e f)
+rest_unique shape bytes p q r s (past_shape _ more whole v e some) (in_shape _ _ _ g) = absurd (shape_excludes shape whole bytes more q s v e g)
+rest_unique shape bytes p q r s (past_shape _ more whole v e some) (past_shape _ other all w d _) =
     let same = shape_only shape whole all more other v w (sym e ∙ d) in
     (ap (λ (i : List Item). length (bytes_of i)) same.0, refl)
 
 pub rest_excludes : (shape : Shape) (items : List Item) (p : ℕ) (r : Reason) → IsOfShape shape items → IsRestFault shape (bytes_of items) p r → ⊥
-rest_excludes shape items p r v (inside _ _ _ f) = shape_excludes shape items (bytes_of items) [] p r v (sym (append-nil (bytes_of items))) f
-rest_excludes shape items p r v (behind _ more whole w e some) = some (shape_only shape whole items more [] w v (sym e ∙ sym (append-nil (bytes_of items)))).1
+rest_excludes shape items p r v (in_shape _ _ _ f) = shape_excludes shape items (bytes_of items) [] p r v (sym (append-nil (bytes_of items))) f
+rest_excludes shape items p r v (past_shape _ more whole w e some) = some (shape_only shape whole items more [] w v (sym e ∙ sym (append-nil (bytes_of items)))).1

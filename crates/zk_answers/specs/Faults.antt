@@ -45,8 +45,8 @@ IsShapeFault (Results parts) bytes place reason = IsDoneFault parts bytes place 
 
 -- where and why bytes are not just those of the shape
 pub data IsRestFault (shape : Shape) : List ℕ → ℕ → Reason → Type 0 where
-  inside : (bytes : List ℕ) (place : ℕ) (reason : Reason) → IsShapeFault shape bytes place reason → IsRestFault shape bytes place reason
-  behind : (bytes rest : List ℕ) (whole : List Item) → IsOfShape shape whole → Opens bytes whole rest → rest ≢ [] → IsRestFault shape bytes (length (bytes_of whole)) Trailing
+  in_shape : (bytes : List ℕ) (place : ℕ) (reason : Reason) → IsShapeFault shape bytes place reason → IsRestFault shape bytes place reason
+  past_shape : (bytes rest : List ℕ) (whole : List Item) → IsOfShape shape whole → Opens bytes whole rest → rest ≢ [] → IsRestFault shape bytes (length (bytes_of whole)) Trailing
 
 -- ---- a reply
 
@@ -83,6 +83,6 @@ pub data IsReplyFault (op : Op) (parts : List PartOp) : List ℕ → ℕ → Rea
 
 -- the header, its err, and then the event
 pub data IsEventFault : List ℕ → ℕ → Reason → Type 0 where
-  in_head : (bytes : List ℕ) (place : ℕ) (reason : Reason) → IsHeadFault bytes place reason → IsEventFault bytes place reason
+  in_header : (bytes : List ℕ) (place : ℕ) (reason : Reason) → IsHeadFault bytes place reason → IsEventFault bytes place reason
   bad_err : (bytes rest : List ℕ) (header : ReplyHeader) → IsHead bytes header rest → header.err ≢ pos 0 → IsEventFault bytes 12 EventErr
-  in_rest : (bytes rest : List ℕ) (header : ReplyHeader) (behind : ℕ) (reason : Reason) → IsHead bytes header rest → header.err ≡ pos 0 → IsRestFault (Fields watcher_event.layout) rest behind reason → IsEventFault bytes (16 + behind) reason
+  in_event : (bytes rest : List ℕ) (header : ReplyHeader) (behind : ℕ) (reason : Reason) → IsHead bytes header rest → header.err ≡ pos 0 → IsRestFault (Fields watcher_event.layout) rest behind reason → IsEventFault bytes (16 + behind) reason

@@ -1,5 +1,5 @@
 -- The results of a multi (ZooKeeper 3.4, MultiResponse): what each one spells, and for which parts they are.
-use Rattle.std.specs.Prelude.{◌≡◌, ◌≢◌, ℕ, ◌+◌, ℤ, pos, negsuc, true, false, List, [], ◌∷◌, ◌++◌, length, ◌⊎◌}
+use Rattle.std.specs.Prelude.{◌≡◌, ◌≢◌, ℕ, ◌+◌, ℤ, pos, negsuc, false, List, [], ◌∷◌, ◌++◌, length, ◌⊎◌}
 use Rattle.std.specs.List.{flat_map}
 use Rattle.zk_jute.specs.declared.fault.Reason.{Reason}
 use Rattle.zk_jute.specs.declared.fault.Reason.TheVariants.{BadPart}
@@ -12,23 +12,18 @@ use Rattle.zk_records.specs.declared.op.PartOp.{PartOp}
 use Rattle.zk_records.specs.declared.op.PartOp.TheVariants as parts
 use Rattle.zk_records.specs.Codes.{part_number}
 use Rattle.zk_records.specs.Records.{multi_header, stat}
+use Rattle.zk_asks.specs.Forms.{end_header, marked}
 use Rattle.zk_answers.specs.declared.frame.PartDone.{PartDone}
 use Rattle.zk_answers.specs.declared.frame.PartDone.TheVariants as done
 use Rattle.zk_answers.specs.declared.multi.Mark.{Mark}
 use Rattle.zk_answers.specs.declared.multi.Mark.TheVariants as mark
 
--- the header before a part's result, the one before an error, and the one behind the last result
+-- the header before a part's result, and the one before an error
 abbrev pub result_header : PartOp → MultiHeader
 result_header op = record { kind = part_number op; done = false; err = pos 0 }
 
 abbrev pub error_header : ℤ → MultiHeader
 error_header e = record { kind = negsuc 0; done = false; err = e }
-
-abbrev pub end_header : MultiHeader
-end_header = record { kind = negsuc 0; done = true; err = negsuc 0 }
-
-abbrev pub marked : MultiHeader → List Item
-marked header = multi_header.items header
 
 abbrev pub done_items : PartDone → List Item
 done_items (done.Created path) = marked (result_header parts.Create) ++ text_items path
@@ -78,8 +73,10 @@ pub data IsDoneFault : List PartOp → List ℕ → ℕ → Reason → Type 0 wh
   -- an error result whose int differs from its header's
   other_error : (op : PartOp) (ops : List PartOp) (e d : ℤ) (bytes rest : List ℕ) → HaveBytes (marked (error_header e) ++ (AnInt d ∷ [])) → Opens bytes (marked (error_header e) ++ (AnInt d ∷ [])) rest → d ≢ e
       → IsDoneFault (op ∷ ops) bytes 0 BadPart
-  behind_done : (op : PartOp) (ops : List PartOp) (d : PartDone) (bytes rest : List ℕ) (behind : ℕ) (reason : Reason) → Answers op d → HaveBytes (done_items d) → Opens bytes (done_items d) rest
-      → IsDoneFault ops rest behind reason → IsDoneFault (op ∷ ops) bytes (length (bytes_of (done_items d)) + behind) reason
+  behind_result : (op : PartOp) (ops : List PartOp) (result : List Item) (bytes rest : List ℕ) (behind : ℕ) (reason : Reason) → IsValueOf (result_layout op) result → Opens bytes (marked (result_header op) ++ result) rest
+      → IsDoneFault ops rest behind reason → IsDoneFault (op ∷ ops) bytes (length (bytes_of (marked (result_header op) ++ result)) + behind) reason
+  behind_error : (op : PartOp) (ops : List PartOp) (e : ℤ) (bytes rest : List ℕ) (behind : ℕ) (reason : Reason) → HaveBytes (marked (error_header e) ++ (AnInt e ∷ [])) → Opens bytes (marked (error_header e) ++ (AnInt e ∷ [])) rest
+      → IsDoneFault ops rest behind reason → IsDoneFault (op ∷ ops) bytes (length (bytes_of (marked (error_header e) ++ (AnInt e ∷ []))) + behind) reason
 
 -- what a header stands before, while a part is left
 abbrev pub ItsPlace : PartOp → MultiHeader → Mark → Type 0

@@ -5,10 +5,10 @@ ghost use Rattle.zk_jute.specs.Told.{StandsAt, IsToldAt};
 ghost use Rattle.zk_answers.specs.Frames.{op_of_body, body_items, BodyFits, err_of, rest_items, IsOutcome, OutcomeFits};
 ghost use Rattle.zk_answers.specs.Faults.{IsShapeFault, body_shape, rest_shape};
 
-use crate::asked::Asked;
 use crate::frame::{Body, Failure, Outcome};
 use crate::multi::results_at;
 use std::alloc::Global;
+use zk_asks::Asked;
 use zk_jute::{ItemFault, List, Text, Wire};
 use zk_records::{AclBody, ChildrenBody, DataBody, Op, Stat};
 

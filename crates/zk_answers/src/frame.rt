@@ -7,7 +7,7 @@ use zk_jute::{Blob, Items, List, Text};
 use zk_records::{Acl, ConnectResponse, Op, Stat, WatcherEvent};
 
 /// The number of an error (ZooKeeper 3.4, `KeeperException.Code`): never 0.
-#[derive(Drop)]
+#[derive(Debug, Drop)]
 pub struct Failure {
     number: i32,
 }
@@ -44,7 +44,7 @@ impl Failure {
 }
 
 /// What became of a part of a multi (`MultiResponse`): its result, or the number of an error, 0 too.
-#[derive(Drop)]
+#[derive(Debug, Drop)]
 pub enum PartDone {
     Created(Text),
     Deleted,
@@ -55,7 +55,7 @@ pub enum PartDone {
 
 /// What a reply says where nothing failed: the response records of zookeeper.jute, one for each
 /// operation.
-#[derive(Drop)]
+#[derive(Debug, Drop)]
 pub enum Body {
     Create { path: Text },
     Delete,
@@ -75,14 +75,14 @@ pub enum Body {
 }
 
 /// What became of a request.
-#[derive(Drop)]
+#[derive(Debug, Drop)]
 pub enum Outcome {
     Done(Body),
     Failed(Op, Failure),
 }
 
 /// The answer to a request.
-#[derive(Drop)]
+#[derive(Debug, Drop)]
 pub struct Reply {
     /// That of the request.
     pub xid: i32,
@@ -92,7 +92,7 @@ pub struct Reply {
 }
 
 /// What a server sends.
-#[derive(Drop)]
+#[derive(Debug, Drop)]
 pub enum ServerFrame {
     /// The answer to the connect request; old servers leave the boolean out.
     Connected {

@@ -3,11 +3,12 @@ ghost use Rattle.std.specs.Prelude.{List, ◌≡◌, ◌≤◌, length, IfOk, If
 ghost use Rattle.zk_jute.specs.Item.{HaveBytes};
 ghost use Rattle.zk_jute.specs.Told.{StandsAt, IsToldAt};
 ghost use Rattle.zk_records.specs.declared.op.PartOp as codes;
-ghost use Rattle.zk_answers.specs.Results.{end_header, done_items, multi_items, Answers, AnswerAll, IsDoneFault, ItsPlace};
+ghost use Rattle.zk_asks.specs.Forms.{end_header};
+ghost use Rattle.zk_answers.specs.Results.{done_items, multi_items, Answers, AnswerAll, IsDoneFault, ItsPlace};
 
-use crate::asked::Asked;
 use crate::frame::PartDone;
 use std::alloc::Global;
+use zk_asks::Asked;
 use zk_jute::{ItemFault, Items, Reason, Text, Wire};
 use zk_records::{MultiHeader, PartOp, Stat, part_number};
 
