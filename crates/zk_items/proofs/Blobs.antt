@@ -4,7 +4,7 @@ use Rattle.std.specs.List.{prefix_len, AllByRecursion}
 use Rattle.std.proofs.Common.{inl, inr, ap, sym, ◌∙◌, cond, arith, subst, eqb-true}
 use Rattle.std.proofs.lemmas.List.{take-append-drop}
 use Rattle.std.proofs.Math.Seq.{take-append_seam, drop-append_seam}
-use Rattle.hex.specs.Hex.{encode_lower, encode_with, lower_digits, IsBytes, decode_of, decode_pairs, hex_digit_value, value_at, digit_or_error, pair_value} 
+use Rattle.hex.specs.Hex.{encode_lower, encode_with, lower_digits, IsBytes, decode_of, decode_pairs, hex_digit_value, value_at, digit_or_error, pair_value}
 use Rattle.hex.specs.Hex as hex
 use Rattle.hex.specs.declared.error.FromHexError.{FromHexError}
 use Rattle.hex.specs.declared.error.FromHexError.TheVariants.{OddLength}
@@ -56,7 +56,6 @@ all_hex (b ∷ bytes) fit =
     let small : b < 256 = fit.0 in
     (digit_passes (b / 16) (omega arith), (digit_passes (b % 16) (omega arith), all_hex bytes fit.1))
 
-
 -- ---- lower-case digits decode to what they are written of
 
 bind_ok : {A B : Type 0} (r : Result A FromHexError) (f : A → Result B FromHexError) (y : B) → ◌≡◌ {A = Result B FromHexError} (hex.◌>>=◌ r f) (Ok y) → (x : A) × (r ≡ Ok x) × (f x ≡ Ok y)
@@ -87,8 +86,8 @@ pair_ok h l i v high low e =
     let quotient : a.0 ≡ v / 16 = omega arith in
     let remainder : b.0 ≡ v % 16 = omega arith in
     (x.0 ∙ ap (slice_index lower_digits) quotient, y.0 ∙ ap (slice_index lower_digits) remainder, omega arith) where
-  ok_is : (a b : ℕ) → ◌≡◌ {A = Result ℕ FromHexError} (Ok a) (Ok b) → a ≡ b
-  ok_is a b e = cc
+      ok_is : (a b : ℕ) → ◌≡◌ {A = Result ℕ FromHexError} (Ok a) (Ok b) → a ≡ b
+      ok_is a b e = cc
 
 lower_pairs : (run bytes : List ℕ) (i : ℕ) → AllByRecursion (λ b. in_hex b ≡ true) run → decode_pairs i run ≡ Ok bytes → (run ≡ encode_lower bytes) × AllByRecursion (λ b. b < 256) bytes
 unfolding decode_pairs encode_with
@@ -103,8 +102,8 @@ lower_pairs (h ∷ l ∷ rest) bytes i all e =
     let same : a.0 ∷ b.0 ≡ bytes = ok_is (a.0 ∷ b.0) bytes b.2 in
     let spelled : h ∷ l ∷ rest ≡ encode_lower (a.0 ∷ b.0) = ap (λ (c : ℕ). c ∷ l ∷ rest) p.0 ∙ ap (λ (c : ℕ). slice_index lower_digits (a.0 / 16) ∷ c ∷ rest) p.1 ∙ ap (λ (r : List ℕ). slice_index lower_digits (a.0 / 16) ∷ slice_index lower_digits (a.0 % 16) ∷ r) r.0 in
     subst (λ (bs : List ℕ). (h ∷ l ∷ rest ≡ encode_lower bs) × AllByRecursion (λ b. b < 256) bs) same (spelled, (p.2, r.1)) where
-  ok_is : (a b : List ℕ) → ◌≡◌ {A = Result (List ℕ) FromHexError} (Ok a) (Ok b) → a ≡ b
-  ok_is a b e = cc
+      ok_is : (a b : List ℕ) → ◌≡◌ {A = Result (List ℕ) FromHexError} (Ok a) (Ok b) → a ≡ b
+      ok_is a b e = cc
 
 -- what is decoded of lower-case digits is written so again
 lower_again : (run bytes : List ℕ) → AllByRecursion (λ b. in_hex b ≡ true) run → decode_of run ≡ Ok bytes → (run ≡ encode_lower bytes) × AllByRecursion (λ b. b < 256) bytes
@@ -134,10 +133,12 @@ blob_sound (c ∷ bytes) x rest e = first (c == 126) refl e where
       let ends = some_is (blobs.Full b, drop n bytes) (x, rest) e in
       let s = lower_again (take n bytes) b (run_passes in_hex bytes) is in
       subst (λ (x : Blob). (35 ∷ bytes ≡ blob_spell x ++ rest) × blob_fits x) ends.0
-        (ap (λ (r : List ℕ). 35 ∷ r) (sym (take-append-drop n bytes) ∙ ap (λ (r : List ℕ). r ++ drop n bytes) s.0 ∙ ap (λ (r : List ℕ). encode_lower b ++ r) ends.1), s.1)
+      (ap (λ (r : List ℕ). 35 ∷ r) (sym (take-append-drop n bytes) ∙ ap (λ (r : List ℕ). r ++ drop n bytes) s.0 ∙ ap (λ (r : List ℕ). encode_lower b ++ r) ends.1), s.1)
+
   second : (t : Bool) → (c == 35) ≡ t → cond {A = Read Blob} t (decoded (decode_of (take (prefix_len in_hex bytes) bytes)) (drop (prefix_len in_hex bytes) bytes)) None ≡ Some (x, rest) → (c ∷ bytes ≡ blob_spell x ++ rest) × blob_fits x
   second false is e = absurd cc
   second true is e = let s = third (decode_of (take (prefix_len in_hex bytes) bytes)) refl e in (ap (λ (c : ℕ). c ∷ bytes) (eqb-true c 35 is) ∙ s.0, s.1)
+
   first : (t : Bool) → (c == 126) ≡ t → cond {A = Read Blob} t (Some (blobs.Null, bytes)) (cond {A = Read Blob} (c == 35) (decoded (decode_of (take (prefix_len in_hex bytes) bytes)) (drop (prefix_len in_hex bytes) bytes)) None) ≡ Some (x, rest) → (c ∷ bytes ≡ blob_spell x ++ rest) × blob_fits x
   first false is e = second (c == 35) refl e
   first true is e =

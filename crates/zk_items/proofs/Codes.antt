@@ -46,10 +46,14 @@ module _ (name : ℤ → Option (List ℕ)) where
   code_part bytes n rest m behind is e =
       let b = bind_some (name_at (name m) behind) (λ rest. Some (m, rest)) (n, rest) e in
       let h = some_is (m, b.0) (n, rest) b.2 in
-      let s = int_is.sound bytes m behind is in
-      (h.0, (subst (λ (n : ℤ). bytes ≡ (signed_decimal n ++ name_spell (name n)) ++ rest) h.0
-        (s.0 ∙ ap (λ (r : List ℕ). signed_decimal m ++ r) (name_sound (name m) behind b.0 b.1 ∙ ap (λ (r : List ℕ). name_spell (name m) ++ r) h.1) ∙ sym (append_assoc (signed_decimal m) (name_spell (name m)) rest)),
-        subst (λ (n : ℤ). in_range 31 n ≡ true) h.0 s.1))
+      let s = int_is.sound bytes m behind is in (
+        h.0,
+        (
+          subst (λ (n : ℤ). bytes ≡ (signed_decimal n ++ name_spell (name n)) ++ rest) h.0
+              (s.0 ∙ ap (λ (r : List ℕ). signed_decimal m ++ r) (name_sound (name m) behind b.0 b.1 ∙ ap (λ (r : List ℕ). name_spell (name m) ++ r) h.1) ∙ sym (append_assoc (signed_decimal m) (name_spell (name m)) rest)),
+          subst (λ (n : ℤ). in_range 31 n ≡ true) h.0 s.1,
+        ),
+      )
 
   code_sound : (bytes : List ℕ) (n : ℤ) (rest : List ℕ) → (code name).at bytes ≡ Some (n, rest) → (bytes ≡ (signed_decimal n ++ name_spell (name n)) ++ rest) × (in_range 31 n ≡ true)
   code_sound bytes n rest e =

@@ -120,7 +120,7 @@ module _ {X Y : Type 0} {behind : List ℕ → Bool} (f : Form X) (left : Lawful
       let first = left.sound bytes a.0.0 a.0.1 a.1 in
       let second = right.sound a.0.1 b.0.0 b.0.1 b.1 in
       let whole : bytes ≡ (f.spell a.0.0 ++ g.spell b.0.0) ++ rest =
-          first.0 ∙ ap (λ (r : List ℕ). f.spell a.0.0 ++ r) (second.0 ∙ ap (λ (r : List ℕ). g.spell b.0.0 ++ r) ends.1) ∙ sym (append_assoc (f.spell a.0.0) (g.spell b.0.0) rest) in
+      first.0 ∙ ap (λ (r : List ℕ). f.spell a.0.0 ++ r) (second.0 ∙ ap (λ (r : List ℕ). g.spell b.0.0 ++ r) ends.1) ∙ sym (append_assoc (f.spell a.0.0) (g.spell b.0.0) rest) in
       subst (λ (p : X × Y). (bytes ≡ (f.spell p.0 ++ g.spell p.1) ++ rest) × (f and g).fits p) ends.0 (whole, (first.1, second.1))
 
   pub and_is : LawfulBefore behind (f and g)
@@ -140,9 +140,10 @@ module _ {X Y : Type 0} {behind : List ℕ → Bool} (f : Form Y) (is : LawfulBe
       let ends = some_is (made a.0.0, a.0.1) (x, rest) a.2 in
       let value : made a.0.0 ≡ x = ends.0 in
       let behind : a.0.1 ≡ rest = ends.1 in
-      let inner : a.0.0 ≡ out x = sym (back a.0.0) ∙ ap out value in
-      (s.0 ∙ ap (λ (y : Y). f.spell y ++ a.0.1) inner ∙ ap (λ (r : List ℕ). f.spell (out x) ++ r) behind,
-       subst (λ (y : Y). f.fits y) inner s.1)
+      let inner : a.0.0 ≡ out x = sym (back a.0.0) ∙ ap out value in (
+        s.0 ∙ ap (λ (y : Y). f.spell y ++ a.0.1) inner ∙ ap (λ (r : List ℕ). f.spell (out x) ++ r) behind,
+        subst (λ (y : Y). f.fits y) inner s.1,
+      )
 
   pub fields_is : LawfulBefore behind (fields f out made)
   fields_is = record { again = fields_again; sound = fields_sound }

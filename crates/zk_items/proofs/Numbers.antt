@@ -69,11 +69,12 @@ num_of_sound k run rest x behind e =
     let ends = some_is (z, rest) (x, behind) a.1 in
     let parts = both_pass (bytes_eq (signed_decimal z) run) (in_range k z) a.0 in
     (same_bytes run (signed_decimal z) (signed_decimal x) parts.0 (ap signed_decimal ends.0), ap (in_range k) (sym ends.0) ∙ parts.1, ends.1) where
-  both_pass : (a b : Bool) → (a && b) ≡ true → (a ≡ true) × (b ≡ true)
-  both_pass true b e = (refl, e)
-  both_pass false b e = absurd cc
-  same_bytes : (run a b : List ℕ) → bytes_eq a run ≡ true → a ≡ b → run ≡ b
-  same_bytes run a b e h = let d : a ≡ run = grind (arith, bytes_eq-Decides, e) in sym d ∙ h
+      both_pass : (a b : Bool) → (a && b) ≡ true → (a ≡ true) × (b ≡ true)
+      both_pass true b e = (refl, e)
+      both_pass false b e = absurd cc
+
+      same_bytes : (run a b : List ℕ) → bytes_eq a run ≡ true → a ≡ b → run ≡ b
+      same_bytes run a b e h = let d : a ≡ run = grind (arith, bytes_eq-Decides, e) in sym d ∙ h
 
 pub num_again : (k : ℕ) (small : (n : ℕ) → n < 2 ^ k → n < 2 ^ 63) (x : ℤ) (rest : List ℕ) → in_range k x ≡ true → ends in_number rest ≡ true → num_at k (signed_decimal x ++ rest) ≡ Some (x, rest)
 unfolding num_at
@@ -85,9 +86,9 @@ num_again k small x rest fit stop =
     ∙ ap (λ (r : List ℕ). num_of k r (drop (length (signed_decimal x)) (signed_decimal x ++ rest))) (take-append_seam (signed_decimal x) rest)
     ∙ ap (λ (r : List ℕ). num_of k (signed_decimal x) r) (drop-append_seam (signed_decimal x) rest)
     ∙ num_of_some k x (signed_decimal x) rest wide fit refl where
-  widen : (k : ℕ) (small : (n : ℕ) → n < 2 ^ k → n < 2 ^ 63) (x : ℤ) → in_range k x ≡ true → in_range 63 x ≡ true
-  widen k small (pos n) fit = lt-ltb n (2 ^ 63) (small n (ltb-true n (2 ^ k) fit))
-  widen k small (negsuc n) fit = lt-ltb n (2 ^ 63) (small n (ltb-true n (2 ^ k) fit))
+      widen : (k : ℕ) (small : (n : ℕ) → n < 2 ^ k → n < 2 ^ 63) (x : ℤ) → in_range k x ≡ true → in_range 63 x ≡ true
+      widen k small (pos n) fit = lt-ltb n (2 ^ 63) (small n (ltb-true n (2 ^ k) fit))
+      widen k small (negsuc n) fit = lt-ltb n (2 ^ 63) (small n (ltb-true n (2 ^ k) fit))
 
 pub num_sound : (k : ℕ) (bytes : List ℕ) (x : ℤ) (rest : List ℕ) → num_at k bytes ≡ Some (x, rest) → (bytes ≡ signed_decimal x ++ rest) × (in_range k x ≡ true)
 unfolding num_at

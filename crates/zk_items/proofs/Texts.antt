@@ -71,6 +71,7 @@ symbol_sound (c ∷ bytes) b rest e = first (c == 34) e where
       let small : b < 256 = grind (arith, plain) in
       (ap (λ (c : ℕ). c ∷ bytes) same ∙ ap (λ (r : List ℕ). b ∷ r) h.1 ∙ sym (ap (λ (t : Bool). cond t (b ∷ []) (92 ∷ hex_digit (b / 16) ∷ hex_digit (b % 16) ∷ []) ++ rest) plain), small)
   third false is e = absurd cc
+
   second : (t : Bool) → (c == 92) ≡ t → cond {A = Read (Option ℕ)} t (escape_at bytes) (cond {A = Read (Option ℕ)} (is_plain c) (Some (Some c, bytes)) None) ≡ Some (Some b, rest) → (c ∷ bytes ≡ symbol_spell b ++ rest) × (b < 256)
   second true is e =
       let h = escape_is bytes (Some b) rest e in
@@ -80,6 +81,7 @@ symbol_sound (c ∷ bytes) b rest e = first (c == 34) e where
       let small : b < 256 = let k = h.small in omega arith in
       (ap (λ (c : ℕ). c ∷ bytes) (eqb-true c 92 is) ∙ ap (λ (r : List ℕ). 92 ∷ r) spelled ∙ sym (ap (λ (t : Bool). cond t (b ∷ []) (92 ∷ hex_digit (b / 16) ∷ hex_digit (b % 16) ∷ []) ++ rest) odd), small)
   second false is e = third (is_plain c) refl e
+
   first : (t : Bool) → cond {A = Read (Option ℕ)} t (Some (None, bytes)) (cond (c == 92) (escape_at bytes) (cond {A = Read (Option ℕ)} (is_plain c) (Some (Some c, bytes)) None)) ≡ Some (Some b, rest) → (c ∷ bytes ≡ symbol_spell b ++ rest) × (b < 256)
   first true e = let h = some_is (None, bytes) (Some b, rest) e in let k = h.0 in absurd cc
   first false e = second (c == 92) refl e
@@ -91,9 +93,11 @@ symbol_end (c ∷ bytes) rest e = first (c == 34) refl e where
   third : (t : Bool) → cond {A = Read (Option ℕ)} t (Some (Some c, bytes)) None ≡ Some (None, rest) → c ∷ bytes ≡ 34 ∷ rest
   third true e = let h = some_is (Some c, bytes) (None, rest) e in let k = h.0 in absurd cc
   third false e = absurd cc
+
   second : (t : Bool) → cond {A = Read (Option ℕ)} t (escape_at bytes) (cond {A = Read (Option ℕ)} (is_plain c) (Some (Some c, bytes)) None) ≡ Some (None, rest) → c ∷ bytes ≡ 34 ∷ rest
   second true e = let h = escape_is bytes None rest e in let k = h.is in absurd cc
   second false e = third (is_plain c) e
+
   first : (t : Bool) → (c == 34) ≡ t → cond {A = Read (Option ℕ)} t (Some (None, bytes)) (cond (c == 92) (escape_at bytes) (cond {A = Read (Option ℕ)} (is_plain c) (Some (Some c, bytes)) None)) ≡ Some (None, rest) → c ∷ bytes ≡ 34 ∷ rest
   first true is e = let h = some_is (None, bytes) (None, rest) e in ap (λ (c : ℕ). c ∷ bytes) (eqb-true c 34 is) ∙ ap (λ (r : List ℕ). 34 ∷ r) h.1
   first false is e = second (c == 92) e
@@ -133,10 +137,12 @@ text_sound (c ∷ bytes) x rest e = first (c == 126) refl e where
       let k = if_some (is_utf8 a.0.0) (Some (texts.Full a.0.0, a.0.1)) (x, rest) a.2 in
       let ends = some_is (texts.Full a.0.0, a.0.1) (x, rest) k.1 in
       let same : c ≡ 34 = eqb-true c 34 is in
-      subst (λ (x : Text). (c ∷ bytes ≡ text_spell x ++ rest) × text_fits x) ends.0
-        (ap (λ (c : ℕ). c ∷ bytes) same
-         ∙ ap (λ (b : List ℕ). 34 ∷ b) (s.0 ∙ ap (λ (r : List ℕ). flat_map symbol_spell a.0.0 ++ (34 ∷ r)) ends.1 ∙ sym (append_assoc (flat_map symbol_spell a.0.0) (34 ∷ []) rest)),
-         (IsUtf8-from_is_utf8 a.0.0 k.0, s.1))
+      subst (λ (x : Text). (c ∷ bytes ≡ text_spell x ++ rest) × text_fits x) ends.0 (
+        ap (λ (c : ℕ). c ∷ bytes) same
+            ∙ ap (λ (b : List ℕ). 34 ∷ b) (s.0 ∙ ap (λ (r : List ℕ). flat_map symbol_spell a.0.0 ++ (34 ∷ r)) ends.1 ∙ sym (append_assoc (flat_map symbol_spell a.0.0) (34 ∷ []) rest)),
+        (IsUtf8-from_is_utf8 a.0.0 k.0, s.1),
+      )
+
   first : (t : Bool) → (c == 126) ≡ t → cond t (Some (texts.Null, bytes)) (cond (c == 34) (many_at symbol_at (length bytes) bytes >>= checked) None) ≡ Some (x, rest) → (c ∷ bytes ≡ text_spell x ++ rest) × text_fits x
   first false is e = second (c == 34) refl e
   first true is e =

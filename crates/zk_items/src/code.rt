@@ -43,15 +43,15 @@ fn read_name(line: &mut Reader<'_>, name: &str, fault: LineFault) -> Result<(), 
 fn read_no_name(line: &Reader<'_>, fault: LineFault) -> Result<(), LineFault>
     ensures { Passes result line.now (name_at None line.now) }
 {
-    if line.is_next(b'/') { Err(fault) } else { Ok(()) }
+    if line.is_next(b'/') {
+        Err(fault)
+    } else {
+        Ok(())
+    }
 }
 
 /// Passes what stands behind the number of an error.
-fn read_error_name(
-    line: &mut Reader<'_>,
-    number: i32,
-    fault: LineFault,
-) -> Result<(), LineFault>
+fn read_error_name(line: &mut Reader<'_>, number: i32, fault: LineFault) -> Result<(), LineFault>
     ensures { Passes result line.new (name_at (codes.error_name number) line.old) }
 {
     match error_name(number) {
@@ -61,11 +61,7 @@ fn read_error_name(
 }
 
 /// Passes what stands behind the number of a type of event.
-fn read_type_name(
-    line: &mut Reader<'_>,
-    number: i32,
-    fault: LineFault,
-) -> Result<(), LineFault>
+fn read_type_name(line: &mut Reader<'_>, number: i32, fault: LineFault) -> Result<(), LineFault>
     ensures { Passes result line.new (name_at (codes.type_name number) line.old) }
 {
     match type_name(number) {

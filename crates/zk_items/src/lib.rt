@@ -9,7 +9,9 @@ mod symbol;
 mod word;
 mod write;
 
-pub use code::{put_error_code, put_event_code, read_error_code, read_event_code, read_failure_code};
+pub use code::{
+    put_error_code, put_event_code, read_error_code, read_event_code, read_failure_code,
+};
 pub use fault::{LineFault, LineReason, line_reason_name};
 pub use reader::Reader;
 pub use word::{Word, word_bytes};

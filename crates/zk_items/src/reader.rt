@@ -48,7 +48,10 @@ impl<'a> Reader<'a> {
     pub fn fault(&self, reason: LineReason) -> LineFault
         ensures { result.reason ≡ reason }
     {
-        let column = self.whole.saturating_sub(self.ahead.len()).saturating_add(1);
+        let column = self
+            .whole
+            .saturating_sub(self.ahead.len())
+            .saturating_add(1);
         LineFault {
             column: u32::try_from(column).unwrap_or(u32::MAX),
             reason,

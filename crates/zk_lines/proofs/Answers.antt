@@ -262,7 +262,7 @@ named_sound op bytes x rest e =
     let second = outcome_sound op a.0.1 b.0.0 b.0.1 b.1 in
     let zxid = (field words.Zxid long).spell a.0.0 in
     let whole : bytes ≡ (zxid ++ answers.outcome_spell b.0.0) ++ rest =
-        first.0 ∙ ap (λ (r : List ℕ). zxid ++ r) (second.1.0 ∙ ap (λ (r : List ℕ). answers.outcome_spell b.0.0 ++ r) ends.1) ∙ sym (append_assoc zxid (answers.outcome_spell b.0.0) rest) in
+    first.0 ∙ ap (λ (r : List ℕ). zxid ++ r) (second.1.0 ∙ ap (λ (r : List ℕ). answers.outcome_spell b.0.0 ++ r) ends.1) ∙ sym (append_assoc zxid (answers.outcome_spell b.0.0) rest) in
     subst (IsRead answers.outcome_bodies op bytes rest) ends.0 (second.0, (whole, (first.1, second.1.1)))
 
 named_outcome_is : LawfulBefore is_end answers.named_outcome

@@ -64,7 +64,7 @@ ask_again xid a fit =
     let bytes = asks.request.spell (xid, a) in
     ap client_at (append-nil bytes)
     ∙ ap (λ (t : Bool). cond t (read_map (λ (p : ConnectRequest × Option Bool). client.Connect p.0 p.1) ((led (codes "connect") asks.connect).at bytes)) (read_map (λ (p : ℤ × Ask). client.Ask p.0 p.1) (asks.request.at bytes)))
-      (number_letters 99 (codes "onnect") (omega arith) xid (asks.ask_form.spell a) fit.0)
+    (number_letters 99 (codes "onnect") (omega arith) xid (asks.ask_form.spell a) fit.0)
     ∙ ap (λ (b : List ℕ). read_map (λ (p : ℤ × Ask). client.Ask p.0 p.1) (asks.request.at b)) (sym (append-nil bytes))
     ∙ ap (read_map (λ (p : ℤ × Ask). client.Ask p.0 p.1)) (request_is.again (xid, a) [] fit refl)
 
@@ -72,6 +72,7 @@ client_sound : (bytes : List ℕ) (f : ClientFrame) → whole (client_at bytes) 
 client_sound bytes f e = pick (bytes_eq (letters bytes) (codes "connect")) (whole_some (client_at bytes) f e) where
   Spelled : ClientFrame → Type 0
   Spelled f = (codes "C " ++ bytes ≡ client_line f) × ClientFits f
+
   pick : (t : Bool) → cond t (read_map (λ (p : ConnectRequest × Option Bool). client.Connect p.0 p.1) ((led (codes "connect") asks.connect).at bytes)) (read_map (λ (p : ℤ × Ask). client.Ask p.0 p.1) (asks.request.at bytes)) ≡ Some (f, []) → Spelled f
   pick true e =
       let m = mapped (led (codes "connect") asks.connect) (led_is (codes "connect") asks.connect connect_is.lawful) (λ (p : ConnectRequest × Option Bool). client.Connect p.0 p.1) bytes [] f e in
@@ -94,7 +95,7 @@ event_again p fit = ap (read_map (λ (p : ℤ × WatcherEvent). server.Event p.0
 abbrev chosen : Bool → Bool → List ℕ → Read ServerFrame
 chosen first second bytes =
     cond first (read_map (λ (p : ConnectResponse × Option Bool). server.Connected p.0 p.1) ((led (codes "connect") answers.connected).at bytes))
-      (cond second (read_map (λ (p : ℤ × WatcherEvent). server.Event p.0 p.1) ((led (codes "event") answers.event).at bytes)) (read_map server.Answered (answers.reply.at bytes)))
+    (cond second (read_map (λ (p : ℤ × WatcherEvent). server.Event p.0 p.1) ((led (codes "event") answers.event).at bytes)) (read_map server.Answered (answers.reply.at bytes)))
 
 reply_again : (r : Reply) → answers.reply.fits r → server_at (answers.reply.spell r ++ []) ≡ Some (server.Answered r, [])
 unfolding word_of
@@ -111,6 +112,7 @@ server_sound : (bytes : List ℕ) (f : ServerFrame) → whole (server_at bytes) 
 server_sound bytes f e = pick (bytes_eq (letters bytes) (codes "connect")) (bytes_eq (letters bytes) (codes "event")) (whole_some (server_at bytes) f e) where
   Spelled : ServerFrame → Type 0
   Spelled f = (codes "S " ++ bytes ≡ server_line f) × ServerFits f
+
   pick : (t u : Bool) → chosen t u bytes ≡ Some (f, []) → Spelled f
   pick true u e =
       let m = mapped (led (codes "connect") answers.connected) (led_is (codes "connect") answers.connected connected_is.lawful) (λ (p : ConnectResponse × Option Bool). server.Connected p.0 p.1) bytes [] f e in
@@ -153,13 +155,14 @@ said_some : {X : Type 0} (side : X → Message) (o : Option X) (m : Message) →
 said_some side o m e =
     let b = bind_some o (λ f. Some (side f)) m e in
     (b.0, b.1, some_value (side b.0) m b.2) where
-  some_value : (a b : Message) → ◌≡◌ {A = Option Message} (Some a) (Some b) → a ≡ b
-  some_value a b e = cc
+      some_value : (a b : Message) → ◌≡◌ {A = Option Message} (Some a) (Some b) → a ≡ b
+      some_value a b e = cc
 
 pub message_found : (bytes : List ℕ) (m : Message) → message_at bytes ≡ Some m → (bytes ≡ line m) × Fits m
 message_found bytes m e = pick (word_at (codes "C ") bytes) refl e where
   Spelled : Message → Type 0
   Spelled m = (bytes ≡ line m) × Fits m
+
   pick : (o : Option (List ℕ)) → word_at (codes "C ") bytes ≡ o → if_passed o (λ rest. said message.Client (whole (client_at rest))) (word_at (codes "S ") bytes >>= λ rest. said message.Server (whole (server_at rest))) ≡ Some m → Spelled m
   pick (Some rest) is e =
       let s = said_some message.Client (whole (client_at rest)) m e in

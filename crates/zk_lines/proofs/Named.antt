@@ -19,6 +19,7 @@ first_sound name [] bytes k e = absurd cc
 first_sound {K} name (x ∷ keys) bytes k e = pick (bytes_eq bytes (name x)) refl e (first_sound name keys bytes k) where
   same : (a b : List ℕ) → bytes_eq a b ≡ true → a ≡ b
   same a b h = grind (arith, bytes_eq-Decides, h)
+
   pick : (t : Bool) → bytes_eq bytes (name x) ≡ t → cond t (Some x) (first_named name keys bytes) ≡ Some k → (first_named name keys bytes ≡ Some k → bytes ≡ name k) → bytes ≡ name k
   pick true is e others = let h : x ≡ k = cc in same bytes (name x) is ∙ ap name h
   pick false is e others = others e

@@ -78,7 +78,7 @@ module _ {X : Type 0} (sep close : ℕ) (apart : close ≢ sep) (parts : (rest :
   series_again (x ∷ xs) rest fit stop =
       let behind = flat_map piece xs ++ (close ∷ rest) in
       let regrouped : series_spell sep close f.spell (x ∷ xs) ++ rest ≡ f.spell x ++ behind =
-          append_assoc (f.spell x) (flat_map piece xs ++ (close ∷ [])) rest ∙ ap (λ (r : List ℕ). f.spell x ++ r) (append_assoc (flat_map piece xs) (close ∷ []) rest) in
+      append_assoc (f.spell x) (flat_map piece xs ++ (close ∷ [])) rest ∙ ap (λ (r : List ℕ). f.spell x ++ r) (append_assoc (flat_map piece xs) (close ∷ []) rest) in
       ap (series_at sep close f.at) regrouped
       ∙ ap (λ (o : Option (List ℕ)). if_passed {A = List X × List ℕ} o (λ rest. Some ([], rest)) (f.at (f.spell x ++ behind) >>= λ q. with_first q.0 (many_at (element_at sep close f.at) (length q.1) q.1))) (begins x behind fit.0)
       ∙ ap (λ (r : Read X). r >>= λ q. with_first q.0 (many_at (element_at sep close f.at) (length q.1) q.1)) (is.again x behind fit.0 (others_stop xs rest))
@@ -89,6 +89,7 @@ module _ {X : Type 0} (sep close : ℕ) (apart : close ≢ sep) (parts : (rest :
   series_sound bytes xs rest e = pick (word_at (close ∷ []) bytes) refl e where
     Spelled : List X → Type 0
     Spelled xs = (bytes ≡ series_spell sep close f.spell xs ++ rest) × AllByRecursion f.fits xs
+
     pick : (o : Option (List ℕ)) → word_at (close ∷ []) bytes ≡ o → if_passed {A = List X × List ℕ} o (λ rest. Some ([], rest)) (f.at bytes >>= λ q. with_first q.0 (many_at (element_at sep close f.at) (length q.1) q.1)) ≡ Some (xs, rest) → Spelled xs
     pick (Some behind) is e =
         let h = some_is ([], behind) (xs, rest) e in
@@ -100,8 +101,8 @@ module _ {X : Type 0} (sep close : ℕ) (apart : close ≢ sep) (parts : (rest :
         let first = is.sound bytes a.0.0 a.0.1 a.1 in
         let others = many_sound (element_at sep close f.at) piece f.fits close element_sound element_ended (length a.0.1) a.0.1 b.0.0 b.0.1 b.1 in
         let whole : bytes ≡ series_spell sep close f.spell (a.0.0 ∷ b.0.0) ++ rest =
-            first.0 ∙ ap (λ (r : List ℕ). f.spell a.0.0 ++ r) (others.0 ∙ ap (λ (r : List ℕ). flat_map piece b.0.0 ++ (close ∷ r)) h.1 ∙ sym (append_assoc (flat_map piece b.0.0) (close ∷ []) rest))
-            ∙ sym (append_assoc (f.spell a.0.0) (flat_map piece b.0.0 ++ (close ∷ [])) rest) in
+        first.0 ∙ ap (λ (r : List ℕ). f.spell a.0.0 ++ r) (others.0 ∙ ap (λ (r : List ℕ). flat_map piece b.0.0 ++ (close ∷ r)) h.1 ∙ sym (append_assoc (flat_map piece b.0.0) (close ∷ []) rest))
+        ∙ sym (append_assoc (f.spell a.0.0) (flat_map piece b.0.0 ++ (close ∷ [])) rest) in
         subst Spelled h.0 (whole, (first.1, others.1))
 
   pub series_is : Lawful (series sep close f)
@@ -123,6 +124,7 @@ module _ {X : Type 0} (f : Form X) (is : Lawful f) (begins : NeverBegins f 93) w
   list_sound bytes x rest e = pick (word_at (codes "~") bytes) refl e where
     Spelled : Vector X → Type 0
     Spelled x = (bytes ≡ list_spell f.spell x ++ rest) × list_fits f.fits x
+
     pick : (o : Option (List ℕ)) → word_at (codes "~") bytes ≡ o → if_passed {A = Vector X × List ℕ} o (λ rest. Some (list.Null, rest)) (word_at (codes "[") bytes >>= λ rest. read_map list.Full (series_at 44 93 f.at rest)) ≡ Some (x, rest) → Spelled x
     pick (Some behind) is e =
         let h = some_is (list.Null, behind) (x, rest) e in

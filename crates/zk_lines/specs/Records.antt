@@ -30,7 +30,15 @@ abbrev pub stat : Form Stat
 stat = fields (closed (times and versions and sizes) (word_of Close))
     (λ s. ((s.czxid, (s.mzxid, (s.ctime, s.mtime))), ((s.version, (s.cversion, s.aversion)), (s.ephemeral_owner, (s.data_length, (s.num_children, s.pzxid))))))
     (λ p. record {
-      czxid = p.0.0; mzxid = p.0.1.0; ctime = p.0.1.1.0; mtime = p.0.1.1.1;
-      version = p.1.0.0; cversion = p.1.0.1.0; aversion = p.1.0.1.1;
-      ephemeral_owner = p.1.1.0; data_length = p.1.1.1.0; num_children = p.1.1.1.1.0; pzxid = p.1.1.1.1.1;
+      czxid = p.0.0;
+      mzxid = p.0.1.0;
+      ctime = p.0.1.1.0;
+      mtime = p.0.1.1.1;
+      version = p.1.0.0;
+      cversion = p.1.0.1.0;
+      aversion = p.1.0.1.1;
+      ephemeral_owner = p.1.1.0;
+      data_length = p.1.1.1.0;
+      num_children = p.1.1.1.1.0;
+      pzxid = p.1.1.1.1.1;
     })

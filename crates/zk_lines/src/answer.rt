@@ -86,6 +86,7 @@ impl Item for PartDone {
     ghost use Rattle.zk_lines.specs.Answers.{done_form};
 
     ghost spell = { done_form.spell };
+
     ghost at = { done_form.at };
 
     fn read(line: &mut Reader<'_>) -> Result<Self, LineFault> {

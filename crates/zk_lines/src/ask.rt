@@ -46,6 +46,7 @@ impl Item for Part {
     ghost use Rattle.zk_lines.specs.Asks.{part_form};
 
     ghost spell = { part_form.spell };
+
     ghost at = { part_form.at };
 
     fn read(line: &mut Reader<'_>) -> Result<Self, LineFault> {
@@ -124,6 +125,7 @@ impl Item for Ask {
     ghost use Rattle.zk_lines.specs.Asks.{ask_form};
 
     ghost spell = { ask_form.spell };
+
     ghost at = { ask_form.at };
 
     fn read(line: &mut Reader<'_>) -> Result<Self, LineFault> {

@@ -80,9 +80,7 @@ fn put_ending(out: &mut Vec<u8>, ending: &Ending) -> Result<(), AllocError>
         Ending::Whole { unanswered } => {
             put_count(out, b". whole unanswered=", u64::from(*unanswered))
         }
-        Ending::Cut { side, frame, got } => {
-            put_cut(out, *side, *frame, u64::from(*got))
-        }
+        Ending::Cut { side, frame, got } => { put_cut(out, *side, *frame, u64::from(*got)) }
         Ending::Refused(fault) => {
             put_place(out, fault)?;
             put_reason(out, &fault.reason)

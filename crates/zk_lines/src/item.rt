@@ -5,13 +5,15 @@ ghost use Rattle.zk_items.specs.Words.{field_at, word_of};
 
 use std::alloc::AllocError;
 use zk_items::{
-    LineFault, Reader, Word, put_bit, put_blob, put_int, put_long, put_read_only, put_text, put_word,
+    LineFault, Reader, Word, put_bit, put_blob, put_int, put_long, put_read_only, put_text,
+    put_word,
 };
 use zk_jute::{Blob, Text};
 
 /// A value that is an item of a line.
 pub trait Item: Sized + Drop {
     ghost spell: { Self → List ℕ };
+
     ghost at: { List ℕ → Read Self };
 
     /// The item that is next.
@@ -43,6 +45,7 @@ impl Item for i32 {
     ghost use Rattle.zk_items.specs.Leaf.{int};
 
     ghost spell = { int.spell };
+
     ghost at = { int.at };
 
     fn read(line: &mut Reader<'_>) -> Result<Self, LineFault> {
@@ -58,6 +61,7 @@ impl Item for i64 {
     ghost use Rattle.zk_items.specs.Leaf.{long};
 
     ghost spell = { long.spell };
+
     ghost at = { long.at };
 
     fn read(line: &mut Reader<'_>) -> Result<Self, LineFault> {
@@ -73,6 +77,7 @@ impl Item for bool {
     ghost use Rattle.zk_items.specs.Leaf.{bit};
 
     ghost spell = { bit.spell };
+
     ghost at = { bit.at };
 
     fn read(line: &mut Reader<'_>) -> Result<Self, LineFault> {
@@ -88,6 +93,7 @@ impl Item for Option<bool> {
     ghost use Rattle.zk_items.specs.Leaf.{ro};
 
     ghost spell = { ro.spell };
+
     ghost at = { ro.at };
 
     fn read(line: &mut Reader<'_>) -> Result<Self, LineFault> {
@@ -103,6 +109,7 @@ impl Item for Text {
     ghost use Rattle.zk_items.specs.Leaf.{text};
 
     ghost spell = { text.spell };
+
     ghost at = { text.at };
 
     fn read(line: &mut Reader<'_>) -> Result<Self, LineFault> {
@@ -118,6 +125,7 @@ impl Item for Blob {
     ghost use Rattle.zk_items.specs.Leaf.{blob};
 
     ghost spell = { blob.spell };
+
     ghost at = { blob.at };
 
     fn read(line: &mut Reader<'_>) -> Result<Self, LineFault> {

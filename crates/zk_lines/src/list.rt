@@ -76,11 +76,7 @@ fn put_others<T: Item>(out: &mut Vec<u8>, items: &[T], signs: Signs) -> Result<(
 }
 
 /// Appends the items, with a sign between two and one behind the last.
-pub fn put_series<T: Item>(
-    out: &mut Vec<u8>,
-    items: &[T],
-    signs: Signs,
-) -> Result<(), AllocError>
+pub fn put_series<T: Item>(out: &mut Vec<u8>, items: &[T], signs: Signs) -> Result<(), AllocError>
     ensures { OnOk result (out.new.items ≡ out.old.items ++ series_spell signs.between signs.behind T.spell items.now) }
 {
     match items.split_first() {
@@ -99,6 +95,7 @@ const COMMAS: Signs = Signs {
 
 impl<T: Item> Item for List<T> {
     ghost spell = { list_spell T.spell };
+
     ghost at = { list_at T.at };
 
     /// `~`, or the items between brackets, with commas between them.

@@ -12,6 +12,7 @@ impl Item for Acl {
     ghost use Rattle.zk_lines.specs.Records.{acl};
 
     ghost spell = { acl.spell };
+
     ghost at = { acl.at };
 
     fn read(line: &mut Reader<'_>) -> Result<Self, LineFault> {
@@ -35,6 +36,7 @@ impl Item for Stat {
     ghost use Rattle.zk_lines.specs.Records.{stat};
 
     ghost spell = { stat.spell };
+
     ghost at = { stat.at };
 
     fn read(line: &mut Reader<'_>) -> Result<Self, LineFault> {

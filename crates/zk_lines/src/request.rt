@@ -12,6 +12,7 @@ impl Item for CreateAsk {
     ghost use Rattle.zk_lines.specs.Asks.{create};
 
     ghost spell = { create.spell };
+
     ghost at = { create.at };
 
     fn read(line: &mut Reader<'_>) -> Result<Self, LineFault> {
@@ -39,6 +40,7 @@ impl Item for DeleteAsk {
     ghost use Rattle.zk_lines.specs.Asks.{delete};
 
     ghost spell = { delete.spell };
+
     ghost at = { delete.at };
 
     fn read(line: &mut Reader<'_>) -> Result<Self, LineFault> {
@@ -57,6 +59,7 @@ impl Item for WatchAsk {
     ghost use Rattle.zk_lines.specs.Asks.{watch};
 
     ghost spell = { watch.spell };
+
     ghost at = { watch.at };
 
     fn read(line: &mut Reader<'_>) -> Result<Self, LineFault> {
@@ -75,13 +78,18 @@ impl Item for SetDataAsk {
     ghost use Rattle.zk_lines.specs.Asks.{set_data};
 
     ghost spell = { set_data.spell };
+
     ghost at = { set_data.at };
 
     fn read(line: &mut Reader<'_>) -> Result<Self, LineFault> {
         let path = read_field(line, Word::Path)?;
         let blob = read_field(line, Word::Blob)?;
         let version = read_field(line, Word::Version)?;
-        Ok(SetDataAsk { path, blob, version })
+        Ok(SetDataAsk {
+            path,
+            blob,
+            version,
+        })
     }
 
     fn put(&self, out: &mut Vec<u8>) -> Result<(), AllocError> {
@@ -95,6 +103,7 @@ impl Item for PathAsk {
     ghost use Rattle.zk_lines.specs.Asks.{path};
 
     ghost spell = { path.spell };
+
     ghost at = { path.at };
 
     fn read(line: &mut Reader<'_>) -> Result<Self, LineFault> {
@@ -111,6 +120,7 @@ impl Item for SetAclAsk {
     ghost use Rattle.zk_lines.specs.Asks.{set_acl};
 
     ghost spell = { set_acl.spell };
+
     ghost at = { set_acl.at };
 
     fn read(line: &mut Reader<'_>) -> Result<Self, LineFault> {
@@ -131,6 +141,7 @@ impl Item for AuthAsk {
     ghost use Rattle.zk_lines.specs.Asks.{auth};
 
     ghost spell = { auth.spell };
+
     ghost at = { auth.at };
 
     fn read(line: &mut Reader<'_>) -> Result<Self, LineFault> {
@@ -151,6 +162,7 @@ impl Item for SetWatchesAsk {
     ghost use Rattle.zk_lines.specs.Asks.{set_watches};
 
     ghost spell = { set_watches.spell };
+
     ghost at = { set_watches.at };
 
     fn read(line: &mut Reader<'_>) -> Result<Self, LineFault> {
@@ -178,6 +190,7 @@ impl Item for CheckAsk {
     ghost use Rattle.zk_lines.specs.Asks.{check};
 
     ghost spell = { check.spell };
+
     ghost at = { check.at };
 
     fn read(line: &mut Reader<'_>) -> Result<Self, LineFault> {

@@ -112,7 +112,10 @@ fn endings(rt: HostRuntime) -> Result<(), Fail> {
         ),
     ];
     for (ending, line) in rows {
-        assert_eq!(rt; ending_line(rt.alloc(), &ending)?.as_slice(), line.as_bytes());
+        assert_eq!(rt;
+            ending_line(rt.alloc(), &ending)?.as_slice(),
+            line.as_bytes()
+        );
     }
     assert_eq!(rt; line_reason_name(&LineReason::Ending), "Ending");
     Ok(())

@@ -11,4 +11,4 @@ three (Err e) old a b c first second third one two h = h
 pub returns : goal.returns
 returns c =
     three c.put_count-2.result c.args.out.now.items (sided (codes ". cut side=") c.args.side) (count (codes " frame=") c.args.frame) (count (codes " got=") c.args.got)
-      c.put_side.new.out.items c.put_count.new.out.items c.put_count-2.new.out.items c.in_ok-put_side.ensures c.in_ok-put_count.ensures c.put_count-2.ensures
+    c.put_side.new.out.items c.put_count.new.out.items c.put_count-2.new.out.items c.in_ok-put_side.ensures c.in_ok-put_count.ensures c.put_count-2.ensures
