@@ -1,0 +1,7 @@
+pub mod Bytes
+pub mod Stages
+pub mod Feeding
+pub mod Any
+pub mod Stops
+pub mod Found
+pub mod Once
