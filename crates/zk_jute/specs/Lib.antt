@@ -1,5 +1,6 @@
 pub mod Item
 pub mod Layout
+pub mod Names
 pub mod Faults
 pub mod Reading
 pub mod Laws
@@ -7,3 +8,4 @@ pub mod Values
 pub mod Apart
 pub mod Wired
 pub mod Told
+pub mod Flagged

@@ -5,13 +5,15 @@ mod fault;
 mod list;
 mod number;
 mod pair;
+mod payload;
 mod run;
 mod text;
 mod value;
 mod wire;
 
-pub use fault::{ItemFault, Reason};
+pub use fault::{ItemFault, Reason, reason_name};
 pub use number::{bool_at, int_at, long_at};
+pub use payload::read_flagged;
 pub use value::{Blob, Bytes, Chars, Items, List, Text};
 pub use wire::{Spell, Wire, laws};
 

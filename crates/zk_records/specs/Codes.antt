@@ -1,9 +1,14 @@
 -- The numbers of operations (ZooKeeper 3.4, ZooDefs.OpCode), as tables.
-use Rattle.std.specs.Prelude.{ℤ, pos, negsuc}
+use Rattle.std.specs.Prelude.{ℕ, zero, suc, ℤ, pos, negsuc}
 use Rattle.zk_records.specs.declared.op.Op.{Op}
 use Rattle.zk_records.specs.declared.op.Op.TheVariants as ops
 use Rattle.zk_records.specs.declared.op.PartOp.{PartOp}
 use Rattle.zk_records.specs.declared.op.PartOp.TheVariants as parts
+
+-- so many below zero
+abbrev pub minus : ℕ → ℤ
+minus zero = pos 0
+minus (suc n) = negsuc n
 
 abbrev pub op_number : Op → ℤ
 op_number ops.Create = pos 1
@@ -20,7 +25,7 @@ op_number ops.GetChildren2 = pos 12
 op_number ops.Multi = pos 14
 op_number ops.Auth = pos 100
 op_number ops.SetWatches = pos 101
-op_number ops.CloseSession = negsuc 10
+op_number ops.CloseSession = minus 11
 
 abbrev pub part_number : PartOp → ℤ
 part_number parts.Create = pos 1

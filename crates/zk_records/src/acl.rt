@@ -1,48 +1,40 @@
 //! Who may do what: the records `Id` and `ACL` of zookeeper.jute.
+ghost use Rattle.zk_records.specs.Records.{id, acl};
 
+use crate::fields::{decode, fields};
 use std::alloc::{AllocError, Global};
 use zk_jute::{ItemFault, Spell, Text, Wire};
 
-/// Who someone is, under a scheme.
-#[derive(Drop)]
+/// Who someone is under a scheme: `Id`.
+#[derive(Debug, Drop)]
 pub struct Id {
+    /// As `world`, `auth`, `digest`, `ip`.
     pub scheme: Text,
+    /// `id` in jute.
     pub ident: Text,
 }
 
-/// What someone may do.
-#[derive(Drop)]
-pub struct Acl {
-    pub perms: i32,
-    pub who: Id,
-}
-
 impl Spell for Id {
-    ghost use Rattle.zk_records.specs.Records.{id};
-
     ghost items = { id.items };
 
     fn put(&self, out: &mut Vec<u8>) -> Result<(), AllocError> {
-        (&self.scheme, &self.ident).put(out)
+        fields!(self: scheme, ident).put(out)
     }
 
     fn size_within(&self, limit: u32) -> Option<u32> {
-        (&self.scheme, &self.ident).size_within(limit)
+        fields!(self: scheme, ident).size_within(limit)
     }
 }
 
 impl Wire for Id {
-    ghost use Rattle.zk_records.specs.Records.{id};
-
     ghost layout = { id.layout };
 
     fn decode(alloc: Global, src: &[u8], place: usize) -> Result<(Self, usize), ItemFault> {
-        let ((scheme, ident), place) = <(Text, Text)>::decode(alloc, src, place)?;
-        Ok((Id { scheme, ident }, place))
+        decode!(alloc, src, place => Id { scheme, ident })
     }
 
     fn scan(src: &[u8], place: usize) -> Result<usize, ItemFault> {
-        <(Text, Text)>::scan(src, place)
+        <fields!(Text, Text)>::scan(src, place)
     }
 
     ghost unfolds = { id.unfolds };
@@ -52,32 +44,36 @@ impl Wire for Id {
     ghost has_fields = { id.has_fields };
 }
 
-impl Spell for Acl {
-    ghost use Rattle.zk_records.specs.Records.{acl};
+/// What someone may do: `ACL`.
+#[derive(Debug, Drop)]
+pub struct Acl {
+    /// A sum of read 1, write 2, create 4, delete 8 and admin 16; any number is taken.
+    pub perms: i32,
+    /// `id` in jute.
+    pub who: Id,
+}
 
+impl Spell for Acl {
     ghost items = { acl.items };
 
     fn put(&self, out: &mut Vec<u8>) -> Result<(), AllocError> {
-        (&self.perms, &self.who).put(out)
+        fields!(self: perms, who).put(out)
     }
 
     fn size_within(&self, limit: u32) -> Option<u32> {
-        (&self.perms, &self.who).size_within(limit)
+        fields!(self: perms, who).size_within(limit)
     }
 }
 
 impl Wire for Acl {
-    ghost use Rattle.zk_records.specs.Records.{acl};
-
     ghost layout = { acl.layout };
 
     fn decode(alloc: Global, src: &[u8], place: usize) -> Result<(Self, usize), ItemFault> {
-        let ((perms, who), place) = <(i32, Id)>::decode(alloc, src, place)?;
-        Ok((Acl { perms, who }, place))
+        decode!(alloc, src, place => Acl { perms, who })
     }
 
     fn scan(src: &[u8], place: usize) -> Result<usize, ItemFault> {
-        <(i32, Id)>::scan(src, place)
+        <fields!(i32, Id)>::scan(src, place)
     }
 
     ghost unfolds = { acl.unfolds };

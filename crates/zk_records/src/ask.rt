@@ -1,54 +1,44 @@
-//! The bodies of requests that change a node, and of a check.
+//! The bodies of requests that change a node, and of a check: `CreateRequest`, `DeleteRequest`,
+//! `SetDataRequest`, `SetACLRequest` and `CheckVersionRequest` of zookeeper.jute.
+ghost use Rattle.zk_records.specs.Records.{create_ask, delete_ask, set_data_ask, set_acl_ask, check_ask};
 
 use crate::acl::Acl;
+use crate::fields::{decode, fields};
 use std::alloc::{AllocError, Global};
 use zk_jute::{Blob, ItemFault, List, Spell, Text, Wire};
 
-/// A node is to be made.
-#[derive(Drop)]
+/// A node is to be made: `CreateRequest`.
+#[derive(Debug, Drop)]
 pub struct CreateAsk {
     pub path: Text,
+    /// `data` in jute.
     pub blob: Blob,
     pub acl: List<Acl>,
+    /// 0 persistent, 1 ephemeral, 2 and 3 the same with a sequence number; any number is taken.
     pub flags: i32,
 }
 
 impl Spell for CreateAsk {
-    ghost use Rattle.zk_records.specs.Records.{create_ask};
-
     ghost items = { create_ask.items };
 
     fn put(&self, out: &mut Vec<u8>) -> Result<(), AllocError> {
-        (&self.path, (&self.blob, (&self.acl, &self.flags))).put(out)
+        fields!(self: path, blob, acl, flags).put(out)
     }
 
     fn size_within(&self, limit: u32) -> Option<u32> {
-        (&self.path, (&self.blob, (&self.acl, &self.flags))).size_within(limit)
+        fields!(self: path, blob, acl, flags).size_within(limit)
     }
 }
 
 impl Wire for CreateAsk {
-    ghost use Rattle.zk_records.specs.Records.{create_ask};
-
     ghost layout = { create_ask.layout };
 
     fn decode(alloc: Global, src: &[u8], place: usize) -> Result<(Self, usize), ItemFault> {
-        let ((path, (blob, (acl, flags))), place) = <(Text, (Blob, (List<Acl>, i32)))>::decode(
-            alloc, src, place,
-        )?;
-        Ok((
-            CreateAsk {
-                path,
-                blob,
-                acl,
-                flags,
-            },
-            place,
-        ))
+        decode!(alloc, src, place => CreateAsk { path, blob, acl, flags })
     }
 
     fn scan(src: &[u8], place: usize) -> Result<usize, ItemFault> {
-        <(Text, (Blob, (List<Acl>, i32)))>::scan(src, place)
+        <fields!(Text, Blob, List<Acl>, i32)>::scan(src, place)
     }
 
     ghost unfolds = { create_ask.unfolds };
@@ -58,39 +48,35 @@ impl Wire for CreateAsk {
     ghost has_fields = { create_ask.has_fields };
 }
 
-/// A node is to be removed.
-#[derive(Drop)]
+/// A node is to be removed: `DeleteRequest`.
+#[derive(Debug, Drop)]
 pub struct DeleteAsk {
     pub path: Text,
+    /// The data's version that is wanted, -1 for any.
     pub version: i32,
 }
 
 impl Spell for DeleteAsk {
-    ghost use Rattle.zk_records.specs.Records.{delete_ask};
-
     ghost items = { delete_ask.items };
 
     fn put(&self, out: &mut Vec<u8>) -> Result<(), AllocError> {
-        (&self.path, &self.version).put(out)
+        fields!(self: path, version).put(out)
     }
 
     fn size_within(&self, limit: u32) -> Option<u32> {
-        (&self.path, &self.version).size_within(limit)
+        fields!(self: path, version).size_within(limit)
     }
 }
 
 impl Wire for DeleteAsk {
-    ghost use Rattle.zk_records.specs.Records.{delete_ask};
-
     ghost layout = { delete_ask.layout };
 
     fn decode(alloc: Global, src: &[u8], place: usize) -> Result<(Self, usize), ItemFault> {
-        let ((path, version), place) = <(Text, i32)>::decode(alloc, src, place)?;
-        Ok((DeleteAsk { path, version }, place))
+        decode!(alloc, src, place => DeleteAsk { path, version })
     }
 
     fn scan(src: &[u8], place: usize) -> Result<usize, ItemFault> {
-        <(Text, i32)>::scan(src, place)
+        <fields!(Text, i32)>::scan(src, place)
     }
 
     ghost unfolds = { delete_ask.unfolds };
@@ -100,47 +86,37 @@ impl Wire for DeleteAsk {
     ghost has_fields = { delete_ask.has_fields };
 }
 
-/// A node is to hold data.
-#[derive(Drop)]
+/// A node's data is to be set: `SetDataRequest`.
+#[derive(Debug, Drop)]
 pub struct SetDataAsk {
     pub path: Text,
+    /// `data` in jute.
     pub blob: Blob,
+    /// The data's version that is wanted, -1 for any.
     pub version: i32,
 }
 
 impl Spell for SetDataAsk {
-    ghost use Rattle.zk_records.specs.Records.{set_data_ask};
-
     ghost items = { set_data_ask.items };
 
     fn put(&self, out: &mut Vec<u8>) -> Result<(), AllocError> {
-        (&self.path, (&self.blob, &self.version)).put(out)
+        fields!(self: path, blob, version).put(out)
     }
 
     fn size_within(&self, limit: u32) -> Option<u32> {
-        (&self.path, (&self.blob, &self.version)).size_within(limit)
+        fields!(self: path, blob, version).size_within(limit)
     }
 }
 
 impl Wire for SetDataAsk {
-    ghost use Rattle.zk_records.specs.Records.{set_data_ask};
-
     ghost layout = { set_data_ask.layout };
 
     fn decode(alloc: Global, src: &[u8], place: usize) -> Result<(Self, usize), ItemFault> {
-        let ((path, (blob, version)), place) = <(Text, (Blob, i32))>::decode(alloc, src, place)?;
-        Ok((
-            SetDataAsk {
-                path,
-                blob,
-                version,
-            },
-            place,
-        ))
+        decode!(alloc, src, place => SetDataAsk { path, blob, version })
     }
 
     fn scan(src: &[u8], place: usize) -> Result<usize, ItemFault> {
-        <(Text, (Blob, i32))>::scan(src, place)
+        <fields!(Text, Blob, i32)>::scan(src, place)
     }
 
     ghost unfolds = { set_data_ask.unfolds };
@@ -150,42 +126,36 @@ impl Wire for SetDataAsk {
     ghost has_fields = { set_data_ask.has_fields };
 }
 
-/// Who may do what.
-#[derive(Drop)]
+/// A node's access list is to be set: `SetACLRequest`.
+#[derive(Debug, Drop)]
 pub struct SetAclAsk {
     pub path: Text,
     pub acl: List<Acl>,
+    /// The access list's version that is wanted, -1 for any.
     pub version: i32,
 }
 
 impl Spell for SetAclAsk {
-    ghost use Rattle.zk_records.specs.Records.{set_acl_ask};
-
     ghost items = { set_acl_ask.items };
 
     fn put(&self, out: &mut Vec<u8>) -> Result<(), AllocError> {
-        (&self.path, (&self.acl, &self.version)).put(out)
+        fields!(self: path, acl, version).put(out)
     }
 
     fn size_within(&self, limit: u32) -> Option<u32> {
-        (&self.path, (&self.acl, &self.version)).size_within(limit)
+        fields!(self: path, acl, version).size_within(limit)
     }
 }
 
 impl Wire for SetAclAsk {
-    ghost use Rattle.zk_records.specs.Records.{set_acl_ask};
-
     ghost layout = { set_acl_ask.layout };
 
     fn decode(alloc: Global, src: &[u8], place: usize) -> Result<(Self, usize), ItemFault> {
-        let ((path, (acl, version)), place) = <(Text, (List<Acl>, i32))>::decode(
-            alloc, src, place,
-        )?;
-        Ok((SetAclAsk { path, acl, version }, place))
+        decode!(alloc, src, place => SetAclAsk { path, acl, version })
     }
 
     fn scan(src: &[u8], place: usize) -> Result<usize, ItemFault> {
-        <(Text, (List<Acl>, i32))>::scan(src, place)
+        <fields!(Text, List<Acl>, i32)>::scan(src, place)
     }
 
     ghost unfolds = { set_acl_ask.unfolds };
@@ -195,39 +165,35 @@ impl Wire for SetAclAsk {
     ghost has_fields = { set_acl_ask.has_fields };
 }
 
-/// A version is to be checked.
-#[derive(Drop)]
+/// A node's version is to be checked, within a multi: `CheckVersionRequest`.
+#[derive(Debug, Drop)]
 pub struct CheckAsk {
     pub path: Text,
+    /// The data's version that is wanted, -1 for any.
     pub version: i32,
 }
 
 impl Spell for CheckAsk {
-    ghost use Rattle.zk_records.specs.Records.{check_ask};
-
     ghost items = { check_ask.items };
 
     fn put(&self, out: &mut Vec<u8>) -> Result<(), AllocError> {
-        (&self.path, &self.version).put(out)
+        fields!(self: path, version).put(out)
     }
 
     fn size_within(&self, limit: u32) -> Option<u32> {
-        (&self.path, &self.version).size_within(limit)
+        fields!(self: path, version).size_within(limit)
     }
 }
 
 impl Wire for CheckAsk {
-    ghost use Rattle.zk_records.specs.Records.{check_ask};
-
     ghost layout = { check_ask.layout };
 
     fn decode(alloc: Global, src: &[u8], place: usize) -> Result<(Self, usize), ItemFault> {
-        let ((path, version), place) = <(Text, i32)>::decode(alloc, src, place)?;
-        Ok((CheckAsk { path, version }, place))
+        decode!(alloc, src, place => CheckAsk { path, version })
     }
 
     fn scan(src: &[u8], place: usize) -> Result<usize, ItemFault> {
-        <(Text, i32)>::scan(src, place)
+        <fields!(Text, i32)>::scan(src, place)
     }
 
     ghost unfolds = { check_ask.unfolds };

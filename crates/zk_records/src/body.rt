@@ -1,43 +1,42 @@
-//! The bodies of replies of more than one field.
+//! The bodies of replies of more than one field: `GetDataResponse`, `GetACLResponse` and
+//! `GetChildren2Response` of zookeeper.jute.
+ghost use Rattle.zk_records.specs.Records.{data_body, acl_body, children_body};
 
 use crate::acl::Acl;
+use crate::fields::{decode, fields};
 use crate::stat::Stat;
 use std::alloc::{AllocError, Global};
 use zk_jute::{Blob, ItemFault, List, Spell, Text, Wire};
 
-/// What a node holds.
-#[derive(Drop)]
+/// What a node holds: `GetDataResponse`.
+#[derive(Debug, Drop)]
 pub struct DataBody {
+    /// `data` in jute.
     pub blob: Blob,
     pub stat: Stat,
 }
 
 impl Spell for DataBody {
-    ghost use Rattle.zk_records.specs.Records.{data_body};
-
     ghost items = { data_body.items };
 
     fn put(&self, out: &mut Vec<u8>) -> Result<(), AllocError> {
-        (&self.blob, &self.stat).put(out)
+        fields!(self: blob, stat).put(out)
     }
 
     fn size_within(&self, limit: u32) -> Option<u32> {
-        (&self.blob, &self.stat).size_within(limit)
+        fields!(self: blob, stat).size_within(limit)
     }
 }
 
 impl Wire for DataBody {
-    ghost use Rattle.zk_records.specs.Records.{data_body};
-
     ghost layout = { data_body.layout };
 
     fn decode(alloc: Global, src: &[u8], place: usize) -> Result<(Self, usize), ItemFault> {
-        let ((blob, stat), place) = <(Blob, Stat)>::decode(alloc, src, place)?;
-        Ok((DataBody { blob, stat }, place))
+        decode!(alloc, src, place => DataBody { blob, stat })
     }
 
     fn scan(src: &[u8], place: usize) -> Result<usize, ItemFault> {
-        <(Blob, Stat)>::scan(src, place)
+        <fields!(Blob, Stat)>::scan(src, place)
     }
 
     ghost unfolds = { data_body.unfolds };
@@ -47,39 +46,34 @@ impl Wire for DataBody {
     ghost has_fields = { data_body.has_fields };
 }
 
-/// Who may do what with it.
-#[derive(Drop)]
+/// Who may do what with a node: `GetACLResponse`.
+#[derive(Debug, Drop)]
 pub struct AclBody {
     pub acl: List<Acl>,
     pub stat: Stat,
 }
 
 impl Spell for AclBody {
-    ghost use Rattle.zk_records.specs.Records.{acl_body};
-
     ghost items = { acl_body.items };
 
     fn put(&self, out: &mut Vec<u8>) -> Result<(), AllocError> {
-        (&self.acl, &self.stat).put(out)
+        fields!(self: acl, stat).put(out)
     }
 
     fn size_within(&self, limit: u32) -> Option<u32> {
-        (&self.acl, &self.stat).size_within(limit)
+        fields!(self: acl, stat).size_within(limit)
     }
 }
 
 impl Wire for AclBody {
-    ghost use Rattle.zk_records.specs.Records.{acl_body};
-
     ghost layout = { acl_body.layout };
 
     fn decode(alloc: Global, src: &[u8], place: usize) -> Result<(Self, usize), ItemFault> {
-        let ((acl, stat), place) = <(List<Acl>, Stat)>::decode(alloc, src, place)?;
-        Ok((AclBody { acl, stat }, place))
+        decode!(alloc, src, place => AclBody { acl, stat })
     }
 
     fn scan(src: &[u8], place: usize) -> Result<usize, ItemFault> {
-        <(List<Acl>, Stat)>::scan(src, place)
+        <fields!(List<Acl>, Stat)>::scan(src, place)
     }
 
     ghost unfolds = { acl_body.unfolds };
@@ -89,39 +83,35 @@ impl Wire for AclBody {
     ghost has_fields = { acl_body.has_fields };
 }
 
-/// The names below it.
-#[derive(Drop)]
+/// The names below a node: `GetChildren2Response`.
+#[derive(Debug, Drop)]
 pub struct ChildrenBody {
+    /// `children` in jute.
     pub names: List<Text>,
     pub stat: Stat,
 }
 
 impl Spell for ChildrenBody {
-    ghost use Rattle.zk_records.specs.Records.{children_body};
-
     ghost items = { children_body.items };
 
     fn put(&self, out: &mut Vec<u8>) -> Result<(), AllocError> {
-        (&self.names, &self.stat).put(out)
+        fields!(self: names, stat).put(out)
     }
 
     fn size_within(&self, limit: u32) -> Option<u32> {
-        (&self.names, &self.stat).size_within(limit)
+        fields!(self: names, stat).size_within(limit)
     }
 }
 
 impl Wire for ChildrenBody {
-    ghost use Rattle.zk_records.specs.Records.{children_body};
-
     ghost layout = { children_body.layout };
 
     fn decode(alloc: Global, src: &[u8], place: usize) -> Result<(Self, usize), ItemFault> {
-        let ((names, stat), place) = <(List<Text>, Stat)>::decode(alloc, src, place)?;
-        Ok((ChildrenBody { names, stat }, place))
+        decode!(alloc, src, place => ChildrenBody { names, stat })
     }
 
     fn scan(src: &[u8], place: usize) -> Result<usize, ItemFault> {
-        <(List<Text>, Stat)>::scan(src, place)
+        <fields!(List<Text>, Stat)>::scan(src, place)
     }
 
     ghost unfolds = { children_body.unfolds };

@@ -1,70 +1,48 @@
 //! The first payload of each side: `ConnectRequest` and `ConnectResponse` of zookeeper.jute.
+ghost use Rattle.zk_records.specs.Records.{connect_request, connect_response};
 
+use crate::fields::{decode, fields};
 use std::alloc::{AllocError, Global};
 use zk_jute::{Blob, ItemFault, Spell, Wire};
 
-/// A client asks for a session.
-#[derive(Drop)]
+/// A client asks for a session: `ConnectRequest`.
+#[derive(Debug, Drop)]
 pub struct ConnectRequest {
+    /// 0 in every release.
     pub protocol_version: i32,
+    /// The newest transaction that the client has seen.
     pub last_zxid_seen: i64,
+    /// Milliseconds.
     pub time_out: i32,
+    /// 0 for a new session.
     pub session_id: i64,
+    /// The session's password, usually 16 bytes.
     pub passwd: Blob,
 }
 
 impl Spell for ConnectRequest {
-    ghost use Rattle.zk_records.specs.Records.{connect_request};
-
     ghost items = { connect_request.items };
 
     fn put(&self, out: &mut Vec<u8>) -> Result<(), AllocError> {
-        (
-            &self.protocol_version,
-            (
-                &self.last_zxid_seen,
-                (&self.time_out, (&self.session_id, &self.passwd)),
-            ),
-        )
-            .put(out)
+        fields!(self: protocol_version, last_zxid_seen, time_out, session_id, passwd).put(out)
     }
 
     fn size_within(&self, limit: u32) -> Option<u32> {
-        (
-            &self.protocol_version,
-            (
-                &self.last_zxid_seen,
-                (&self.time_out, (&self.session_id, &self.passwd)),
-            ),
+        fields!(self: protocol_version, last_zxid_seen, time_out, session_id, passwd).size_within(
+            limit,
         )
-            .size_within(limit)
     }
 }
 
 impl Wire for ConnectRequest {
-    ghost use Rattle.zk_records.specs.Records.{connect_request};
-
     ghost layout = { connect_request.layout };
 
     fn decode(alloc: Global, src: &[u8], place: usize) -> Result<(Self, usize), ItemFault> {
-        let ((protocol_version, (last_zxid_seen, (time_out, (session_id, passwd)))), place) = <(
-            i32,
-            (i64, (i32, (i64, Blob))),
-        )>::decode(alloc, src, place)?;
-        Ok((
-            ConnectRequest {
-                protocol_version,
-                last_zxid_seen,
-                time_out,
-                session_id,
-                passwd,
-            },
-            place,
-        ))
+        decode!(alloc, src, place => ConnectRequest { protocol_version, last_zxid_seen, time_out, session_id, passwd })
     }
 
     fn scan(src: &[u8], place: usize) -> Result<usize, ItemFault> {
-        <(i32, (i64, (i32, (i64, Blob))))>::scan(src, place)
+        <fields!(i32, i64, i32, i64, Blob)>::scan(src, place)
     }
 
     ghost unfolds = { connect_request.unfolds };
@@ -74,60 +52,39 @@ impl Wire for ConnectRequest {
     ghost has_fields = { connect_request.has_fields };
 }
 
-/// A server grants a session.
-#[derive(Drop)]
+/// A server grants a session: `ConnectResponse`.
+#[derive(Debug, Drop)]
 pub struct ConnectResponse {
+    /// 0 in every release.
     pub protocol_version: i32,
+    /// Milliseconds; 0 or below where the session has expired.
     pub time_out: i32,
     pub session_id: i64,
+    /// The session's password, usually 16 bytes.
     pub passwd: Blob,
 }
 
 impl Spell for ConnectResponse {
-    ghost use Rattle.zk_records.specs.Records.{connect_response};
-
     ghost items = { connect_response.items };
 
     fn put(&self, out: &mut Vec<u8>) -> Result<(), AllocError> {
-        (
-            &self.protocol_version,
-            (&self.time_out, (&self.session_id, &self.passwd)),
-        )
-            .put(out)
+        fields!(self: protocol_version, time_out, session_id, passwd).put(out)
     }
 
     fn size_within(&self, limit: u32) -> Option<u32> {
-        (
-            &self.protocol_version,
-            (&self.time_out, (&self.session_id, &self.passwd)),
-        )
-            .size_within(limit)
+        fields!(self: protocol_version, time_out, session_id, passwd).size_within(limit)
     }
 }
 
 impl Wire for ConnectResponse {
-    ghost use Rattle.zk_records.specs.Records.{connect_response};
-
     ghost layout = { connect_response.layout };
 
     fn decode(alloc: Global, src: &[u8], place: usize) -> Result<(Self, usize), ItemFault> {
-        let ((protocol_version, (time_out, (session_id, passwd))), place) = <(
-            i32,
-            (i32, (i64, Blob)),
-        )>::decode(alloc, src, place)?;
-        Ok((
-            ConnectResponse {
-                protocol_version,
-                time_out,
-                session_id,
-                passwd,
-            },
-            place,
-        ))
+        decode!(alloc, src, place => ConnectResponse { protocol_version, time_out, session_id, passwd })
     }
 
     fn scan(src: &[u8], place: usize) -> Result<usize, ItemFault> {
-        <(i32, (i32, (i64, Blob)))>::scan(src, place)
+        <fields!(i32, i32, i64, Blob)>::scan(src, place)
     }
 
     ghost unfolds = { connect_response.unfolds };

@@ -1,41 +1,41 @@
-//! What stands before a request, a reply and each part of a multi: the headers of zookeeper.jute.
+//! What stands before a request, a reply and each part of a multi: `RequestHeader`, `ReplyHeader`
+//! and `MultiHeader` of zookeeper.jute.
+ghost use Rattle.zk_records.specs.Records.{request_header, reply_header, multi_header};
 
+use crate::fields::{decode, fields};
 use std::alloc::{AllocError, Global};
 use zk_jute::{ItemFault, Spell, Wire};
 
-/// What comes before each request.
-#[derive(Drop)]
+/// What stands before each request: `RequestHeader`, 8 bytes.
+#[derive(Debug, Drop)]
 pub struct RequestHeader {
+    /// The client's number of the request.
     pub xid: i32,
+    /// `type` in jute: a number of `ZooDefs.OpCode`.
     pub kind: i32,
 }
 
 impl Spell for RequestHeader {
-    ghost use Rattle.zk_records.specs.Records.{request_header};
-
     ghost items = { request_header.items };
 
     fn put(&self, out: &mut Vec<u8>) -> Result<(), AllocError> {
-        (&self.xid, &self.kind).put(out)
+        fields!(self: xid, kind).put(out)
     }
 
     fn size_within(&self, limit: u32) -> Option<u32> {
-        (&self.xid, &self.kind).size_within(limit)
+        fields!(self: xid, kind).size_within(limit)
     }
 }
 
 impl Wire for RequestHeader {
-    ghost use Rattle.zk_records.specs.Records.{request_header};
-
     ghost layout = { request_header.layout };
 
     fn decode(alloc: Global, src: &[u8], place: usize) -> Result<(Self, usize), ItemFault> {
-        let ((xid, kind), place) = <(i32, i32)>::decode(alloc, src, place)?;
-        Ok((RequestHeader { xid, kind }, place))
+        decode!(alloc, src, place => RequestHeader { xid, kind })
     }
 
     fn scan(src: &[u8], place: usize) -> Result<usize, ItemFault> {
-        <(i32, i32)>::scan(src, place)
+        <fields!(i32, i32)>::scan(src, place)
     }
 
     ghost unfolds = { request_header.unfolds };
@@ -45,40 +45,38 @@ impl Wire for RequestHeader {
     ghost has_fields = { request_header.has_fields };
 }
 
-/// What comes before each reply.
-#[derive(Drop)]
+/// What stands before each reply and event: `ReplyHeader`, 16 bytes.
+#[derive(Debug, Drop)]
 pub struct ReplyHeader {
+    /// That of the request; -1 for an event.
     pub xid: i32,
+    /// The newest transaction that the server has seen.
     pub zxid: i64,
+    /// A number of `KeeperException.Code`.
     pub err: i32,
 }
 
 impl Spell for ReplyHeader {
-    ghost use Rattle.zk_records.specs.Records.{reply_header};
-
     ghost items = { reply_header.items };
 
     fn put(&self, out: &mut Vec<u8>) -> Result<(), AllocError> {
-        (&self.xid, (&self.zxid, &self.err)).put(out)
+        fields!(self: xid, zxid, err).put(out)
     }
 
     fn size_within(&self, limit: u32) -> Option<u32> {
-        (&self.xid, (&self.zxid, &self.err)).size_within(limit)
+        fields!(self: xid, zxid, err).size_within(limit)
     }
 }
 
 impl Wire for ReplyHeader {
-    ghost use Rattle.zk_records.specs.Records.{reply_header};
-
     ghost layout = { reply_header.layout };
 
     fn decode(alloc: Global, src: &[u8], place: usize) -> Result<(Self, usize), ItemFault> {
-        let ((xid, (zxid, err)), place) = <(i32, (i64, i32))>::decode(alloc, src, place)?;
-        Ok((ReplyHeader { xid, zxid, err }, place))
+        decode!(alloc, src, place => ReplyHeader { xid, zxid, err })
     }
 
     fn scan(src: &[u8], place: usize) -> Result<usize, ItemFault> {
-        <(i32, (i64, i32))>::scan(src, place)
+        <fields!(i32, i64, i32)>::scan(src, place)
     }
 
     ghost unfolds = { reply_header.unfolds };
@@ -88,40 +86,38 @@ impl Wire for ReplyHeader {
     ghost has_fields = { reply_header.has_fields };
 }
 
-/// What comes before each part.
-#[derive(Drop)]
+/// What stands before each part of a multi and behind the last: `MultiHeader`, 9 bytes.
+#[derive(Debug, Drop)]
 pub struct MultiHeader {
+    /// `type` in jute: a number of `ZooDefs.OpCode`.
     pub kind: i32,
+    /// Whether no part follows.
     pub done: bool,
+    /// A number of `KeeperException.Code`.
     pub err: i32,
 }
 
 impl Spell for MultiHeader {
-    ghost use Rattle.zk_records.specs.Records.{multi_header};
-
     ghost items = { multi_header.items };
 
     fn put(&self, out: &mut Vec<u8>) -> Result<(), AllocError> {
-        (&self.kind, (&self.done, &self.err)).put(out)
+        fields!(self: kind, done, err).put(out)
     }
 
     fn size_within(&self, limit: u32) -> Option<u32> {
-        (&self.kind, (&self.done, &self.err)).size_within(limit)
+        fields!(self: kind, done, err).size_within(limit)
     }
 }
 
 impl Wire for MultiHeader {
-    ghost use Rattle.zk_records.specs.Records.{multi_header};
-
     ghost layout = { multi_header.layout };
 
     fn decode(alloc: Global, src: &[u8], place: usize) -> Result<(Self, usize), ItemFault> {
-        let ((kind, (done, err)), place) = <(i32, (bool, i32))>::decode(alloc, src, place)?;
-        Ok((MultiHeader { kind, done, err }, place))
+        decode!(alloc, src, place => MultiHeader { kind, done, err })
     }
 
     fn scan(src: &[u8], place: usize) -> Result<usize, ItemFault> {
-        <(i32, (bool, i32))>::scan(src, place)
+        <fields!(i32, bool, i32)>::scan(src, place)
     }
 
     ghost unfolds = { multi_header.unfolds };

@@ -104,3 +104,9 @@ pub fn part_number(op: PartOp) -> i32
         PartOp::Check => 13,
     }
 }
+
+/// Each operation and each part has a number of its own, so its number is read back as it.
+pub fn number_laws()
+    ensures op { (a b : Op) → codes.op_number a ≡ codes.op_number b → a ≡ b }
+    ensures part { (a b : PartOp) → codes.part_number a ≡ codes.part_number b → a ≡ b }
+{}

@@ -1,41 +1,41 @@
-//! The bodies of requests that look at a node.
+//! The bodies of requests that look at a node: `ExistsRequest`, `GetDataRequest`,
+//! `GetChildrenRequest`, `GetChildren2Request`, `GetACLRequest` and `SyncRequest` of zookeeper.jute.
+ghost use Rattle.zk_records.specs.Records.{watch_ask, path_ask};
 
+use crate::fields::{decode, fields};
 use std::alloc::{AllocError, Global};
 use zk_jute::{ItemFault, Spell, Text, Wire};
 
-/// A node is asked for.
-#[derive(Drop)]
+/// A node is looked at, and may be watched: `ExistsRequest`, `GetDataRequest`, `GetChildrenRequest`
+/// and `GetChildren2Request`.
+#[derive(Debug, Drop)]
 pub struct WatchAsk {
     pub path: Text,
+    /// Whether the client wants to be told of a change.
     pub watch: bool,
 }
 
 impl Spell for WatchAsk {
-    ghost use Rattle.zk_records.specs.Records.{watch_ask};
-
     ghost items = { watch_ask.items };
 
     fn put(&self, out: &mut Vec<u8>) -> Result<(), AllocError> {
-        (&self.path, &self.watch).put(out)
+        fields!(self: path, watch).put(out)
     }
 
     fn size_within(&self, limit: u32) -> Option<u32> {
-        (&self.path, &self.watch).size_within(limit)
+        fields!(self: path, watch).size_within(limit)
     }
 }
 
 impl Wire for WatchAsk {
-    ghost use Rattle.zk_records.specs.Records.{watch_ask};
-
     ghost layout = { watch_ask.layout };
 
     fn decode(alloc: Global, src: &[u8], place: usize) -> Result<(Self, usize), ItemFault> {
-        let ((path, watch), place) = <(Text, bool)>::decode(alloc, src, place)?;
-        Ok((WatchAsk { path, watch }, place))
+        decode!(alloc, src, place => WatchAsk { path, watch })
     }
 
     fn scan(src: &[u8], place: usize) -> Result<usize, ItemFault> {
-        <(Text, bool)>::scan(src, place)
+        <fields!(Text, bool)>::scan(src, place)
     }
 
     ghost unfolds = { watch_ask.unfolds };
@@ -45,15 +45,13 @@ impl Wire for WatchAsk {
     ghost has_fields = { watch_ask.has_fields };
 }
 
-/// A path.
-#[derive(Drop)]
+/// A path alone: `GetACLRequest` and `SyncRequest`.
+#[derive(Debug, Drop)]
 pub struct PathAsk {
     pub path: Text,
 }
 
 impl Spell for PathAsk {
-    ghost use Rattle.zk_records.specs.Records.{path_ask};
-
     ghost items = { path_ask.items };
 
     fn put(&self, out: &mut Vec<u8>) -> Result<(), AllocError> {
@@ -66,13 +64,10 @@ impl Spell for PathAsk {
 }
 
 impl Wire for PathAsk {
-    ghost use Rattle.zk_records.specs.Records.{path_ask};
-
     ghost layout = { path_ask.layout };
 
     fn decode(alloc: Global, src: &[u8], place: usize) -> Result<(Self, usize), ItemFault> {
-        let (path, place) = Text::decode(alloc, src, place)?;
-        Ok((PathAsk { path }, place))
+        decode!(alloc, src, place => PathAsk { path })
     }
 
     fn scan(src: &[u8], place: usize) -> Result<usize, ItemFault> {

@@ -1,42 +1,42 @@
-//! The bodies of requests about the session.
+//! The bodies of requests about the session: `AuthPacket` and `SetWatches` of zookeeper.jute.
+ghost use Rattle.zk_records.specs.Records.{auth_ask, set_watches_ask};
 
+use crate::fields::{decode, fields};
 use std::alloc::{AllocError, Global};
 use zk_jute::{Blob, ItemFault, List, Spell, Text, Wire};
 
-/// Who the client is.
-#[derive(Drop)]
+/// Who the client is: `AuthPacket`.
+#[derive(Debug, Drop)]
 pub struct AuthAsk {
+    /// `type` in jute: 0 in every release.
     pub kind: i32,
+    /// As `digest`.
     pub scheme: Text,
+    /// What the scheme wants.
     pub auth: Blob,
 }
 
 impl Spell for AuthAsk {
-    ghost use Rattle.zk_records.specs.Records.{auth_ask};
-
     ghost items = { auth_ask.items };
 
     fn put(&self, out: &mut Vec<u8>) -> Result<(), AllocError> {
-        (&self.kind, (&self.scheme, &self.auth)).put(out)
+        fields!(self: kind, scheme, auth).put(out)
     }
 
     fn size_within(&self, limit: u32) -> Option<u32> {
-        (&self.kind, (&self.scheme, &self.auth)).size_within(limit)
+        fields!(self: kind, scheme, auth).size_within(limit)
     }
 }
 
 impl Wire for AuthAsk {
-    ghost use Rattle.zk_records.specs.Records.{auth_ask};
-
     ghost layout = { auth_ask.layout };
 
     fn decode(alloc: Global, src: &[u8], place: usize) -> Result<(Self, usize), ItemFault> {
-        let ((kind, (scheme, auth)), place) = <(i32, (Text, Blob))>::decode(alloc, src, place)?;
-        Ok((AuthAsk { kind, scheme, auth }, place))
+        decode!(alloc, src, place => AuthAsk { kind, scheme, auth })
     }
 
     fn scan(src: &[u8], place: usize) -> Result<usize, ItemFault> {
-        <(i32, (Text, Blob))>::scan(src, place)
+        <fields!(i32, Text, Blob)>::scan(src, place)
     }
 
     ghost unfolds = { auth_ask.unfolds };
@@ -46,66 +46,40 @@ impl Wire for AuthAsk {
     ghost has_fields = { auth_ask.has_fields };
 }
 
-/// Watches are to be set again.
-#[derive(Drop)]
+/// Watches are to be set again after a reconnect: `SetWatches`.
+#[derive(Debug, Drop)]
 pub struct SetWatchesAsk {
+    /// `relativeZxid` in jute: the newest transaction that the client has seen.
     pub zxid: i64,
+    /// Paths.
     pub data_watches: List<Text>,
+    /// Paths.
     pub exist_watches: List<Text>,
+    /// Paths.
     pub child_watches: List<Text>,
 }
 
 impl Spell for SetWatchesAsk {
-    ghost use Rattle.zk_records.specs.Records.{set_watches_ask};
-
     ghost items = { set_watches_ask.items };
 
     fn put(&self, out: &mut Vec<u8>) -> Result<(), AllocError> {
-        (
-            &self.zxid,
-            (
-                &self.data_watches,
-                (&self.exist_watches, &self.child_watches),
-            ),
-        )
-            .put(out)
+        fields!(self: zxid, data_watches, exist_watches, child_watches).put(out)
     }
 
     fn size_within(&self, limit: u32) -> Option<u32> {
-        (
-            &self.zxid,
-            (
-                &self.data_watches,
-                (&self.exist_watches, &self.child_watches),
-            ),
-        )
-            .size_within(limit)
+        fields!(self: zxid, data_watches, exist_watches, child_watches).size_within(limit)
     }
 }
 
 impl Wire for SetWatchesAsk {
-    ghost use Rattle.zk_records.specs.Records.{set_watches_ask};
-
     ghost layout = { set_watches_ask.layout };
 
     fn decode(alloc: Global, src: &[u8], place: usize) -> Result<(Self, usize), ItemFault> {
-        let ((zxid, (data_watches, (exist_watches, child_watches))), place) = <(
-            i64,
-            (List<Text>, (List<Text>, List<Text>)),
-        )>::decode(alloc, src, place)?;
-        Ok((
-            SetWatchesAsk {
-                zxid,
-                data_watches,
-                exist_watches,
-                child_watches,
-            },
-            place,
-        ))
+        decode!(alloc, src, place => SetWatchesAsk { zxid, data_watches, exist_watches, child_watches })
     }
 
     fn scan(src: &[u8], place: usize) -> Result<usize, ItemFault> {
-        <(i64, (List<Text>, (List<Text>, List<Text>)))>::scan(src, place)
+        <fields!(i64, List<Text>, List<Text>, List<Text>)>::scan(src, place)
     }
 
     ghost unfolds = { set_watches_ask.unfolds };

@@ -1,151 +1,62 @@
-//! What is known of a node: the record `Stat` of zookeeper.jute.
+//! What is known of a node: `Stat` of zookeeper.jute.
+ghost use Rattle.zk_records.specs.Records.{stat};
 
+use crate::fields::{decode, fields};
 use std::alloc::{AllocError, Global};
 use zk_jute::{ItemFault, Spell, Wire};
 
-/// What is known of a node.
-#[derive(Drop)]
+/// What is known of a node: `Stat`, 68 bytes.
+#[derive(Debug, Drop)]
 pub struct Stat {
+    /// The transaction that made the node.
     pub czxid: i64,
+    /// The transaction that last set its data.
     pub mzxid: i64,
+    /// When it was made, in milliseconds since 1970.
     pub ctime: i64,
+    /// When its data was last set, in milliseconds since 1970.
     pub mtime: i64,
+    /// How often its data was set.
     pub version: i32,
+    /// How often its children changed.
     pub cversion: i32,
+    /// How often its access list was set.
     pub aversion: i32,
+    /// The session that it ends with; 0 for none.
     pub ephemeral_owner: i64,
+    /// Bytes.
     pub data_length: i32,
     pub num_children: i32,
+    /// The transaction that last changed its children.
     pub pzxid: i64,
 }
 
 impl Spell for Stat {
-    ghost use Rattle.zk_records.specs.Records.{stat};
-
     ghost items = { stat.items };
 
     fn put(&self, out: &mut Vec<u8>) -> Result<(), AllocError> {
-        (
-            &self.czxid,
-            (
-                &self.mzxid,
-                (
-                    &self.ctime,
-                    (
-                        &self.mtime,
-                        (
-                            &self.version,
-                            (
-                                &self.cversion,
-                                (
-                                    &self.aversion,
-                                    (
-                                        &self.ephemeral_owner,
-                                        (&self.data_length, (&self.num_children, &self.pzxid)),
-                                    ),
-                                ),
-                            ),
-                        ),
-                    ),
-                ),
-            ),
-        )
-            .put(out)
+        let fields = fields!(self: czxid, mzxid, ctime, mtime, version, cversion, aversion,
+            ephemeral_owner, data_length, num_children, pzxid);
+        fields.put(out)
     }
 
     fn size_within(&self, limit: u32) -> Option<u32> {
-        (
-            &self.czxid,
-            (
-                &self.mzxid,
-                (
-                    &self.ctime,
-                    (
-                        &self.mtime,
-                        (
-                            &self.version,
-                            (
-                                &self.cversion,
-                                (
-                                    &self.aversion,
-                                    (
-                                        &self.ephemeral_owner,
-                                        (&self.data_length, (&self.num_children, &self.pzxid)),
-                                    ),
-                                ),
-                            ),
-                        ),
-                    ),
-                ),
-            ),
-        )
-            .size_within(limit)
+        let fields = fields!(self: czxid, mzxid, ctime, mtime, version, cversion, aversion,
+            ephemeral_owner, data_length, num_children, pzxid);
+        fields.size_within(limit)
     }
 }
 
 impl Wire for Stat {
-    ghost use Rattle.zk_records.specs.Records.{stat};
-
     ghost layout = { stat.layout };
 
     fn decode(alloc: Global, src: &[u8], place: usize) -> Result<(Self, usize), ItemFault> {
-        let (
-            (
-                czxid,
-                (
-                    mzxid,
-                    (
-                        ctime,
-                        (
-                            mtime,
-                            (
-                                version,
-                                (
-                                    cversion,
-                                    (
-                                        aversion,
-                                        (ephemeral_owner, (data_length, (num_children, pzxid))),
-                                    ),
-                                ),
-                            ),
-                        ),
-                    ),
-                ),
-            ),
-            place,
-        ) = <(
-            i64,
-            (
-                i64,
-                (i64, (i64, (i32, (i32, (i32, (i64, (i32, (i32, i64)))))))),
-            ),
-        )>::decode(alloc, src, place)?;
-        Ok((
-            Stat {
-                czxid,
-                mzxid,
-                ctime,
-                mtime,
-                version,
-                cversion,
-                aversion,
-                ephemeral_owner,
-                data_length,
-                num_children,
-                pzxid,
-            },
-            place,
-        ))
+        decode!(alloc, src, place => Stat { czxid, mzxid, ctime, mtime, version, cversion, aversion,
+            ephemeral_owner, data_length, num_children, pzxid })
     }
 
     fn scan(src: &[u8], place: usize) -> Result<usize, ItemFault> {
-        <(
-            i64,
-            (
-                i64,
-                (i64, (i64, (i32, (i32, (i32, (i64, (i32, (i32, i64)))))))),
-            ),
-        )>::scan(src, place)
+        <fields!(i64, i64, i64, i64, i32, i32, i32, i64, i32, i32, i64)>::scan(src, place)
     }
 
     ghost unfolds = { stat.unfolds };

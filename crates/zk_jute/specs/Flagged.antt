@@ -1,0 +1,34 @@
+-- A value, and then nothing or one boolean: the payloads that open a connection (ZooKeeper 3.4, ClientCnxn.primeConnection and ZooKeeperServer.finishSessionInit).
+use Rattle.std.specs.Prelude.{◌≡◌, ◌≢◌, ℕ, ◌+◌, Bool, List, [], ◌∷◌, ◌++◌, length, Option, Some, None, Result, Ok, Err}
+use Rattle.zk_jute.specs.declared.fault.ItemFault.{ItemFault}
+use Rattle.zk_jute.specs.declared.fault.Reason.{Reason}
+use Rattle.zk_jute.specs.declared.fault.Reason.TheVariants.{Trailing}
+use Rattle.zk_jute.specs.Item.{Boolean, Item, ABoolean, bytes_of}
+use Rattle.zk_jute.specs.Layout.{Layout, End, One, IsValueOf}
+use Rattle.zk_jute.specs.Faults.{IsFault, Opens}
+use Rattle.zk_jute.specs.Reading.{no_memory}
+
+abbrev pub flag_items : Option Bool → List Item
+flag_items None = []
+flag_items (Some b) = ABoolean b ∷ []
+
+abbrev pub flag_layout : Layout
+flag_layout = One Boolean End
+
+-- the items are those of a value of the layout, and of a boolean where it is there
+abbrev pub IsFlagged : Layout → List Item → Type 0
+IsFlagged l items = (value : List Item) × (flag : Option Bool) × IsValueOf l value × (items ≡ value ++ flag_items flag)
+
+-- where and why bytes are those of no such items
+pub data IsFlaggedFault (l : Layout) : List ℕ → ℕ → Reason → Type 0 where
+  in_value : (bytes : List ℕ) (place : ℕ) (reason : Reason) → IsFault (IsValueOf l) bytes place reason → IsFlaggedFault l bytes place reason
+  -- bytes behind the value are judged as the boolean
+  in_flag : (bytes rest : List ℕ) (value : List Item) (behind : ℕ) (reason : Reason) → IsValueOf l value → Opens bytes value rest → rest ≢ []
+      → IsFault (IsValueOf flag_layout) rest behind reason → IsFlaggedFault l bytes (length (bytes_of value) + behind) reason
+  behind_flag : (bytes rest : List ℕ) (value flag : List Item) → IsValueOf l value → IsValueOf flag_layout flag → Opens bytes (value ++ flag) rest → rest ≢ []
+      → IsFlaggedFault l bytes (length (bytes_of (value ++ flag))) Trailing
+
+-- the value is answered, unless memory was wanted
+abbrev pub IsReadAs : {X : Type 0} → X → Result X ItemFault → Type 0
+IsReadAs x (Ok y) = y ≡ x
+IsReadAs x (Err e) = e ≡ no_memory

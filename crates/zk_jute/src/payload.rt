@@ -1,0 +1,55 @@
+//! A payload that is a value, and then nothing or one boolean.
+ghost use Rattle.std.specs.Prelude.{◌≡◌, ◌++◌, Option, Bool, IfOk, IfErr};
+ghost use Rattle.zk_jute.specs.Item.{bytes_of, HaveBytes};
+ghost use Rattle.zk_jute.specs.Told.{IsTold};
+ghost use Rattle.zk_jute.specs.Flagged.{flag_items, IsFlaggedFault, IsReadAs};
+
+use crate::fault::{ItemFault, Reason};
+use crate::wire::{Spell, Wire};
+use std::alloc::{AllocError, Global};
+
+impl Spell for Option<bool> {
+    ghost items = { flag_items };
+
+    fn put(&self, out: &mut Vec<u8>) -> Result<(), AllocError> {
+        match self {
+            None => Ok(()),
+            Some(flag) => flag.put(out),
+        }
+    }
+
+    fn size_within(&self, limit: u32) -> Option<u32> {
+        match self {
+            None => Some(0),
+            Some(flag) => flag.size_within(limit),
+        }
+    }
+}
+
+#[tactic(auto, using(crate::proofs::Flagged::refusals))]
+fn flagged_of<T: Wire>(alloc: Global, payload: &[u8]) -> Result<(T, Option<bool>), ItemFault>
+    ensures found { IfOk result (λ x. HaveBytes (T.items x.0 ++ flag_items x.1) × (payload.now ≡ bytes_of (T.items x.0 ++ flag_items x.1))) }
+    ensures fault { IfErr result (λ e. IsTold (IsFlaggedFault T.layout payload.now) e) }
+{
+    let (value, place) = T::read(alloc, payload, 0)?;
+    if place == payload.len() {
+        return Ok((value, None));
+    }
+    let (flag, place) = bool::read(alloc, payload, place)?;
+    if place < payload.len() {
+        return Err(ItemFault::at(place, Reason::Trailing));
+    }
+    Ok((value, Some(flag)))
+}
+
+/// The value that the payload is, and the boolean behind it, where one is there.
+pub fn read_flagged<T: Wire>(alloc: Global, payload: &[u8]) -> Result<(T, Option<bool>), ItemFault>
+    // What is read is the whole payload.
+    ensures found { IfOk result (λ x. HaveBytes (T.items x.0 ++ flag_items x.1) × (payload.now ≡ bytes_of (T.items x.0 ++ flag_items x.1))) }
+    // What has the form is read, unless memory is wanted.
+    ensures only { (x : T) (flag : Option Bool) → HaveBytes (T.items x ++ flag_items flag) → payload.now ≡ bytes_of (T.items x ++ flag_items flag) → IsReadAs (x, flag) result }
+    // Else the first case that applies is told, unless memory is wanted.
+    ensures fault { IfErr result (λ e. IsTold (IsFlaggedFault T.layout payload.now) e) }
+{
+    flagged_of(alloc, payload)
+}

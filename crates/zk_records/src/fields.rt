@@ -1,0 +1,23 @@
+//! Records by their fields, in order: nested pairs.
+
+/// `fields!(self: a, b, c)` is `(&self.a, (&self.b, &self.c))`, `fields!(let a, b, c)` the pattern
+/// `(a, (b, c))`, and `fields!(A, B, C)` the type `(A, (B, C))`.
+macro_rules! fields {
+    ($record:ident: $last:ident) => { &$record.$last };
+    ($record:ident: $first:ident, $($rest:ident),+) => { (&$record.$first, fields!($record: $($rest),+)) };
+    (let $last:ident) => { $last };
+    (let $first:ident, $($rest:ident),+) => { ($first, fields!(let $($rest),+)) };
+    ($last:ty) => { $last };
+    ($first:ty, $($rest:ty),+) => { ($first, fields!($($rest),+)) };
+}
+
+/// `decode!(alloc, src, place => R { a, b, c })` is the body of `decode` for the record `R`.
+macro_rules! decode {
+    ($alloc:ident, $src:ident, $place:ident => $record:ident { $($field:ident),+ }) => {{
+        let (fields!(let $($field),+), place) = Wire::decode($alloc, $src, $place)?;
+        Ok(($record { $($field),+ }, place))
+    }};
+}
+
+pub(crate) use decode;
+pub(crate) use fields;
