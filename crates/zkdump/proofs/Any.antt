@@ -16,18 +16,18 @@ use Rattle.zkdump.specs.Reading.{IsAt, IsSound, InContent, InRange}
 use Rattle.zkdump.proofs.Feeding.{on-append}
 use Rattle.zkdump.proofs.Stages.{damaged-more, flat_map-snoc, All-one, further}
 
--- these bytes are a recording whose history begins so
-pub record Begins (x : List ℕ) (h : History) : Type 0 where
+-- these bytes are a recording whose history starts so
+pub record Starts (x : List ℕ) (h : History) : Type 0 where
   pub recording : Recording
   pub spells : Spells x recording
   pub after : History
   pub history : history_of recording ≡ h ++ after
 
-shorter : (x : List ℕ) (h k : History) → Begins x (h ++ k) → Begins x h
+shorter : (x : List ℕ) (h k : History) → Starts x (h ++ k) → Starts x h
 shorter x h k i = record { recording = i.recording; spells = i.spells; after = k ++ i.after; history = i.history ∙ append_assoc h k i.after }
 
 in-tail : (pieces : List Piece) (tail : Tail) (bytes : List ℕ) → All IsPiece pieces → IsTail tail → bytes ≡ tail_bytes tail →
-    Begins (front pieces ++ bytes) (flat_map piece_history pieces ++ tail_history tail)
+    Starts (front pieces ++ bytes) (flat_map piece_history pieces ++ tail_history tail)
 in-tail pieces tail bytes each is e = record {
   recording = Pieces pieces tail;
   spells = record { sound = record { each = each; after = is }; is = ap (λ b. front pieces ++ b) e };
@@ -37,7 +37,7 @@ in-tail pieces tail bytes each is e = record {
 
 -- what stands after these pieces, whatever they are
 abbrev Goes : List ℕ → Type 0
-Goes bytes = (pieces : List Piece) → All IsPiece pieces → Begins (front pieces ++ bytes) (flat_map piece_history pieces)
+Goes bytes = (pieces : List Piece) → All IsPiece pieces → Starts (front pieces ++ bytes) (flat_map piece_history pieces)
 
 front-snoc : (pieces : List Piece) (p : Piece) (rest : List ℕ) → front (pieces ++ p ∷ []) ++ rest ≡ front pieces ++ (piece_bytes p ++ rest)
 front-snoc pieces p rest =
@@ -45,9 +45,9 @@ front-snoc pieces p rest =
 
 -- a size in range, and what follows it
 sized : (pieces : List Piece) (side : Side) (size content : List ℕ) → All IsPiece pieces → length size ≡ 4 → IsSize (number size) → Goes (drop (number size) content) →
-    Begins (front pieces ++ (side_byte side ∷ (size ++ content))) (flat_map piece_history pieces ++ on side (take (number size) content))
+    Starts (front pieces ++ (side_byte side ∷ (size ++ content))) (flat_map piece_history pieces ++ on side (take (number size) content))
 sized pieces side size content each four range goes = elim (cases_lt (length content) (number size)) [
-  | inl less ↦ subst (λ c. Begins (front pieces ++ (side_byte side ∷ (size ++ content))) (flat_map piece_history pieces ++ on side c))
+  | inl less ↦ subst (λ c. Starts (front pieces ++ (side_byte side ∷ (size ++ content))) (flat_map piece_history pieces ++ on side c))
       (sym (take_all (number size) content (omega arith)))
       (in-tail pieces (CutContent side size content) _ each (record { four = four; range = range; short = less }) refl)
   | inr enough ↦
@@ -59,8 +59,8 @@ sized pieces side size content each four range goes = elim (cases_lt (length con
       let whole : piece_bytes p ++ rest ≡ side_byte side ∷ (size ++ content) =
       ap (λ l. side_byte side ∷ l) (append_assoc size body rest ∙ ap (λ l. size ++ l) (take-append-drop (number size) content)) in
       let more = goes (pieces ++ p ∷ []) (All-append IsPiece pieces (p ∷ []) each (All-one IsPiece p is)) in
-      subst (λ h. Begins (front pieces ++ (side_byte side ∷ (size ++ content))) h) (flat_map-snoc piece_history pieces p)
-      (subst (λ l. Begins l (flat_map piece_history (pieces ++ p ∷ []))) (front-snoc pieces p rest ∙ ap (λ l. front pieces ++ l) whole) more)
+      subst (λ h. Starts (front pieces ++ (side_byte side ∷ (size ++ content))) h) (flat_map-snoc piece_history pieces p)
+      (subst (λ l. Starts l (flat_map piece_history (pieces ++ p ∷ []))) (front-snoc pieces p rest ∙ ap (λ l. front pieces ++ l) whole) more)
 ]
 
 size-or-not : (n : ℕ) → IsSize n ⊎ (IsSize n → ⊥)
@@ -81,7 +81,7 @@ after-side side bytes goes pieces each = elim (cases_lt (length bytes) 4) [
       let four : length size ≡ 4 = omega (arith, length-take 4 bytes) in
       let whole : side_byte side ∷ (size ++ content) ≡ side_byte side ∷ bytes = ap (λ l. side_byte side ∷ l) (take-append-drop 4 bytes) in
       elim (size-or-not (number size)) [
-        | inl range ↦ subst (λ l. Begins (front pieces ++ l) (flat_map piece_history pieces)) whole
+        | inl range ↦ subst (λ l. Starts (front pieces ++ l) (flat_map piece_history pieces)) whole
             (shorter _ _ _ (sized pieces side size content each four range (goes (number size))))
         | inr not ↦ shorter _ _ _ (in-tail pieces (NoSize side size content) (side_byte side ∷ bytes) each (record { four = four; range = not }) (sym whole))
       ]
@@ -104,11 +104,11 @@ goes : (bytes : List ℕ) → Goes bytes
 goes bytes = goes-by (suc (length bytes)) bytes (omega arith)
 
 -- all bytes are a recording
-pub any : (x : List ℕ) → Begins x []
+pub any : (x : List ℕ) → Starts x []
 any x = elim (cases_Bool _) [
   | inl equal ↦
       let same : take 4 x ≡ head = (bytes_eq-Decides (take 4 x) head).0 equal in
-      subst (λ l. Begins l []) (ap (λ l. l ++ drop 4 x) (sym same) ∙ take-append-drop 4 x) (goes (drop 4 x) [] (λ k d lt. absurd (omega arith)))
+      subst (λ l. Starts l []) (ap (λ l. l ++ drop 4 x) (sym same) ∙ take-append-drop 4 x) (goes (drop 4 x) [] (λ k d lt. absurd (omega arith)))
   | inr other ↦ record {
       recording = Headless x;
       spells = record { sound = λ e. false≢true (sym other ∙ (bytes_eq-Decides (take 4 x) head).1 e); is = refl };
@@ -118,13 +118,13 @@ any x = elim (cases_Bool _) [
 ]
 
 -- whatever follows what a reader has read
-pub begins-at : (s : Stage) (x more : List ℕ) (h : History) → IsSound s → IsAt s x h → Begins (x ++ more) h
-begins-at (Head bytes got) x more h sound i = subst (Begins (x ++ more)) (sym i.content) (any (x ++ more))
-begins-at (Start at) x more h sound i =
+pub starts-at : (s : Stage) (x more : List ℕ) (h : History) → IsSound s → IsAt s x h → Starts (x ++ more) h
+starts-at (Head bytes got) x more h sound i = subst (Starts (x ++ more)) (sym i.content) (any (x ++ more))
+starts-at (Start at) x more h sound i =
     rw (i.read, i.content) (goes more i.pieces i.each)
-begins-at (Size at side bytes got) x more h sound i =
+starts-at (Size at side bytes got) x more h sound i =
     rw (i.read, i.content, further (front i.pieces) (take got bytes) more (side_byte side)) (goes (side_byte side ∷ (take got bytes ++ more)) i.pieces i.each)
-begins-at (Content at side size got) x more h sound i =
+starts-at (Content at side size got) x more h sound i =
     let n = number i.size_bytes in
     let part = take (n - length i.begun) more in
     let sum : n ≡ length i.begun + (n - length i.begun) = omega (arith, i.count, i.number_is, sound.left) in
@@ -134,7 +134,7 @@ begins-at (Content at side size got) x more h sound i =
     let read : x ++ more ≡ front i.pieces ++ (side_byte side ∷ (i.size_bytes ++ (i.begun ++ more))) =
     ap (λ l. l ++ more) i.read ∙ further (front i.pieces) (i.size_bytes ++ i.begun) more (side_byte side) ∙ ap (λ l. front i.pieces ++ (side_byte side ∷ l)) (append_assoc i.size_bytes i.begun more) in
     let whole = sized i.pieces side i.size_bytes (i.begun ++ more) i.each i.four (subst IsSize (sym i.number_is) sound.range) (goes (drop n (i.begun ++ more))) in
-    subst (λ l. Begins l h) (sym read) (subst (Begins _) (sym i.content) (shorter _ _ (on side part) (subst (Begins _) content whole)))
-begins-at (Damaged d) x more h sound i =
+    subst (λ l. Starts l h) (sym read) (subst (Starts _) (sym i.content) (shorter _ _ (on side part) (subst (Starts _) content whole)))
+starts-at (Damaged d) x more h sound i =
     let j = damaged-more d x more h i in
     record { recording = j.recording; spells = j.spells; after = []; history = sym j.content ∙ sym (append-nil h) }

@@ -5,4 +5,5 @@ pub mod Lines
 pub mod Outcome
 pub mod Following
 pub mod Stopping
+pub mod Running
 pub mod Exits

@@ -1,16 +1,22 @@
--- The last line of a listing.
+-- A listing: a line for each message, and the last line.
 use Rattle.std.specs.Prelude.{ℕ, List, [], ◌∷◌, ◌++◌, codes}
 use Rattle.std.specs.Fmt.{decimal, signed_decimal}
+use Rattle.std.specs.List.{flat_map}
+use Rattle.zk_jute.specs.Names.{reason_name}
 use Rattle.zk_jute.specs.declared.fault.Reason.{Reason}
-use Rattle.zk_jute.specs.declared.fault.Reason.TheVariants.{Short, BadBool, BadLength, BadText, NoMemory, Trailing, UnknownOp, XidOp, BadPart, EventErr, LengthRange, QueueFull, Unasked, XidOrder, StreamEnd}
+use Rattle.zk_jute.specs.declared.fault.Reason.TheVariants.{XidOrder}
 use Rattle.zk_talk.specs.declared.message.Side.{Side}
 use Rattle.zk_talk.specs.declared.message.Side.TheVariants.{Client, Server}
+use Rattle.zk_talk.specs.declared.message.Message.{Message}
 use Rattle.zk_talk.specs.declared.message.Fault.{Fault}
 use Rattle.zk_talk.specs.declared.message.Ending.{Ending}
 use Rattle.zk_talk.specs.declared.message.Ending.TheVariants.{Whole, Cut, Refused}
+use Rattle.zk_lines.specs.Lines.{line_of}
+use Rattle.zkdump.specs.declared.listing.Listing.{Listing}
+use Rattle.zkdump.specs.declared.listing.Listing.TheVariants.{All, Last}
 use Rattle.zkdump.specs.declared.recording.Damage.{Damage}
 use Rattle.zkdump.specs.declared.recording.DamageReason.{DamageReason}
-use Rattle.zkdump.specs.declared.recording.DamageReason.TheVariants.{BadHead, BadSide, BadSize, Short as Ended_early}
+use Rattle.zkdump.specs.declared.recording.DamageReason.TheVariants.{BadHead, BadSide, BadSize, Short}
 use Rattle.zkdump.specs.declared.summary.Summary.{Summary}
 use Rattle.zkdump.specs.declared.summary.Summary.TheVariants.{Ended, Broken}
 use Rattle.zkdump.specs.declared.summary.Status.{Status}
@@ -19,23 +25,6 @@ use Rattle.zkdump.specs.declared.summary.Status.TheVariants.{Good, Bad}
 abbrev pub side_text : Side → List ℕ
 side_text Client = codes "C"
 side_text Server = codes "S"
-
-abbrev pub reason_word : Reason → List ℕ
-reason_word Short = codes "Short"
-reason_word BadBool = codes "BadBool"
-reason_word BadLength = codes "BadLength"
-reason_word BadText = codes "BadText"
-reason_word NoMemory = codes "NoMemory"
-reason_word Trailing = codes "Trailing"
-reason_word UnknownOp = codes "UnknownOp"
-reason_word XidOp = codes "XidOp"
-reason_word BadPart = codes "BadPart"
-reason_word EventErr = codes "EventErr"
-reason_word LengthRange = codes "LengthRange"
-reason_word QueueFull = codes "QueueFull"
-reason_word Unasked = codes "Unasked"
-reason_word (XidOrder expected got) = codes "XidOrder"
-reason_word StreamEnd = codes "StreamEnd"
 
 -- both xids where their order is wrong
 abbrev pub xids_text : Reason → List ℕ
@@ -46,11 +35,11 @@ abbrev pub damage_word : DamageReason → List ℕ
 damage_word BadHead = codes "BadHead"
 damage_word BadSide = codes "BadSide"
 damage_word BadSize = codes "BadSize"
-damage_word Ended_early = codes "Short"
+damage_word Short = codes "Short"
 
 abbrev pub refused_text : Fault → List ℕ
 refused_text f = (codes ". refused side=" ++ (side_text f.side ++ (codes " frame=" ++ (decimal f.frame ++ (codes " offset=" ++
-    (decimal f.offset ++ (codes " place=" ++ (decimal f.place ++ (codes " reason=" ++ reason_word f.reason))))))))) ++ xids_text f.reason
+    (decimal f.offset ++ (codes " place=" ++ (decimal f.place ++ (codes " reason=" ++ reason_name f.reason))))))))) ++ xids_text f.reason
 
 abbrev pub cut_text : Side → ℕ → ℕ → List ℕ
 cut_text side frame got = codes ". cut side=" ++ (side_text side ++ (codes " frame=" ++ (decimal frame ++ (codes " got=" ++ decimal got))))
@@ -70,7 +59,16 @@ abbrev pub summary_text : Summary → List ℕ
 summary_text (Ended ending) = ending_text ending
 summary_text (Broken damage) = damage_text damage
 
--- the line with its line feed
+-- a message's line with its line feed
+abbrev pub message_line : Message → List ℕ
+message_line message = line_of message ++ 10 ∷ []
+
+-- what a listing writes of messages
+abbrev pub text_of : Listing → List Message → List ℕ
+text_of All messages = flat_map message_line messages
+text_of Last messages = []
+
+-- the last line with its line feed
 abbrev pub last_line : Summary → List ℕ
 last_line summary = summary_text summary ++ 10 ∷ []
 

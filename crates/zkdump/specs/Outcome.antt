@@ -1,13 +1,16 @@
 -- What a recording comes to: the fault of its history where there is one, else its damage, else its history's ending.
-use Rattle.std.specs.Prelude.{◌≡◌, ◌≢◌, ℕ, ◌≤◌, ◌⊎◌, List, length, Option, None, Some}
-use Rattle.std.specs.Io.KnownBytes.{Consumes, IsAtEnd}
+use Rattle.std.specs.Prelude.{◌≡◌, ◌≢◌, ℕ, ◌≤◌, ◌⊎◌, List, ◌++◌, length, take, Option, None, Some}
+use Rattle.std.specs.Io.KnownBytes.{Consumes, IsAtEnd, Appends}
 use Rattle.zk_talk.specs.declared.message.Limits.{Limits}
-use Rattle.zk_talk.specs.declared.message.Side.{Side}
+use Rattle.zk_talk.specs.declared.message.Message.{Message}
 use Rattle.zk_talk.specs.declared.message.Fault.{Fault}
 use Rattle.zk_talk.specs.declared.message.Ending.TheVariants.{Whole, Cut, Refused}
 use Rattle.zk_talk.specs.History.{History}
+use Rattle.zk_talk.specs.Conversation.{Conversation}
+use Rattle.zk_talk.specs.Good.{Good, IsOrder}
 use Rattle.zk_talk.specs.Fault.{IsFaultOf}
 use Rattle.zk_talk.specs.Ending.{IsEnding}
+use Rattle.zk_talk.specs.Answer.{AreMessages}
 use Rattle.zkdump.specs.declared.recording.Damage.{Damage}
 use Rattle.zkdump.specs.declared.recording.DamageReason.TheVariants.{Short}
 use Rattle.zkdump.specs.declared.summary.Summary.{Summary}
@@ -24,8 +27,22 @@ ComesTo limits h damage (Broken d) = HasNoFault limits h × (damage ≡ Some d)
 ComesTo limits h damage (Ended (Cut side frame got)) = (damage ≡ None) × IsEnding limits h (Cut side frame got)
 ComesTo limits h damage (Ended (Whole unanswered)) = (damage ≡ None) × IsEnding limits h (Whole unanswered)
 
-abbrev pub IsSummary : Limits → Recording → Summary → Type 0
-IsSummary limits r summary = ComesTo limits (history_of r) (damage_of r) summary
+-- a good history has these messages, by the places of their last bytes
+pub record IsGoodWith (limits : Limits) (h : History) (messages : List Message) : Type 0 where
+  pub conversation : Conversation
+  pub client_rest : List ℕ
+  pub server_rest : List ℕ
+  pub good : Good limits h conversation client_rest server_rest
+  pub order : IsOrder limits h conversation messages
+
+-- the messages of a history up to its fault, where there is one
+abbrev pub HasMessages : Limits → History → List Message → Summary → Type 0
+HasMessages limits h messages (Ended ending) = AreMessages limits h messages ending
+HasMessages limits h messages (Broken d) = IsGoodWith limits h messages
+
+pub record IsOutcome (limits : Limits) (r : Recording) (messages : List Message) (summary : Summary) : Type 0 where
+  pub comes_to : ComesTo limits (history_of r) (damage_of r) summary
+  pub messages_are : HasMessages limits (history_of r) messages summary
 
 -- a damage that stands whatever follows
 pub record IsBroken (x : List ℕ) (r : Recording) : Type 0 where
@@ -43,15 +60,36 @@ pub record IsJust (x : List ℕ) (r : Recording) : Type 0 where
   pub spells : Spells x r
   pub only : (s : Recording) → Spells x s → (history_of s ≡ history_of r) × (damage_of s ≡ damage_of r)
 
--- what was read of a source with these bytes left before and after: all up to its end, or what decides
-pub record Reads (limits : Limits) (before after : Option (List ℕ)) (r : Recording) : Type 0 where
-  pub bytes : List ℕ
-  pub consumed : Consumes before after bytes
-  pub just : IsJust bytes r
-  pub enough : IsAtEnd after ⊎ IsDecided limits bytes r
+-- what was read of a source with these bytes left before and after
+pub record Reads (before after : Option (List ℕ)) (x : List ℕ) (r : Recording) : Type 0 where
+  pub consumed : Consumes before after x
+  pub just : IsJust x r
 
--- what was read comes to this
-pub record IsFound (limits : Limits) (before after : Option (List ℕ)) (summary : Summary) : Type 0 where
+-- what was read comes to this, and it is all up to the end, or it decides
+pub record IsFound (limits : Limits) (before after : Option (List ℕ)) (messages : List Message) (summary : Summary) : Type 0 where
+  pub bytes : List ℕ
   pub recording : Recording
-  pub reads : Reads limits before after recording
-  pub is : IsSummary limits recording summary
+  pub reads : Reads before after bytes recording
+  pub is : IsOutcome limits recording messages summary
+  pub enough : IsAtEnd after ⊎ IsDecided limits bytes recording
+
+-- what was read has these messages and no fault
+pub record IsRunning (limits : Limits) (before after : Option (List ℕ)) (messages : List Message) : Type 0 where
+  pub bytes : List ℕ
+  pub recording : Recording
+  pub reads : Reads before after bytes recording
+  pub good : IsGoodWith limits (history_of recording) messages
+
+-- what was read begins with these messages
+pub record HasBegun (limits : Limits) (before after : Option (List ℕ)) (messages : List Message) : Type 0 where
+  pub bytes : List ℕ
+  pub recording : Recording
+  pub reads : Reads before after bytes recording
+  pub front : History
+  pub rest : History
+  pub splits : history_of recording ≡ front ++ rest
+  pub good : IsGoodWith limits front messages
+
+-- a writer's contents have grown by a front of the text
+abbrev pub HasGrownIn : Option (List ℕ) → Option (List ℕ) → List ℕ → Type 0
+HasGrownIn old new text = (k : ℕ) × Appends old new (take k text)

@@ -1,12 +1,15 @@
-//! The check of a recording.
-ghost use Rattle.std.specs.Prelude.{◌≡◌, ◌≢◌, ◌+◌, ◌^◌, ◌<◌, ◌≤◌, ◌⊎◌, ℕ, [], false, true, IfOk, IsErrOf, Err, take};
+//! The engines that read a recording: its listing, and the listing's last line alone.
+ghost use Rattle.std.specs.Prelude.{◌≡◌, ◌≢◌, ◌+◌, ◌^◌, ◌<◌, ◌≤◌, ◌⊎◌, ◌++◌, ℕ, List, [], false, true, IfOk, OnErr, IsErrOf, Err};
 ghost use Rattle.std.specs.Io.KnownBytes.{Appends};
-ghost use Rattle.zkdump.specs.declared.summary.Summary.{Summary};
-ghost use Rattle.zkdump.specs.Lines.{last_line, status_of};
-ghost use Rattle.zkdump.specs.Outcome.{IsFound};
+ghost use Rattle.zk_talk.specs.declared.message.Message.{Message};
+ghost use Rattle.zkdump.specs.declared.listing.Listing.TheVariants.{All, Last};
+ghost use Rattle.zkdump.specs.Lines.{text_of};
+ghost use Rattle.zkdump.specs.Outcome.{IsFound, IsRunning, HasBegun, HasGrownIn};
+ghost use Rattle.zkdump.specs.Running.{HasListed, HasReached, HasStopped};
 
-use crate::engine::{Progress, RunFault};
-use crate::streams::{Failed, Sink, Source, write_whole};
+use crate::engine::Progress;
+use crate::listing::{Listing, RunFault};
+use crate::streams::{Sink, Source, write_whole};
 use crate::summary::{Status, Summary};
 use std::alloc::Global;
 use zk_talk::Limits;
@@ -17,14 +20,26 @@ const MOST_READS: u64 = 4_294_967_296;
 /// How many bytes a run reads at once, at most.
 const BLOCK: usize = 4096;
 
-/// Reads until what the recording comes to stands, or to the end.
-fn summarize<R: Source>(alloc: Global, limits: Limits, reader: &mut R) -> Result<Summary, RunFault>
+/// Reads until what the recording comes to stands, or to the end, and writes the lines of its messages.
+fn read_on<R: Source, W: Sink>(
+    alloc: Global,
+    limits: Limits,
+    listing: Listing,
+    reader: &mut R,
+    writer: &mut W,
+) -> Result<Summary, RunFault>
     requires live { R.has_failed reader.old ≡ false }
     requires reads { R.read_count reader.old < 2 ^ 62 }
-    ensures ok { IfOk result (λ summary. IsFound limits (R.remaining reader.old) (R.remaining reader.new) summary) }
-    ensures read { IsErrOf result RunFault.Read → (R.has_failed reader.new ≡ true)
-        ⊎ (R.read_count reader.old + MOST_READS ≤ R.read_count reader.new) }
-    ensures no_write { result ≢ Err RunFault.Write }
+    requires writer { W.has_failed writer.old ≡ false }
+    ensures ok { IfOk result (λ summary. (messages : List Message) × IsFound limits (R.remaining reader.old) (R.remaining reader.new) messages summary
+        × Appends (W.contents writer.old) (W.contents writer.new) (text_of listing messages)) }
+    ensures read { IsErrOf result RunFault.Read → ((R.has_failed reader.new ≡ true) ⊎ (R.read_count reader.old + 4294967296 ≤ R.read_count reader.new))
+        × ((messages : List Message) × IsRunning limits (R.remaining reader.old) (R.remaining reader.new) messages
+        × Appends (W.contents writer.old) (W.contents writer.new) (text_of listing messages)) }
+    ensures begun { OnErr result ((messages : List Message) × HasBegun limits (R.remaining reader.old) (R.remaining reader.new) messages
+        × HasGrownIn (W.contents writer.old) (W.contents writer.new) (text_of listing messages)) }
+    ensures live { IfOk result (λ _. W.has_failed writer.new ≡ false) }
+    ensures failed { IsErrOf result RunFault.Write → W.has_failed writer.new ≡ true }
 {
     let mut progress = Progress::new(alloc, limits);
     let mut buf = [0; BLOCK];
@@ -35,18 +50,41 @@ fn summarize<R: Source>(alloc: Global, limits: Limits, reader: &mut R) -> Result
         if count == 0 {
             return Ok(progress.finish());
         }
-        if let Err(stop) = progress.feed(alloc, &buf[..count]) {
+        if let Err(stop) = progress.feed(alloc, &buf[..count], listing, writer) {
             return stop.answer();
         }
     }
     Err(RunFault::Read)
 }
 
+/// Reads a recording until a fault, a damage or its end, and writes its listing.
+fn run<R: Source, W: Sink>(
+    alloc: Global,
+    limits: Limits,
+    listing: Listing,
+    reader: &mut R,
+    writer: &mut W,
+) -> Result<Status, RunFault>
+    requires reader { R.has_failed reader.old ≡ false }
+    requires reads { R.read_count reader.old < 2 ^ 62 }
+    requires writer { W.has_failed writer.old ≡ false }
+    ensures ok { IfOk result (λ status. HasListed limits listing (R.remaining reader.old) (R.remaining reader.new) (W.contents writer.old) (W.contents writer.new) status) }
+    ensures read { IsErrOf result RunFault.Read → ((R.has_failed reader.new ≡ true) ⊎ (R.read_count reader.old + 4294967296 ≤ R.read_count reader.new))
+        × HasReached limits listing (R.remaining reader.old) (R.remaining reader.new) (W.contents writer.old) (W.contents writer.new) }
+    ensures write { IsErrOf result RunFault.Write → W.has_failed writer.new ≡ true }
+    ensures begun { OnErr result (HasStopped limits listing (R.remaining reader.old) (R.remaining reader.new) (W.contents writer.old) (W.contents writer.new)) }
+{
+    let summary = read_on(alloc, limits, listing, reader, writer)?;
+    let line = summary.last_line(alloc)?;
+    write_whole(writer, line.as_bytes())?;
+    Ok(summary.status())
+}
+
 /// Reads a recording until a fault, a damage or its end, and writes the last line of its listing.
 ///
 /// # Errors
-/// `Read` where the reader failed or was read 4,294,967,296 times, `Write` where the writer failed or took nothing,
-/// `Memory` where a growth was refused.
+/// `Read` where the reader failed or was read 4,294,967,296 times and came to no end, `Write` where the writer failed
+/// or took nothing, `Memory` where a growth was refused.
 pub fn check_run<R: Source, W: Sink>(
     alloc: Global,
     limits: Limits,
@@ -57,25 +95,45 @@ pub fn check_run<R: Source, W: Sink>(
     requires reads { R.read_count reader.old < 2 ^ 62 }
     requires writer { W.has_failed writer.old ≡ false }
 
-    // The last line is written of what was read: all there is, or bytes whose line stands whatever follows.
-    ensures ok { IfOk result (λ status. (summary : Summary) × IsFound limits (R.remaining reader.old) (R.remaining reader.new) summary
-        × Appends (W.contents writer.old) (W.contents writer.new) (last_line summary)
-        × (status ≡ status_of summary)) }
+    // The last line is written of what was read: all there is, or what decides.
+    ensures ok { IfOk result (λ status. HasListed limits Last (R.remaining reader.old) (R.remaining reader.new) (W.contents writer.old) (W.contents writer.new) status) }
 
-    // A run that stops early has written a front of that line, and before a failed write nothing.
-    ensures write { IsErrOf result RunFault.Write → (W.has_failed writer.new ≡ true)
-        × ((summary : Summary) × IsFound limits (R.remaining reader.old) (R.remaining reader.new) summary
-        × ((k : ℕ) × Appends (W.contents writer.old) (W.contents writer.new) (take k (last_line summary)))) }
-    ensures read { IsErrOf result RunFault.Read → Appends (W.contents writer.old) (W.contents writer.new) []
-        × ((R.has_failed reader.new ≡ true) ⊎ (R.read_count reader.old + 4294967296 ≤ R.read_count reader.new)) }
-    ensures memory { IsErrOf result RunFault.Memory → Appends (W.contents writer.old) (W.contents writer.new) [] }
+    // A failed read, or one too many, leaves nothing written.
+    ensures read { IsErrOf result RunFault.Read → ((R.has_failed reader.new ≡ true) ⊎ (R.read_count reader.old + 4294967296 ≤ R.read_count reader.new))
+        × HasReached limits Last (R.remaining reader.old) (R.remaining reader.new) (W.contents writer.old) (W.contents writer.new) }
+    ensures write { IsErrOf result RunFault.Write → W.has_failed writer.new ≡ true }
+
+    // A run that stops early has written a front of the line.
+    ensures begun { OnErr result (HasStopped limits Last (R.remaining reader.old) (R.remaining reader.new) (W.contents writer.old) (W.contents writer.new)) }
 {
-    let summary = summarize(alloc, limits, reader)?;
-    let Ok(line) = summary.last_line(alloc) else {
-        return Err(RunFault::Memory);
-    };
-    match write_whole(writer, line.as_bytes()) {
-        Ok(()) => Ok(summary.status()),
-        Err(Failed) => Err(RunFault::Write),
-    }
+    run(alloc, limits, Listing::Last, reader, writer)
+}
+
+/// Reads a recording until a fault, a damage or its end, and writes its listing. Each message's line is written before
+/// the next read.
+///
+/// # Errors
+/// As those of `check_run`.
+pub fn show_run<R: Source, W: Sink>(
+    alloc: Global,
+    limits: Limits,
+    reader: &mut R,
+    writer: &mut W,
+) -> Result<Status, RunFault>
+    requires reader { R.has_failed reader.old ≡ false }
+    requires reads { R.read_count reader.old < 2 ^ 62 }
+    requires writer { W.has_failed writer.old ≡ false }
+
+    // The listing is written of what was read: all there is, or what decides.
+    ensures ok { IfOk result (λ status. HasListed limits All (R.remaining reader.old) (R.remaining reader.new) (W.contents writer.old) (W.contents writer.new) status) }
+
+    // After a failed read, or one too many, the line of each message that is whole in what was read stands written.
+    ensures read { IsErrOf result RunFault.Read → ((R.has_failed reader.new ≡ true) ⊎ (R.read_count reader.old + 4294967296 ≤ R.read_count reader.new))
+        × HasReached limits All (R.remaining reader.old) (R.remaining reader.new) (W.contents writer.old) (W.contents writer.new) }
+    ensures write { IsErrOf result RunFault.Write → W.has_failed writer.new ≡ true }
+
+    // A run that stops early has written a front of the listing.
+    ensures begun { OnErr result (HasStopped limits All (R.remaining reader.old) (R.remaining reader.new) (W.contents writer.old) (W.contents writer.new)) }
+{
+    run(alloc, limits, Listing::All, reader, writer)
 }

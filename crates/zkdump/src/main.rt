@@ -3,6 +3,7 @@
 
 pub mod check;
 pub mod engine;
+pub mod listing;
 #[cfg(test)]
 mod memory;
 pub mod options;

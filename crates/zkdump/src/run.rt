@@ -1,10 +1,9 @@
 //! The whole program, over a reader and two writers.
 ghost use Rattle.std.specs.Prelude.{◌≡◌, ◌^◌, ◌<◌, ◌≤◌, false};
-ghost use Rattle.std.specs.Io.KnownBytes.{Appends};
 ghost use Rattle.zk_talk.specs.declared.message.Limits.{Limits};
-ghost use Rattle.zkdump.specs.declared.summary.Summary.{Summary};
-ghost use Rattle.zkdump.specs.Lines.{last_line, status_of};
-ghost use Rattle.zkdump.specs.Outcome.{IsFound};
+ghost use Rattle.zkdump.specs.declared.listing.Listing.TheVariants.{Last};
+ghost use Rattle.zkdump.specs.declared.summary.Status.{Status};
+ghost use Rattle.zkdump.specs.Running.{HasListed};
 ghost use Rattle.zkdump.specs.Exits.{exit_of};
 
 use crate::check::check_run;
@@ -74,10 +73,9 @@ pub fn run_words<R: Source, W: Sink, F: Sink>(
     requires writer { W.has_failed writer.old ≡ false }
     requires faults { F.has_failed faults.old ≡ false }
     ensures known { result ≤ 3 }
-    ensures checked { result < 2 → (limits : Limits) × (summary : Summary)
-        × IsFound limits (R.remaining reader.old) (R.remaining reader.new) summary
-        × Appends (W.contents writer.old) (W.contents writer.new) (last_line summary)
-        × (result ≡ exit_of (status_of summary)) }
+    ensures checked { result < 2 → (limits : Limits) × (status : Status)
+        × HasListed limits Last (R.remaining reader.old) (R.remaining reader.new) (W.contents writer.old) (W.contents writer.new) status
+        × (result ≡ exit_of status) }
     ensures words { result ≡ 2 → (reader.new ≡ reader.old) × (writer.new ≡ writer.old) }
 {
     let chosen = match settings(alloc, words) {

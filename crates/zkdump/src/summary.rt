@@ -1,10 +1,10 @@
 //! What a check finds, and its line.
 ghost use Rattle.std.specs.Prelude.{◌≡◌, ◌++◌, ◌∷◌, [], IfOk, string_bytes};
-ghost use Rattle.zkdump.specs.Lines.{side_text, reason_word, xids_text, damage_word, damage_text, refused_text, cut_text, whole_text, ending_text, summary_text, last_line, status_of};
+ghost use Rattle.zkdump.specs.Lines.{side_text, xids_text, damage_word, damage_text, refused_text, cut_text, whole_text, ending_text, summary_text, last_line, status_of};
 
 use crate::recording::{Damage, DamageReason};
 use std::alloc::{AllocError, Global};
-use zk_jute::Reason;
+use zk_jute::{Reason, reason_name};
 use zk_talk::{Ending, Fault, Side};
 
 /// How a recording ends: as the conversation in it does, or by a damage.
@@ -27,28 +27,6 @@ fn side_name(side: Side) -> &'static str
     match side {
         Side::Client => "C",
         Side::Server => "S",
-    }
-}
-
-fn reason_name(reason: Reason) -> &'static str
-    ensures { result.now ≡ reason_word reason }
-{
-    match reason {
-        Reason::Short => "Short",
-        Reason::BadBool => "BadBool",
-        Reason::BadLength => "BadLength",
-        Reason::BadText => "BadText",
-        Reason::NoMemory => "NoMemory",
-        Reason::Trailing => "Trailing",
-        Reason::UnknownOp => "UnknownOp",
-        Reason::XidOp => "XidOp",
-        Reason::BadPart => "BadPart",
-        Reason::EventErr => "EventErr",
-        Reason::LengthRange => "LengthRange",
-        Reason::QueueFull => "QueueFull",
-        Reason::Unasked => "Unasked",
-        Reason::XidOrder { .. } => "XidOrder",
-        Reason::StreamEnd => "StreamEnd",
     }
 }
 
@@ -118,7 +96,7 @@ fn refused_line(alloc: Global, fault: Fault) -> Result<String, AllocError>
     let frame = fault.frame;
     let offset = fault.offset;
     let place = fault.place;
-    let reason = reason_name(fault.reason);
+    let reason = reason_name(&fault.reason);
     let mut line = format!(in alloc;
         ". refused side={side} frame={frame} offset={offset} place={place} reason={reason}"
     )?;

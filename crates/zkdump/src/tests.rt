@@ -5,7 +5,7 @@ ghost use Rattle.zkdump.specs.Outcome.{IsFound};
 ghost use Rattle.zkdump.specs.Lines.{last_line};
 
 use crate::check::check_run;
-use crate::engine::RunFault;
+use crate::listing::RunFault;
 use crate::memory::{MemorySink, MemorySource};
 use crate::run::run_words;
 use crate::streams::{FromRead, Sink};

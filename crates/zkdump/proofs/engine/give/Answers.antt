@@ -1,15 +1,22 @@
-use Rattle.std.proofs.Common.{◌++◌, ◌≢◌, List, OnOk, IfErr, subst, sym}
-use Rattle.zk_jute.specs.declared.fault.Reason.TheVariants.{NoMemory}
-use Rattle.zk_talk.specs.declared.message.Message.{Message}
-use Rattle.zk_talk.specs.History.{History}
-use Rattle.zk_talk.specs.Stands.{Stands, Refuses}
+use Rattle.std.proofs.Common.{OnOk, IfErr, subst, sym}
+use Rattle.zk_talk.specs.declared.message.Side.TheVariants.{Client}
 use Rattle.zkdump.specs.Reading.{content_of}
+use Rattle.zkdump.specs.Following.{Takes}
+use Rattle.zkdump.specs.Stopping.{Halts}
+use Rattle.zkdump.proofs.Feeding.{takes-none}
 use Rattle.zkdump.proofs.engine.give.Goals as goal
 
-pub returns-in-Some-clause-fed : goal.returns-in-Some-clause-fed
-returns-in-Some-clause-fed c = subst (λ side. OnOk c.feed.result ((h : History) (messages : List Message) → Stands c.args.talk.now h messages →
-    (more : List Message) × Stands c.feed.new.talk (h ++ content_of side c.args.bytes.now) (messages ++ more))) (sym c.in-Some.is) c.feed.ensures.fed
+pub returns-in-Some-clause-taken : goal.returns-in-Some-clause-taken
+returns-in-Some-clause-taken g c =
+    subst (λ side. OnOk c.feed.result (Takes c.args.listing c.args.talk.now (g.W.Sink.contents c.args.writer.now) (content_of side c.args.bytes.now) c.feed.new.talk (g.W.Sink.contents c.feed.new.writer)))
+    (sym c.in-Some.is) c.feed.ensures.taken
 
-pub returns-in-Some-clause-refused : goal.returns-in-Some-clause-refused
-returns-in-Some-clause-refused c = subst (λ side. IfErr c.feed.result (λ e. e.reason ≢ NoMemory → (h : History) (messages : List Message) → Stands c.args.talk.now h messages →
-    (more : List Message) × Refuses c.feed.new.talk (h ++ content_of side c.args.bytes.now) (messages ++ more) e)) (sym c.in-Some.is) c.feed.ensures.refused
+pub returns-in-Some-clause-stops : goal.returns-in-Some-clause-stops
+returns-in-Some-clause-stops g c =
+    subst (λ side. IfErr c.feed.result (λ stop. Halts c.args.listing c.args.talk.now (g.W.Sink.contents c.args.writer.now) (content_of side c.args.bytes.now) stop c.feed.new.talk (g.W.Sink.contents c.feed.new.writer)))
+    (sym c.in-Some.is) c.feed.ensures.stops
+
+pub returns-in-None-clause-taken : goal.returns-in-None-clause-taken
+returns-in-None-clause-taken g c =
+    let contents = g.W.Sink.contents c.args.writer.now in
+    subst (λ side. Takes c.args.listing c.args.talk.now contents (content_of side c.args.bytes.now) c.args.talk.now contents) (sym c.in-None.is) (takes-none c.args.listing c.args.talk.now contents Client)

@@ -1,15 +1,15 @@
 use Rattle.std.proofs.Common.{subst}
-use Rattle.zk_talk.specs.Ending.{IsEnding}
 use Rattle.zkdump.specs.Reading.{IsRead}
-use Rattle.zkdump.proofs.Stops.{no-fault, finishes-whole, finishes-broken}
+use Rattle.zkdump.proofs.Feeding.{good-here}
+use Rattle.zkdump.proofs.Stops.{finishes-whole, finishes-broken}
 use Rattle.zkdump.proofs.engine.Progress.finish.Goals as goal
 
 pub returns-in-Some : goal.returns-in-Some
 returns-in-Some c = λ limits x messages i.
-    finishes-broken limits x i.history c.in-Some.damage (subst (IsRead x i.history) c.in-Some.is (c.finish.ensures x i.history i.at))
-    (no-fault limits _ i.history messages i.stands i.limits_are)
+    finishes-broken limits x i.history messages c.in-Some.damage (subst (IsRead x i.history) c.in-Some.is (c.finish.ensures x i.history i.at))
+    (good-here _ limits i.history messages i.limits_are i.stands)
 
 pub returns-in-None : goal.returns-in-None
 returns-in-None c = λ limits x messages i.
-    finishes-whole limits x i.history c.finish-in-None.result (subst (IsRead x i.history) c.in-None.is (c.finish.ensures x i.history i.at))
-    (subst (λ l. IsEnding l i.history c.finish-in-None.result) i.limits_are (c.finish-in-None.ensures.stands i.history messages i.stands))
+    finishes-whole limits x i.history messages _ c.finish-in-None.result (subst (IsRead x i.history) c.in-None.is (c.finish.ensures x i.history i.at))
+    i.stands i.limits_are (c.finish-in-None.ensures.stands i.history messages i.stands)
