@@ -1,5 +1,5 @@
 -- All bytes are a recording, and what was handed on of their history stands at its beginning.
-use Rattle.std.proofs.Common.{◌≡◌, ◌≢◌, ℕ, ◌+◌, ◌<◌, ◌≤◌, ◌⊎◌, inl, inr, List, [], ◌∷◌, ◌++◌, length, take, drop, refl, sym, ap, ◌∙◌, subst, append_assoc, append-nil, arith, zero, suc, length-drop, length-take, ◌-◌, Bool, true, false}
+use Rattle.std.proofs.Common.{◌≡◌, ℕ, ◌+◌, ◌<◌, ◌⊎◌, inl, inr, List, [], ◌∷◌, ◌++◌, length, take, drop, refl, sym, ap, ◌∙◌, subst, append_assoc, append-nil, arith, zero, suc, length-drop, length-take, ◌-◌}
 use Rattle.std.specs.List.{All, flat_map}
 use Rattle.std.proofs.lemmas.Bool.{cases_eq, cases_lt, cases_Bool, false≢true}
 use Rattle.std.proofs.lemmas.List.{take-append-drop, take_all}
@@ -12,7 +12,7 @@ use Rattle.zk_talk.specs.History.{History, on}
 use Rattle.zkdump.specs.declared.recording.Stage.{Stage}
 use Rattle.zkdump.specs.declared.recording.Stage.TheVariants.{Head, Start, Size, Content, Damaged}
 use Rattle.zkdump.specs.Recording.{Piece, IsPiece, IsSize, Recording, Headless, Pieces, Tail, Nothing, NoSide, CutSize, NoSize, CutContent, IsTail, Spells, head, front, number, piece_bytes, piece_history, side_byte, tail_bytes, tail_history, history_of}
-use Rattle.zkdump.specs.Reading.{IsAt, IsSound, InContent, InRange}
+use Rattle.zkdump.specs.Reading.{IsAt, IsSound}
 use Rattle.zkdump.proofs.Feeding.{on-append}
 use Rattle.zkdump.proofs.Stages.{damaged-more, flat_map-snoc, All-one, further}
 

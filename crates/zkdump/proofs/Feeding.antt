@@ -1,8 +1,7 @@
 -- Bytes of one side that are given in several calls.
 use Rattle.std.proofs.Common.{◌≡◌, ◌≢◌, ℕ, ◌+◌, List, [], ◌++◌, length, take, drop, Option, refl, sym, ◌∙◌, ap, subst, append_assoc, inl, inr}
-use Rattle.std.specs.List.{flat_map}
 use Rattle.std.specs.Io.KnownBytes.{Appends}
-use Rattle.std.proofs.lemmas.List.{map-append, take-append-drop, take_all, append-nil}
+use Rattle.std.proofs.lemmas.List.{map-append, take-append-drop, append-nil}
 use Rattle.std.proofs.lemmas.List.Concat.{flat_map-append}
 use Rattle.std.proofs.Math.Seq.{take-add, take-append-add, take-length}
 use Rattle.zk_jute.specs.declared.fault.Reason.{Reason}

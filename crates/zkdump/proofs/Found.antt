@@ -1,9 +1,8 @@
 -- What a run of reads comes to.
-use Rattle.std.proofs.Common.{◌≡◌, ℕ, List, [], ◌++◌, ◌+◌, length, take, Option, inl, inr, sym, ◌∙◌, ap, subst, append-nil, IfOk, OnErr, Err, IsErrOf}
+use Rattle.std.proofs.Common.{◌≡◌, ℕ, List, [], ◌++◌, ◌+◌, length, Option, inl, inr, sym, ◌∙◌, ap, subst, append-nil, IfOk, OnErr}
 use Rattle.std.specs.Io.KnownBytes.{Consumes, IsAtEnd, Appends}
 use Rattle.zk_talk.specs.declared.message.Limits.{Limits}
 use Rattle.zk_talk.specs.declared.message.Message.{Message}
-use Rattle.zk_talk.specs.History.{History}
 use Rattle.zk_talk.specs.Stands.{TalkState}
 use Rattle.zkdump.specs.declared.recording.Stage.{Stage}
 use Rattle.zkdump.specs.declared.listing.Listing.{Listing}
@@ -14,10 +13,10 @@ use Rattle.zkdump.specs.Recording.{Recording, Spells, history_of}
 use Rattle.zkdump.specs.Lines.{text_of}
 use Rattle.zkdump.specs.Stopping.{IsStop, IfFound, answer_of}
 use Rattle.zkdump.specs.Outcome.{Reads, IsFound, IsRunning, HasBegun, HasGrownIn, IsGoodWith}
-use Rattle.zkdump.specs.Following.{Follows, Decides, Finishes, Opens}
+use Rattle.zkdump.specs.Following.{Follows, Finishes}
 use Rattle.std.proofs.Math.Seq.{take-append-add, take-append_seam}
 use Rattle.zkdump.proofs.Bytes.{Consumes-then, Appends-then}
-use Rattle.zkdump.proofs.Feeding.{good-here, grown-then, grown-whole, told-then}
+use Rattle.zkdump.proofs.Feeding.{good-here, grown-then, told-then}
 use Rattle.zkdump.proofs.Stops.{read-at}
 use Rattle.zkdump.proofs.Once.{spells-once}
 

@@ -1,5 +1,5 @@
 -- bytes are one recording at most: the same history and the same damage
-use Rattle.std.proofs.Common.{◌≡◌, ◌≢◌, ℕ, ◌+◌, ◌<◌, ◌≤◌, List, [], ◌∷◌, ◌++◌, length, take, drop, Option, None, Some, Bool, true, false, cond, nat_lt, nat_le, ◌==◌, ◌&&◌, refl, sym, ◌∙◌, ap, subst, append_assoc, arith, rules, length-append, zero, suc}
+use Rattle.std.proofs.Common.{◌≡◌, ◌≢◌, ℕ, ◌+◌, ◌<◌, ◌≤◌, List, [], ◌∷◌, ◌++◌, length, take, drop, Option, None, Some, Bool, true, false, cond, nat_lt, nat_le, ◌==◌, ◌&&◌, refl, sym, ◌∙◌, ap, append_assoc, arith, length-append}
 use Rattle.std.proofs.lemmas.Bool.Decides.{nat_tests}
 use Rattle.std.proofs.Math.Seq.{take-append_seam, drop-append_seam}
 use Rattle.std.proofs.lemmas.List.{take_at, drop_at}
@@ -10,7 +10,7 @@ use Rattle.zk_talk.specs.declared.message.Side.TheVariants.{Client, Server}
 use Rattle.zk_talk.specs.History.{History, on}
 use Rattle.zkdump.specs.declared.recording.Damage.{Damage}
 use Rattle.zkdump.specs.declared.recording.DamageReason.TheVariants.{BadSide, BadSize, Short}
-use Rattle.zkdump.specs.Recording.{Piece, IsPiece, IsSize, Recording, Headless, Pieces, Tail, Nothing, NoSide, CutSize, NoSize, CutContent, IsTail, IsNoSide, IsNoSize, IsCut, Spells, head, front, number, piece_bytes, piece_history, side_byte, tail_bytes, tail_history, tail_damage, history_of, damage_of}
+use Rattle.zkdump.specs.Recording.{Piece, IsPiece, IsSize, Recording, Headless, Pieces, Tail, Nothing, NoSide, CutSize, NoSize, CutContent, IsTail, IsNoSide, Spells, head, front, number, piece_bytes, piece_history, side_byte, tail_bytes, tail_history, tail_damage, history_of, damage_of}
 
 -- what some bytes begin with
 data First : Type 0 where

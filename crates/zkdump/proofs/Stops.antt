@@ -1,5 +1,5 @@
 -- What a run finds before the end.
-use Rattle.std.proofs.Common.{◌≡◌, ◌≢◌, ℕ, ◌+◌, List, ◌++◌, take, drop, Option, Some, None, inl, inr, refl, sym, ap, ◌∙◌, subst, append_assoc}
+use Rattle.std.proofs.Common.{◌≡◌, ℕ, ◌+◌, List, ◌++◌, take, drop, Option, Some, None, inl, inr, refl, sym, ap, ◌∙◌, subst, append_assoc}
 use Rattle.std.specs.Io.KnownBytes.{Appends}
 use Rattle.std.proofs.lemmas.List.{take-append-drop}
 use Rattle.std.proofs.Math.Seq.{take-add}
@@ -9,7 +9,6 @@ use Rattle.zk_talk.specs.declared.message.Fault.{Fault}
 use Rattle.zk_talk.specs.declared.message.Ending.{Ending}
 use Rattle.zk_talk.specs.declared.message.Ending.TheVariants.{Whole, Cut, Refused}
 use Rattle.zk_talk.specs.History.{History}
-use Rattle.zk_talk.specs.Good.{Good}
 use Rattle.zk_talk.specs.Fault.{IsFaultOf}
 use Rattle.zk_talk.specs.Ending.{IsEnding}
 use Rattle.zk_talk.specs.Answer.{AreMessages}
@@ -22,14 +21,14 @@ use Rattle.zkdump.specs.declared.listing.Listing.{Listing}
 use Rattle.zkdump.specs.declared.summary.Summary.TheVariants.{Ended, Broken}
 use Rattle.zkdump.specs.declared.engine.Stop.{Stop}
 use Rattle.zkdump.specs.declared.engine.Stop.TheVariants.{Found, Fails}
-use Rattle.zkdump.specs.Recording.{history_of, damage_of}
+use Rattle.zkdump.specs.Recording.{history_of}
 use Rattle.zkdump.specs.Reading.{IsAt, IsSound, IsDamaged, IsRead}
 use Rattle.zkdump.specs.Lines.{text_of}
 use Rattle.zkdump.specs.Outcome.{HasNoFault, ComesTo, IsGoodWith}
 use Rattle.zkdump.specs.Following.{Follows, Decides, Finishes, Opens}
 use Rattle.zkdump.specs.Stopping.{IsStop, Halts}
 use Rattle.zkdump.proofs.Any.{Starts}
-use Rattle.zkdump.proofs.Feeding.{good-here, grown-then, told-then}
+use Rattle.zkdump.proofs.Feeding.{grown-then, told-then}
 use Rattle.zkdump.proofs.Stages.{damaged-more, head-end, start-end, size-end, content-end, damaged-end}
 
 -- whatever the stage, what was read is a recording

@@ -1,5 +1,5 @@
 -- What a run has read and written when it answers.
-use Rattle.std.specs.Prelude.{◌≡◌, ◌⊎◌, ℕ, List, ◌++◌, Option}
+use Rattle.std.specs.Prelude.{◌≡◌, ℕ, List, ◌++◌, Option}
 use Rattle.std.specs.Io.KnownBytes.{Appends}
 use Rattle.zk_talk.specs.declared.message.Limits.{Limits}
 use Rattle.zk_talk.specs.declared.message.Message.{Message}

@@ -1,5 +1,5 @@
 -- Why no more of a recording is read.
-use Rattle.std.specs.Prelude.{◌≡◌, ◌≢◌, ℕ, List, ◌++◌, Option, Result, Ok, Err}
+use Rattle.std.specs.Prelude.{ℕ, List, ◌++◌, Option, Result, Ok, Err}
 use Rattle.std.specs.Io.KnownBytes.{Appends}
 use Rattle.zk_talk.specs.declared.message.Limits.{Limits}
 use Rattle.zk_talk.specs.declared.message.Message.{Message}
@@ -13,7 +13,7 @@ use Rattle.zkdump.specs.declared.engine.Stop.{Stop}
 use Rattle.zkdump.specs.declared.engine.Stop.TheVariants.{Found, Fails}
 use Rattle.zkdump.specs.declared.listing.Listing.{Listing}
 use Rattle.zkdump.specs.declared.listing.RunFault.{RunFault}
-use Rattle.zkdump.specs.declared.listing.RunFault.TheVariants.{Read, Memory}
+use Rattle.zkdump.specs.declared.listing.RunFault.TheVariants.{Memory}
 use Rattle.zkdump.specs.declared.summary.Summary.{Summary}
 use Rattle.zkdump.specs.declared.summary.Summary.TheVariants.{Ended, Broken}
 use Rattle.zkdump.specs.Lines.{text_of}

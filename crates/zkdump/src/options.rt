@@ -1,6 +1,8 @@
 //! What a command line asks for.
 
 ghost use Rattle.std.specs.Prelude.{◌≡◌};
+ghost use Rattle.clap.specs.Values.{kind_of};
+ghost use Rattle.zkdump.specs.Exits.{usage_fault};
 
 use clap::error::ErrorKind;
 use std::alloc::AllocError;
@@ -10,6 +12,9 @@ use zk_talk::Limits;
 /// What the program is asked to do.
 #[derive(Clone, Copy, Debug, PartialEq, Eq)]
 pub enum Command {
+    /// To write the listing of a recording.
+    Show,
+    /// To write its last line.
     Check,
 }
 
@@ -23,8 +28,10 @@ pub struct Settings {
 /// Why the words of a command line give no settings.
 #[derive(Clone, Copy, Debug, PartialEq, Eq, Error)]
 pub enum UsageFault {
+    /// They are no command line of this program, or ask for help.
     #[error("usage: zkdump show|check|build [--limit N] [--waiting N]")]
     Words,
+    /// A growth was refused.
     #[error("zkdump: out of memory")]
     Memory,
 }
@@ -40,6 +47,8 @@ impl From<AllocError> for UsageFault {
 }
 
 impl From<clap::Error> for UsageFault {
+    ghost from_gives = { λ error fault. fault ≡ usage_fault (kind_of error) };
+
     fn from(error: clap::Error) -> UsageFault {
         match error.kind() {
             ErrorKind::OutOfMemory => UsageFault::Memory,

@@ -1,13 +1,14 @@
 //! The whole program, over a reader and two writers.
-ghost use Rattle.std.specs.Prelude.{◌≡◌, ◌^◌, ◌<◌, ◌≤◌, false};
+ghost use Rattle.std.specs.Prelude.{◌≡◌, ◌^◌, ◌<◌, ◌≤◌, ◌⊎◌, false, IfOk, OnErr};
 ghost use Rattle.zk_talk.specs.declared.message.Limits.{Limits};
-ghost use Rattle.zkdump.specs.declared.listing.Listing.TheVariants.{Last};
+ghost use Rattle.zkdump.specs.declared.listing.Listing.{Listing};
 ghost use Rattle.zkdump.specs.declared.summary.Status.{Status};
-ghost use Rattle.zkdump.specs.Running.{HasListed};
-ghost use Rattle.zkdump.specs.Exits.{exit_of};
+ghost use Rattle.zkdump.specs.Running.{HasListed, HasStopped};
+ghost use Rattle.zkdump.specs.Exits.{exit_of, refusal_of, listing_of};
 
-use crate::check::check_run;
-use crate::options::UsageFault;
+use crate::check::{check_run, show_run};
+use crate::listing::RunFault;
+use crate::options::{Command, Settings, UsageFault};
 use crate::streams::{Sink, Source, write_whole};
 use crate::summary::Status;
 use crate::words::settings;
@@ -41,8 +42,7 @@ fn tell<F: Sink>(faults: &mut F, fault: &(impl Display)) {
 
 /// Tells why a command line is refused, and gives the status for it.
 pub fn refuse<F: Sink>(fault: UsageFault, faults: &mut F) -> u8
-    ensures refused { 2 ≤ result }
-    ensures known { result ≤ 3 }
+    ensures { result ≡ refusal_of fault }
 {
     tell(faults, &fault);
     match fault {
@@ -60,6 +60,25 @@ fn exit_code(status: Status) -> u8
     }
 }
 
+/// Runs the engine that the words ask for.
+fn obey<R: Source, W: Sink>(
+    alloc: Global,
+    chosen: Settings,
+    reader: &mut R,
+    writer: &mut W,
+) -> Result<Status, RunFault>
+    requires reader { R.has_failed reader.old ≡ false }
+    requires reads { R.read_count reader.old < 2 ^ 62 }
+    requires writer { W.has_failed writer.old ≡ false }
+    ensures ok { IfOk result (λ status. HasListed chosen.limits (listing_of chosen.command) (R.remaining reader.old) (R.remaining reader.new) (W.contents writer.old) (W.contents writer.new) status) }
+    ensures err { OnErr result (HasStopped chosen.limits (listing_of chosen.command) (R.remaining reader.old) (R.remaining reader.new) (W.contents writer.old) (W.contents writer.new)) }
+{
+    match chosen.command {
+        Command::Show => show_run(alloc, chosen.limits, reader, writer),
+        Command::Check => check_run(alloc, chosen.limits, reader, writer),
+    }
+}
+
 /// Does what the words say, and gives the status of the process.
 pub fn run_words<R: Source, W: Sink, F: Sink>(
     alloc: Global,
@@ -73,16 +92,24 @@ pub fn run_words<R: Source, W: Sink, F: Sink>(
     requires writer { W.has_failed writer.old ≡ false }
     requires faults { F.has_failed faults.old ≡ false }
     ensures known { result ≤ 3 }
-    ensures checked { result < 2 → (limits : Limits) × (status : Status)
-        × HasListed limits Last (R.remaining reader.old) (R.remaining reader.new) (W.contents writer.old) (W.contents writer.new) status
+
+    // The listing, or its last line, is written of what was read.
+    ensures listed { result < 2 → (limits : Limits) × (listing : Listing) × (status : Status)
+        × HasListed limits listing (R.remaining reader.old) (R.remaining reader.new) (W.contents writer.old) (W.contents writer.new) status
         × (result ≡ exit_of status) }
+
+    // Words that are refused leave everything unread and unwritten.
     ensures words { result ≡ 2 → (reader.new ≡ reader.old) × (writer.new ≡ writer.old) }
+
+    // A failure comes before all of it, or after a front of a listing.
+    ensures stopped { result ≡ 3 → ((reader.new ≡ reader.old) × (writer.new ≡ writer.old))
+        ⊎ ((limits : Limits) × (listing : Listing) × HasStopped limits listing (R.remaining reader.old) (R.remaining reader.new) (W.contents writer.old) (W.contents writer.new)) }
 {
     let chosen = match settings(alloc, words) {
         Ok(chosen) => chosen,
         Err(fault) => return refuse(fault, faults),
     };
-    match check_run(alloc, chosen.limits, reader, writer) {
+    match obey(alloc, chosen, reader, writer) {
         Ok(status) => exit_code(status),
         Err(fault) => {
             tell(faults, &fault);

@@ -1,4 +1,4 @@
-use Rattle.std.proofs.Common.{arith, ◌∙◌, ◌++◌, sym, false, true, refl, length-take, ap, ◌||◌, inl, inr}
+use Rattle.std.proofs.Common.{arith, ◌∙◌, ◌++◌, false, true, refl, length-take, ap, ◌||◌, inl, inr}
 use Rattle.zkdump.proofs.Bytes.{Consumes-then, Consumes-kept}
 use Rattle.zkdump.proofs.Feeding.{told-then, grown-whole}
 use Rattle.zkdump.proofs.Found.{found-at_end, found-answer, begun-answer, running, running-begun, live-answer}

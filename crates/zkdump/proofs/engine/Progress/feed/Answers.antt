@@ -1,4 +1,4 @@
-use Rattle.std.proofs.Common.{arith, ◌≡◌, ◌+◌, ◌++◌, [], take, drop, length, length-drop, append-nil, subst, ap}
+use Rattle.std.proofs.Common.{arith, ◌≡◌, ◌++◌, [], take, drop, length, length-drop, append-nil, subst, ap}
 use Rattle.std.proofs.lemmas.List.{take_all}
 use Rattle.std.proofs.lemmas.Result.{err_from_is_err_and}
 use Rattle.zkdump.specs.Following.{Follows}
