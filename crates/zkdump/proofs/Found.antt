@@ -17,6 +17,7 @@ use Rattle.zkdump.specs.Following.{Follows, Finishes}
 use Rattle.std.proofs.Math.Seq.{take-append-add, take-append_seam}
 use Rattle.zkdump.proofs.Bytes.{Consumes-then, Appends-then}
 use Rattle.zkdump.proofs.Feeding.{good-here, grown-then, told-then}
+use Rattle.zkdump.proofs.Outcomes.{outcome-once}
 use Rattle.zkdump.proofs.Stops.{read-at}
 use Rattle.zkdump.proofs.Once.{spells-once}
 
@@ -30,6 +31,7 @@ found-at_end limits before mid after x none messages summary p q nothing end i =
   recording = i.recording;
   reads = reads before after x i.recording (subst (Consumes before after) (ap (λ b. x ++ b) nothing ∙ append-nil x) (Consumes-then before mid after x none p q)) i.spells;
   is = i.is;
+  only = λ others other o. outcome-once limits i.recording messages others summary other i.is o;
   enough = inl end;
 }
 
@@ -65,6 +67,7 @@ module _ (limits : Limits) (before mid after : Option (List ℕ)) (x block : Lis
     recording = i.1.recording;
     reads = reads before after (x ++ block) i.1.recording (Consumes-then before mid after x block p q) i.1.spells;
     is = i.1.is;
+    only = λ others other o. outcome-once limits i.1.recording (messages ++ i.0) others summary other i.1.is o;
     enough = inr i.1.decided;
   }, told-then listing contents during contents_now messages i.0 told i.2)
 

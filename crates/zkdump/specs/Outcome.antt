@@ -65,12 +65,13 @@ pub record Reads (before after : Option (List ℕ)) (x : List ℕ) (r : Recordin
   pub consumed : Consumes before after x
   pub just : IsJust x r
 
--- what was read comes to this, and it is all up to the end, or it decides
+-- what was read comes to this and to nothing else, and it is all up to the end, or it decides
 pub record IsFound (limits : Limits) (before after : Option (List ℕ)) (messages : List Message) (summary : Summary) : Type 0 where
   pub bytes : List ℕ
   pub recording : Recording
   pub reads : Reads before after bytes recording
   pub is : IsOutcome limits recording messages summary
+  pub only : (others : List Message) (other : Summary) → IsOutcome limits recording others other → (others ≡ messages) × (other ≡ summary)
   pub enough : IsAtEnd after ⊎ IsDecided limits bytes recording
 
 -- what was read has these messages and no fault

@@ -76,7 +76,7 @@ fn run<R: Source, W: Sink>(
 {
     let summary = read_on(alloc, limits, listing, reader, writer)?;
     let line = summary.last_line(alloc)?;
-    write_whole(writer, line.as_bytes())?;
+    write_whole(writer, &line)?;
     Ok(summary.status())
 }
 

@@ -9,7 +9,8 @@ use crate::memory::{MemorySink, MemorySource};
 use crate::run::run_words;
 use crate::streams::{FromRead, Sink};
 use crate::summary::Status;
-use std::alloc::{AllocError, Global};
+use std::alloc::{AllocError, AllocGlobal, Global};
+use std::process::Abort;
 use std::test::Fail;
 use zk_talk::Limits;
 
@@ -42,7 +43,7 @@ fn connected(alloc: Global, pieces: &[(u8, &[u8])]) -> Result<Vec<u8>, AllocErro
     Ok(recording)
 }
 
-fn words(rt: &HostRuntime, line: &str) -> Result<Vec<String>, Fail> {
+fn words(rt: &impl AllocGlobal, line: &str) -> Result<Vec<String>, Fail> {
     let mut words = Vec::new(rt.alloc());
     for word in line.split(' ') {
         words.push(String::from_str(rt.alloc(), word)?)?;
@@ -50,13 +51,13 @@ fn words(rt: &HostRuntime, line: &str) -> Result<Vec<String>, Fail> {
     Ok(words)
 }
 
-fn text(rt: &HostRuntime, sink: &MemorySink) -> Result<String, Fail> {
+fn text(rt: &impl AllocGlobal, sink: &MemorySink) -> Result<String, Fail> {
     Ok(String::from_utf8_lossy(rt.alloc(), sink.bytes())?)
 }
 
 /// Runs the program, and compares its status, its output and what it says of faults.
 fn expect(
-    rt: &HostRuntime,
+    rt: &(impl Abort + AllocGlobal),
     line: &str,
     input: &[u8],
     want: (u8, &str, &str),

@@ -24,14 +24,14 @@ pub returns-in_err-write_whole-clause-begun : goal.returns-in_err-write_whole-cl
 returns-in_err-write_whole-clause-begun g c =
     let p = err_from_is_err_and c.from_residual-in_err-write_whole.result c.from_residual-in_err-write_whole.ensures.1 in
     let f = c.in_ok-summary.ensures.ok in
-    let line : c.as_bytes.result.now ≡ last_line c.in_ok-summary.summary = c.as_bytes.ensures.value ∙ c.in_ok-line.ensures in
+    let line : c.deref.result.now ≡ last_line c.in_ok-summary.summary = c.deref.ensures.value ∙ c.in_ok-line.ensures in
     rw p.1 (in_last_line f.0 _ f.1 (grown-further _ _ _ _ _ f.2
     (subst (HasGrownIn (g.W.Sink.contents c.read_on.new.writer) (g.W.Sink.contents c.write_whole.new.writer)) line c.in_err-write_whole.ensures.err)))
 
 pub returns-clause-ok : goal.returns-clause-ok
 returns-clause-ok g c =
     let f = c.in_ok-summary.ensures.ok in
-    let line : c.as_bytes.result.now ≡ last_line c.in_ok-summary.summary = c.as_bytes.ensures.value ∙ c.in_ok-line.ensures in
+    let line : c.deref.result.now ≡ last_line c.in_ok-summary.summary = c.deref.ensures.value ∙ c.in_ok-line.ensures in
     record {
       messages = f.0;
       summary = c.in_ok-summary.summary;
