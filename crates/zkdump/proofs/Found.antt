@@ -7,8 +7,8 @@ use Rattle.zk_talk.specs.Stands.{TalkState}
 use Rattle.zkdump.specs.declared.recording.Stage.{Stage}
 use Rattle.zkdump.specs.declared.listing.Listing.{Listing}
 use Rattle.zkdump.specs.declared.summary.Summary.{Summary}
-use Rattle.zkdump.specs.declared.engine.Stop.{Stop}
-use Rattle.zkdump.specs.declared.engine.Stop.TheVariants.{Found, Fails}
+use Rattle.zkdump.specs.declared.progress.Stop.{Stop}
+use Rattle.zkdump.specs.declared.progress.Stop.TheVariants.{Found, Fails}
 use Rattle.zkdump.specs.Recording.{Recording, Spells, history_of}
 use Rattle.zkdump.specs.Lines.{text_of}
 use Rattle.zkdump.specs.Stopping.{IsStop, IfFound, answer_of}

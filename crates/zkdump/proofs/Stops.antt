@@ -19,8 +19,8 @@ use Rattle.zkdump.specs.declared.recording.Stage.{Stage}
 use Rattle.zkdump.specs.declared.recording.Stage.TheVariants.{Head, Start, Size, Content, Damaged}
 use Rattle.zkdump.specs.declared.listing.Listing.{Listing}
 use Rattle.zkdump.specs.declared.summary.Summary.TheVariants.{Ended, Broken}
-use Rattle.zkdump.specs.declared.engine.Stop.{Stop}
-use Rattle.zkdump.specs.declared.engine.Stop.TheVariants.{Found, Fails}
+use Rattle.zkdump.specs.declared.progress.Stop.{Stop}
+use Rattle.zkdump.specs.declared.progress.Stop.TheVariants.{Found, Fails}
 use Rattle.zkdump.specs.Recording.{history_of}
 use Rattle.zkdump.specs.Reading.{IsAt, IsSound, IsDamaged, IsRead}
 use Rattle.zkdump.specs.Lines.{text_of}

@@ -9,8 +9,8 @@ use Rattle.zk_talk.specs.History.{History}
 use Rattle.zk_talk.specs.Stands.{TalkState}
 use Rattle.zk_jute.specs.declared.fault.Reason.{Reason}
 use Rattle.zk_jute.specs.declared.fault.Reason.TheVariants.{NoMemory}
-use Rattle.zkdump.specs.declared.engine.Stop.{Stop}
-use Rattle.zkdump.specs.declared.engine.Stop.TheVariants.{Found, Fails}
+use Rattle.zkdump.specs.declared.progress.Stop.{Stop}
+use Rattle.zkdump.specs.declared.progress.Stop.TheVariants.{Found, Fails}
 use Rattle.zkdump.specs.declared.listing.Listing.{Listing}
 use Rattle.zkdump.specs.declared.listing.RunFault.{RunFault}
 use Rattle.zkdump.specs.declared.listing.RunFault.TheVariants.{Memory}

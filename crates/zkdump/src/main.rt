@@ -1,18 +1,19 @@
-//! `zkdump check` reads a recording from standard input and writes how it ends to standard output.
+//! `zkdump` reads a recorded conversation from standard input. `zkdump show` writes a line for each message, and
+//! how the recording ends; `zkdump check` writes how it ends alone.
 #![tactic(auto)]
 
-pub mod check;
-pub mod engine;
+pub mod engines;
 pub mod listing;
 #[cfg(test)]
 mod memory;
 pub mod options;
+pub mod progress;
 pub mod recording;
-#[cfg(test)]
-mod tests;
 pub mod run;
 pub mod streams;
 pub mod summary;
+#[cfg(test)]
+mod tests;
 pub mod words;
 
 use options::UsageFault;

@@ -6,7 +6,7 @@ ghost use Rattle.zkdump.specs.declared.summary.Status.{Status};
 ghost use Rattle.zkdump.specs.Running.{HasListed, HasStopped};
 ghost use Rattle.zkdump.specs.Exits.{exit_of, refusal_of, listing_of};
 
-use crate::check::{check_run, show_run};
+use crate::engines::{check_run, show_run};
 use crate::listing::RunFault;
 use crate::options::{Command, Settings, UsageFault};
 use crate::streams::{Sink, Source, write_whole};

@@ -3,7 +3,7 @@ ghost use Rattle.std.specs.Prelude.{List, ℕ, [], Option, Some, IfOk};
 ghost use Rattle.zkdump.specs.declared.listing.Listing.TheVariants.{Last};
 ghost use Rattle.zkdump.specs.Running.{HasListed};
 
-use crate::check::check_run;
+use crate::engines::check_run;
 use crate::listing::RunFault;
 use crate::memory::{MemorySink, MemorySource};
 use crate::run::run_words;
@@ -21,6 +21,13 @@ const CONNECTED: [u8; 41] =
     *b"\0\0\0\x25\0\0\0\0\0\0\x75\x30\x01\0\0\0\0\0\0\x01\0\0\0\x10\0\x01\x02\x03\x04\x05\x06\x07\x08\x09\x0a\x0b\x0c\x0d\x0e\x0f\0";
 const EXISTS: [u8; 19] = *b"\0\0\0\x0f\0\0\0\x01\0\0\0\x03\0\0\0\x02/a\x01";
 const NO_NODE: [u8; 20] = *b"\0\0\0\x10\0\0\0\x01\0\0\0\0\0\0\0\x05\xff\xff\xff\x9b";
+
+/// The listing of those four.
+const MESSAGES: &str = "C connect version=0 zxid=0 timeout=30000 session=0 passwd=#00000000000000000000000000000000 ro=0
+S connect version=0 timeout=30000 session=72057594037927937 passwd=#000102030405060708090a0b0c0d0e0f ro=0
+C 1 exists path=\"/a\" watch=1
+S 1 exists zxid=5 err=-101/NONODE
+";
 
 const USAGE: &str = "usage: zkdump show|check|build [--limit N] [--waiting N]\n";
 
@@ -221,6 +228,40 @@ fn each_read_fails(rt: HostRuntime) -> Result<(), Fail> {
             (1, ". cut side=C frame=0 got=3\n", "")
         };
         assert_eq!(rt; (status, out.as_str(), err.as_str()), want, "at {call}");
+    }
+    Ok(())
+}
+
+/// What `show` writes where a read fails, or a write, the first call being 1.
+fn shown(
+    rt: &impl AllocGlobal,
+    read: u64,
+    write: u64,
+) -> Result<(u8, String, String), Fail> {
+    let recording = connected(rt.alloc(), &[(b'C', &EXISTS), (b'S', &NO_NODE)])?;
+    let mut reader = MemorySource::failing_at(&recording, read);
+    let mut writer = MemorySink::failing_at(rt.alloc(), write);
+    let mut faults = MemorySink::new(rt.alloc());
+    let words = words(rt, "zkdump show")?;
+    let status = run_words(rt.alloc(), words, &mut reader, &mut writer, &mut faults);
+    Ok((status, text(rt, &writer)?, text(rt, &faults)?))
+}
+
+#[test]
+fn listings(rt: HostRuntime) -> Result<(), Fail> {
+    let whole = format!(in rt.alloc(); "{MESSAGES}. whole unanswered=0\n")?;
+    let (status, out, err) = shown(&rt, 0, 0)?;
+    assert_eq!(rt; (status, out.as_str(), err.as_str()), (0, whole.as_str(), ""));
+    let (status, out, err) = shown(&rt, 154, 0)?;
+    assert_eq!(rt; (status, out.as_str(), err.as_str()), (3, MESSAGES, "zkdump: read failed\n"));
+    for read in 1..154 {
+        let (status, out, _) = shown(&rt, read, 0)?;
+        assert!(rt; status == 3 && MESSAGES.starts_with(out.as_str()), "at {read}");
+    }
+    for write in 1..40 {
+        let (status, out, err) = shown(&rt, 0, write)?;
+        assert!(rt; whole.starts_with(out.as_str()) && out.len() as u64 == write - 1, "at {write}");
+        assert_eq!(rt; (status, err.as_str()), (3, "zkdump: write failed\n"), "at {write}");
     }
     Ok(())
 }

@@ -4,7 +4,7 @@ use Rattle.zkdump.specs.Reading.{content_of}
 use Rattle.zkdump.proofs.Any.{starts-at}
 use Rattle.zkdump.proofs.Feeding.{good-here}
 use Rattle.zkdump.proofs.Stops.{halt-stops, decides-by_damage, rejoin}
-use Rattle.zkdump.proofs.engine.Progress.advance.Goals as goal
+use Rattle.zkdump.proofs.progress.Progress.advance.Goals as goal
 
 pub returns-in_err-give-clause-stops : goal.returns-in_err-give-clause-stops
 returns-in_err-give-clause-stops g c =

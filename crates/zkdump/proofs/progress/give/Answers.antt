@@ -4,7 +4,7 @@ use Rattle.zkdump.specs.Reading.{content_of}
 use Rattle.zkdump.specs.Following.{Takes}
 use Rattle.zkdump.specs.Stopping.{Halts}
 use Rattle.zkdump.proofs.Feeding.{takes-none}
-use Rattle.zkdump.proofs.engine.give.Goals as goal
+use Rattle.zkdump.proofs.progress.give.Goals as goal
 
 pub returns-in-Some-clause-taken : goal.returns-in-Some-clause-taken
 returns-in-Some-clause-taken g c =

@@ -2,7 +2,7 @@ use Rattle.std.proofs.Common.{arith, ◌∙◌, ◌++◌, false, true, refl, len
 use Rattle.zkdump.proofs.Bytes.{Consumes-then, Consumes-kept}
 use Rattle.zkdump.proofs.Feeding.{told-then, grown-whole}
 use Rattle.zkdump.proofs.Found.{found-at_end, found-answer, begun-answer, running, running-begun, live-answer}
-use Rattle.zkdump.proofs.check.read_on.Goals as goal
+use Rattle.zkdump.proofs.engines.read_on.Goals as goal
 
 pub returns-in_default-clause-read : goal.returns-in_default-clause-read
 returns-in_default-clause-read g c = λ _.

@@ -3,7 +3,7 @@ ghost use Rattle.std.specs.Prelude.{◌≡◌, ◌≢◌, ◌+◌, ◌^◌, ◌<
 ghost use Rattle.std.specs.Io.KnownBytes.{Appends};
 ghost use Rattle.zk_talk.specs.declared.message.Message.{Message};
 ghost use Rattle.zk_talk.specs.History.{on};
-ghost use Rattle.zkdump.specs.declared.engine.Stop.TheVariants.{Fails};
+ghost use Rattle.zkdump.specs.declared.progress.Stop.TheVariants.{Fails};
 ghost use Rattle.zkdump.specs.declared.listing.RunFault.TheVariants.{Read, Write};
 ghost use Rattle.zkdump.specs.Lines.{text_of};
 ghost use Rattle.zkdump.specs.Reading.{place_of, content_of};

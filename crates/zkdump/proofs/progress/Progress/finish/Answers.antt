@@ -2,7 +2,7 @@ use Rattle.std.proofs.Common.{subst}
 use Rattle.zkdump.specs.Reading.{IsRead}
 use Rattle.zkdump.proofs.Feeding.{good-here}
 use Rattle.zkdump.proofs.Stops.{finishes-whole, finishes-broken}
-use Rattle.zkdump.proofs.engine.Progress.finish.Goals as goal
+use Rattle.zkdump.proofs.progress.Progress.finish.Goals as goal
 
 pub returns-in-Some : goal.returns-in-Some
 returns-in-Some c = λ limits x messages i.

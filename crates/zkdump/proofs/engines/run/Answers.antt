@@ -6,7 +6,7 @@ use Rattle.zkdump.specs.Outcome.{HasGrownIn}
 use Rattle.zkdump.specs.Running.{in_messages, in_last_line}
 use Rattle.zkdump.proofs.Bytes.{Appends-then}
 use Rattle.zkdump.proofs.Found.{grown-front, grown-further}
-use Rattle.zkdump.proofs.check.run.Goals as goal
+use Rattle.zkdump.proofs.engines.run.Goals as goal
 
 pub returns-in_err-summary-clause-begun : goal.returns-in_err-summary-clause-begun
 returns-in_err-summary-clause-begun g c =

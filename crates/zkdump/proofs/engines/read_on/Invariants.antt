@@ -4,7 +4,7 @@ use Rattle.zk_talk.specs.declared.message.Message.{Message}
 use Rattle.zkdump.specs.Lines.{text_of}
 use Rattle.zkdump.specs.Reading.{place_of}
 use Rattle.zkdump.specs.Following.{Follows}
-use Rattle.zkdump.proofs.check.read_on.Given as goal
+use Rattle.zkdump.proofs.engines.read_on.Given as goal
 
 abbrev pub invariant-loop-turn : goal.invariant-loop-turn
 invariant-loop-turn g l = record {

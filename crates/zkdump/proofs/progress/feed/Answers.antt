@@ -6,7 +6,7 @@ use Rattle.zk_talk.specs.Taking.{GoesOn, Fails}
 use Rattle.zkdump.specs.Following.{Takes}
 use Rattle.zkdump.proofs.Feeding.{takes-none, takes-more, begins-more, halts-at}
 use Rattle.zkdump.proofs.Found.{if-found}
-use Rattle.zkdump.proofs.engine.feed.Goals as goal
+use Rattle.zkdump.proofs.progress.feed.Goals as goal
 
 pub loop-at-init : goal.loop-at-init
 loop-at-init g c = record {

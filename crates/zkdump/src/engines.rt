@@ -7,7 +7,7 @@ ghost use Rattle.zkdump.specs.Lines.{text_of};
 ghost use Rattle.zkdump.specs.Outcome.{IsFound, IsRunning, HasBegun, HasGrownIn};
 ghost use Rattle.zkdump.specs.Running.{HasListed, HasReached, HasStopped};
 
-use crate::engine::Progress;
+use crate::progress::Progress;
 use crate::listing::{Listing, RunFault};
 use crate::streams::{Sink, Source, write_whole};
 use crate::summary::{Status, Summary};

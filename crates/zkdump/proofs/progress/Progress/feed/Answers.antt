@@ -5,7 +5,7 @@ use Rattle.zkdump.specs.Following.{Follows}
 use Rattle.zkdump.specs.Stopping.{IsStop}
 use Rattle.zkdump.proofs.Feeding.{told-none, told-then}
 use Rattle.zkdump.proofs.Stops.{rejoin, stops-later, follows-further}
-use Rattle.zkdump.proofs.engine.Progress.feed.Goals as goal
+use Rattle.zkdump.proofs.progress.Progress.feed.Goals as goal
 
 pub loop-at-init : goal.loop-at-init
 loop-at-init g c = record {

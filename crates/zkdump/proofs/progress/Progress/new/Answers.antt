@@ -1,5 +1,5 @@
 use Rattle.std.proofs.Common.{[]}
-use Rattle.zkdump.proofs.engine.Progress.new.Goals as goal
+use Rattle.zkdump.proofs.progress.Progress.new.Goals as goal
 
 pub returns-clause-start : goal.returns-clause-start
 returns-clause-start c = record {

@@ -1,7 +1,7 @@
 use Rattle.std.proofs.Common.{◌≡◌, ◌≤◌, ◌-◌, length, take, false}
 use Rattle.zk_talk.specs.History.{on}
 use Rattle.zkdump.specs.Following.{Takes}
-use Rattle.zkdump.proofs.engine.feed.Given as goal
+use Rattle.zkdump.proofs.progress.feed.Given as goal
 
 abbrev pub invariant-loop-at : goal.invariant-loop-at
 invariant-loop-at g l = record {
