@@ -8,8 +8,8 @@ use Rattle.zk_jute.specs.declared.fault.Reason.TheVariants.{Trailing}
 use Rattle.zk_jute.specs.Item.{Item, ABoolean, bytes_of, HaveBytes}
 use Rattle.zk_jute.specs.Layout.{Layout, Unfolds, IsValueOf}
 use Rattle.zk_jute.specs.Reading.{told_place}
-use Rattle.zk_jute.specs.Told.{StandsAt, IsToldFault, IsTold}
-use Rattle.zk_jute.specs.Flagged.{flag_items, flag_layout, IsFlaggedFault, in_value, in_flag, behind_flag, IsReadAs}
+use Rattle.zk_jute.specs.Told.{StandsAt, IsReadAs, IsToldFault, IsTold}
+use Rattle.zk_jute.specs.Flagged.{flag_items, flag_layout, IsFlaggedFault, in_value, in_flag, behind_flag}
 use Rattle.zk_jute.proofs.Layouts.{bytes_only, bytes_both, have_parts, has_byte}
 use Rattle.zk_jute.proofs.Sequels.{Same, Sequel, sequel_same, sequel_not, stands_then, is_left}
 

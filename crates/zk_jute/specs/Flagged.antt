@@ -1,12 +1,11 @@
--- A value, and then nothing or one boolean: the payloads that open a connection (ZooKeeper 3.4, ClientCnxn.primeConnection and ZooKeeperServer.finishSessionInit).
-use Rattle.std.specs.Prelude.{◌≡◌, ◌≢◌, ℕ, ◌+◌, Bool, List, [], ◌∷◌, ◌++◌, length, Option, Some, None, Result, Ok, Err}
-use Rattle.zk_jute.specs.declared.fault.ItemFault.{ItemFault}
+-- A value, and then nothing or one boolean: the payloads that open a connection (ZooKeeper 3.4, ClientCnxnSocket.readConnectResult and ZooKeeperServer.processConnectRequest).
+use Rattle.std.specs.Prelude.{◌≡◌, ◌≢◌, ℕ, ◌+◌, Bool, List, [], ◌∷◌, ◌++◌, length, Option, Some, None}
 use Rattle.zk_jute.specs.declared.fault.Reason.{Reason}
 use Rattle.zk_jute.specs.declared.fault.Reason.TheVariants.{Trailing}
 use Rattle.zk_jute.specs.Item.{Boolean, Item, ABoolean, bytes_of}
 use Rattle.zk_jute.specs.Layout.{Layout, End, One, IsValueOf}
 use Rattle.zk_jute.specs.Faults.{IsFault, Opens}
-use Rattle.zk_jute.specs.Reading.{no_memory}
+pub use Rattle.zk_jute.specs.Told.{IsReadAs}
 
 abbrev pub flag_items : Option Bool → List Item
 flag_items None = []
@@ -27,8 +26,3 @@ pub data IsFlaggedFault (l : Layout) : List ℕ → ℕ → Reason → Type 0 wh
       → IsFault (IsValueOf flag_layout) rest behind reason → IsFlaggedFault l bytes (length (bytes_of value) + behind) reason
   behind_flag : (bytes rest : List ℕ) (value flag : List Item) → IsValueOf l value → IsValueOf flag_layout flag → Opens bytes (value ++ flag) rest → rest ≢ []
       → IsFlaggedFault l bytes (length (bytes_of (value ++ flag))) Trailing
-
--- the value is answered, unless memory was wanted
-abbrev pub IsReadAs : {X : Type 0} → X → Result X ItemFault → Type 0
-IsReadAs x (Ok y) = y ≡ x
-IsReadAs x (Err e) = e ≡ no_memory

@@ -1,8 +1,9 @@
-//! A payload that is a value, and then nothing or one boolean.
+//! A payload that is a value, and then nothing or one boolean: those that open a connection, where
+//! old peers leave the boolean out (`ClientCnxnSocket.readConnectResult` of ZooKeeper 3.4).
 ghost use Rattle.std.specs.Prelude.{◌≡◌, ◌++◌, Option, Bool, IfOk, IfErr};
 ghost use Rattle.zk_jute.specs.Item.{bytes_of, HaveBytes};
-ghost use Rattle.zk_jute.specs.Told.{IsTold};
-ghost use Rattle.zk_jute.specs.Flagged.{flag_items, IsFlaggedFault, IsReadAs};
+ghost use Rattle.zk_jute.specs.Told.{IsReadAs, IsTold};
+ghost use Rattle.zk_jute.specs.Flagged.{flag_items, IsFlaggedFault};
 
 use crate::fault::{ItemFault, Reason};
 use crate::wire::{Spell, Wire};
@@ -42,7 +43,8 @@ fn flagged_of<T: Wire>(alloc: Global, payload: &[u8]) -> Result<(T, Option<bool>
     Ok((value, Some(flag)))
 }
 
-/// The value that the payload is, and the boolean behind it, where one is there.
+/// The value that the payload is, and the boolean behind it, where one is there; bytes behind that
+/// are `Trailing`.
 pub fn read_flagged<T: Wire>(alloc: Global, payload: &[u8]) -> Result<(T, Option<bool>), ItemFault>
     // What is read is the whole payload.
     ensures found { IfOk result (λ x. HaveBytes (T.items x.0 ++ flag_items x.1) × (payload.now ≡ bytes_of (T.items x.0 ++ flag_items x.1))) }

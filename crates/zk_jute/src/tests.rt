@@ -22,17 +22,20 @@ fn whole<T: Wire>(rt: &impl Abort, alloc: Global, bytes: &[u8]) -> Result<T, Fai
     Ok(value)
 }
 
-/// The fault of the bytes, which a scan meets too.
+/// The faults of bytes, which a scan meets too.
 fn refused<T: Wire>(
     rt: &impl Abort,
     alloc: Global,
-    bytes: &[u8],
-    place: u32,
-    reason: Reason,
+    rows: &[(&[u8], u32, Reason)],
 ) -> Result<(), Fail> {
-    let fault = ItemFault { place, reason };
-    assert_eq!(rt; T::read(alloc, bytes, 0).err().ok_or("read")?, fault);
-    assert_eq!(rt; T::scan(bytes, 0), Err(fault));
+    for (bytes, place, reason) in rows {
+        let fault = ItemFault {
+            place: *place,
+            reason: *reason,
+        };
+        assert_eq!(rt; T::read(alloc, bytes, 0).err().ok_or("read")?, fault);
+        assert_eq!(rt; T::scan(bytes, 0), Err(fault));
+    }
     Ok(())
 }
 
@@ -40,33 +43,50 @@ fn refused<T: Wire>(
 fn texts(rt: HostRuntime) -> Result<(), Fail> {
     let null: Text = whole(&rt, rt.alloc(), b"\xff\xff\xff\xff")?;
     assert!(rt; matches!(&null, Text::Null));
-    let Text::Full(none) = whole::<Text>(&rt, rt.alloc(), b"\0\0\0\0")? else {
-        return Err("not full")?;
-    };
-    assert_eq!(rt; none.as_str(), "");
-    let Text::Full(path) = whole::<Text>(&rt, rt.alloc(), b"\0\0\0\x02/a")? else {
-        return Err("not full")?;
-    };
-    assert_eq!(rt; path.as_str(), "/a");
-    refused::<Text>(&rt, rt.alloc(), b"\xff\xff\xff\xfe", 0, Reason::BadLength)?;
-    refused::<Text>(&rt, rt.alloc(), b"\0\0\0\x03/\xc3", 0, Reason::Short)?;
-    refused::<Text>(&rt, rt.alloc(), b"\0\0\0\x02/\xc3", 5, Reason::BadText)?;
-    refused::<Text>(&rt, rt.alloc(), b"\0\0\0", 0, Reason::Short)
+    for (bytes, want) in [
+        (b"\0\0\0\0".as_slice(), ""),
+        (b"\0\0\0\x02/a".as_slice(), "/a"),
+    ] {
+        let Text::Full(text) = whole::<Text>(&rt, rt.alloc(), bytes)? else {
+            return Err("null")?;
+        };
+        assert_eq!(rt; text.as_str(), want);
+        assert_eq!(rt; text.into_string().as_str(), want);
+    }
+    refused::<Text>(
+        &rt,
+        rt.alloc(),
+        &[
+            (b"\xff\xff\xff\xfe", 0, Reason::BadLength),
+            (b"\0\0\0", 0, Reason::Short),
+            (b"\0\0\0\x03/\xc3", 0, Reason::Short),
+            (b"\0\0\0\x02/\xc3", 5, Reason::BadText),
+        ],
+    )
 }
 
 #[test]
 fn blobs(rt: HostRuntime) -> Result<(), Fail> {
-    assert!(rt;
-        matches!(
-            &whole::<Blob>(&rt, rt.alloc(), b"\xff\xff\xff\xff")?,
-            Blob::Null
-        )
-    );
-    let Blob::Full(bytes) = whole::<Blob>(&rt, rt.alloc(), b"\0\0\0\x02/\xc3")? else {
-        return Err("not full")?;
-    };
-    assert_eq!(rt; bytes.as_slice(), b"/\xc3".as_slice());
-    Ok(())
+    let null: Blob = whole(&rt, rt.alloc(), b"\xff\xff\xff\xff")?;
+    assert!(rt; matches!(&null, Blob::Null));
+    for (bytes, want) in [
+        (b"\0\0\0\0".as_slice(), b"".as_slice()),
+        (b"\0\0\0\x02/\xc3", b"/\xc3"),
+    ] {
+        let Blob::Full(blob) = whole::<Blob>(&rt, rt.alloc(), bytes)? else {
+            return Err("null")?;
+        };
+        assert_eq!(rt; blob.as_slice(), want);
+        assert_eq!(rt; blob.into_vec().as_slice(), want);
+    }
+    refused::<Blob>(
+        &rt,
+        rt.alloc(),
+        &[
+            (b"\x80\0\0\0", 0, Reason::BadLength),
+            (b"\0\0\0\x01", 0, Reason::Short),
+        ],
+    )
 }
 
 #[test]
@@ -76,24 +96,81 @@ fn numbers(rt: HostRuntime) -> Result<(), Fail> {
         whole::<i64>(&rt, rt.alloc(), b"\x01\0\0\0\0\0\0\x01")?,
         72057594037927937
     );
+    assert_eq!(rt; whole::<bool>(&rt, rt.alloc(), b"\0")?, false);
     assert_eq!(rt; whole::<bool>(&rt, rt.alloc(), b"\x01")?, true);
-    refused::<bool>(&rt, rt.alloc(), b"\x02", 0, Reason::BadBool)?;
-    refused::<bool>(&rt, rt.alloc(), b"", 0, Reason::Short)
+    let bytes = b"\0\0\0\x07\xff\xff\xff\xff\xff\xff\xff\xfe\x01";
+    assert_eq!(rt; int_at(bytes, 0)?, (7, 4));
+    assert_eq!(rt; long_at(bytes, 4)?, (-2, 12));
+    assert_eq!(rt; bool_at(bytes, 12)?, (true, 13));
+    refused::<i64>(&rt, rt.alloc(), &[(b"\0\0\0\0\0\0\0", 0, Reason::Short)])?;
+    refused::<bool>(
+        &rt,
+        rt.alloc(),
+        &[(b"\x02", 0, Reason::BadBool), (b"", 0, Reason::Short)],
+    )
 }
 
 #[test]
 fn lists(rt: HostRuntime) -> Result<(), Fail> {
-    assert!(rt;
-        matches!(
-            &whole::<List<Text>>(&rt, rt.alloc(), b"\xff\xff\xff\xff")?,
-            List::Null
-        )
-    );
-    let List::Full(texts) = whole::<List<Text>>(&rt, rt.alloc(), b"\0\0\0\x01\0\0\0\x02/a")? else {
-        return Err("not full")?;
+    let null: List<Text> = whole(&rt, rt.alloc(), b"\xff\xff\xff\xff")?;
+    assert!(rt; matches!(&null, List::Null));
+    for (bytes, len) in [
+        (b"\0\0\0\0".as_slice(), 0),
+        (b"\0\0\0\x02\0\0\0\x02/a\xff\xff\xff\xff", 2),
+    ] {
+        let List::Full(texts) = whole::<List<Text>>(&rt, rt.alloc(), bytes)? else {
+            return Err("null")?;
+        };
+        assert_eq!(rt; texts.as_slice().len(), len);
+        assert_eq!(rt; texts.into_vec().len(), len);
+    }
+    refused::<List<Text>>(
+        &rt,
+        rt.alloc(),
+        &[
+            (b"\xff\xff\xff\xfe", 0, Reason::BadLength),
+            (b"\0\0\0\x02\0\0\0\x01a", 9, Reason::Short),
+            // Nothing grows by a count that is only claimed.
+            (b"\x7f\xff\xff\xff", 4, Reason::Short),
+        ],
+    )
+}
+
+/// A text, and a boolean that may be left out.
+#[test]
+fn flags(rt: HostRuntime) -> Result<(), Fail> {
+    for (bytes, want) in [
+        (b"\xff\xff\xff\xff".as_slice(), None),
+        (b"\xff\xff\xff\xff\0", Some(false)),
+        (b"\0\0\0\x02/a\x01", Some(true)),
+    ] {
+        let (text, flag) = read_flagged::<Text>(rt.alloc(), bytes)?;
+        assert_eq!(rt; flag, want);
+        let mut out = Vec::new(rt.alloc());
+        if (&text, &flag).size_within(i32::MAX as u32).is_none() {
+            return Err("no size")?;
+        }
+        (&text, &flag).write(&mut out)?;
+        assert_eq!(rt; out.as_slice(), bytes);
+    }
+    for (bytes, place, reason) in [
+        (b"\0\0\0\x02/".as_slice(), 0, Reason::Short),
+        (b"\xff\xff\xff\xff\x02\0", 4, Reason::BadBool),
+        (b"\xff\xff\xff\xff\0\0", 5, Reason::Trailing),
+    ] {
+        let fault = read_flagged::<Text>(rt.alloc(), bytes).err().ok_or("read")?;
+        assert_eq!(rt; fault, ItemFault { place, reason });
+    }
+    laws::<Text>();
+    Ok(())
+}
+
+#[test]
+fn names(rt: HostRuntime) {
+    let order = Reason::XidOrder {
+        expected: 1,
+        got: 2,
     };
-    assert_eq!(rt; texts.as_slice().len(), 1);
-    refused::<List<Text>>(&rt, rt.alloc(), b"\0\0\0\x02\0\0\0\x01a", 9, Reason::Short)?;
-    // Nothing grows by a count that is only claimed.
-    refused::<List<Text>>(&rt, rt.alloc(), b"\x7f\xff\xff\xff", 4, Reason::Short)
+    assert_eq!(rt; reason_name(&order), "XidOrder");
+    assert_eq!(rt; reason_name(&Reason::Short), "Short");
 }

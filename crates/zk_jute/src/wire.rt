@@ -1,21 +1,24 @@
-//! Values that stand as bytes in a payload.
-ghost use Rattle.std.specs.Prelude.{◌≡◌, ℕ, ◌≤◌, ◌<◌, ◌++◌, List, length, IfOk, IfErr, IsTrue, OnOk, OnErr};
+//! Values that stand as bytes in a payload: `BinaryInputArchive` and `BinaryOutputArchive` of
+//! ZooKeeper's jute.
+ghost use Rattle.std.specs.Prelude.{◌≡◌, ◌≢◌, ℕ, ◌≤◌, ◌<◌, ◌++◌, List, length, IfOk, IfErr, IsTrue, OnOk, OnErr};
 ghost use Rattle.zk_jute.specs.declared.fault.Reason.{Reason};
+ghost use Rattle.zk_jute.specs.declared.fault.Reason.TheVariants.{NoMemory};
 ghost use Rattle.zk_jute.specs.Faults.{IsFault};
 ghost use Rattle.zk_jute.specs.Item.{Item, bytes_of, HaveBytes, Fit, Keeps, IsSizeWithin};
 ghost use Rattle.zk_jute.specs.Layout.{Layout, Unfolds, IsValueOf, HasFields, takes_none};
-ghost use Rattle.zk_jute.specs.Told.{StandsAt, HasToldFault, IsToldFault};
-ghost use Rattle.zk_jute.specs.Reading.{Fails, Gives, Scans, seen, items_at};
+ghost use Rattle.zk_jute.specs.Told.{StandsAt, IsReadAs, HasToldFault, IsToldFault};
+ghost use Rattle.zk_jute.specs.Reading.{Fails, Gives, Scans, items_at};
 
 use crate::fault::ItemFault;
 use std::alloc::{AllocError, Global};
 
-/// What is written as bytes.
+/// What is written as bytes: a value of jute, references to values, and pairs of these.
 pub trait Spell {
     /// The items that it unfolds into.
     ghost items: { Self → List Item };
 
-    /// Appends the value's bytes; where memory is refused, what stood in `out` still begins it.
+    /// Appends the value's bytes, field by field; where memory is refused, what stood in `out` still
+    /// begins it. Callers that write a value whole call `write`.
     fn put(&self, out: &mut Vec<u8>) -> Result<(), AllocError>
         requires { Fit 2147483647 (items self.now) }
         ensures ok { OnOk result (out.new.items ≡ out.old.items ++ bytes_of (items self.now)) }
@@ -40,48 +43,52 @@ pub trait Spell {
         ensures { IsSizeWithin limit (items self.now) result };
 }
 
-/// A value that stands as bytes in a payload.
+/// A value of jute: a primitive, a list or a record.
 pub trait Wire: Spell + Sized + Drop {
-    /// The table of the type's fields.
+    /// The kinds of its items, in order.
     ghost layout: { Layout };
 
-    /// As `read`, field by field.
+    /// The step of `read` that an impl writes: its fields, one after the other.
     fn decode(alloc: Global, src: &[u8], place: usize) -> Result<(Self, usize), ItemFault>
         requires { place ≤ length src.now }
         ensures exact { Gives (λ x. (Self.items x.0, x.1)) result (items_at layout src.now place) }
         ensures plain { IsTrue (takes_none layout) → IfErr result (λ e. Fails e (items_at layout src.now place)) }
         ensures within { IfOk result (λ x. x.1 ≤ length src.now) };
 
-    /// The value that stands at `place`, and the place after it.
+    /// The value that stands at `place`, and the place after it; else the first fault from the left,
+    /// its place counted from the beginning of `src`.
     final fn read(alloc: Global, src: &[u8], place: usize) -> Result<(Self, usize), ItemFault>
         requires { place ≤ length src.now }
         // What is read stands there, each byte of it.
         ensures found { IfOk result (λ x. IsValueOf layout (Self.items x.0) × StandsAt (Self.items x.0) src.now place x.1) }
         // What stands there is read, unless memory is wanted.
-        ensures only { (value : List Item) (end : ℕ) → IsValueOf layout value → StandsAt value src.now place end → Gives (seen Self.items) result (Ok (value, end)) }
+        ensures only { (x : Self) (end : ℕ) → HaveBytes (Self.items x) → StandsAt (Self.items x) src.now place end → IsReadAs (x, end) result }
         // Nothing stands there where a fault is answered, and the items fix which one it is.
         ensures fault { IfErr result (λ e. IsToldFault (IsValueOf layout) src.now place e) }
-        // Numbers, booleans and records of these want no memory.
-        ensures plain { IsTrue (takes_none layout) → IfErr result (λ e. HasToldFault (IsValueOf layout) src.now place e) }
+        // Numbers, booleans and records of these never want memory.
+        ensures plain { IsTrue (takes_none layout) → IfErr result (λ e. HasToldFault (IsValueOf layout) src.now place e × (e.reason ≢ NoMemory)) }
         ensures within { IfOk result (λ x. x.1 ≤ length src.now) }
     {
         Self::decode(alloc, src, place)
     }
 
-    /// The place after the value that stands at `place`.
+    /// The place after the value that stands at `place`; takes no memory.
     fn scan(src: &[u8], place: usize) -> Result<usize, ItemFault>
         requires { place ≤ length src.now }
         ensures exact { Scans result (items_at layout src.now place) }
         ensures within { IfOk result (λ after. after ≤ length src.now) };
 
+    /// A value's items are of the layout.
     ghost unfolds: { (x : Self) → Unfolds layout (Self.items x) };
 
+    /// No two values have the same items.
     ghost tells_apart: { (x y : Self) → Self.items x ≡ Self.items y → x ≡ y };
 
+    /// A value has an item.
     ghost has_fields: { HasFields layout };
 }
 
-/// The laws of each type's values as bytes.
+/// The laws of each type's values as bytes; the function does nothing.
 pub fn laws<T: Wire>()
     // The bytes of a value are read again, whatever follows them.
     ensures again { (x : T) (more : List ℕ) → HaveBytes (T.items x) → items_at T.layout (bytes_of (T.items x) ++ more) 0 ≡ Ok (T.items x, length (bytes_of (T.items x))) }

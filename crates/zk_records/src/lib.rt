@@ -25,3 +25,6 @@ pub use op::{Op, PartOp, number_laws, op_number, op_of, part_number, part_of};
 pub use query::{PathAsk, WatchAsk};
 pub use session::{AuthAsk, SetWatchesAsk};
 pub use stat::Stat;
+
+#[cfg(test)]
+mod tests;

@@ -1,0 +1,114 @@
+-- A result of a part: what its header and its items are.
+use Rattle.std.proofs.Common.{◌≡◌, ℕ, ◌⊎◌, inl, inr, true, false, Bool, List, [], ◌∷◌, ◌++◌, refl, sym, ap, subst, ◌∙◌, append_assoc, arith}
+use Rattle.std.specs.Prelude.{ℤ, pos, negsuc}
+use Rattle.std.specs.List.{flat_map}
+use Rattle.std.proofs.lemmas.Int.{ints}
+use Rattle.std.proofs.lemmas.List.{append-nil}
+use Rattle.zk_jute.specs.declared.value.Text.{Text}
+use Rattle.zk_jute.specs.Item.{Item, AnInt, bytes_of, HaveBytes}
+use Rattle.zk_jute.specs.Layout.{IsValueOf, Unfolds, One, End}
+use Rattle.zk_jute.specs.Item.{Int}
+use Rattle.zk_jute.specs.Values.{text_items, text_unfolds, text_apart}
+use Rattle.zk_jute.specs.Wired.{int}
+use Rattle.zk_jute.proofs.Layouts.{bytes_only, bytes_both, have_parts, have_both}
+use Rattle.zk_records.specs.declared.header.MultiHeader.{MultiHeader}
+use Rattle.zk_records.specs.declared.stat.Stat.{Stat}
+use Rattle.zk_records.specs.declared.op.PartOp.{PartOp}
+use Rattle.zk_records.specs.declared.op.PartOp.TheVariants as parts
+use Rattle.zk_records.specs.Records.{multi_header, stat}
+use Rattle.zk_answers.specs.declared.frame.PartDone.{PartDone}
+use Rattle.zk_answers.specs.declared.frame.PartDone.TheVariants as done
+use Rattle.zk_asks.specs.Forms.{end_header, marked}
+use Rattle.zk_answers.specs.Results.{result_header, error_header, done_items, multi_items, result_layout, Answers}
+
+-- ---- headers
+
+pub mark_is : (h : MultiHeader) → HaveBytes (marked h) → IsValueOf multi_header.layout (marked h)
+mark_is h have = (multi_header.unfolds h, have)
+
+pub mark_same : (a b : MultiHeader) → marked a ≡ marked b → a ≡ b
+mark_same a b e = multi_header.tells_apart a b e
+
+pub result_bytes : (op : PartOp) → HaveBytes (marked (result_header op))
+result_bytes parts.Create = (omega (arith, ints), (tt, (omega (arith, ints), tt)))
+result_bytes parts.Delete = (omega (arith, ints), (tt, (omega (arith, ints), tt)))
+result_bytes parts.SetData = (omega (arith, ints), (tt, (omega (arith, ints), tt)))
+result_bytes parts.Check = (omega (arith, ints), (tt, (omega (arith, ints), tt)))
+
+pub end_bytes : HaveBytes (marked end_header)
+end_bytes = (omega (arith, ints), (tt, (omega (arith, ints), tt)))
+
+pub result_mark : (op : PartOp) → IsValueOf multi_header.layout (marked (result_header op))
+result_mark op = mark_is (result_header op) (result_bytes op)
+
+pub end_mark : IsValueOf multi_header.layout (marked end_header)
+end_mark = mark_is end_header end_bytes
+
+pub not_error : (op : PartOp) (e : ℤ) → result_header op ≡ error_header e → ⊥
+not_error parts.Create e same = let kind : pos 1 ≡ negsuc 0 = ap (λ (h : MultiHeader). h.kind) same in absurd cc
+not_error parts.Delete e same = let kind : pos 2 ≡ negsuc 0 = ap (λ (h : MultiHeader). h.kind) same in absurd cc
+not_error parts.SetData e same = let kind : pos 5 ≡ negsuc 0 = ap (λ (h : MultiHeader). h.kind) same in absurd cc
+not_error parts.Check e same = let kind : pos 13 ≡ negsuc 0 = ap (λ (h : MultiHeader). h.kind) same in absurd cc
+
+pub error_same : (e d : ℤ) → error_header e ≡ error_header d → e ≡ d
+error_same e d same = ap (λ (h : MultiHeader). h.err) same
+
+-- ---- a part's own result
+
+abbrev pub Result : PartOp → Type 0
+Result parts.Create = Text
+Result parts.Delete = Unit {0}
+Result parts.SetData = Stat
+Result parts.Check = Unit {0}
+
+abbrev pub done_of : (op : PartOp) → Result op → PartDone
+done_of parts.Create path = done.Created path
+done_of parts.Delete _ = done.Deleted
+done_of parts.SetData s = done.DataSet s
+done_of parts.Check _ = done.Checked
+
+abbrev pub result_items : (op : PartOp) → Result op → List Item
+result_items parts.Create path = text_items path
+result_items parts.Delete _ = []
+result_items parts.SetData s = stat.items s
+result_items parts.Check _ = []
+
+pub result_is : (op : PartOp) (x : Result op) → Unfolds (result_layout op) (result_items op x)
+result_is parts.Create path = text_unfolds path
+result_is parts.Delete _ = refl
+result_is parts.SetData s = stat.unfolds s
+result_is parts.Check _ = refl
+
+pub result_apart : (op : PartOp) (x y : Result op) → result_items op x ≡ result_items op y → x ≡ y
+result_apart parts.Create x y e = text_apart x y e
+result_apart parts.Delete x y e = refl
+result_apart parts.SetData x y e = stat.tells_apart x y e
+result_apart parts.Check x y e = refl
+
+pub items_of : (op : PartOp) (x : Result op) → done_items (done_of op x) ≡ marked (result_header op) ++ result_items op x
+items_of parts.Create x = refl
+items_of parts.Delete x = sym (append-nil (marked (result_header parts.Delete)))
+items_of parts.SetData x = refl
+items_of parts.Check x = sym (append-nil (marked (result_header parts.Check)))
+
+-- the part's own result, or an error
+abbrev pub Done : PartOp → PartDone → Type 0
+Done op d = ((x : Result op) × (d ≡ done_of op x)) ⊎ ((e : ℤ) × (d ≡ done.PartFailed e))
+
+pub done_is : (op : PartOp) (d : PartDone) → Answers op d → Done op d
+done_is op (done.Created path) a = subst (λ (o : PartOp). Done o (done.Created path)) (sym a) (inl (path, refl))
+done_is op done.Deleted a = subst (λ (o : PartOp). Done o done.Deleted) (sym a) (inl (tt, refl))
+done_is op (done.DataSet s) a = subst (λ (o : PartOp). Done o (done.DataSet s)) (sym a) (inl (s, refl))
+done_is op done.Checked a = subst (λ (o : PartOp). Done o done.Checked) (sym a) (inl (tt, refl))
+done_is op (done.PartFailed e) a = inr (e, refl)
+
+-- ---- results in order
+
+pub multi_more : (d : PartDone) (ds : List PartDone) → multi_items (d ∷ ds) ≡ done_items d ++ multi_items ds
+multi_more d ds = append_assoc (done_items d) (flat_map done_items ds) (marked end_header)
+
+pub split_items : (a b : List Item) (bytes rest : List ℕ) → bytes ≡ bytes_of (a ++ b) ++ rest → bytes ≡ bytes_of a ++ (bytes_of b ++ rest)
+split_items a b bytes rest e = e ∙ ap (λ (x : List ℕ). x ++ rest) (bytes_both a b) ∙ append_assoc (bytes_of a) (bytes_of b) rest
+
+pub an_int : (e : ℤ) → HaveBytes (AnInt e ∷ []) → IsValueOf (One Int End) (AnInt e ∷ [])
+an_int e have = (int.unfolds e, have)

@@ -1,0 +1,16 @@
+pub mod Heads
+pub mod Connected
+pub mod Placed
+pub mod Dones
+pub mod Results
+pub mod Rests
+pub mod Events
+pub mod Bodies
+pub mod Replies
+pub mod Outcomes
+pub mod Forms
+pub mod Refusals
+pub mod Shorts
+pub mod Opened
+pub mod Cased
+pub mod Covered

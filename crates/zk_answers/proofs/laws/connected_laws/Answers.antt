@@ -1,0 +1,11 @@
+use Rattle.zk_answers.proofs.Connected.{connected_injective, connected_excludes, connected_unique}
+use Rattle.zk_answers.proofs.laws.connected_laws.Goals as goal
+
+pub returns-clause-injective : goal.returns-clause-injective
+returns-clause-injective c = connected_injective
+
+pub returns-clause-excludes : goal.returns-clause-excludes
+returns-clause-excludes c = connected_excludes
+
+pub returns-clause-unique : goal.returns-clause-unique
+returns-clause-unique c = connected_unique

@@ -1,0 +1,11 @@
+use Rattle.zk_answers.proofs.Events.{event_injective, event_excludes, event_unique}
+use Rattle.zk_answers.proofs.laws.event_laws.Goals as goal
+
+pub returns-clause-injective : goal.returns-clause-injective
+returns-clause-injective c = event_injective
+
+pub returns-clause-excludes : goal.returns-clause-excludes
+returns-clause-excludes c = event_excludes
+
+pub returns-clause-unique : goal.returns-clause-unique
+returns-clause-unique c = event_unique

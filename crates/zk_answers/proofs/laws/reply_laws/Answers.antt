@@ -1,0 +1,11 @@
+use Rattle.zk_answers.proofs.Replies.{reply_injective, reply_excludes, reply_unique}
+use Rattle.zk_answers.proofs.laws.reply_laws.Goals as goal
+
+pub returns-clause-injective : goal.returns-clause-injective
+returns-clause-injective c = reply_injective
+
+pub returns-clause-excludes : goal.returns-clause-excludes
+returns-clause-excludes c = reply_excludes
+
+pub returns-clause-unique : goal.returns-clause-unique
+returns-clause-unique c = reply_unique

@@ -1,0 +1,88 @@
+-- Where and why a payload has no server form: the first case, from left to right.
+use Rattle.std.specs.Prelude.{◌≡◌, ◌≢◌, ℕ, zero, suc, ◌+◌, ℤ, pos, negsuc, List, [], ◌∷◌, ◌++◌, length}
+use Rattle.zk_jute.specs.declared.fault.Reason.{Reason}
+use Rattle.zk_jute.specs.declared.fault.Reason.TheVariants.{Trailing, EventErr}
+use Rattle.zk_jute.specs.Item.{Item, bytes_of, HaveBytes}
+use Rattle.zk_jute.specs.Layout.{Layout, End, IsValueOf}
+use Rattle.zk_jute.specs.Faults.{IsFault, Opens}
+use Rattle.zk_jute.specs.Flagged.{IsFlaggedFault}
+use Rattle.zk_jute.specs.Wired.{ustring, vector}
+use Rattle.zk_records.specs.declared.header.ReplyHeader.{ReplyHeader}
+use Rattle.zk_records.specs.declared.op.Op.{Op}
+use Rattle.zk_records.specs.declared.op.Op.TheVariants as ops
+use Rattle.zk_records.specs.declared.op.PartOp.{PartOp}
+use Rattle.zk_records.specs.Records.{connect_response, reply_header, watcher_event, stat, data_body, acl_body, children_body}
+use Rattle.zk_answers.specs.declared.frame.PartDone.{PartDone}
+use Rattle.zk_answers.specs.Results.{multi_items, AnswerAll, IsDoneFault}
+
+abbrev pub IsConnectedFault : List ℕ → ℕ → Reason → Type 0
+IsConnectedFault bytes place reason = IsFlaggedFault connect_response.layout bytes place reason
+
+-- ---- the header of a reply and of an event
+
+-- the bytes are the header's and then the rest
+abbrev pub IsHead : List ℕ → ReplyHeader → List ℕ → Type 0
+IsHead bytes header rest = HaveBytes (reply_header.items header) × Opens bytes (reply_header.items header) rest
+
+-- the bytes end within one of the header's three items
+abbrev pub IsHeadFault : List ℕ → ℕ → Reason → Type 0
+IsHeadFault bytes place reason = IsFault (IsValueOf reply_header.layout) bytes place reason
+
+-- ---- what follows the header
+
+-- fields, or the results of a multi's parts
+pub data Shape : Type 0 where
+  Fields : Layout → Shape
+  Results : List PartOp → Shape
+
+abbrev pub IsOfShape : Shape → List Item → Type 0
+IsOfShape (Fields l) items = IsValueOf l items
+IsOfShape (Results parts) items = (dones : List PartDone) × AnswerAll parts dones × HaveBytes (multi_items dones) × (items ≡ multi_items dones)
+
+abbrev pub IsShapeFault : Shape → List ℕ → ℕ → Reason → Type 0
+IsShapeFault (Fields l) bytes place reason = IsFault (IsValueOf l) bytes place reason
+IsShapeFault (Results parts) bytes place reason = IsDoneFault parts bytes place reason
+
+-- where and why bytes are not just those of the shape
+pub data IsRestFault (shape : Shape) : List ℕ → ℕ → Reason → Type 0 where
+  in_shape : (bytes : List ℕ) (place : ℕ) (reason : Reason) → IsShapeFault shape bytes place reason → IsRestFault shape bytes place reason
+  past_shape : (bytes rest : List ℕ) (whole : List Item) → IsOfShape shape whole → Opens bytes whole rest → rest ≢ [] → IsRestFault shape bytes (length (bytes_of whole)) Trailing
+
+-- ---- a reply
+
+-- the body of a reply to a request of the operation and of these parts
+abbrev pub body_shape : Op → List PartOp → Shape
+body_shape ops.Create parts = Fields ustring.layout
+body_shape ops.Delete parts = Fields End
+body_shape ops.Exists parts = Fields stat.layout
+body_shape ops.GetData parts = Fields data_body.layout
+body_shape ops.SetData parts = Fields stat.layout
+body_shape ops.GetAcl parts = Fields acl_body.layout
+body_shape ops.SetAcl parts = Fields stat.layout
+body_shape ops.GetChildren parts = Fields (vector ustring).layout
+body_shape ops.Sync parts = Fields ustring.layout
+body_shape ops.Ping parts = Fields End
+body_shape ops.GetChildren2 parts = Fields children_body.layout
+body_shape ops.Multi parts = Results parts
+body_shape ops.Auth parts = Fields End
+body_shape ops.SetWatches parts = Fields End
+body_shape ops.CloseSession parts = Fields End
+
+-- behind a header with this err: nothing where the request has failed
+abbrev pub rest_shape : Op → List PartOp → ℤ → Shape
+rest_shape op parts (pos zero) = body_shape op parts
+rest_shape op parts (pos (suc n)) = Fields End
+rest_shape op parts (negsuc n) = Fields End
+
+-- the header, and then what its err and the request fix
+pub data IsReplyFault (op : Op) (parts : List PartOp) : List ℕ → ℕ → Reason → Type 0 where
+  in_head : (bytes : List ℕ) (place : ℕ) (reason : Reason) → IsHeadFault bytes place reason → IsReplyFault op parts bytes place reason
+  in_rest : (bytes rest : List ℕ) (header : ReplyHeader) (behind : ℕ) (reason : Reason) → IsHead bytes header rest → IsRestFault (rest_shape op parts header.err) rest behind reason → IsReplyFault op parts bytes (16 + behind) reason
+
+-- ---- an event
+
+-- the header, its err, and then the event
+pub data IsEventFault : List ℕ → ℕ → Reason → Type 0 where
+  in_header : (bytes : List ℕ) (place : ℕ) (reason : Reason) → IsHeadFault bytes place reason → IsEventFault bytes place reason
+  bad_err : (bytes rest : List ℕ) (header : ReplyHeader) → IsHead bytes header rest → header.err ≢ pos 0 → IsEventFault bytes 12 EventErr
+  in_event : (bytes rest : List ℕ) (header : ReplyHeader) (behind : ℕ) (reason : Reason) → IsHead bytes header rest → header.err ≡ pos 0 → IsRestFault (Fields watcher_event.layout) rest behind reason → IsEventFault bytes (16 + behind) reason

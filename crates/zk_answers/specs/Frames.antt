@@ -1,0 +1,159 @@
+-- The items of server frames, which frames have a payload, and which replies fit a request.
+use Rattle.std.specs.Prelude.{◌≡◌, ◌≢◌, ℕ, ℤ, pos, negsuc, List, [], ◌∷◌, ◌++◌}
+use Rattle.zk_jute.specs.Item.{Item, bytes_of, HaveBytes}
+use Rattle.zk_jute.specs.Flagged.{flag_items}
+use Rattle.zk_jute.specs.Wired.{ustring, vector}
+use Rattle.zk_records.specs.declared.header.ReplyHeader.{ReplyHeader}
+use Rattle.zk_records.specs.declared.op.Op.{Op}
+use Rattle.zk_records.specs.declared.op.Op.TheVariants as ops
+use Rattle.zk_records.specs.declared.op.PartOp.{PartOp}
+use Rattle.zk_records.specs.Records.{connect_response, reply_header, watcher_event, stat, data_body, acl_body, children_body}
+use Rattle.zk_answers.specs.declared.frame.Body.{Body}
+use Rattle.zk_answers.specs.declared.frame.Body.TheVariants as body
+use Rattle.zk_answers.specs.declared.frame.Outcome.{Outcome}
+use Rattle.zk_answers.specs.declared.frame.Outcome.TheVariants as outcome
+use Rattle.zk_answers.specs.declared.frame.Reply.{Reply}
+use Rattle.zk_answers.specs.declared.frame.ServerFrame.{ServerFrame}
+use Rattle.zk_answers.specs.declared.frame.ServerFrame.TheVariants as frame
+use Rattle.zk_answers.specs.Results.{multi_items, AnswerAll}
+
+-- ---- a reply
+
+abbrev pub op_of_body : Body → Op
+op_of_body (body.Create path) = ops.Create
+op_of_body body.Delete = ops.Delete
+op_of_body (body.Exists s) = ops.Exists
+op_of_body (body.GetData blob s) = ops.GetData
+op_of_body (body.SetData s) = ops.SetData
+op_of_body (body.GetAcl acl s) = ops.GetAcl
+op_of_body (body.SetAcl s) = ops.SetAcl
+op_of_body (body.GetChildren names) = ops.GetChildren
+op_of_body (body.Sync path) = ops.Sync
+op_of_body body.Ping = ops.Ping
+op_of_body (body.GetChildren2 names s) = ops.GetChildren2
+op_of_body (body.Multi dones) = ops.Multi
+op_of_body body.Auth = ops.Auth
+op_of_body body.SetWatches = ops.SetWatches
+op_of_body body.CloseSession = ops.CloseSession
+
+abbrev pub body_items : Body → List Item
+body_items (body.Create path) = ustring.items path
+body_items body.Delete = []
+body_items (body.Exists s) = stat.items s
+body_items (body.GetData blob s) = data_body.items (record { blob = blob; stat = s })
+body_items (body.SetData s) = stat.items s
+body_items (body.GetAcl acl s) = acl_body.items (record { acl = acl; stat = s })
+body_items (body.SetAcl s) = stat.items s
+body_items (body.GetChildren names) = (vector ustring).items names
+body_items (body.Sync path) = ustring.items path
+body_items body.Ping = []
+body_items (body.GetChildren2 names s) = children_body.items (record { names = names; stat = s })
+body_items (body.Multi dones) = multi_items dones
+body_items body.Auth = []
+body_items body.SetWatches = []
+body_items body.CloseSession = []
+
+abbrev pub op_of_outcome : Outcome → Op
+op_of_outcome (outcome.Done b) = op_of_body b
+op_of_outcome (outcome.Failed op e) = op
+
+abbrev pub op_of_reply : Reply → Op
+op_of_reply r = op_of_outcome r.outcome
+
+-- 0 where nothing failed
+abbrev pub err_of : Outcome → ℤ
+err_of (outcome.Done b) = pos 0
+err_of (outcome.Failed op e) = e
+
+abbrev pub header_of : Reply → ReplyHeader
+header_of r = record { xid = r.xid; zxid = r.zxid; err = err_of r.outcome }
+
+-- what follows the header
+abbrev pub rest_items : Outcome → List Item
+rest_items (outcome.Done b) = body_items b
+rest_items (outcome.Failed op e) = []
+
+abbrev pub reply_items : Reply → List Item
+reply_items r = reply_header.items (header_of r) ++ rest_items r.outcome
+
+-- ---- a frame
+
+abbrev pub event_header : ℤ → ReplyHeader
+event_header zxid = record { xid = negsuc 0; zxid = zxid; err = pos 0 }
+
+abbrev pub frame_items : ServerFrame → List Item
+frame_items (frame.Connected hello flag) = connect_response.items hello ++ flag_items flag
+frame_items (frame.Answered r) = reply_items r
+frame_items (frame.Event zxid event) = reply_header.items (event_header zxid) ++ watcher_event.items event
+
+abbrev pub payload : ServerFrame → List ℕ
+payload s = bytes_of (frame_items s)
+
+-- the number of an error isn't 0
+abbrev pub IsOutcome : Outcome → Type 0
+IsOutcome (outcome.Done b) = Unit {0}
+IsOutcome (outcome.Failed op e) = e ≢ pos 0
+
+-- a reply has another xid than an event
+abbrev pub HasItsXid : ServerFrame → Type 0
+HasItsXid (frame.Connected hello flag) = Unit {0}
+HasItsXid (frame.Answered r) = r.xid ≢ negsuc 0
+HasItsXid (frame.Event zxid event) = Unit {0}
+
+abbrev pub IsTrueFailure : ServerFrame → Type 0
+IsTrueFailure (frame.Connected hello flag) = Unit {0}
+IsTrueFailure (frame.Answered r) = IsOutcome r.outcome
+IsTrueFailure (frame.Event zxid event) = Unit {0}
+
+-- the frames that have a payload
+abbrev pub IsSent : ServerFrame → Type 0
+IsSent s = HasItsXid s × IsTrueFailure s × HaveBytes (frame_items s)
+
+abbrev pub IsConnected : ServerFrame → Type 0
+IsConnected (frame.Connected hello flag) = Unit {0}
+IsConnected (frame.Answered r) = ⊥
+IsConnected (frame.Event zxid event) = ⊥
+
+abbrev pub IsAnswered : ServerFrame → Type 0
+IsAnswered (frame.Connected hello flag) = ⊥
+IsAnswered (frame.Answered r) = Unit {0}
+IsAnswered (frame.Event zxid event) = ⊥
+
+abbrev pub IsEvent : ServerFrame → Type 0
+IsEvent (frame.Connected hello flag) = ⊥
+IsEvent (frame.Answered r) = ⊥
+IsEvent (frame.Event zxid event) = Unit {0}
+
+-- ---- what fits a request
+
+-- a multi has its parts' results
+abbrev pub BodyFits : List PartOp → Body → Type 0
+BodyFits parts (body.Create path) = Unit {0}
+BodyFits parts body.Delete = Unit {0}
+BodyFits parts (body.Exists s) = Unit {0}
+BodyFits parts (body.GetData blob s) = Unit {0}
+BodyFits parts (body.SetData s) = Unit {0}
+BodyFits parts (body.GetAcl acl s) = Unit {0}
+BodyFits parts (body.SetAcl s) = Unit {0}
+BodyFits parts (body.GetChildren names) = Unit {0}
+BodyFits parts (body.Sync path) = Unit {0}
+BodyFits parts body.Ping = Unit {0}
+BodyFits parts (body.GetChildren2 names s) = Unit {0}
+BodyFits parts (body.Multi dones) = AnswerAll parts dones
+BodyFits parts body.Auth = Unit {0}
+BodyFits parts body.SetWatches = Unit {0}
+BodyFits parts body.CloseSession = Unit {0}
+
+abbrev pub OutcomeFits : Op → List PartOp → Outcome → Type 0
+OutcomeFits op parts (outcome.Done b) = (op_of_body b ≡ op) × BodyFits parts b
+OutcomeFits op parts (outcome.Failed o e) = o ≡ op
+
+-- the operations are equal, and a multi that is done has as many results as parts, each its part's own or an error
+abbrev pub Fits : Op → List PartOp → Reply → Type 0
+Fits op parts r = OutcomeFits op parts r.outcome
+
+-- a reply that fits the request
+abbrev pub IsReplyTo : Op → List PartOp → ServerFrame → Type 0
+IsReplyTo op parts (frame.Connected hello flag) = ⊥
+IsReplyTo op parts (frame.Answered r) = Fits op parts r
+IsReplyTo op parts (frame.Event zxid event) = ⊥

@@ -1,0 +1,85 @@
+-- The results of a multi (ZooKeeper 3.4, MultiResponse): what each one spells, and for which parts they are.
+use Rattle.std.specs.Prelude.{◌≡◌, ◌≢◌, ℕ, ◌+◌, ℤ, pos, negsuc, false, List, [], ◌∷◌, ◌++◌, length, ◌⊎◌}
+use Rattle.std.specs.List.{flat_map}
+use Rattle.zk_jute.specs.declared.fault.Reason.{Reason}
+use Rattle.zk_jute.specs.declared.fault.Reason.TheVariants.{BadPart}
+use Rattle.zk_jute.specs.Item.{Int, Ustring, Item, AnInt, bytes_of, HaveBytes}
+use Rattle.zk_jute.specs.Layout.{Layout, End, One, IsValueOf}
+use Rattle.zk_jute.specs.Faults.{IsFault, Opens}
+use Rattle.zk_jute.specs.Values.{text_items}
+use Rattle.zk_records.specs.declared.header.MultiHeader.{MultiHeader}
+use Rattle.zk_records.specs.declared.op.PartOp.{PartOp}
+use Rattle.zk_records.specs.declared.op.PartOp.TheVariants as parts
+use Rattle.zk_records.specs.Codes.{part_number}
+use Rattle.zk_records.specs.Records.{multi_header, stat}
+use Rattle.zk_asks.specs.Forms.{end_header, marked}
+use Rattle.zk_answers.specs.declared.frame.PartDone.{PartDone}
+use Rattle.zk_answers.specs.declared.frame.PartDone.TheVariants as done
+use Rattle.zk_answers.specs.declared.multi.Mark.{Mark}
+use Rattle.zk_answers.specs.declared.multi.Mark.TheVariants as mark
+
+-- the header before a part's result, and the one before an error
+abbrev pub result_header : PartOp → MultiHeader
+result_header op = record { kind = part_number op; done = false; err = pos 0 }
+
+abbrev pub error_header : ℤ → MultiHeader
+error_header e = record { kind = negsuc 0; done = false; err = e }
+
+abbrev pub done_items : PartDone → List Item
+done_items (done.Created path) = marked (result_header parts.Create) ++ text_items path
+done_items done.Deleted = marked (result_header parts.Delete)
+done_items (done.DataSet s) = marked (result_header parts.SetData) ++ stat.items s
+done_items done.Checked = marked (result_header parts.Check)
+done_items (done.PartFailed e) = marked (error_header e) ++ (AnInt e ∷ [])
+
+abbrev pub multi_items : List PartDone → List Item
+multi_items ds = flat_map done_items ds ++ marked end_header
+
+-- a part's own result, or an error
+abbrev pub Answers : PartOp → PartDone → Type 0
+Answers op (done.Created path) = op ≡ parts.Create
+Answers op done.Deleted = op ≡ parts.Delete
+Answers op (done.DataSet s) = op ≡ parts.SetData
+Answers op done.Checked = op ≡ parts.Check
+Answers op (done.PartFailed e) = Unit {0}
+
+-- results for these parts, as many as parts
+abbrev pub AnswerAll : List PartOp → List PartDone → Type 0
+AnswerAll [] [] = Unit {0}
+AnswerAll [] (d ∷ ds) = ⊥
+AnswerAll (op ∷ ops) [] = ⊥
+AnswerAll (op ∷ ops) (d ∷ ds) = Answers op d × AnswerAll ops ds
+
+-- the headers that may stand while these parts are left
+abbrev pub MayAnswer : List PartOp → MultiHeader → Type 0
+MayAnswer [] header = header ≡ end_header
+MayAnswer (op ∷ ops) header = (header ≡ result_header op) ⊎ ((e : ℤ) × (header ≡ error_header e))
+
+abbrev pub result_layout : PartOp → Layout
+result_layout parts.Create = One Ustring End
+result_layout parts.Delete = End
+result_layout parts.SetData = stat.layout
+result_layout parts.Check = End
+
+-- where and why bytes are not the results of these parts and the end marker: the first case, from left to right
+pub data IsDoneFault : List PartOp → List ℕ → ℕ → Reason → Type 0 where
+  -- whatever the header's first numbers are, its next item follows
+  in_mark : (ops : List PartOp) (bytes : List ℕ) (place : ℕ) (reason : Reason) → IsFault (IsValueOf multi_header.layout) bytes place reason → IsDoneFault ops bytes place reason
+  bad_mark : (ops : List PartOp) (bytes rest : List ℕ) (header : MultiHeader) → HaveBytes (marked header) → Opens bytes (marked header) rest → (MayAnswer ops header → ⊥) → IsDoneFault ops bytes 0 BadPart
+  in_result : (op : PartOp) (ops : List PartOp) (bytes rest : List ℕ) (behind : ℕ) (reason : Reason) → Opens bytes (marked (result_header op)) rest → IsFault (IsValueOf (result_layout op)) rest behind reason
+      → IsDoneFault (op ∷ ops) bytes (length (bytes_of (marked (result_header op))) + behind) reason
+  in_error : (op : PartOp) (ops : List PartOp) (e : ℤ) (bytes rest : List ℕ) (behind : ℕ) (reason : Reason) → HaveBytes (marked (error_header e)) → Opens bytes (marked (error_header e)) rest
+      → IsFault (IsValueOf (One Int End)) rest behind reason → IsDoneFault (op ∷ ops) bytes (length (bytes_of (marked (error_header e))) + behind) reason
+  -- an error result whose int differs from its header's
+  other_error : (op : PartOp) (ops : List PartOp) (e d : ℤ) (bytes rest : List ℕ) → HaveBytes (marked (error_header e) ++ (AnInt d ∷ [])) → Opens bytes (marked (error_header e) ++ (AnInt d ∷ [])) rest → d ≢ e
+      → IsDoneFault (op ∷ ops) bytes 0 BadPart
+  behind_result : (op : PartOp) (ops : List PartOp) (result : List Item) (bytes rest : List ℕ) (behind : ℕ) (reason : Reason) → IsValueOf (result_layout op) result → Opens bytes (marked (result_header op) ++ result) rest
+      → IsDoneFault ops rest behind reason → IsDoneFault (op ∷ ops) bytes (length (bytes_of (marked (result_header op) ++ result)) + behind) reason
+  behind_error : (op : PartOp) (ops : List PartOp) (e : ℤ) (bytes rest : List ℕ) (behind : ℕ) (reason : Reason) → HaveBytes (marked (error_header e) ++ (AnInt e ∷ [])) → Opens bytes (marked (error_header e) ++ (AnInt e ∷ [])) rest
+      → IsDoneFault ops rest behind reason → IsDoneFault (op ∷ ops) bytes (length (bytes_of (marked (error_header e) ++ (AnInt e ∷ []))) + behind) reason
+
+-- what a header stands before, while a part is left
+abbrev pub ItsPlace : PartOp → MultiHeader → Mark → Type 0
+ItsPlace op header mark.Result = header ≡ result_header op
+ItsPlace op header mark.Error = header ≡ error_header header.err
+ItsPlace op header mark.Bad = (header ≢ result_header op) × ((e : ℤ) → header ≢ error_header e)

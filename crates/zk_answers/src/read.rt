@@ -1,0 +1,109 @@
+//! Server payloads are read.
+ghost use Rattle.std.specs.Prelude.{◌≡◌, ◌≢◌, List, ℕ, negsuc, IfOk, IfErr};
+ghost use Rattle.zk_jute.specs.Reading.{told_place};
+ghost use Rattle.zk_jute.specs.Told.{IsTold};
+ghost use Rattle.zk_jute.specs.Flagged.{IsReadAs};
+ghost use Rattle.zk_records.specs.declared.header.ReplyHeader as records;
+ghost use Rattle.zk_answers.specs.declared.frame.ServerFrame as frames;
+ghost use Rattle.zk_answers.specs.Frames.{IsConnected, IsEvent, IsReplyTo, IsSent};
+ghost use Rattle.zk_answers.specs.Frames as sent;
+ghost use Rattle.zk_answers.specs.Faults.{IsConnectedFault, IsHead, IsHeadFault, IsReplyFault, IsEventFault};
+
+use crate::body::outcome_at;
+use crate::frame::{Reply, ServerFrame};
+use std::alloc::Global;
+use zk_asks::Asked;
+use zk_jute::{ItemFault, Reason, Wire, int_at, long_at, read_flagged};
+use zk_records::{ReplyHeader, WatcherEvent};
+
+/// The header that a reply and an event begin with (`ReplyHeader`); it takes no memory.
+pub fn reply_head(payload: &[u8]) -> Result<ReplyHeader, ItemFault>
+    // The payload begins with it.
+    ensures found { IfOk result (λ header. (rest : List ℕ) × IsHead payload.now header rest) }
+    // Else the payload ends within one of its items.
+    ensures fault { IfErr result (λ e. (place : ℕ) × IsHeadFault payload.now place e.reason × (e.place ≡ told_place place)) }
+{
+    let (xid, place) = int_at(payload, 0)?;
+    let (zxid, place) = long_at(payload, place)?;
+    let (err, _) = int_at(payload, place)?;
+    Ok(ReplyHeader { xid, zxid, err })
+}
+
+/// The answer to the connect request.
+pub fn read_connected(alloc: Global, payload: &[u8]) -> Result<ServerFrame, ItemFault>
+    // What is read has the form, and is the payload's one value.
+    ensures found { IfOk result (λ s. IsConnected s × IsSent s × (payload.now ≡ sent.payload s)) }
+    // What has the form is read, unless memory is wanted.
+    ensures only { (s : frames.ServerFrame) → IsConnected s → IsSent s → payload.now ≡ sent.payload s → IsReadAs s result }
+    // Else the first case that applies is told, unless memory is wanted.
+    ensures fault { IfErr result (λ e. IsTold (IsConnectedFault payload.now) e) }
+{
+    let (hello, read_only) = read_flagged(alloc, payload)?;
+    Ok(ServerFrame::Connected { hello, read_only })
+}
+
+fn reply_of<F: Asked>(alloc: Global, form: &F, payload: &[u8]) -> Result<ServerFrame, ItemFault>
+    requires { (header : records.ReplyHeader) (rest : List ℕ) → IsHead payload.now header rest → header.xid ≢ negsuc 0 }
+    ensures found { IfOk result (λ s. IsReplyTo (F.operation form.now) (F.part_ops form.now) s × IsSent s × (payload.now ≡ sent.payload s)) }
+    ensures fault { IfErr result (λ e. IsTold (IsReplyFault (F.operation form.now) (F.part_ops form.now) payload.now) e) }
+{
+    let (header, place) = ReplyHeader::read(alloc, payload, 0)?;
+    let (outcome, place) = outcome_at(alloc, payload, place, form, header.err)?;
+    if place < payload.len() {
+        return Err(ItemFault::at(place, Reason::Trailing));
+    }
+    Ok(ServerFrame::Answered(Reply {
+        xid: header.xid,
+        zxid: header.zxid,
+        outcome,
+    }))
+}
+
+/// A reply to what was asked; its header, where it is whole, has another xid than -1.
+pub fn read_reply<F: Asked>(
+    alloc: Global,
+    form: &F,
+    payload: &[u8],
+) -> Result<ServerFrame, ItemFault>
+    requires { (header : records.ReplyHeader) (rest : List ℕ) → IsHead payload.now header rest → header.xid ≢ negsuc 0 }
+    // What is read has the form that the request fixes, and is the payload's one value.
+    ensures found { IfOk result (λ s. IsReplyTo (F.operation form.now) (F.part_ops form.now) s × IsSent s × (payload.now ≡ sent.payload s)) }
+    // What has the form is read, unless memory is wanted.
+    ensures only { (s : frames.ServerFrame) → IsReplyTo (F.operation form.now) (F.part_ops form.now) s → IsSent s → payload.now ≡ sent.payload s → IsReadAs s result }
+    // Else the first case that applies is told, unless memory is wanted.
+    ensures fault { IfErr result (λ e. IsTold (IsReplyFault (F.operation form.now) (F.part_ops form.now) payload.now) e) }
+{
+    reply_of(alloc, form, payload)
+}
+
+fn event_of(alloc: Global, payload: &[u8]) -> Result<ServerFrame, ItemFault>
+    requires { (header : records.ReplyHeader) (rest : List ℕ) → IsHead payload.now header rest → header.xid ≡ negsuc 0 }
+    ensures found { IfOk result (λ s. IsEvent s × IsSent s × (payload.now ≡ sent.payload s)) }
+    ensures fault { IfErr result (λ e. IsTold (IsEventFault payload.now) e) }
+{
+    let (header, place) = ReplyHeader::read(alloc, payload, 0)?;
+    if header.err != 0 {
+        return Err(ItemFault::at(12, Reason::EventErr));
+    }
+    let (event, place) = WatcherEvent::read(alloc, payload, place)?;
+    if place < payload.len() {
+        return Err(ItemFault::at(place, Reason::Trailing));
+    }
+    Ok(ServerFrame::Event {
+        zxid: header.zxid,
+        event,
+    })
+}
+
+/// What a watch saw; its header, where it is whole, has the xid -1.
+pub fn read_event(alloc: Global, payload: &[u8]) -> Result<ServerFrame, ItemFault>
+    requires { (header : records.ReplyHeader) (rest : List ℕ) → IsHead payload.now header rest → header.xid ≡ negsuc 0 }
+    // What is read has the form, and is the payload's one value.
+    ensures found { IfOk result (λ s. IsEvent s × IsSent s × (payload.now ≡ sent.payload s)) }
+    // What has the form is read, unless memory is wanted.
+    ensures only { (s : frames.ServerFrame) → IsEvent s → IsSent s → payload.now ≡ sent.payload s → IsReadAs s result }
+    // Else the first case that applies is told, unless memory is wanted.
+    ensures fault { IfErr result (λ e. IsTold (IsEventFault payload.now) e) }
+{
+    event_of(alloc, payload)
+}

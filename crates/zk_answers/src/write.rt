@@ -1,0 +1,178 @@
+//! Server payloads are written.
+ghost use Rattle.std.specs.Prelude.{◌≡◌, ◌++◌, OnOk, OnErr, pos, negsuc};
+ghost use Rattle.zk_jute.specs.Item.{Fit, IsSizeWithin};
+ghost use Rattle.zk_asks.specs.Forms as forms;
+ghost use Rattle.zk_answers.specs.Results as results;
+ghost use Rattle.zk_answers.specs.Frames as frames;
+
+use crate::frame::{Body, Outcome, PartDone, Reply, ServerFrame};
+use std::alloc::AllocError;
+use zk_jute::Spell;
+use zk_records::{MultiHeader, PartOp, ReplyHeader, part_number};
+
+/// The header that stands before a part's result.
+fn result_header(op: PartOp) -> MultiHeader
+    ensures { result ≡ results.result_header op }
+{
+    MultiHeader {
+        kind: part_number(op),
+        done: false,
+        err: 0,
+    }
+}
+
+/// The header that stands before an error.
+fn error_header(err: i32) -> MultiHeader
+    ensures { result ≡ results.error_header err }
+{
+    MultiHeader {
+        kind: -1,
+        done: false,
+        err,
+    }
+}
+
+/// The header behind the last result.
+fn end_header() -> MultiHeader
+    ensures { result ≡ forms.end_header }
+{
+    MultiHeader {
+        kind: -1,
+        done: true,
+        err: -1,
+    }
+}
+
+impl Spell for PartDone {
+    ghost items = { results.done_items };
+
+    fn put(&self, out: &mut Vec<u8>) -> Result<(), AllocError> {
+        match self {
+            PartDone::Created(path) => (&result_header(PartOp::Create), path).put(out),
+            PartDone::Deleted => result_header(PartOp::Delete).put(out),
+            PartDone::DataSet(stat) => (&result_header(PartOp::SetData), stat).put(out),
+            PartDone::Checked => result_header(PartOp::Check).put(out),
+            PartDone::PartFailed(err) => (&error_header(*err), err).put(out),
+        }
+    }
+
+    fn size_within(&self, limit: u32) -> Option<u32> {
+        match self {
+            PartDone::Created(path) => (&result_header(PartOp::Create), path).size_within(limit),
+            PartDone::Deleted => result_header(PartOp::Delete).size_within(limit),
+            PartDone::DataSet(stat) => (&result_header(PartOp::SetData), stat).size_within(limit),
+            PartDone::Checked => result_header(PartOp::Check).size_within(limit),
+            PartDone::PartFailed(err) => (&error_header(*err), err).size_within(limit),
+        }
+    }
+}
+
+impl Spell for Body {
+    ghost items = { frames.body_items };
+
+    fn put(&self, out: &mut Vec<u8>) -> Result<(), AllocError> {
+        match self {
+            Body::Create { path } => path.put(out),
+            Body::Exists { stat } => stat.put(out),
+            Body::GetData { blob, stat } => (blob, stat).put(out),
+            Body::SetData { stat } => stat.put(out),
+            Body::GetAcl { acl, stat } => (acl, stat).put(out),
+            Body::SetAcl { stat } => stat.put(out),
+            Body::GetChildren { names } => names.put(out),
+            Body::Sync { path } => path.put(out),
+            Body::GetChildren2 { names, stat } => (names, stat).put(out),
+            Body::Multi(dones) => (dones, &end_header()).put(out),
+            Body::Delete | Body::Ping | Body::Auth | Body::SetWatches | Body::CloseSession => {
+                Ok(())
+            }
+        }
+    }
+
+    fn size_within(&self, limit: u32) -> Option<u32> {
+        match self {
+            Body::Create { path } => path.size_within(limit),
+            Body::Exists { stat } => stat.size_within(limit),
+            Body::GetData { blob, stat } => (blob, stat).size_within(limit),
+            Body::SetData { stat } => stat.size_within(limit),
+            Body::GetAcl { acl, stat } => (acl, stat).size_within(limit),
+            Body::SetAcl { stat } => stat.size_within(limit),
+            Body::GetChildren { names } => names.size_within(limit),
+            Body::Sync { path } => path.size_within(limit),
+            Body::GetChildren2 { names, stat } => (names, stat).size_within(limit),
+            Body::Multi(dones) => (dones, &end_header()).size_within(limit),
+            Body::Delete | Body::Ping | Body::Auth | Body::SetWatches | Body::CloseSession => {
+                Some(0)
+            }
+        }
+    }
+}
+
+impl Spell for Outcome {
+    ghost items = { frames.rest_items };
+
+    fn put(&self, out: &mut Vec<u8>) -> Result<(), AllocError> {
+        match self {
+            Outcome::Done(body) => body.put(out),
+            Outcome::Failed(_, _) => Ok(()),
+        }
+    }
+
+    fn size_within(&self, limit: u32) -> Option<u32> {
+        match self {
+            Outcome::Done(body) => body.size_within(limit),
+            Outcome::Failed(_, _) => Some(0),
+        }
+    }
+}
+
+fn reply_header(reply: &Reply) -> ReplyHeader
+    ensures { result ≡ frames.header_of reply.now }
+{
+    ReplyHeader {
+        xid: reply.xid,
+        zxid: reply.zxid,
+        err: match &reply.outcome {
+            Outcome::Done(_) => 0,
+            Outcome::Failed(_, failure) => failure.number(),
+        },
+    }
+}
+
+fn event_header(zxid: i64) -> ReplyHeader
+    ensures { result ≡ frames.event_header zxid }
+{
+    ReplyHeader {
+        xid: -1,
+        zxid,
+        err: 0,
+    }
+}
+
+impl ServerFrame {
+    /// The length of its payload in bytes; None where it has none or more than `limit` bytes.
+    pub fn size_within(&self, limit: u32) -> Option<u32>
+        ensures { IsSizeWithin limit (frames.frame_items self.now) result }
+    {
+        match self {
+            ServerFrame::Connected { hello, read_only } => (hello, read_only).size_within(limit),
+            ServerFrame::Answered(reply) => {
+                (&reply_header(reply), &reply.outcome).size_within(limit)
+            }
+            ServerFrame::Event { zxid, event } => (&event_header(*zxid), event).size_within(limit),
+        }
+    }
+}
+
+/// Appends a frame's payload; where memory is refused, `out` is unchanged. No reply has the xid -1.
+pub fn write_server(frame: &ServerFrame, out: &mut Vec<u8>) -> Result<(), AllocError>
+    requires xid { frames.HasItsXid frame.now }
+    requires size { Fit 2147483647 (frames.frame_items frame.now) }
+    ensures ok { OnOk result (out.new.items ≡ out.old.items ++ frames.payload frame.now) }
+    ensures err { OnErr result (out.new.items ≡ out.old.items) }
+{
+    match frame {
+        ServerFrame::Connected { hello, read_only } => (hello, read_only).write(out),
+        ServerFrame::Answered(reply) => (&reply_header(reply), &reply.outcome).write(out),
+        ServerFrame::Event { zxid, event } => (&event_header(*zxid), event).write(out),
+    }
+}

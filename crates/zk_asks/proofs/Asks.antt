@@ -1,0 +1,99 @@
+-- Requests: what is read, what is refused, and that the two exclude each other.
+use Rattle.std.proofs.Common.{◌≡◌, ℕ, ◌+◌, ◌<◌, inl, inr, List, ◌++◌, length, drop, refl, ap, subst, ◌∙◌, arith}
+use Rattle.std.specs.Prelude.{ℤ, ◌≢◌}
+use Rattle.zk_jute.specs.declared.fault.ItemFault.{ItemFault}
+use Rattle.zk_jute.specs.declared.fault.Reason.TheVariants.{Trailing, UnknownOp, XidOp}
+use Rattle.zk_jute.specs.Item.{bytes_of, HaveBytes}
+use Rattle.zk_jute.specs.Layout.{Layout, IsValueOf}
+use Rattle.zk_jute.specs.Faults.{IsFault}
+use Rattle.zk_jute.specs.Reading.{told_place}
+use Rattle.zk_jute.specs.Told.{StandsAt, IsToldFault}
+use Rattle.zk_records.specs.Records.{request_header, create_ask, delete_ask, watch_ask, set_data_ask, path_ask, set_acl_ask, auth_ask, set_watches_ask}
+use Rattle.zk_records.specs.declared.op.Op.{Op}
+use Rattle.zk_asks.specs.declared.frame.Ask.{Ask}
+use Rattle.zk_asks.specs.declared.frame.Ask.TheVariants as ask
+use Rattle.zk_records.specs.Codes.{op_number}
+use Rattle.zk_asks.specs.Codes.{IsAllowed}
+use Rattle.zk_asks.specs.Forms.{header_items, IsBody, asks}
+use Rattle.zk_asks.specs.Faults.{IsBodyFault, IsAskFault, in_header, unknown_op, bad_xid, in_body, behind_body}
+use Rattle.zk_asks.specs.Frames.{op_of_ask, body_items}
+use Rattle.zk_jute.specs.Told.{IsTold, IsToldAt}
+use Rattle.zk_jute.proofs.Sequels.{stands_then, is_left}
+use Rattle.zk_asks.proofs.Parts.{multi_is}
+
+-- the items of an ask are those of its form
+pub body_is : (a : Ask) → HaveBytes (body_items a) → IsBody (op_of_ask a) (body_items a)
+body_is (ask.Create body) have = (create_ask.unfolds body, have)
+body_is (ask.Delete body) have = (delete_ask.unfolds body, have)
+body_is (ask.Exists body) have = (watch_ask.unfolds body, have)
+body_is (ask.GetData body) have = (watch_ask.unfolds body, have)
+body_is (ask.SetData body) have = (set_data_ask.unfolds body, have)
+body_is (ask.GetAcl body) have = (path_ask.unfolds body, have)
+body_is (ask.SetAcl body) have = (set_acl_ask.unfolds body, have)
+body_is (ask.GetChildren body) have = (watch_ask.unfolds body, have)
+body_is (ask.Sync body) have = (path_ask.unfolds body, have)
+body_is ask.Ping have = (refl, tt)
+body_is (ask.GetChildren2 body) have = (watch_ask.unfolds body, have)
+body_is (ask.Multi ps) have = multi_is ps have
+body_is (ask.Auth body) have = (auth_ask.unfolds body, have)
+body_is (ask.SetWatches body) have = (set_watches_ask.unfolds body, have)
+body_is ask.CloseSession have = (refl, tt)
+
+-- ---- what the reader refuses
+
+-- the fault of a body's fields
+pub fields_told : (l : Layout) (src : List ℕ) (place : ℕ) (e : ItemFault) → IsToldFault (IsValueOf l) src place e → IsToldAt (IsFault (IsValueOf l)) src place e
+unfolding IsToldAt
+fields_told l src place e h = h
+
+pub refused_header : (src : List ℕ) (e : ItemFault) → IsToldFault (IsValueOf request_header.layout) src 0 e → IsTold (IsAskFault src) e
+unfolding IsTold
+refused_header src e h = elim h [ inl m ↦ inl m | inr f ↦ let same : 0 + f.0 ≡ f.0 = omega arith in inr (f.0, in_header src f.0 e.reason f.1, f.2 ∙ ap told_place same) ]
+
+module _ (src : List ℕ) (xid kind : ℤ) (after : ℕ) (v : IsValueOf request_header.layout (header_items xid kind)) (s : StandsAt (header_items xid kind) src 0 after) where
+  pub refused_op : ((op : Op) → kind ≢ op_number op) → IsTold (IsAskFault src) (record { place = 4; reason = UnknownOp })
+  unfolding IsTold
+  refused_op unknown = inr (4, unknown_op src (drop after src) xid kind v.1 s.0 unknown, refl)
+
+  pub refused_xid : (op : Op) → kind ≡ op_number op → (IsAllowed xid op → ⊥) → IsTold (IsAskFault src) (record { place = 4; reason = XidOp })
+  unfolding IsTold
+  refused_xid op is not =
+      let have : HaveBytes (header_items xid (op_number op)) = subst (λ (k : ℤ). HaveBytes (header_items xid k)) is v.1 in
+      let opens : src ≡ bytes_of (header_items xid (op_number op)) ++ drop after src = subst (λ (k : ℤ). src ≡ bytes_of (header_items xid k) ++ drop after src) is s.0 in
+      inr (4, bad_xid src (drop after src) xid op have opens not, refl)
+
+  pub refused_body : (op : Op) (e : ItemFault) → kind ≡ op_number op → IsAllowed xid op → IsToldAt (IsBodyFault op) src after e → IsTold (IsAskFault src) e
+  unfolding IsTold IsToldAt
+  refused_body op e is may h =
+      let have : HaveBytes (header_items xid (op_number op)) = subst (λ (k : ℤ). HaveBytes (header_items xid k)) is v.1 in
+      let opens : src ≡ bytes_of (header_items xid (op_number op)) ++ drop after src = subst (λ (k : ℤ). src ≡ bytes_of (header_items xid k) ++ drop after src) is s.0 in
+      let eight : after ≡ 8 = s.1 in
+      elim h [
+        | inl m ↦ inl m
+        | inr f ↦
+            let told : after + f.0 ≡ 8 + f.0 = omega arith in
+            inr (8 + f.0, in_body src (drop after src) xid op f.0 e.reason have opens may f.1, f.2 ∙ ap told_place told)
+      ]
+
+  pub refused_rest : (a : Ask) (end : ℕ) → kind ≡ op_number (op_of_ask a) → IsAllowed xid (op_of_ask a) → HaveBytes (body_items a) → StandsAt (body_items a) src after end → end < length src
+      → IsTold (IsAskFault src) (record { place = told_place end; reason = Trailing })
+  unfolding IsTold
+  refused_rest a end is may have t left =
+      let op = op_of_ask a in
+      let head : HaveBytes (header_items xid (op_number op)) = subst (λ (k : ℤ). HaveBytes (header_items xid k)) is v.1 in
+      let opens : StandsAt (header_items xid (op_number op)) src 0 after = subst (λ (k : ℤ). StandsAt (header_items xid k) src 0 after) is s in
+      let both = stands_then (header_items xid (op_number op)) (body_items a) src 0 after end opens t in
+      let at = both.1 in
+      let place : end ≡ length (bytes_of (header_items xid (op_number op) ++ body_items a)) = omega arith in
+      inr (
+        end,
+        behind_body src end (record {
+          whole = header_items xid (op_number op) ++ body_items a;
+          rest = drop end src;
+          value = asks xid op (body_items a) head may (body_is a have);
+          splits = both.0;
+          some = is_left src end left;
+          at = place;
+        }),
+        refl,
+      )

@@ -1,0 +1,266 @@
+-- Requests: a fault is unique and excludes each form, and frames tell their payloads apart.
+use Rattle.std.proofs.Common.{◌≡◌, ℕ, suc, ◌+◌, ◌⊎◌, inl, inr, List, [], ◌++◌, length, refl, sym, ap, subst, ◌∙◌, append_assoc, arith}
+use Rattle.std.specs.Prelude.{Result, Ok, Err, IfOk, IfErr, ℤ, ◌≢◌}
+use Rattle.std.proofs.lemmas.List.{append-nil, length-append}
+use Rattle.zk_jute.specs.declared.fault.Reason.{Reason}
+use Rattle.zk_jute.specs.declared.fault.ItemFault.{ItemFault}
+use Rattle.zk_jute.specs.declared.fault.Reason.TheVariants.{Trailing, UnknownOp, XidOp}
+use Rattle.zk_jute.specs.Item.{Item, bytes_of, HaveBytes}
+use Rattle.zk_jute.specs.Layout.{IsValueOf}
+use Rattle.zk_jute.proofs.Layouts.{bytes_only, bytes_both, have_parts}
+use Rattle.zk_jute.proofs.Decided.{one_fault}
+use Rattle.zk_records.specs.Records.{request_header, create_ask, delete_ask, watch_ask, set_data_ask, path_ask, set_acl_ask, auth_ask, set_watches_ask}
+use Rattle.zk_records.specs.declared.header.RequestHeader.{RequestHeader}
+use Rattle.zk_records.specs.declared.op.Op.{Op}
+use Rattle.zk_records.specs.declared.op.Op.TheVariants as ops
+use Rattle.zk_asks.specs.declared.frame.Part.{Part}
+use Rattle.zk_asks.specs.declared.frame.Ask.{Ask}
+use Rattle.zk_asks.specs.declared.frame.Ask.TheVariants as ask
+use Rattle.zk_asks.specs.declared.frame.ClientFrame.{ClientFrame}
+use Rattle.zk_asks.specs.declared.frame.ClientFrame.TheVariants as frame
+use Rattle.zk_records.specs.Codes.{op_number}
+use Rattle.zk_asks.specs.Codes.{IsAllowed}
+use Rattle.zk_asks.specs.Forms.{header_items, Body, Fields, Parts, body_of, IsOf, IsBody, IsAsk, asks}
+use Rattle.zk_asks.specs.Faults.{IsFaultOf, IsBodyFault, IsAskFault, in_header, unknown_op, bad_xid, in_body, behind_body}
+use Rattle.zk_asks.specs.Frames.{op_of_ask, body_items, multi_items, frame_items, IsSent, IsLater, payload}
+use Rattle.zk_jute.specs.Told.{IsReadAs}
+use Rattle.zk_jute.specs.Told.{IsTold}
+use Rattle.zk_jute.specs.Wired.{Wired}
+use Rattle.zk_records.proofs.Numbers.{op_number_apart}
+use Rattle.zk_jute.proofs.Sequels.{Same, Sequel, excluded, sequel_same, sequel_not}
+use Rattle.zk_asks.proofs.Parted.{multi_unique, multi_excludes, multi_only, multi_apart}
+use Rattle.zk_asks.proofs.Asks.{body_is}
+
+-- ---- bodies
+
+of_unique : (b : Body) (bytes : List ℕ) (p q : ℕ) (r s : Reason) → IsFaultOf b bytes p r → IsFaultOf b bytes q s → Same p r q s
+of_unique (Fields l) bytes p q r s f g = one_fault l bytes p q r s f g
+of_unique Parts bytes p q r s f g = multi_unique (suc (length bytes)) bytes (omega arith) p q r s f g
+
+of_excludes : (b : Body) (items : List Item) (bytes more : List ℕ) (p : ℕ) (r : Reason) → IsOf b items → bytes ≡ bytes_of items ++ more → IsFaultOf b bytes p r → ⊥
+of_excludes (Fields l) items bytes more p r v e f = excluded l items bytes more p r v e f
+of_excludes Parts items bytes more p r v e f = multi_excludes v bytes more p r e f
+
+of_only : (b : Body) (c d : List Item) (x y : List ℕ) → IsOf b c → IsOf b d → bytes_of c ++ x ≡ bytes_of d ++ y → (c ≡ d) × (x ≡ y)
+of_only (Fields l) c d x y v w e = bytes_only l c d x y v w e
+of_only Parts c d x y v w e = multi_only v w x y e
+
+body_unique : (op : Op) (bytes : List ℕ) (p q : ℕ) (r s : Reason) → IsBodyFault op bytes p r → IsBodyFault op bytes q s → Same p r q s
+body_unique op bytes p q r s f g = of_unique (body_of op) bytes p q r s f g
+
+body_excludes : (op : Op) (items : List Item) (bytes more : List ℕ) (p : ℕ) (r : Reason) → IsBody op items → bytes ≡ bytes_of items ++ more → IsBodyFault op bytes p r → ⊥
+body_excludes op items bytes more p r v e f = of_excludes (body_of op) items bytes more p r v e f
+
+body_only : (op : Op) (a b : List Item) (x y : List ℕ) → IsBody op a → IsBody op b → bytes_of a ++ x ≡ bytes_of b ++ y → (a ≡ b) × (x ≡ y)
+body_only op a b x y v w e = of_only (body_of op) a b x y v w e
+
+-- ---- a fault by its header
+
+-- behind a header of an operation that the xid may have
+abbrev AfterOp : Op → List ℕ → ℕ → Reason → Type 0
+AfterOp op rest p r = ((behind : ℕ) × (p ≡ 8 + behind) × IsBodyFault op rest behind r) ⊎ ((body : List Item) × (more : List ℕ) × IsBody op body × (rest ≡ bytes_of body ++ more) × (more ≢ []) × (p ≡ 8 + length (bytes_of body)) × (r ≡ Trailing))
+
+abbrev OfOp : ℤ → Op → List ℕ → ℕ → Reason → Type 0
+OfOp xid op rest p r = ((IsAllowed xid op → ⊥) × (p ≡ 4) × (r ≡ XidOp)) ⊎ (IsAllowed xid op × AfterOp op rest p r)
+
+abbrev AfterKind : ℤ → ℤ → List ℕ → ℕ → Reason → Type 0
+AfterKind xid kind rest p r = (((op : Op) → kind ≢ op_number op) × (p ≡ 4) × (r ≡ UnknownOp)) ⊎ ((op : Op) × (kind ≡ op_number op) × OfOp xid op rest p r)
+
+abbrev AfterHeader : List Item → List ℕ → ℕ → Reason → Type 0
+AfterHeader header rest p r = (xid : ℤ) × (kind : ℤ) × (header ≡ header_items xid kind) × AfterKind xid kind rest p r
+
+header_is : (xid kind : ℤ) → HaveBytes (header_items xid kind) → IsValueOf request_header.layout (header_items xid kind)
+header_is xid kind have = (request_header.unfolds (record { xid = xid; kind = kind }), have)
+
+header_same : (xid kind id number : ℤ) → header_items xid kind ≡ header_items id number → (xid ≡ id) × (kind ≡ number)
+header_same xid kind id number e =
+    let same : ◌≡◌ {A = RequestHeader} (record { xid = xid; kind = kind }) (record { xid = id; kind = number }) = request_header.tells_apart (record { xid = xid; kind = kind }) (record { xid = id; kind = number }) e in
+    (ap (λ (h : RequestHeader). h.xid) same, ap (λ (h : RequestHeader). h.kind) same)
+
+header_split : (header body : List Item) (bytes rest : List ℕ) → bytes ≡ bytes_of (header ++ body) ++ rest → bytes ≡ bytes_of header ++ (bytes_of body ++ rest)
+header_split header body bytes rest e = e ∙ ap (λ (b : List ℕ). b ++ rest) (bytes_both header body) ∙ append_assoc (bytes_of header) (bytes_of body) rest
+
+trailing : {items : List Item} → IsAsk items → (bytes rest : List ℕ) (p : ℕ) → bytes ≡ bytes_of items ++ rest → rest ≢ [] → p ≡ length (bytes_of items) → Sequel request_header.layout AfterHeader bytes p Trailing
+trailing (asks xid op body have may v) bytes rest p e some at =
+    let header = header_items xid (op_number op) in
+    let place : p ≡ 8 + length (bytes_of body) = at ∙ omega (arith, ap length (bytes_both header body), length-append (bytes_of header) (bytes_of body)) in
+    inr (header, bytes_of body ++ rest, header_is xid (op_number op) have, header_split header body bytes rest e, (xid, op_number op, refl, inr (op, refl, inr (may, inr (body, rest, v, refl, some, place, refl)))))
+
+sequel : {bytes : List ℕ} {p : ℕ} {r : Reason} → IsAskFault bytes p r → Sequel request_header.layout AfterHeader bytes p r
+sequel (in_header bytes place reason f) = inl f
+sequel (unknown_op bytes rest xid kind have e unknown) = inr (header_items xid kind, rest, header_is xid kind have, e, (xid, kind, refl, inl (unknown, refl, refl)))
+sequel (bad_xid bytes rest xid op have e not) = inr (header_items xid (op_number op), rest, header_is xid (op_number op) have, e, (xid, op_number op, refl, inr (op, refl, inl (not, refl, refl))))
+sequel (in_body bytes rest xid op behind reason have e may f) = inr (header_items xid (op_number op), rest, header_is xid (op_number op) have, e, (xid, op_number op, refl, inr (op, refl, inr (may, inl (behind, refl, f)))))
+sequel (behind_body bytes place t) = trailing t.value bytes t.rest place t.splits t.some t.at
+
+-- ---- one fault
+
+after_same : (op : Op) (rest : List ℕ) (p q : ℕ) (r s : Reason) → AfterOp op rest p r → AfterOp op rest q s → Same p r q s
+after_same op rest p q r s a b =
+    elim a [
+      | inl f ↦ elim b [
+        | inl g ↦
+            let one = body_unique op rest f.0 g.0 r s f.2 g.2 in
+            let number : p ≡ q = let x = f.1 in let y = g.1 in let z = one.0 in omega arith in
+            (number, one.1)
+        | inr g ↦ absurd (body_excludes op g.0 rest g.1 f.0 r g.2 g.3 f.2)
+      ]
+      | inr f ↦ elim b [
+        | inl g ↦ absurd (body_excludes op f.0 rest f.1 g.0 s f.2 f.3 g.2)
+        | inr g ↦
+            let same = body_only op f.0 g.0 f.1 g.1 f.2 g.2 (sym f.3 ∙ g.3) in
+            (f.5 ∙ ap (λ (i : List Item). 8 + length (bytes_of i)) same.0 ∙ sym g.5, f.6 ∙ sym g.6)
+      ]
+    ]
+
+of_same : (xid : ℤ) (op : Op) (rest : List ℕ) (p q : ℕ) (r s : Reason) → OfOp xid op rest p r → OfOp xid op rest q s → Same p r q s
+of_same xid op rest p q r s a b =
+    elim a [
+      | inl f ↦ elim b [ inl g ↦ (f.1 ∙ sym g.1, f.2 ∙ sym g.2) | inr g ↦ absurd (f.0 g.0) ]
+      | inr f ↦ elim b [ inl g ↦ absurd (g.0 f.0) | inr g ↦ after_same op rest p q r s f.1 g.1 ]
+    ]
+
+kind_same : (xid kind : ℤ) (rest : List ℕ) (p q : ℕ) (r s : Reason) → AfterKind xid kind rest p r → AfterKind xid kind rest q s → Same p r q s
+kind_same xid kind rest p q r s a b =
+    elim a [
+      | inl f ↦ elim b [ inl g ↦ (f.1 ∙ sym g.1, f.2 ∙ sym g.2) | inr g ↦ absurd (f.0 g.0 g.1) ]
+      | inr f ↦ elim b [
+        | inl g ↦ absurd (g.0 f.0 f.1)
+        | inr g ↦
+            let one : g.0 ≡ f.0 = op_number_apart g.0 f.0 (sym g.1 ∙ f.1) in
+            of_same xid f.0 rest p q r s f.2 (subst (λ (op : Op). OfOp xid op rest q s) one g.2)
+      ]
+    ]
+
+pub ask_unique : (bytes : List ℕ) (p q : ℕ) (r s : Reason) → IsAskFault bytes p r → IsAskFault bytes q s → Same p r q s
+ask_unique bytes p q r s f g =
+    sequel_same request_header.layout AfterHeader bytes
+    (λ header rest p q r s v e a b.
+    let same = header_same b.0 b.1 a.0 a.1 (sym b.2 ∙ a.2) in
+    let one : AfterKind a.0 b.1 rest q s = subst (λ (z : ℤ). AfterKind z b.1 rest q s) same.0 b.3 in
+    let two : AfterKind a.0 a.1 rest q s = subst (λ (z : ℤ). AfterKind a.0 z rest q s) same.1 one in
+    kind_same a.0 a.1 rest p q r s a.3 two)
+    p q r s (sequel f) (sequel g)
+
+-- ---- a fault excludes each form
+
+ask_not : (xid : ℤ) (op : Op) (body : List Item) (p : ℕ) (r : Reason) → IsAllowed xid op → IsBody op body → AfterKind xid (op_number op) (bytes_of body) p r → ⊥
+ask_not xid op body p r may v a =
+    elim a [
+      | inl f ↦ f.0 op refl
+      | inr f ↦
+          let one : f.0 ≡ op = sym (op_number_apart op f.0 f.1) in
+          let g : OfOp xid op (bytes_of body) p r = subst (λ (op : Op). OfOp xid op (bytes_of body) p r) one f.2 in
+          elim g [
+            | inl h ↦ h.0 may
+            | inr h ↦ elim h.1 [
+              | inl k ↦ body_excludes op body (bytes_of body) [] k.0 r v (sym (append-nil (bytes_of body))) k.2
+              | inr k ↦ let same = body_only op k.0 body k.1 [] k.2 v (sym k.3 ∙ sym (append-nil (bytes_of body))) in k.4 same.1
+            ]
+          ]
+    ]
+
+pub form_not : {items : List Item} → IsAsk items → (bytes : List ℕ) → bytes ≡ bytes_of items → (p : ℕ) (r : Reason) → IsAskFault bytes p r → ⊥
+form_not (asks xid op body have may v) bytes e p r fault =
+    let header = header_items xid (op_number op) in
+    sequel_not request_header.layout AfterHeader bytes header (bytes_of body) (header_is xid (op_number op) have) (e ∙ bytes_both header body) p r
+    (λ k.
+    let same = header_same k.0 k.1 xid (op_number op) (sym k.2) in
+    let one : AfterKind xid k.1 (bytes_of body) p r = subst (λ (z : ℤ). AfterKind z k.1 (bytes_of body) p r) same.0 k.3 in
+    let two : AfterKind xid (op_number op) (bytes_of body) p r = subst (λ (z : ℤ). AfterKind xid z (bytes_of body) p r) same.1 one in
+    ask_not xid op body p r may v two)
+    (sequel fault)
+
+-- a request's items are of the form
+pub is_ask : (f : ClientFrame) → IsLater f → IsSent f → IsAsk (frame_items f)
+is_ask (frame.Connect hello flag) later sent = absurd later
+is_ask (frame.Ask xid a) later sent =
+    let h = have_parts (header_items xid (op_number (op_of_ask a))) (body_items a) sent.1 in
+    asks xid (op_of_ask a) (body_items a) h.0 sent.0 (body_is a h.1)
+
+pub ask_excludes : (f : ClientFrame) (p : ℕ) (r : Reason) → IsLater f → IsSent f → IsAskFault (payload f) p r → ⊥
+ask_excludes f p r later sent fault = form_not (is_ask f later sent) (payload f) refl p r fault
+
+-- ---- frames tell their payloads apart
+
+-- what an operation's asks are made of
+record Row : Type 1 where
+  Content : Type 0
+  ask : Content → Ask
+  items : Content → List Item
+  apart : (x y : Content) → items x ≡ items y → x ≡ y
+
+row : {X : Type 0} → (X → Ask) → Wired X → Row
+row {X} make w = record { Content = X; ask = make; items = w.items; apart = w.tells_apart }
+
+bare : Ask → Row
+bare a = record { Content = Unit {0}; ask = λ _. a; items = λ _. []; apart = λ x y e. refl }
+
+row_of : Op → Row
+row_of ops.Create = row ask.Create create_ask
+row_of ops.Delete = row ask.Delete delete_ask
+row_of ops.Exists = row ask.Exists watch_ask
+row_of ops.GetData = row ask.GetData watch_ask
+row_of ops.SetData = row ask.SetData set_data_ask
+row_of ops.GetAcl = row ask.GetAcl path_ask
+row_of ops.SetAcl = row ask.SetAcl set_acl_ask
+row_of ops.GetChildren = row ask.GetChildren watch_ask
+row_of ops.Sync = row ask.Sync path_ask
+row_of ops.Ping = bare ask.Ping
+row_of ops.GetChildren2 = row ask.GetChildren2 watch_ask
+row_of ops.Multi = record { Content = List Part; ask = ask.Multi; items = multi_items; apart = multi_apart }
+row_of ops.Auth = row ask.Auth auth_ask
+row_of ops.SetWatches = row ask.SetWatches set_watches_ask
+row_of ops.CloseSession = bare ask.CloseSession
+
+-- an ask is its operation and its content
+IsMade : Op → Ask → Type 0
+IsMade op a = (x : (row_of op).Content) × ((row_of op).ask x ≡ a) × ((row_of op).items x ≡ body_items a)
+
+made : (a : Ask) → IsMade (op_of_ask a) a
+unfolding IsMade row_of row bare
+made (ask.Create x) = (x, refl, refl)
+made (ask.Delete x) = (x, refl, refl)
+made (ask.Exists x) = (x, refl, refl)
+made (ask.GetData x) = (x, refl, refl)
+made (ask.SetData x) = (x, refl, refl)
+made (ask.GetAcl x) = (x, refl, refl)
+made (ask.SetAcl x) = (x, refl, refl)
+made (ask.GetChildren x) = (x, refl, refl)
+made (ask.Sync x) = (x, refl, refl)
+made ask.Ping = (tt, refl, refl)
+made (ask.GetChildren2 x) = (x, refl, refl)
+made (ask.Multi x) = (x, refl, refl)
+made (ask.Auth x) = (x, refl, refl)
+made (ask.SetWatches x) = (x, refl, refl)
+made ask.CloseSession = (tt, refl, refl)
+
+body_apart : (a b : Ask) → op_of_ask b ≡ op_of_ask a → body_items a ≡ body_items b → a ≡ b
+unfolding IsMade
+body_apart a b same e =
+    let r = row_of (op_of_ask a) in
+    let x = made a in
+    let y : IsMade (op_of_ask a) b = subst (λ (op : Op). IsMade op b) same (made b) in
+    sym x.1 ∙ ap r.ask (r.apart x.0 y.0 (x.2 ∙ e ∙ sym y.2)) ∙ y.1
+
+pub ask_injective : (f g : ClientFrame) → IsLater f → IsLater g → IsSent f → IsSent g → payload f ≡ payload g → f ≡ g
+ask_injective (frame.Connect hello flag) g l m s t e = absurd l
+ask_injective (frame.Ask xid a) (frame.Connect hello flag) l m s t e = absurd m
+ask_injective (frame.Ask xid a) (frame.Ask id b) l m s t e =
+    let x = header_items xid (op_number (op_of_ask a)) in
+    let y = header_items id (op_number (op_of_ask b)) in
+    let h = have_parts x (body_items a) s.1 in
+    let k = have_parts y (body_items b) t.1 in
+    let same = bytes_only request_header.layout x y (bytes_of (body_items a)) (bytes_of (body_items b)) (header_is xid (op_number (op_of_ask a)) h.0) (header_is id (op_number (op_of_ask b)) k.0) (sym (bytes_both x (body_items a)) ∙ e ∙ bytes_both y (body_items b)) in
+    let head = header_same xid (op_number (op_of_ask a)) id (op_number (op_of_ask b)) same.0 in
+    let op : op_of_ask b ≡ op_of_ask a = op_number_apart (op_of_ask b) (op_of_ask a) (sym head.1) in
+    let v : IsBody (op_of_ask a) (body_items b) = subst (λ (o : Op). IsBody o (body_items b)) op (body_is b k.1) in
+    let body = body_only (op_of_ask a) (body_items a) (body_items b) [] [] (body_is a h.1) v (append-nil (bytes_of (body_items a)) ∙ same.1 ∙ sym (append-nil (bytes_of (body_items b)))) in
+    ap (λ (z : ℤ). frame.Ask z a) head.0 ∙ ap (λ (c : Ask). frame.Ask id c) (body_apart a b op body.0)
+
+-- what is sent is read
+pub ask_only : (src : List ℕ) (answer : Result ClientFrame ItemFault) → IfOk answer (λ f. IsLater f × IsSent f × (src ≡ payload f)) → IfErr answer (λ e. IsTold (IsAskFault src) e)
+    → (f : ClientFrame) → IsLater f → IsSent f → src ≡ payload f → IsReadAs f answer
+unfolding IsTold
+ask_only src (Ok g) found fault f first sent e = ask_injective g f found.0 first found.1 sent (sym found.2 ∙ e)
+ask_only src (Err x) found fault f first sent e = elim fault [ inl m ↦ m | inr k ↦ absurd (ask_excludes f k.0 x.reason first sent (subst (λ (b : List ℕ). IsAskFault b k.0 x.reason) e k.1)) ]

@@ -1,0 +1,342 @@
+-- The fault of a request over its openings is the one of the reader's cases.
+use Rattle.std.proofs.Common.{◌≡◌, ℕ, ◌+◌, ◌⊎◌, inl, inr, Bool, List, [], ◌∷◌, ◌++◌, length, map, refl, sym, ap, subst, ◌∙◌, append_assoc, arith}
+use Rattle.std.specs.Prelude.{ℤ, pos, negsuc, ◌≢◌, ◌↔◌}
+use Rattle.std.proofs.lemmas.Int.{ints}
+use Rattle.std.proofs.lemmas.List.{append-nil, length-append, append_cancel_left, map-append}
+use Rattle.zk_jute.specs.declared.fault.Reason.{Reason}
+use Rattle.zk_jute.specs.declared.fault.Reason.TheVariants.{Trailing, BadPart}
+use Rattle.zk_jute.specs.Item.{Kind, Int, Boolean, Item, AnInt, ALong, ABoolean, AUstring, ABuffer, ACount, kind_of, bytes_of, HaveBytes}
+use Rattle.zk_jute.specs.Layout.{Layout, End, One, IsValueOf, ◌then◌}
+use Rattle.zk_jute.specs.Apart.{cons_is, unfolds_only}
+use Rattle.zk_jute.specs.Faults.{Begins, IsNext, IsBad, IsFault, Opens}
+use Rattle.zk_jute.proofs.Layouts.{bytes_both, have_parts}
+use Rattle.zk_records.specs.Records.{multi_header}
+use Rattle.zk_records.specs.declared.header.MultiHeader.{MultiHeader}
+use Rattle.zk_records.specs.declared.op.Op.{Op}
+use Rattle.zk_records.specs.declared.op.Op.TheVariants as ops
+use Rattle.zk_records.specs.declared.op.PartOp.{PartOp}
+use Rattle.zk_records.specs.Codes.{op_number}
+use Rattle.zk_asks.specs.Codes.{IsAllowed}
+use Rattle.zk_asks.specs.Forms.{part_layout, part_header, end_header, MayStand, marked, header_items, Body, Fields, Parts, body_of}
+use Rattle.zk_asks.specs.Faults.{IsMultiFault, in_mark, bad_mark, in_part, behind_part, IsFaultOf, IsBodyFault, IsAskFault, in_header, unknown_op, bad_xid, in_body, behind_body}
+use Rattle.zk_asks.specs.Openings.{AreParts, no_part, one_more, AreHeaded, last, a_part_before, IsHeaded, IsRequest, IsRequested, IsOpeningFault, of_header, of_type, of_xid, of_item, of_part, of_rest}
+use Rattle.zk_asks.proofs.Openings.{cut, NextIs, next_follows, goes_on, behind_front, drop_front}
+use Rattle.zk_asks.proofs.Parts.{mark_is}
+use Rattle.zk_asks.proofs.Parted.{op_same, not_end, end_bytes, mark_bytes, part_mark}
+
+-- ---- a multi's header
+
+int_is : (i : Item) → kind_of i ≡ Int → (n : ℤ) × (i ≡ AnInt n)
+int_is (AnInt n) e = (n, refl)
+int_is (ALong n) e = absurd cc
+int_is (ABoolean b) e = absurd cc
+int_is (AUstring t) e = absurd cc
+int_is (ABuffer b) e = absurd cc
+int_is (ACount n) e = absurd cc
+
+boolean_is : (i : Item) → kind_of i ≡ Boolean → (b : Bool) × (i ≡ ABoolean b)
+boolean_is (AnInt n) e = absurd cc
+boolean_is (ALong n) e = absurd cc
+boolean_is (ABoolean b) e = (b, refl)
+boolean_is (AUstring t) e = absurd cc
+boolean_is (ABuffer b) e = absurd cc
+boolean_is (ACount n) e = absurd cc
+
+pub mark_shape : (items : List Item) → IsValueOf multi_header.layout items → (h : MultiHeader) × (items ≡ marked h)
+unfolding ◌then◌
+mark_shape items v =
+    let a = v.0 in
+    let b = a.3 in
+    let c = b.3 in
+    let kind = int_is a.0 a.2 in
+    let done = boolean_is b.0 b.2 in
+    let error = int_is c.0 c.2 in
+    let h : MultiHeader = record { kind = kind.0; done = done.0; err = error.0 } in
+    let e1 = a.4 in
+    let e2 = b.4 in
+    let e3 = c.4 in
+    let e4 = c.3 in
+    let e5 = kind.1 in
+    let e6 = done.1 in
+    let e7 = error.1 in
+    (h, cc)
+
+-- a header of the same first numbers that stands before no part
+pub loose : MultiHeader → MultiHeader
+loose h = record { kind = h.kind; done = h.done; err = pos 0 }
+
+pub loose_begins : (o : List Item) (i : Item) (m : List Item) (h : MultiHeader) → o ++ (i ∷ m) ≡ marked h → (more : List Item) × (marked (loose h) ≡ o ++ more)
+unfolding loose
+loose_begins [] i m h e = (marked (loose h), refl)
+loose_begins (x ∷ []) i m h e = let same : AnInt h.kind ≡ x = cc in (ABoolean h.done ∷ AnInt (pos 0) ∷ [], ap (λ (z : Item). z ∷ ABoolean h.done ∷ AnInt (pos 0) ∷ []) same)
+loose_begins (x ∷ y ∷ []) i m h e =
+    let same : AnInt h.kind ≡ x = cc in
+    let other : ABoolean h.done ≡ y = cc in
+    (AnInt (pos 0) ∷ [], ap (λ (z : Item). z ∷ ABoolean h.done ∷ AnInt (pos 0) ∷ []) same ∙ ap (λ (z : Item). x ∷ z ∷ AnInt (pos 0) ∷ []) other)
+loose_begins (x ∷ y ∷ z ∷ o) i m h e = absurd (omega (arith, ap length e, length-append o (i ∷ m)))
+
+loose_headed : (h : MultiHeader) → HaveBytes (marked h) → AreHeaded (marked (loose h))
+unfolding loose
+loose_headed h have = last (loose h) (have.0, (tt, (omega (arith, ints), tt))) (λ op e. let wrong : pos 0 ≡ negsuc 0 = ap (λ (x : MultiHeader). x.err) e in absurd cc)
+
+-- the kinds of a header's items
+pub kinds_same : (a b : MultiHeader) → map kind_of (marked a) ≡ map kind_of (marked b)
+kinds_same a b = refl
+
+-- ---- the cases of the reader, over openings
+
+ending : AreHeaded (marked end_header)
+ending = last end_header end_bytes (λ op e. not_end op (sym e))
+
+next_mark : (o m : List Item) (k : Kind) → IsValueOf multi_header.layout (o ++ m) → IsNext (IsValueOf multi_header.layout) o k → {items : List Item} → AreHeaded items → (more : List Item) → items ≡ o ++ more → NextIs more k
+next_mark o m k v next (last h have not) more e = next more (subst (IsValueOf multi_header.layout) e (mark_is h have))
+next_mark o m k v next (a_part_before op part others w rest) more e = next_follows multi_header.layout o m k v next (marked (part_header op)) (part ++ others) more (part_mark op) (sym e)
+
+not_last : (h : MultiHeader) (op : PartOp) (rest : List Item) → marked h ≡ marked (part_header op) ++ rest → h ≡ part_header op
+not_last h op rest e =
+    let same = unfolds_only multi_header.layout (marked h) (marked (part_header op)) [] rest (multi_header.unfolds h) (multi_header.unfolds (part_header op)) (append-nil (marked h) ∙ e) in
+    multi_header.tells_apart h (part_header op) same.0
+
+mark_same : (a b : PartOp) (x y : List Item) → marked (part_header a) ++ x ≡ marked (part_header b) ++ y → (a ≡ b) × (x ≡ y)
+mark_same a b x y e =
+    let same = unfolds_only multi_header.layout (marked (part_header a)) (marked (part_header b)) x y (multi_header.unfolds (part_header a)) (multi_header.unfolds (part_header b)) e in
+    (op_same a b (multi_header.tells_apart (part_header a) (part_header b) same.0), same.1)
+
+next_part : (op : PartOp) (o m : List Item) (k : Kind) → IsValueOf (part_layout op) (o ++ m) → IsNext (IsValueOf (part_layout op)) o k
+    → {items : List Item} → AreHeaded items → (more : List Item) → items ≡ marked (part_header op) ++ (o ++ more) → NextIs more k
+next_part op o m k v next (last h have not) more e = absurd (not op (not_last h op (o ++ more) e))
+next_part op o m k v next (a_part_before po part others w rest) more e =
+    let same = mark_same po op (part ++ others) (o ++ more) e in
+    next_follows (part_layout op) o m k v next part others more (subst (λ (x : PartOp). IsValueOf (part_layout x) part) same.0 w) (sym same.1)
+
+next_behind : (op : PartOp) (front o : List Item) (k : Kind) → IsValueOf (part_layout op) front → IsNext AreHeaded o k
+    → {items : List Item} → AreHeaded items → (more : List Item) → items ≡ marked (part_header op) ++ (front ++ (o ++ more)) → NextIs more k
+next_behind op front o k v next (last h have not) more e = absurd (not op (not_last h op (front ++ (o ++ more)) e))
+next_behind op front o k v next (a_part_before po part others w rest) more e =
+    let same = mark_same po op (part ++ others) (front ++ (o ++ more)) e in
+    let u : IsValueOf (part_layout op) part = subst (λ (x : PartOp). IsValueOf (part_layout x) part) same.0 w in
+    let inside = unfolds_only (part_layout op) part front others (o ++ more) u.0 v.0 same.1 in
+    next more (subst AreHeaded inside.1 rest)
+
+-- a whole header that may not stand where it does
+abbrev BadAt : List ℕ → ℕ → Reason → Type 0
+BadAt bytes p r = (parts : List Item) × (h : MultiHeader) × (rest : List ℕ) × AreParts parts × HaveBytes (marked h) × (MayStand h → ⊥) × Opens bytes (parts ++ marked h) rest × (p ≡ length (bytes_of parts)) × (r ≡ BadPart)
+
+bad_behind : (op : PartOp) (part : List Item) (bytes rest : List ℕ) (q : ℕ) (r : Reason) → IsValueOf (part_layout op) part → Opens bytes (marked (part_header op) ++ part) rest → BadAt rest q r → BadAt bytes (length (bytes_of (marked (part_header op) ++ part)) + q) r
+bad_behind op part bytes rest q r v e b =
+    let mark = marked (part_header op) in
+    let parts = b.0 in
+    let h = b.1 in
+    let at = b.7 in
+    let group : mark ++ (part ++ parts) ≡ (mark ++ part) ++ parts = sym (append_assoc mark part parts) in
+    let split : bytes ≡ bytes_of ((mark ++ (part ++ parts)) ++ marked h) ++ b.2 =
+        e ∙ ap (λ (x : List ℕ). bytes_of (mark ++ part) ++ x) b.6 ∙ sym (append_assoc (bytes_of (mark ++ part)) (bytes_of (parts ++ marked h)) b.2)
+        ∙ ap (λ (x : List ℕ). x ++ b.2) (sym (bytes_both (mark ++ part) (parts ++ marked h)) ∙ ap bytes_of (sym (append_assoc (mark ++ part) parts (marked h)) ∙ ap (λ (x : List Item). x ++ marked h) (sym group))) in
+    let place : length (bytes_of (mark ++ part)) + q ≡ length (bytes_of (mark ++ (part ++ parts))) = omega (arith, ap (λ (x : List Item). length (bytes_of x)) group, ap length (bytes_both (mark ++ part) parts), length-append (bytes_of (mark ++ part)) (bytes_of parts)) in
+    (mark ++ (part ++ parts), h, b.2, one_more op part parts v b.3, b.4, b.5, split, place, b.8)
+
+pub multi_opened : {bytes : List ℕ} {p : ℕ} {r : Reason} → IsMultiFault bytes p r → IsFault AreHeaded bytes p r ⊎ BadAt bytes p r
+multi_opened (in_mark bytes p r f) =
+    let same : 0 + p ≡ p = omega arith in
+    inl (subst (λ (q : ℕ). IsFault AreHeaded bytes q r) same
+    (behind_front (IsValueOf multi_header.layout) AreHeaded [] bytes bytes p r refl
+    (λ o m k v next.
+      let s = mark_shape (o ++ m) v in
+      let n = next m v in
+      let c = loose_begins o n.0 n.1 s.0 (ap (λ (x : List Item). o ++ x) (sym n.2) ∙ s.1) in
+      ((c.0, subst AreHeaded c.1 (loose_headed s.0 (subst HaveBytes s.1 v.1))), λ more w. next_mark o m k v next w more refl))
+    f))
+multi_opened (bad_mark bytes rest h have e not) = inr ([], h, rest, no_part, have, not, e, refl, refl)
+multi_opened (in_part bytes rest op q r e f) =
+    let mark = marked (part_header op) in
+    inl (behind_front (IsValueOf (part_layout op)) AreHeaded mark bytes rest q r e
+    (λ o m k v next.
+      let group : mark ++ ((o ++ m) ++ marked end_header) ≡ (mark ++ o) ++ (m ++ marked end_header) = ap (λ (x : List Item). mark ++ x) (append_assoc o m (marked end_header)) ∙ sym (append_assoc mark o (m ++ marked end_header)) in
+      ((m ++ marked end_header, subst AreHeaded group (a_part_before op (o ++ m) (marked end_header) v ending)), λ more w. next_part op o m k v next w more (append_assoc mark o more)))
+    f)
+multi_opened (behind_part bytes rest op part q r v e f) =
+    let mark = marked (part_header op) in
+    elim (multi_opened f) [
+      | inl g ↦ inl (behind_front AreHeaded AreHeaded (mark ++ part) bytes rest q r e
+        (λ o m k w next.
+          let group : (more : List Item) → ((mark ++ part) ++ o) ++ more ≡ mark ++ (part ++ (o ++ more)) = λ more. append_assoc (mark ++ part) o more ∙ append_assoc mark part (o ++ more) in
+          ((m, subst AreHeaded (sym (group m)) (a_part_before op part (o ++ m) v w)), λ more u. next_behind op part o k v next u more (group more)))
+        g)
+      | inr b ↦ inr (bad_behind op part bytes rest q r v e b)
+    ]
+
+-- ---- openings, by the cases of the reader
+
+pub first_kind : (more : List Item) (k : Kind) (ks : List Kind) (n : Kind) → map kind_of more ≡ k ∷ ks → k ≡ n → NextIs more n
+first_kind [] k ks n e same = absurd cc
+first_kind (j ∷ js) k ks n e same = let one : kind_of j ≡ k = cc in (j, js, refl, one ∙ same)
+
+-- within a header, whatever its numbers are
+within_mark : (h : MultiHeader) (o : List Item) (i : Item) (m : List Item) → HaveBytes (marked h) → marked h ≡ o ++ (i ∷ m) → (bytes rest : List ℕ) → Opens bytes o rest → (k : Kind) → kind_of i ≡ k → (far : ℕ) (r : Reason) → IsBad k rest r far
+    → IsMultiFault bytes (length (bytes_of o) + far) r
+within_mark h o i m have e bytes rest opens k kind far r bad =
+    in_mark bytes (length (bytes_of o) + far) r (record {
+      opening = o;
+      rest = rest;
+      begins = (i ∷ m, subst (IsValueOf multi_header.layout) e (mark_is h have));
+      splits = opens;
+      next = k;
+      is_next = λ more v.
+        let s = mark_shape (o ++ more) v in
+        let kinds : map kind_of more ≡ kind_of i ∷ map kind_of m =
+            append_cancel_left (map kind_of o) (map kind_of more) (kind_of i ∷ map kind_of m)
+            (sym (map-append kind_of o more) ∙ ap (map kind_of) s.1 ∙ kinds_same s.0 h ∙ ap (map kind_of) e ∙ map-append kind_of o (i ∷ m)) in
+        first_kind more (kind_of i) (map kind_of m) k kinds kind;
+      behind = far;
+      bad = bad;
+      at = refl;
+    })
+
+-- an opening within a part's record, which goes on
+within_part : (op : PartOp) (o : List Item) (i : Item) (m : List Item) → IsValueOf (part_layout op) (o ++ (i ∷ m)) → (bytes rest : List ℕ) → Opens bytes (marked (part_header op) ++ o) rest
+    → (k : Kind) → IsNext AreHeaded (marked (part_header op) ++ o) k → (far : ℕ) (r : Reason) → IsBad k rest r far → IsMultiFault bytes (length (bytes_of (marked (part_header op) ++ o)) + far) r
+within_part op o i m v bytes rest opens k next far r bad =
+    let mark = marked (part_header op) in
+    let behind_mark : List ℕ = bytes_of o ++ rest in
+    let split : bytes ≡ bytes_of mark ++ behind_mark = opens ∙ ap (λ (x : List ℕ). x ++ rest) (bytes_both mark o) ∙ append_assoc (bytes_of mark) (bytes_of o) rest in
+    let place : length (bytes_of mark) + (length (bytes_of o) + far) ≡ length (bytes_of (mark ++ o)) + far = omega (arith, ap length (bytes_both mark o), length-append (bytes_of mark) (bytes_of o)) in
+    subst (λ (p : ℕ). IsMultiFault bytes p r) place
+    (in_part bytes behind_mark op (length (bytes_of o) + far) r split (record {
+      opening = o;
+      rest = rest;
+      begins = (i ∷ m, v);
+      splits = refl;
+      next = k;
+      is_next = λ more w.
+        let group : mark ++ ((o ++ more) ++ marked end_header) ≡ (mark ++ o) ++ (more ++ marked end_header) = ap (λ (x : List Item). mark ++ x) (append_assoc o more (marked end_header)) ∙ sym (append_assoc mark o (more ++ marked end_header)) in
+        let n = next (more ++ marked end_header) (subst AreHeaded group (a_part_before op (o ++ more) (marked end_header) w ending)) in
+        goes_on (part_layout op) o i m more (marked end_header) k v w n;
+      behind = far;
+      bad = bad;
+      at = refl;
+    }))
+
+-- a fault over openings is one of the cases
+back : {items : List Item} → AreHeaded items → (o more : List Item) → items ≡ o ++ more → (bytes rest : List ℕ) → Opens bytes o rest → (k : Kind) → IsNext AreHeaded o k → (far : ℕ) (r : Reason) → IsBad k rest r far
+    → IsMultiFault bytes (length (bytes_of o) + far) r
+back (last h have not) o more e bytes rest opens k next far r bad =
+    let n = next more (subst AreHeaded e (last h have not)) in
+    within_mark h o n.0 n.1 have (e ∙ ap (λ (x : List Item). o ++ x) n.2) bytes rest opens k n.3 far r bad
+back (a_part_before op part others v w) o more e bytes rest opens k next far r bad =
+    let mark = marked (part_header op) in
+    elim (cut o more mark (part ++ others) (sym e)) [
+      | inl c ↦
+          let n = next more (subst AreHeaded e (a_part_before op part others v w)) in
+          let same = cons_is c.0 n.0 (c.1 ++ (part ++ others)) n.1 (sym c.3 ∙ n.2) in
+          within_mark (part_header op) o c.0 c.1 (mark_bytes op) c.2 bytes rest opens k (ap kind_of same.0 ∙ n.3) far r bad
+      | inr c ↦
+          let m = c.0 in
+          let opens2 : Opens bytes (mark ++ m) rest = subst (λ (x : List Item). Opens bytes x rest) c.1 opens in
+          let next2 : IsNext AreHeaded (mark ++ m) k = subst (λ (x : List Item). IsNext AreHeaded x k) c.1 next in
+          let result : IsMultiFault bytes (length (bytes_of (mark ++ m)) + far) r = elim (cut m more part others (sym c.2)) [
+            | inl d ↦ within_part op m d.0 d.1 (subst (IsValueOf (part_layout op)) d.2 v) bytes rest opens2 k next2 far r bad
+            | inr d ↦
+                let o2 = d.0 in
+                let group : (x : List Item) → (mark ++ m) ++ x ≡ mark ++ (part ++ (o2 ++ x)) = λ x. ap (λ (y : List Item). (mark ++ y) ++ x) d.1 ∙ append_assoc mark (part ++ o2) x ∙ ap (λ (y : List Item). mark ++ y) (append_assoc part o2 x) in
+                let both : mark ++ m ≡ (mark ++ part) ++ o2 = ap (λ (y : List Item). mark ++ y) d.1 ∙ sym (append_assoc mark part o2) in
+                let later = back w o2 more d.2 (bytes_of o2 ++ rest) rest refl k (λ x u. next2 x (subst AreHeaded (sym (group x)) (a_part_before op part (o2 ++ x) v u))) far r bad in
+                let split : bytes ≡ bytes_of (mark ++ part) ++ (bytes_of o2 ++ rest) = opens2 ∙ ap (λ (y : List Item). bytes_of y ++ rest) both ∙ ap (λ (y : List ℕ). y ++ rest) (bytes_both (mark ++ part) o2) ∙ append_assoc (bytes_of (mark ++ part)) (bytes_of o2) rest in
+                let place : length (bytes_of (mark ++ part)) + (length (bytes_of o2) + far) ≡ length (bytes_of (mark ++ m)) + far = omega (arith, ap (λ (y : List Item). length (bytes_of y)) both, ap length (bytes_both (mark ++ part) o2), length-append (bytes_of (mark ++ part)) (bytes_of o2)) in
+                subst (λ (p : ℕ). IsMultiFault bytes p r) place (behind_part bytes (bytes_of o2 ++ rest) op part (length (bytes_of o2) + far) r v split later)
+          ] in
+          subst (λ (x : List Item). IsMultiFault bytes (length (bytes_of x) + far) r) (sym c.1) result
+    ]
+
+pub multi_cased : (bytes : List ℕ) (p : ℕ) (r : Reason) → IsFault AreHeaded bytes p r → IsMultiFault bytes p r
+multi_cased bytes p r f = subst (λ (q : ℕ). IsMultiFault bytes q r) (sym f.at) (back f.begins.1 f.opening f.begins.0 refl bytes f.rest f.splits f.next f.is_next f.behind r f.bad)
+
+pub bad_cased : {parts : List Item} → AreParts parts → (h : MultiHeader) → HaveBytes (marked h) → (MayStand h → ⊥) → (bytes rest : List ℕ) → Opens bytes (parts ++ marked h) rest → IsMultiFault bytes (length (bytes_of parts)) BadPart
+bad_cased no_part h have not bytes rest e = bad_mark bytes rest h have e not
+bad_cased (one_more op part others v w) h have not bytes rest e =
+    let mark = marked (part_header op) in
+    let left = bytes_of (others ++ marked h) ++ rest in
+    let group : (mark ++ (part ++ others)) ++ marked h ≡ (mark ++ part) ++ (others ++ marked h) = ap (λ (x : List Item). x ++ marked h) (sym (append_assoc mark part others)) ∙ append_assoc (mark ++ part) others (marked h) in
+    let split : bytes ≡ bytes_of (mark ++ part) ++ left = e ∙ ap (λ (x : List Item). bytes_of x ++ rest) group ∙ ap (λ (x : List ℕ). x ++ rest) (bytes_both (mark ++ part) (others ++ marked h)) ∙ append_assoc (bytes_of (mark ++ part)) (bytes_of (others ++ marked h)) rest in
+    let later = bad_cased w h have not left rest refl in
+    let place : length (bytes_of (mark ++ part)) + length (bytes_of others) ≡ length (bytes_of (mark ++ (part ++ others))) = omega (arith, ap (λ (x : List Item). length (bytes_of x)) (sym (append_assoc mark part others)), ap length (bytes_both (mark ++ part) others), length-append (bytes_of (mark ++ part)) (bytes_of others)) in
+    subst (λ (p : ℕ). IsMultiFault bytes p BadPart) place (behind_part bytes left op part (length (bytes_of others)) BadPart v split later)
+
+-- ---- requests
+
+-- a multi's parts are those of a multi alone
+of_multi : (op : Op) → body_of op ≡ Parts → op ≡ ops.Multi
+of_multi ops.Create e = absurd cc
+of_multi ops.Delete e = absurd cc
+of_multi ops.Exists e = absurd cc
+of_multi ops.GetData e = absurd cc
+of_multi ops.SetData e = absurd cc
+of_multi ops.GetAcl e = absurd cc
+of_multi ops.SetAcl e = absurd cc
+of_multi ops.GetChildren e = absurd cc
+of_multi ops.Sync e = absurd cc
+of_multi ops.Ping e = absurd cc
+of_multi ops.GetChildren2 e = absurd cc
+of_multi ops.Multi e = refl
+of_multi ops.Auth e = absurd cc
+of_multi ops.SetWatches e = absurd cc
+of_multi ops.CloseSession e = absurd cc
+
+body_opened : (b : Body) (bytes : List ℕ) (p : ℕ) (r : Reason) → IsFaultOf b bytes p r → IsFault (IsHeaded b) bytes p r ⊎ ((b ≡ Parts) × BadAt bytes p r)
+body_opened (Fields l) bytes p r f = inl f
+body_opened Parts bytes p r f = elim (multi_opened f) [ inl g ↦ inl g | inr g ↦ inr (refl, g) ]
+
+body_cased : (b : Body) (bytes : List ℕ) (p : ℕ) (r : Reason) → IsFault (IsHeaded b) bytes p r → IsFaultOf b bytes p r
+body_cased (Fields l) bytes p r f = f
+body_cased Parts bytes p r f = multi_cased bytes p r f
+
+request_opened : (xid : ℤ) (op : Op) (bytes rest : List ℕ) (q : ℕ) (r : Reason) → Opens bytes (header_items xid (op_number op)) rest → IsFault (IsHeaded (body_of op)) rest q r → IsFault (IsRequest xid op) bytes (8 + q) r
+request_opened xid op bytes rest q r e f =
+    let front = header_items xid (op_number op) in
+    behind_front (IsHeaded (body_of op)) (IsRequest xid op) front bytes rest q r e
+    (λ o m k v next. ((m, (o ++ m, v, append_assoc front o m)), λ more w.
+      let same : w.0 ≡ o ++ more = append_cancel_left front w.0 (o ++ more) (sym w.2 ∙ append_assoc front o more) in
+      next more (subst (IsHeaded (body_of op)) same w.1)))
+    f
+
+part_opened : (xid : ℤ) (bytes rest : List ℕ) (q : ℕ) (r : Reason) → IsRequested xid ops.Multi bytes → Opens bytes (header_items xid (op_number ops.Multi)) rest → BadAt rest q r → IsOpeningFault bytes (8 + q) r
+part_opened xid bytes rest q r requested e b =
+    let front = header_items xid (op_number ops.Multi) in
+    let parts = b.0 in
+    let h = b.1 in
+    let at = b.7 in
+    let place : length (bytes_of (front ++ parts)) ≡ 8 + q = omega (arith, ap length (bytes_both front parts), length-append (bytes_of front) (bytes_of parts)) in
+    let split : bytes ≡ bytes_of (front ++ (parts ++ marked h)) ++ b.2 = e ∙ ap (λ (x : List ℕ). bytes_of front ++ x) b.6 ∙ sym (append_assoc (bytes_of front) (bytes_of (parts ++ marked h)) b.2) ∙ ap (λ (x : List ℕ). x ++ b.2) (sym (bytes_both front (parts ++ marked h))) in
+    let one = of_part bytes b.2 xid parts h requested b.3 b.4 b.5 split in
+    let two : IsOpeningFault bytes (8 + q) BadPart = subst (λ (p : ℕ). IsOpeningFault bytes p BadPart) place one in
+    subst (λ (x : Reason). IsOpeningFault bytes (8 + q) x) (sym b.8) two
+
+pub opened : {bytes : List ℕ} {p : ℕ} {r : Reason} → IsAskFault bytes p r → IsOpeningFault bytes p r
+opened (in_header bytes p r f) = of_header bytes p r f
+opened (unknown_op bytes rest xid kind have e unknown) = of_type bytes rest xid kind have e unknown
+opened (bad_xid bytes rest xid op have e not) = of_xid bytes rest xid op have e not
+opened (in_body bytes rest xid op q r have e may f) =
+    elim (body_opened (body_of op) rest q r f) [
+      | inl g ↦ of_item bytes xid op (8 + q) r (rest, have, e, may) (request_opened xid op bytes rest q r e g)
+      | inr g ↦
+          let multi = of_multi op g.0 in
+          let requested : IsRequested xid ops.Multi bytes = subst (λ (o : Op). IsRequested xid o bytes) multi (rest, have, e, may) in
+          part_opened xid bytes rest q r requested (subst (λ (o : Op). Opens bytes (header_items xid (op_number o)) rest) multi e) g.1
+    ]
+opened (behind_body bytes p t) = of_rest bytes p t
+
+pub cased : {bytes : List ℕ} {p : ℕ} {r : Reason} → IsOpeningFault bytes p r → IsAskFault bytes p r
+cased (of_header bytes p r f) = in_header bytes p r f
+cased (of_type bytes rest xid kind have e unknown) = unknown_op bytes rest xid kind have e unknown
+cased (of_xid bytes rest xid op have e not) = bad_xid bytes rest xid op have e not
+cased (of_item bytes xid op p r q f) =
+    let front = header_items xid (op_number op) in
+    let d = drop_front (IsHeaded (body_of op)) front q.1 bytes q.0 p r q.2 f in
+    subst (λ (x : ℕ). IsAskFault bytes x r) (sym d.1) (in_body bytes q.0 xid op d.0 r q.1 q.2 q.3 (body_cased (body_of op) q.0 d.0 r d.2))
+cased (of_part bytes rest xid parts h q are have not e) =
+    let front = header_items xid (op_number ops.Multi) in
+    let split : bytes_of (front ++ (parts ++ marked h)) ++ rest ≡ bytes_of front ++ (bytes_of (parts ++ marked h) ++ rest) = ap (λ (x : List ℕ). x ++ rest) (bytes_both front (parts ++ marked h)) ∙ append_assoc (bytes_of front) (bytes_of (parts ++ marked h)) rest in
+    let left : q.0 ≡ bytes_of (parts ++ marked h) ++ rest = append_cancel_left (bytes_of front) q.0 (bytes_of (parts ++ marked h) ++ rest) (sym q.2 ∙ e ∙ split) in
+    let inner = bad_cased are h have not q.0 rest left in
+    let place : 8 + length (bytes_of parts) ≡ length (bytes_of (front ++ parts)) = omega (arith, ap length (bytes_both front parts), length-append (bytes_of front) (bytes_of parts)) in
+    subst (λ (x : ℕ). IsAskFault bytes x BadPart) place (in_body bytes q.0 xid ops.Multi (length (bytes_of parts)) BadPart q.1 q.2 q.3 inner)
+cased (of_rest bytes p t) = behind_body bytes p t

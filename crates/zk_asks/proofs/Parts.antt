@@ -1,0 +1,101 @@
+-- Multi: what the loop refuses, and that it is what the parts' forms fix.
+use Rattle.std.proofs.Common.{◌≡◌, ℕ, ◌+◌, inl, inr, List, [], ◌∷◌, ◌++◌, length, drop, sym, ap, subst, ◌∙◌, append_assoc, arith}
+use Rattle.std.specs.List.{flat_map}
+use Rattle.std.proofs.lemmas.List.{length-append}
+use Rattle.zk_jute.specs.declared.fault.ItemFault.{ItemFault}
+use Rattle.zk_jute.specs.declared.fault.Reason.{Reason}
+use Rattle.zk_jute.specs.declared.fault.Reason.TheVariants.{BadPart}
+use Rattle.zk_jute.specs.Item.{bytes_of, HaveBytes}
+use Rattle.zk_jute.specs.Layout.{IsValueOf, Unfolds}
+use Rattle.zk_jute.specs.Reading.{told_place, no_memory}
+use Rattle.zk_jute.specs.Told.{StandsAt, IsToldFault}
+use Rattle.zk_jute.proofs.Layouts.{bytes_both, have_parts}
+use Rattle.zk_records.specs.Records.{multi_header, create_ask, delete_ask, set_data_ask, check_ask}
+use Rattle.zk_records.specs.declared.header.MultiHeader.{MultiHeader}
+use Rattle.zk_records.specs.declared.op.PartOp.{PartOp}
+use Rattle.zk_asks.specs.declared.frame.Part.{Part}
+use Rattle.zk_asks.specs.declared.frame.Part.TheVariants as part
+use Rattle.zk_asks.specs.Forms.{part_layout, part_header, end_header, marked, MayStand, IsMulti, no_more, a_part}
+use Rattle.zk_asks.specs.Faults.{IsMultiFault, in_mark, bad_mark, in_part, behind_part}
+use Rattle.zk_asks.specs.Frames.{record_of, op_of_part, part_items, multi_items}
+use Rattle.zk_jute.specs.Told.{IsToldAt}
+
+-- ---- a part
+
+pub record_is : (p : Part) → Unfolds (part_layout (op_of_part p)) (record_of p)
+record_is (part.Create a) = create_ask.unfolds a
+record_is (part.Delete a) = delete_ask.unfolds a
+record_is (part.SetData a) = set_data_ask.unfolds a
+record_is (part.Check a) = check_ask.unfolds a
+
+pub mark_is : (h : MultiHeader) → HaveBytes (marked h) → IsValueOf multi_header.layout (marked h)
+mark_is h have = (multi_header.unfolds h, have)
+
+-- ---- what the loop refuses
+
+-- a fault behind whole parts
+past : (ps : List Part) (rest : List ℕ) (behind : ℕ) (reason : Reason) → HaveBytes (flat_map part_items ps) → IsMultiFault rest behind reason
+    → IsMultiFault (bytes_of (flat_map part_items ps) ++ rest) (length (bytes_of (flat_map part_items ps)) + behind) reason
+past [] rest behind reason have f = let same : 0 + behind ≡ behind = omega arith in subst (λ (p : ℕ). IsMultiFault rest p reason) (sym same) f
+past (p ∷ ps) rest behind reason have f =
+    let others = flat_map part_items ps in
+    let h = have_parts (part_items p) others have in
+    let k = have_parts (marked (part_header (op_of_part p))) (record_of p) h.0 in
+    let later = past ps rest behind reason h.1 f in
+    let split : bytes_of (part_items p ++ others) ++ rest ≡ bytes_of (part_items p) ++ (bytes_of others ++ rest) = ap (λ (b : List ℕ). b ++ rest) (bytes_both (part_items p) others) ∙ append_assoc (bytes_of (part_items p)) (bytes_of others) rest in
+    let place : length (bytes_of (part_items p)) + (length (bytes_of others) + behind) ≡ length (bytes_of (part_items p ++ others)) + behind = omega (arith, ap length (bytes_both (part_items p) others), length-append (bytes_of (part_items p)) (bytes_of others)) in
+    subst (λ (n : ℕ). IsMultiFault (bytes_of (part_items p ++ others) ++ rest) n reason) place
+    (behind_part (bytes_of (part_items p ++ others) ++ rest) (bytes_of others ++ rest) (op_of_part p) (record_of p) (length (bytes_of others) + behind) reason (record_is p, k.1) split later)
+
+module _ (ps : List Part) (src : List ℕ) (place at : ℕ) (have : HaveBytes (flat_map part_items ps)) (stands : StandsAt (flat_map part_items ps) src place at) where
+  told_past : (e : ItemFault) → IsToldAt IsMultiFault src at e → IsToldAt IsMultiFault src place e
+  unfolding IsToldAt
+  told_past e h =
+      elim h [
+        | inl m ↦ inl m
+        | inr f ↦
+            let done = bytes_of (flat_map part_items ps) in
+            let x = stands.1 in
+            let told : at + f.0 ≡ place + (length done + f.0) = omega arith in
+            inr (length done + f.0, subst (λ (b : List ℕ). IsMultiFault b (length done + f.0) e.reason) (sym stands.0) (past ps (drop at src) f.0 e.reason have f.1), f.2 ∙ ap told_place told)
+      ]
+
+  pub multi_mark : (e : ItemFault) → IsToldFault (IsValueOf multi_header.layout) src at e → IsToldAt IsMultiFault src place e
+  unfolding IsToldAt
+  multi_mark e h = told_past e (elim h [ inl m ↦ inl m | inr f ↦ inr (f.0, in_mark (drop at src) f.0 e.reason f.1, f.2) ])
+
+  pub multi_bad : (header : MultiHeader) (after : ℕ) → IsValueOf multi_header.layout (marked header) → StandsAt (marked header) src at after → (MayStand header → ⊥)
+      → IsToldAt IsMultiFault src place (record { place = told_place at; reason = BadPart })
+  unfolding IsToldAt
+  multi_bad header after v s not =
+      let same : at ≡ at + 0 = omega arith in
+      told_past (record { place = told_place at; reason = BadPart }) (inr (0, bad_mark (drop at src) (drop after src) header v.1 s.0 not, ap told_place same))
+
+  pub multi_part : (header : MultiHeader) (op : PartOp) (after : ℕ) (e : ItemFault) → StandsAt (marked header) src at after → header ≡ part_header op → IsToldFault (IsValueOf (part_layout op)) src after e
+      → IsToldAt IsMultiFault src place e
+  unfolding IsToldAt
+  multi_part header op after e s is h =
+      told_past e (elim h [
+        | inl m ↦ inl m
+        | inr f ↦
+            let t : StandsAt (marked (part_header op)) src at after = subst (λ (x : MultiHeader). StandsAt (marked x) src at after) is s in
+            let x = t.1 in
+            let n = length (bytes_of (marked (part_header op))) in
+            let told : after + f.0 ≡ at + (n + f.0) = omega arith in
+            inr (n + f.0, in_part (drop at src) (drop after src) op f.0 e.reason t.0 f.1, f.2 ∙ ap told_place told)
+      ])
+
+pub multi_memory : (src : List ℕ) (place : ℕ) (e : ItemFault) → e ≡ no_memory → IsToldAt IsMultiFault src place e
+unfolding IsToldAt
+multi_memory src place e m = inl m
+
+-- the items of parts are those of a multi
+pub multi_is : (ps : List Part) → HaveBytes (multi_items ps) → IsMulti (multi_items ps)
+multi_is [] have = no_more
+multi_is (p ∷ ps) have =
+    let others = multi_items ps in
+    let mark = marked (part_header (op_of_part p)) in
+    let regroup : multi_items (p ∷ ps) ≡ mark ++ (record_of p ++ others) = append_assoc (part_items p) (flat_map part_items ps) (marked end_header) ∙ append_assoc mark (record_of p) others in
+    let h = have_parts mark (record_of p ++ others) (subst HaveBytes regroup have) in
+    let k = have_parts (record_of p) others h.1 in
+    subst IsMulti (sym regroup) (a_part (op_of_part p) (record_of p) others (record_is p, k.0) (multi_is ps k.1))

@@ -1,0 +1,11 @@
+use Rattle.zk_asks.proofs.Later.{ask_injective, ask_excludes, ask_unique}
+use Rattle.zk_asks.proofs.laws.ask_laws.Goals as goal
+
+pub returns-clause-injective : goal.returns-clause-injective
+returns-clause-injective c = ask_injective
+
+pub returns-clause-excludes : goal.returns-clause-excludes
+returns-clause-excludes c = ask_excludes
+
+pub returns-clause-unique : goal.returns-clause-unique
+returns-clause-unique c = ask_unique

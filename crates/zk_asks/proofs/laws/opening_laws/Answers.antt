@@ -1,0 +1,10 @@
+use Rattle.zk_records.specs.Records.{connect_request}
+use Rattle.zk_asks.proofs.Flags.{flagged_opened, flagged_cased}
+use Rattle.zk_asks.proofs.Opened.{opened, cased}
+use Rattle.zk_asks.proofs.laws.opening_laws.Goals as goal
+
+pub returns-clause-first : goal.returns-clause-first
+returns-clause-first c = λ bytes place reason. (flagged_opened connect_request.layout, flagged_cased connect_request.layout)
+
+pub returns-clause-ask : goal.returns-clause-ask
+returns-clause-ask c = λ bytes place reason. (opened, cased)

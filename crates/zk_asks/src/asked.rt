@@ -1,0 +1,39 @@
+//! What a request leaves for its reply.
+ghost use Rattle.std.specs.Prelude.{◌≡◌, ◌≢◌, ◌<◌, ◌≤◌, ◌↔◌, ℕ, List, [], length, Option, Some, None};
+ghost use Rattle.std.specs.List.{slice_get};
+ghost use Rattle.zk_records.specs.declared.op.Op.{Op};
+ghost use Rattle.zk_records.specs.declared.op.Op.TheVariants as ops;
+ghost use Rattle.zk_records.specs.declared.op.PartOp.{PartOp};
+
+use zk_records::{Op, PartOp};
+
+/// The operation of a request, and the operations of its parts: what its reply is read by.
+pub trait Asked {
+    ghost operation: { Self → Op };
+
+    /// The operations of a multi's parts, in order.
+    ghost part_ops: { Self → List PartOp };
+
+    /// Which operation was asked.
+    fn op(&self) -> Op
+        ensures { result ≡ operation self.now };
+
+    /// How many parts there are.
+    fn parts(&self) -> u32
+        ensures { result ≡ length (part_ops self.now) };
+
+    /// The operation of a part, counted from 0; None past the last one.
+    fn part(&self, j: u32) -> Option<PartOp>
+        ensures { result ≡ slice_get (part_ops self.now) j };
+
+    /// Nothing but a multi has parts.
+    ghost lawful: { (x : Self) → operation x ≢ ops.Multi → part_ops x ≡ [] };
+}
+
+/// The laws of what was asked.
+pub fn asked_laws<T: Asked>()
+    // There is a part exactly below their number.
+    ensures part { (x : T) (j : ℕ) → (j < length (T.part_ops x)) ↔ ((op : PartOp) × (slice_get (T.part_ops x) j ≡ Some op)) }
+    // Their number is 0 for everything but a multi.
+    ensures none { (x : T) → T.operation x ≢ ops.Multi → length (T.part_ops x) ≡ 0 }
+{}
