@@ -1,0 +1,163 @@
+//! The frame that one direction is at.
+ghost use Rattle.std.specs.Prelude.{◌≡◌, ◌≤◌, ◌+◌, ◌-◌, ℕ, List, [], ◌++◌, length, take, drop, IfOk, IfErr, OnOk, Err};
+ghost use Rattle.zk_frames.specs.declared.frames.FrameFault.TheVariants.{LengthRange};
+ghost use Rattle.zk_frames.specs.Framing.{frame, IsCut};
+ghost use Rattle.zk_frames.specs.Held.{IsWhole, IsRefused, IsHeld, IsNow, IsLeft, IsTaken, IsRefusal, GoesOn};
+ghost use Rattle.zk_frames.specs.Advance.{left_of, IsAnswer};
+
+use crate::cutter::{Standing, cut};
+use std::alloc::Global;
+use std::marker::Model;
+
+/// What a piece gave.
+#[derive(Clone, Copy, Debug, PartialEq, Eq)]
+pub struct Took {
+    /// So many of the piece's bytes were taken.
+    pub used: usize,
+    /// The last of them made a frame whole.
+    pub whole: bool,
+}
+
+/// Why nothing more is taken.
+#[derive(Clone, Copy, Debug, PartialEq, Eq)]
+pub enum FrameFault {
+    /// A frame's length is below 0 or above the limit (ZooKeeper's `jute.maxbuffer`).
+    LengthRange,
+    /// A growth of the buffer was refused.
+    NoMemory,
+}
+
+/// The bytes of one direction's newest frame, those of its length included.
+#[derive(Drop)]
+pub struct Frames {
+    limit: u32,
+    bytes: Vec<u8>,
+    standing: Standing,
+}
+
+impl Model for Frames {
+    ghost use Rattle.zk_frames.specs.Held.{Held};
+    ghost use Rattle.zk_frames.specs.Advance.{IsSound};
+
+    ghost Value = { Held };
+
+    ghost view = { λ f. record { limit = f.limit; bytes = f.bytes.items } };
+
+    ghost invariant = { λ f. IsSound f.limit f.standing f.bytes.items };
+}
+
+impl Frames {
+    /// No bytes so far, and no payload above `limit` bytes.
+    pub fn new(alloc: Global, limit: u32) -> Self
+        requires { limit ≤ 16777216 }
+        ensures { result ≡ record { limit = limit; bytes = [] } }
+    {
+        Frames {
+            limit,
+            bytes: Vec::new(alloc),
+            standing: Standing::Open,
+        }
+    }
+
+    /// Takes the piece up to the end of the first frame that becomes whole, or all of it.
+    /// A frame that was whole before the call is given up first, whatever the answer is.
+    ///
+    /// # Errors
+    ///
+    /// `LengthRange` at the fourth byte of a length out of range: these four bytes are then held, and each later call answers so and takes nothing.
+    /// `NoMemory` where a growth was refused: no byte of the piece was taken.
+    pub fn take(&mut self, piece: &[u8]) -> Result<Took, FrameFault>
+        ensures limit { self.new.limit ≡ self.old.limit }
+        ensures now { IfOk result (λ t. IsNow t.whole self.new) }
+        ensures ready { OnOk result (IsRefused self.new → ⊥) }
+        // The shortest front of the piece that makes a frame whole, or all of it.
+        ensures ok { IfOk result (λ t. (before : List ℕ) → IsLeft self.old before → IsTaken self.old.limit before piece.now t self.new.bytes) }
+        ensures err { IfErr result (λ e. (before : List ℕ) → IsLeft self.old before → IsRefusal self.old.limit before piece.now e self.new.bytes) }
+        // A length out of range is refused for good.
+        ensures again { IsRefused self.old → (result ≡ Err LengthRange) × (self.new ≡ self.old) }
+        // The bytes that were taken are whole frames and what is held.
+        ensures stream { IfOk result (λ t. (before taken : List ℕ) (payloads : List (List ℕ)) → IsLeft self.old before → IsCut self.old.limit taken payloads before → GoesOn self.old.limit taken payloads (take t.used piece.now) t.whole self.new.bytes) }
+    {
+        if let Standing::Refused = self.standing {
+            return Err(FrameFault::LengthRange);
+        }
+        give_up(self.standing, &mut self.bytes);
+        let advance = cut(self.limit, &self.bytes, piece);
+        match self.bytes.extend_from_slice(&piece[..advance.used]) {
+            Ok(()) => {}
+            Err(_) => {
+                self.standing = Standing::Open;
+                return Err(FrameFault::NoMemory);
+            }
+        }
+        self.standing = advance.standing;
+        answer(advance.standing, advance.used)
+    }
+
+    /// What the whole frame carries.
+    pub fn payload(&self) -> &[u8]
+        requires { IsWhole self.now }
+        ensures { self.now.bytes ≡ frame result.now }
+    {
+        after_header(&self.bytes)
+    }
+
+    /// The number of bytes that are held, those of the length included.
+    pub fn held(&self) -> u32
+        ensures count { result ≡ length self.now.bytes }
+        ensures within { result ≤ 4 + self.now.limit }
+        ensures state { IsHeld self.now }
+    {
+        self.bytes.len() as u32
+    }
+
+    /// Forgets the last `count` bytes. A frame of which a byte is forgotten isn't whole any more.
+    pub fn untake(&mut self, count: u32)
+        requires taken { IsRefused self.old → ⊥ }
+        requires held { count ≤ length self.old.bytes }
+        ensures { self.new ≡ record { limit = self.old.limit; bytes = take (length self.old.bytes - count) self.old.bytes } }
+    {
+        if count == 0 {
+            return;
+        }
+        let left = self.bytes.len() - count as usize;
+        self.bytes.truncate(left);
+        self.standing = Standing::Open;
+    }
+
+    /// Gives the whole frame up.
+    pub fn drop_frame(&mut self)
+        requires { IsWhole self.old }
+        ensures { self.new ≡ record { limit = self.old.limit; bytes = [] } }
+    {
+        self.bytes.clear();
+        self.standing = Standing::Open;
+    }
+}
+
+/// Gives up a frame that is whole.
+fn give_up(standing: Standing, bytes: &mut Vec<u8>)
+    ensures { bytes.new.items ≡ left_of standing bytes.old.items }
+{
+    if let Standing::Whole = standing {
+        bytes.clear();
+    }
+}
+
+/// What a piece gave, by what is held now.
+fn answer(standing: Standing, used: usize) -> Result<Took, FrameFault>
+    ensures { IsAnswer standing used result }
+{
+    match standing {
+        Standing::Open => Ok(Took { used, whole: false }),
+        Standing::Whole => Ok(Took { used, whole: true }),
+        Standing::Refused => Err(FrameFault::LengthRange),
+    }
+}
+
+fn after_header(frame: &[u8]) -> &[u8]
+    requires { 4 ≤ length frame.now }
+    ensures { result.now ≡ drop 4 frame.now }
+{
+    &frame[4..]
+}
