@@ -9,7 +9,7 @@ use Rattle.zk_jute.specs.declared.fault.Reason.TheVariants.{Short, BadBool, BadL
 use Rattle.zk_talk.specs.declared.message.Side.{Side}
 use Rattle.zk_talk.specs.declared.message.Fault.{Fault}
 use Rattle.zk_talk.specs.declared.message.Message.{Message}
-use Rattle.zk_talk.specs.declared.message.Limits.{Limits}
+use Rattle.zk_talk.specs.declared.limits.Limits.{Limits}
 use Rattle.zk_talk.specs.History.{History, on}
 use Rattle.zk_talk.specs.Stands.{TalkState, Stands, Refuses}
 use Rattle.zk_talk.specs.Good.{Good, IsOrder}
@@ -100,7 +100,7 @@ module _ (listing : Listing) (old mid new : TalkState) (before during after : Op
       grown-whole before during (text_of listing r.0) r.2)
 
   pub rejects-later : (fault : Fault) → (fault.reason ≡ NoMemory → ⊥) → Fails mid side (drop at' bytes) fault new → Rejects listing old before (on side bytes) fault new during
-  rejects-later fault known (inl w) h messages i = absurd (known w.0)
+  rejects-later fault known (inl w) h messages i = absurd (known (ap (λ (f : Fault). f.reason) w.0))
   rejects-later fault known (inr r) h messages i =
       let b = taken h messages i in
       let joined : (h ++ on side (take at' bytes)) ++ on side (drop at' bytes) ≡ h ++ on side bytes =

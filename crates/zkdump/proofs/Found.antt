@@ -1,7 +1,7 @@
 -- What a run of reads comes to.
 use Rattle.std.proofs.Common.{◌≡◌, ℕ, List, [], ◌++◌, ◌+◌, length, Option, inl, inr, sym, ◌∙◌, ap, subst, append-nil, IfOk, OnErr}
 use Rattle.std.specs.Io.KnownBytes.{Consumes, IsAtEnd, Appends}
-use Rattle.zk_talk.specs.declared.message.Limits.{Limits}
+use Rattle.zk_talk.specs.declared.limits.Limits.{Limits}
 use Rattle.zk_talk.specs.declared.message.Message.{Message}
 use Rattle.zk_talk.specs.Stands.{TalkState}
 use Rattle.zkdump.specs.declared.recording.Stage.{Stage}

@@ -2,7 +2,7 @@
 use Rattle.std.proofs.Common.{◌≡◌, ℕ, ◌^◌, ◌<◌, List, [], Option, Some, None, refl, sym, ap, ◌∙◌, subst, arith}
 use Rattle.zk_talk.specs.declared.message.Side.{Side}
 use Rattle.zk_talk.specs.declared.message.Side.TheVariants.{Client, Server}
-use Rattle.zk_talk.specs.declared.message.Limits.{Limits}
+use Rattle.zk_talk.specs.declared.limits.Limits.{Limits}
 use Rattle.zk_talk.specs.declared.message.Fault.{Fault}
 use Rattle.zk_talk.specs.declared.message.Ending.{Ending}
 use Rattle.zk_talk.specs.declared.message.Ending.TheVariants.{Whole, Cut, Refused}
@@ -13,7 +13,7 @@ use Rattle.zk_talk.specs.Good.{Good, IsOrder}
 use Rattle.zk_talk.specs.Fault.{IsFaultOf}
 use Rattle.zk_talk.specs.Answer.{AreMessages}
 use Rattle.zk_talk.specs.Ending.{IsEnding, IsCutAt, unanswered}
-use Rattle.zk_talk.specs.Stands.{AreSmall}
+use Rattle.zk_talk.proofs.Small.{small_limits}
 use Rattle.zk_talk.proofs.FaultOnce.{same_before, answer_fault}
 use Rattle.zk_talk.proofs.Headline.{same_good}
 use Rattle.zk_talk.proofs.OrderOnce.{order_once}
@@ -22,9 +22,6 @@ use Rattle.zkdump.specs.declared.summary.Summary.{Summary}
 use Rattle.zkdump.specs.declared.summary.Summary.TheVariants.{Ended, Broken}
 use Rattle.zkdump.specs.Outcome.{ComesTo, HasMessages, IsOutcome}
 use Rattle.zkdump.specs.Recording.{Recording, history_of, damage_of}
-
-small_limits : (limits : Limits) → AreSmall limits
-small_limits limits = (omega (arith, limits.in_range), omega (arith, limits.in_range))
 
 -- one conversation ends in one place
 cut-once : (v : Conversation) (cr sr : List ℕ) (s t : Side) (n m k l : ℕ) → IsCutAt v cr sr s n k → IsCutAt v cr sr t m l → Cut s n k ≡ Cut t m l

@@ -92,9 +92,12 @@ impl Listing {
         ensures failed { IsErrOf result RunFault.Write → W.has_failed writer.new ≡ true }
         ensures no_read { result ≢ Err RunFault.Read }
     {
-        match (self, message) {
-            (Listing::All, Some(message)) => write_line(alloc, &message, writer),
-            _ => Ok(()),
+        let Some(message) = message else {
+            return Ok(());
+        };
+        match self {
+            Listing::All => write_line(alloc, &message, writer),
+            Listing::Last => Ok(()),
         }
     }
 }

@@ -76,7 +76,7 @@ fn feed<W: Sink>(
 {
     let mut at = 0;
     while at < bytes.len() {
-        let taken = match talk.take(alloc, side, rest(bytes, at)) {
+        let taken = match talk.take(side, rest(bytes, at)) {
             Ok(taken) => taken,
             Err(fault) => return Err(Stop::at(fault)),
         };

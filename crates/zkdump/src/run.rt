@@ -1,6 +1,6 @@
 //! The whole program, over a reader and two writers.
 ghost use Rattle.std.specs.Prelude.{◌≡◌, ◌^◌, ◌<◌, ◌≤◌, ◌⊎◌, false, IfOk, OnErr};
-ghost use Rattle.zk_talk.specs.declared.message.Limits.{Limits};
+ghost use Rattle.zk_talk.specs.declared.limits.Limits.{Limits};
 ghost use Rattle.zkdump.specs.declared.listing.Listing.{Listing};
 ghost use Rattle.zkdump.specs.declared.summary.Status.{Status};
 ghost use Rattle.zkdump.specs.Running.{HasListed, HasStopped};

@@ -1,6 +1,6 @@
 use Rattle.std.proofs.Common.{◌≡◌, ◌+◌, ◌≤◌, ◌-◌, ◌++◌, List, ℕ, length, take, false}
 use Rattle.std.specs.Io.KnownBytes.{Appends}
-use Rattle.zk_talk.specs.declared.message.Limits.{Limits}
+use Rattle.zk_talk.specs.declared.limits.Limits.{Limits}
 use Rattle.zk_talk.specs.declared.message.Message.{Message}
 use Rattle.zkdump.specs.Lines.{text_of}
 use Rattle.zkdump.specs.Reading.{place_of}
