@@ -1,0 +1,131 @@
+-- Each front of a good history is good.
+use Rattle.std.proofs.Common.{◌≡◌, ℕ, ◌≤◌, List, [], ◌∷◌, ◌++◌, length, refl, sym, ap, ◌∙◌, subst, arith, append_assoc, length-append}
+use Rattle.std.proofs.lemmas.List.{append-nil, length_push}
+use Rattle.zk_asks.specs.declared.frame.ClientFrame.{ClientFrame}
+use Rattle.zk_asks.specs.declared.frame.ClientFrame.TheVariants.{Connect, Ask}
+use Rattle.zk_answers.specs.declared.frame.ServerFrame.{ServerFrame}
+use Rattle.zk_answers.specs.declared.frame.ServerFrame.TheVariants.{Connected, Answered, Event}
+use Rattle.zk_talk.specs.Payloads.{client_payload, server_payload}
+use Rattle.zk_talk.specs.declared.message.Side.{Side}
+use Rattle.zk_talk.specs.declared.message.Side.TheVariants.{Client, Server}
+use Rattle.zk_talk.specs.declared.limits.Limits.{Limits}
+use Rattle.zk_talk.specs.Splits.{EachAfter}
+use Rattle.zk_talk.specs.History.{History, side_bytes}
+use Rattle.zk_frames.specs.Framing.{IsCut}
+use Rattle.zk_waiting.specs.Lane.{lane_of}
+use Rattle.zk_talk.specs.Conversation.{asks_on, ClientMay, ServerMay, IsAnswered, Answers, Conversation}
+use Rattle.zk_talk.specs.Good.{client_payloads, server_payloads, client_bytes, server_bytes, Good, IsGood}
+use Rattle.zk_talk.proofs.Lists.{EachAfter-left, EachAfter-at, map_pushed}
+use Rattle.zk_talk.proofs.Cuts.{cut_front, Shorter}
+use Rattle.zk_talk.proofs.Cuts.Shorter.{within_frame, frame_end}
+use Rattle.zk_talk.proofs.Histories.{side_bytes-same, server-bytes-client, client-bytes-server}
+use Rattle.zk_talk.proofs.Steps.{client_within, server_within}
+use Rattle.zk_talk.proofs.Lists.{InPushed, in_pushed}
+use Rattle.zk_talk.proofs.Lists.InPushed.{at_end, inside}
+use Rattle.zk_talk.proofs.Steps.{server_bytes-append}
+
+server_front : (S a : List ServerFrame) (s : ServerFrame) (b : List ServerFrame) → S ≡ a ++ s ∷ b → length (server_bytes (a ++ s ∷ [])) ≤ length (server_bytes S)
+server_front S a s b e =
+    let same : S ≡ (a ++ s ∷ []) ++ b = e ∙ sym (append_assoc a (s ∷ []) b) in
+    omega (arith, ap (λ z. length (server_bytes z)) same, ap length (server_bytes-append (a ++ s ∷ []) b), length-append (server_bytes (a ++ s ∷ [])) (server_bytes b))
+
+-- What the server may send where the client's last frame is not answered, it may send without it.
+may_without : (C : List ClientFrame) (f : ClientFrame) (before : List ServerFrame) (s : ServerFrame) → ClientMay C f → (Answers before s C f → ⊥) → ServerMay (C ++ f ∷ []) before s → ServerMay C before s
+may_without [] (Connect t g) [] (Connected u k) may alone m = absurd (alone tt)
+may_without [] (Ask xid ask) [] (Connected u k) may alone m = absurd may.0
+may_without (c ∷ cs) f [] (Connected u k) may alone m = (m.0, λ e. absurd (cc))
+may_without C f [] (Answered r) may alone m = m
+may_without C f [] (Event z k) may alone m = m
+may_without C f (y ∷ ys) (Connected u k) may alone m = m
+may_without C f (y ∷ ys) (Event z k) may alone m = m
+may_without C f (y ∷ ys) (Answered r) may alone m = (m.0, go (in_pushed C f m.1.asked (Ask r.xid m.1.ask) m.1.after m.1.stands))
+  where
+    go : InPushed C f m.1.asked (Ask r.xid m.1.ask) m.1.after → IsAnswered C (y ∷ ys) r
+    go (at_end a b n) = absurd (alone (subst (λ z. Answers (y ∷ ys) (Answered r) C z) (sym b) (refl, ap (asks_on (lane_of r.xid)) a ∙ m.1.counts)))
+    go (inside b' a n) = record { asked = m.1.asked; ask = m.1.ask; after = b'; stands = a; fits = m.1.fits; counts = m.1.counts }
+
+module _ (limits : Limits) (h : History) (b : ℕ) (v : Conversation) (cb sb : List ℕ) where
+  module _ (g : Good limits (h ++ (Client, b) ∷ []) v cb sb) where
+    client_shorter : (c' : List ℕ) → IsCut limits.client (side_bytes Client h) (client_payloads v.client) c' → Good limits h v c' sb
+    client_shorter c' cut = record {
+      conversation = g.conversation;
+      whole = record { client_cut = cut; server_cut = subst (λ z. IsCut limits.server z (server_payloads v.server) sb) (server-bytes-client h b) g.whole.server_cut };
+      causal = λ front rest e. g.causal front (rest ++ (Client, b) ∷ []) (ap (λ z. z ++ (Client, b) ∷ []) e ∙ append_assoc front rest ((Client, b) ∷ []));
+      bounded = λ front rest e. g.bounded front (rest ++ (Client, b) ∷ []) (ap (λ z. z ++ (Client, b) ∷ []) e ∙ append_assoc front rest ((Client, b) ∷ []));
+      client_size = omega (arith, g.client_size, ap length (side_bytes-same Client h b), length_push (side_bytes Client h) b);
+      server_size = omega (arith, g.server_size, ap length (server-bytes-client h b));
+    }
+
+    client_fewer : (C : List ClientFrame) (f : ClientFrame) (c' : List ℕ) → v.client ≡ C ++ f ∷ [] → cb ≡ [] → IsCut limits.client (side_bytes Client h) (client_payloads C) c' → Good limits h (record { client = C; server = v.server }) c' sb
+    client_fewer C f c' e n cut =
+        let each = subst (EachAfter ClientMay) e g.conversation.client in
+        let may = EachAfter-at ClientMay C f [] each in
+        record {
+          conversation = record {
+            client = EachAfter-left ClientMay C (f ∷ []) each;
+            server = λ before s after es. may_without C f before s may (alone before s after es) (subst (λ z. ServerMay z before s) e (g.conversation.server before s after es));
+          };
+          whole = record { client_cut = cut; server_cut = subst (λ z. IsCut limits.server z (server_payloads v.server) sb) (server-bytes-client h b) g.whole.server_cut };
+          causal = λ front rest eh sent s later es asked c further ec. g.causal front (rest ++ (Client, b) ∷ []) (ap (λ z. z ++ (Client, b) ∷ []) eh ∙ append_assoc front rest ((Client, b) ∷ [])) sent s later es asked c (further ++ f ∷ [])
+              (e ∙ ap (λ z. z ++ f ∷ []) ec ∙ append_assoc asked (c ∷ further) (f ∷ []));
+          bounded = λ front rest eh client further ec. g.bounded front (rest ++ (Client, b) ∷ []) (ap (λ z. z ++ (Client, b) ∷ []) eh ∙ append_assoc front rest ((Client, b) ∷ [])) client (further ++ f ∷ [])
+              (e ∙ ap (λ z. z ++ f ∷ []) ec ∙ append_assoc client further (f ∷ []));
+          client_size = omega (arith, g.client_size, ap length (side_bytes-same Client h b), length_push (side_bytes Client h) b);
+          server_size = omega (arith, g.server_size, ap length (server-bytes-client h b));
+        }
+      where
+        alone : (before : List ServerFrame) (s : ServerFrame) (after : List ServerFrame) → v.server ≡ before ++ s ∷ after → Answers before s C f → ⊥
+        alone before s after es answers =
+            let r = g.causal h ((Client, b) ∷ []) refl before s after es C f [] e answers
+            (omega (arith, server_front v.server before s after es, server_within limits (h ++ (Client, b) ∷ []) v.client v.server cb sb g.whole, ap length (server-bytes-client h b))) in
+            omega (arith, r, client_within limits (h ++ (Client, b) ∷ []) v.client v.server cb sb g.whole, ap length (side_bytes-same Client h b), length_push (side_bytes Client h) b, ap (λ z. length (client_bytes z)) e, ap length n)
+
+    pub front_client : IsGood limits h
+    front_client = go (cut_front limits.client (side_bytes Client h) b (client_payloads v.client) cb (subst (λ z. IsCut limits.client z (client_payloads v.client) cb) (side_bytes-same Client h b) g.whole.client_cut))
+      where
+        go : Shorter limits.client (side_bytes Client h) b (client_payloads v.client) cb → IsGood limits h
+        go (within_frame c' e cut) = (v, c', sb, client_shorter c' cut)
+        go (frame_end Q q c' e n l e2 cut) =
+            let split = map_pushed client_payload v.client Q q e in
+            (record { client = split.0; server = v.server }, c', sb, client_fewer split.0 split.1 c' split.2 n (subst (λ z. IsCut limits.client (side_bytes Client h) z c') (sym split.3) cut))
+
+  module _ (g : Good limits (h ++ (Server, b) ∷ []) v cb sb) where
+    server_shorter : (c' : List ℕ) → IsCut limits.server (side_bytes Server h) (server_payloads v.server) c' → Good limits h v cb c'
+    server_shorter c' cut = record {
+      conversation = g.conversation;
+      whole = record { client_cut = subst (λ z. IsCut limits.client z (client_payloads v.client) cb) (client-bytes-server h b) g.whole.client_cut; server_cut = cut };
+      causal = λ front rest e. g.causal front (rest ++ (Server, b) ∷ []) (ap (λ z. z ++ (Server, b) ∷ []) e ∙ append_assoc front rest ((Server, b) ∷ []));
+      bounded = λ front rest e. g.bounded front (rest ++ (Server, b) ∷ []) (ap (λ z. z ++ (Server, b) ∷ []) e ∙ append_assoc front rest ((Server, b) ∷ []));
+      client_size = omega (arith, g.client_size, ap length (client-bytes-server h b));
+      server_size = omega (arith, g.server_size, ap length (side_bytes-same Server h b), length_push (side_bytes Server h) b);
+    }
+
+    server_fewer : (S : List ServerFrame) (s : ServerFrame) (c' : List ℕ) → v.server ≡ S ++ s ∷ [] → IsCut limits.server (side_bytes Server h) (server_payloads S) c' → Good limits h (record { client = v.client; server = S }) cb c'
+    server_fewer S s c' e cut = record {
+      conversation = record { client = g.conversation.client; server = EachAfter-left (ServerMay v.client) S (s ∷ []) (subst (EachAfter (ServerMay v.client)) e g.conversation.server) };
+      whole = record { client_cut = subst (λ z. IsCut limits.client z (client_payloads v.client) cb) (client-bytes-server h b) g.whole.client_cut; server_cut = cut };
+      causal = λ front rest eh sent t later es. g.causal front (rest ++ (Server, b) ∷ []) (ap (λ z. z ++ (Server, b) ∷ []) eh ∙ append_assoc front rest ((Server, b) ∷ [])) sent t (later ++ s ∷ [])
+          (e ∙ ap (λ z. z ++ s ∷ []) es ∙ append_assoc sent (t ∷ later) (s ∷ []));
+      bounded = λ front rest eh client further ec server later es. g.bounded front (rest ++ (Server, b) ∷ []) (ap (λ z. z ++ (Server, b) ∷ []) eh ∙ append_assoc front rest ((Server, b) ∷ [])) client further ec server (later ++ s ∷ [])
+          (e ∙ ap (λ z. z ++ s ∷ []) es ∙ append_assoc server later (s ∷ []));
+      client_size = omega (arith, g.client_size, ap length (client-bytes-server h b));
+      server_size = omega (arith, g.server_size, ap length (side_bytes-same Server h b), length_push (side_bytes Server h) b);
+    }
+
+    pub front_server : IsGood limits h
+    front_server = go (cut_front limits.server (side_bytes Server h) b (server_payloads v.server) sb (subst (λ z. IsCut limits.server z (server_payloads v.server) sb) (side_bytes-same Server h b) g.whole.server_cut))
+      where
+        go : Shorter limits.server (side_bytes Server h) b (server_payloads v.server) sb → IsGood limits h
+        go (within_frame c' e cut) = (v, cb, c', server_shorter c' cut)
+        go (frame_end Q q c' e n l e2 cut) =
+            let split = map_pushed server_payload v.server Q q e in
+            (record { client = v.client; server = split.0 }, cb, c', server_fewer split.0 split.1 c' split.2 (subst (λ z. IsCut limits.server (side_bytes Server h) z c') (sym split.3) cut))
+
+one_less : (limits : Limits) (h : History) (side : Side) (b : ℕ) → IsGood limits (h ++ (side, b) ∷ []) → IsGood limits h
+one_less limits h Client b n = front_client limits h b n.0 n.1 n.2 n.3
+one_less limits h Server b n = front_server limits h b n.0 n.1 n.2 n.3
+
+-- Each front of a good history is good.
+pub good_front : (limits : Limits) (g r : History) → IsGood limits (g ++ r) → IsGood limits g
+good_front limits g [] n = subst (IsGood limits) (append-nil g) n
+good_front limits g (x ∷ r) n = one_less limits g x.0 x.1 (good_front limits (g ++ x ∷ []) r (subst (IsGood limits) (sym (append_assoc g (x ∷ []) r)) n))

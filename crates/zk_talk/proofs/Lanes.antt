@@ -1,0 +1,87 @@
+-- The lanes after a frame more.
+use Rattle.std.proofs.Common.{◌≡◌, ℕ, List, [], ◌∷◌, ◌++◌, drop, refl, sym, ap, ◌∙◌, subst, Bool, true, false, cond, Some}
+use Rattle.std.specs.Prelude.{slice_get}
+use Rattle.zk_asks.specs.declared.frame.ClientFrame.{ClientFrame}
+use Rattle.zk_asks.specs.declared.frame.ClientFrame.TheVariants.{Connect, Ask}
+use Rattle.zk_asks.specs.Frames.{op_of_ask, ops_of_ask}
+use Rattle.zk_answers.specs.declared.frame.ServerFrame.{ServerFrame}
+use Rattle.zk_answers.specs.declared.frame.ServerFrame.TheVariants.{Connected, Answered, Event}
+use Rattle.zk_waiting.specs.declared.lane.Lane.{Lane}
+use Rattle.zk_waiting.specs.declared.lane.Lane.TheVariants.{Ping, Auth, Watches, Plain}
+use Rattle.zk_waiting.specs.Lane.{lane_of, same_lane}
+use Rattle.zk_waiting.specs.Waiting.{Request, Lanes, queue_on, IsPut, IsDropped}
+use Rattle.zk_talk.specs.Conversation.{Conversation, with_client, with_server, is_ask_on, is_reply_on}
+use Rattle.zk_talk.specs.Queues.{IsRequest, IsQueue}
+use Rattle.zk_talk.specs.Describes.{Describes}
+use Rattle.zk_talk.specs.Judged.{IsRemembered, HasAsk, IsForgotten}
+use Rattle.zk_talk.proofs.Loads.{lanes_same}
+use Rattle.zk_talk.proofs.Queues.{queue_ask, queue_skip, queue_keep, queue_pop}
+
+put_on : (l k : Lane) (r : Request) (w x : Lanes) → IsPut l r w x → queue_on k x ≡ cond (same_lane k l) (queue_on k w ++ r ∷ []) (queue_on k w)
+put_on Ping Ping r w x e = ap (queue_on Ping) e
+put_on Ping Auth r w x e = ap (queue_on Auth) e
+put_on Ping Watches r w x e = ap (queue_on Watches) e
+put_on Ping Plain r w x e = ap (queue_on Plain) e
+put_on Auth Ping r w x e = ap (queue_on Ping) e
+put_on Auth Auth r w x e = ap (queue_on Auth) e
+put_on Auth Watches r w x e = ap (queue_on Watches) e
+put_on Auth Plain r w x e = ap (queue_on Plain) e
+put_on Watches Ping r w x e = ap (queue_on Ping) e
+put_on Watches Auth r w x e = ap (queue_on Auth) e
+put_on Watches Watches r w x e = ap (queue_on Watches) e
+put_on Watches Plain r w x e = ap (queue_on Plain) e
+put_on Plain Ping r w x e = ap (queue_on Ping) e
+put_on Plain Auth r w x e = ap (queue_on Auth) e
+put_on Plain Watches r w x e = ap (queue_on Watches) e
+put_on Plain Plain r w x e = ap (queue_on Plain) e
+
+drop_on : (l k : Lane) (w x : Lanes) → IsDropped l w x → queue_on k x ≡ cond (same_lane k l) (drop 1 (queue_on k w)) (queue_on k w)
+drop_on Ping Ping w x e = ap (queue_on Ping) e
+drop_on Ping Auth w x e = ap (queue_on Auth) e
+drop_on Ping Watches w x e = ap (queue_on Watches) e
+drop_on Ping Plain w x e = ap (queue_on Plain) e
+drop_on Auth Ping w x e = ap (queue_on Ping) e
+drop_on Auth Auth w x e = ap (queue_on Auth) e
+drop_on Auth Watches w x e = ap (queue_on Watches) e
+drop_on Auth Plain w x e = ap (queue_on Plain) e
+drop_on Watches Ping w x e = ap (queue_on Ping) e
+drop_on Watches Auth w x e = ap (queue_on Auth) e
+drop_on Watches Watches w x e = ap (queue_on Watches) e
+drop_on Watches Plain w x e = ap (queue_on Plain) e
+drop_on Plain Ping w x e = ap (queue_on Ping) e
+drop_on Plain Auth w x e = ap (queue_on Auth) e
+drop_on Plain Watches w x e = ap (queue_on Watches) e
+drop_on Plain Plain w x e = ap (queue_on Plain) e
+
+pub front_some : {X : Type 0} (xs : List X) (x : X) → slice_get xs 0 ≡ Some x → (rest : List X) × (xs ≡ x ∷ rest)
+front_some [] x e = absurd (cc)
+front_some (y ∷ xs) x e = (xs, ap (λ z. z ∷ xs) (cc))
+
+module _ (n m : ℕ) (w x : Lanes) (v : Conversation) (d : Describes n m w v) where
+  pub remembered : (f : ClientFrame) → IsRemembered f w x → (k : Lane) → IsQueue k (with_client v f) (queue_on k x)
+  remembered (Connect t g) e k = subst (λ z. IsQueue k (with_client v (Connect t g)) (queue_on k z)) (sym e) (queue_skip k v (queue_on k w) (Connect t g) refl (d.queues k))
+  remembered (Ask xid ask) e k = go (same_lane k (lane_of xid)) refl
+    where
+      f : ClientFrame
+      f = Ask xid ask
+
+      r : Request
+      r = record { xid = xid; op = op_of_ask ask; parts = ops_of_ask ask }
+
+      go : (b : Bool) → same_lane k (lane_of xid) ≡ b → IsQueue k (with_client v f) (queue_on k x)
+      go true q = subst (IsQueue k (with_client v f)) (sym (put_on (lane_of xid) k r w x e.1 ∙ ap (λ z. cond z (queue_on k w ++ r ∷ []) (queue_on k w)) q)) (queue_ask k v (queue_on k w) r f d.may q refl (d.queues k))
+      go false q = subst (IsQueue k (with_client v f)) (sym (put_on (lane_of xid) k r w x e.1 ∙ ap (λ z. cond z (queue_on k w ++ r ∷ []) (queue_on k w)) q)) (queue_skip k v (queue_on k w) f q (d.queues k))
+
+  pub forgotten : (s : ServerFrame) → HasAsk s w → IsForgotten s w x → (k : Lane) → IsQueue k (with_server v s) (queue_on k x)
+  forgotten (Connected t g) a e k = subst (λ z. IsQueue k (with_server v (Connected t g)) (queue_on k z)) (sym e) (queue_keep k v (queue_on k w) (Connected t g) refl (d.queues k))
+  forgotten (Event z y) a e k = subst (λ u. IsQueue k (with_server v (Event z y)) (queue_on k u)) (sym e) (queue_keep k v (queue_on k w) (Event z y) refl (d.queues k))
+  forgotten (Answered r) a e k = go (same_lane k (lane_of r.xid)) refl
+    where
+      go : (b : Bool) → same_lane k (lane_of r.xid) ≡ b → IsQueue k (with_server v (Answered r)) (queue_on k x)
+      go true q =
+          let same = lanes_same k (lane_of r.xid) q in
+          let first = front_some (queue_on (lane_of r.xid) w) a.0 a.1 in
+          let queue : queue_on k w ≡ a.0 ∷ first.0 = ap (λ l. queue_on l w) same ∙ first.1 in
+          let left : queue_on k x ≡ first.0 = drop_on (lane_of r.xid) k w x e ∙ ap (λ z. cond z (drop 1 (queue_on k w)) (queue_on k w)) q ∙ ap (drop 1) queue in
+          subst (IsQueue k (with_server v (Answered r))) (sym left) (queue_pop k v a.0 first.0 (Answered r) q (subst (IsQueue k v) queue (d.queues k)))
+      go false q = subst (IsQueue k (with_server v (Answered r))) (sym (drop_on (lane_of r.xid) k w x e ∙ ap (λ z. cond z (drop 1 (queue_on k w)) (queue_on k w)) q)) (queue_keep k v (queue_on k w) (Answered r) q (d.queues k))

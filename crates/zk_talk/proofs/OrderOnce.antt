@@ -1,0 +1,162 @@
+-- The messages of a history stand in one order.
+use Rattle.std.proofs.Common.{◌≡◌, ℕ, ◌+◌, List, [], ◌∷◌, ◌++◌, length, refl, sym, ap, ◌∙◌, subst, arith, append_assoc, length-append}
+use Rattle.std.proofs.lemmas.List.{append-nil, length-map, length_push, nil_from_length}
+use Rattle.zk_asks.specs.declared.frame.ClientFrame.{ClientFrame}
+use Rattle.zk_answers.specs.declared.frame.ServerFrame.{ServerFrame}
+use Rattle.zk_talk.specs.Payloads.{client_payload, server_payload}
+use Rattle.zk_talk.specs.declared.message.Side.{Side}
+use Rattle.zk_talk.specs.declared.message.Side.TheVariants.{Client, Server}
+use Rattle.zk_talk.specs.declared.limits.Limits.{Limits}
+use Rattle.zk_talk.specs.History.{History, side_bytes}
+use Rattle.zk_frames.specs.Framing.{frame, frames, IsCut}
+use Rattle.zk_talk.specs.Conversation.{Conversation}
+use Rattle.zk_talk.specs.Good.{client_payloads, server_payloads, IsWhole, AreWholeIn}
+use Rattle.zk_talk.proofs.Small.{AreSmall}
+use Rattle.zk_frames.proofs.Cuts.{length-frame, same_cut}
+use Rattle.zk_talk.proofs.Cuts.{cut_front, Shorter}
+use Rattle.zk_talk.proofs.Cuts.Shorter.{within_frame, frame_end}
+use Rattle.zk_talk.proofs.Histories.{side_bytes-same, server-bytes-client, client-bytes-server}
+use Rattle.zk_talk.proofs.Steps.{same_whole}
+use Rattle.zk_talk.specs.declared.message.Message.{Message}
+use Rattle.zk_talk.specs.declared.message.Message.TheVariants.{Client as FromClient, Server as FromServer}
+use Rattle.zk_talk.specs.Good.{clients, servers, IsOrder}
+use Rattle.std.proofs.lemmas.List.{append_cancel_left}
+use Rattle.zk_frames.proofs.Cuts.{same_fronts}
+use Rattle.zk_talk.proofs.FaultOnce.{fronts_nested}
+use Rattle.zk_talk.proofs.Standing.{clients-append, servers-append}
+
+record WholeFront (limits : Limits) (M : List Message) (g : History) : Type 0 where
+  first : List Message
+  more : List Message
+  is : M ≡ first ++ more
+  whole : AreWholeIn limits g (clients first) (servers first)
+
+length-messages : (M : List Message) → length M ≡ length (clients M) + length (servers M)
+length-messages [] = omega arith
+length-messages (FromClient f ∷ M) = omega (arith, length-messages M)
+length-messages (FromServer f ∷ M) = omega (arith, length-messages M)
+
+-- two fronts of a list of one length are one
+same_front : {X : Type 0} (a b c d : List X) → a ++ b ≡ c ++ d → length a ≡ length c → a ≡ c
+same_front a b c d e l = (same_fronts a c b d l e).0
+
+no_frames : (P : List (List ℕ)) (r : List ℕ) → [] ≡ frames P ++ r → P ≡ []
+no_frames [] r e = refl
+no_frames (p ∷ P) r e = absurd (omega (arith, ap length e, length-append (frame p ++ frames P) r, length-append (frame p) (frames P), length-frame p))
+
+no_bytes : (side : Side) → side_bytes side [] ≡ []
+unfolding side_bytes
+no_bytes side = refl
+
+same_message : (m n : Message) → clients (m ∷ []) ≡ clients (n ∷ []) → servers (m ∷ []) ≡ servers (n ∷ []) → m ≡ n
+same_message (FromClient f) (FromClient g) c s = ap FromClient (cc)
+same_message (FromServer f) (FromServer g) c s = ap FromServer (cc)
+same_message (FromClient f) (FromServer g) c s = absurd (cc)
+same_message (FromServer f) (FromClient g) c s = absurd (cc)
+
+-- how many frames are whole with one more byte
+data Grows (limits : Limits) (g : History) (x : Side × ℕ) (C : List ClientFrame) (S : List ServerFrame) (C₀ : List ClientFrame) (S₀ : List ServerFrame) : Type 0 where
+  no_more : length C ≡ length C₀ → length S ≡ length S₀ → Grows limits g x C S C₀ S₀
+  one_more : length C + length S ≡ length C₀ + length S₀ + 1 → Grows limits g x C S C₀ S₀
+
+grows : (limits : Limits) → AreSmall limits → (g : History) (side : Side) (b : ℕ) (C : List ClientFrame) (S : List ServerFrame) (C₀ : List ClientFrame) (S₀ : List ServerFrame) →
+    AreWholeIn limits (g ++ (side, b) ∷ []) C S → AreWholeIn limits g C₀ S₀ → Grows limits g (side, b) C S C₀ S₀
+grows limits small g Client b C S C₀ S₀ w w₀ =
+    go (cut_front limits.client (side_bytes Client g) b (client_payloads C) w.0 (subst (λ z. IsCut limits.client z (client_payloads C) w.0) (side_bytes-same Client g b) w.2.client_cut))
+  where
+    servers_same : length S ≡ length S₀
+    servers_same =
+        let p = same_cut limits.server _ _ _ _ _ small.1 (subst (λ z. IsCut limits.server z (server_payloads S) w.1) (server-bytes-client g b) w.2.server_cut) w₀.2.server_cut in
+        sym (length-map S server_payload) ∙ ap length p.0 ∙ length-map S₀ server_payload
+
+    go : Shorter limits.client (side_bytes Client g) b (client_payloads C) w.0 → Grows limits g (Client, b) C S C₀ S₀
+    go (within_frame c' e cut) =
+        let p = same_cut limits.client _ _ _ _ _ small.0 cut w₀.2.client_cut in
+        no_more (sym (length-map C client_payload) ∙ ap length p.0 ∙ length-map C₀ client_payload) servers_same
+    go (frame_end Q q c' e n l e2 cut) =
+        let p = same_cut limits.client _ _ _ _ _ small.0 cut w₀.2.client_cut in
+        one_more (omega (arith, servers_same, length-map C client_payload, ap length e, length_push Q q, ap length p.0, length-map C₀ client_payload))
+grows limits small g Server b C S C₀ S₀ w w₀ =
+    go (cut_front limits.server (side_bytes Server g) b (server_payloads S) w.1 (subst (λ z. IsCut limits.server z (server_payloads S) w.1) (side_bytes-same Server g b) w.2.server_cut))
+  where
+    clients_same : length C ≡ length C₀
+    clients_same =
+        let p = same_cut limits.client _ _ _ _ _ small.0 (subst (λ z. IsCut limits.client z (client_payloads C) w.0) (client-bytes-server g b) w.2.client_cut) w₀.2.client_cut in
+        sym (length-map C client_payload) ∙ ap length p.0 ∙ length-map C₀ client_payload
+
+    go : Shorter limits.server (side_bytes Server g) b (server_payloads S) w.1 → Grows limits g (Server, b) C S C₀ S₀
+    go (within_frame c' e cut) =
+        let p = same_cut limits.server _ _ _ _ _ small.1 cut w₀.2.server_cut in
+        no_more clients_same (sym (length-map S server_payload) ∙ ap length p.0 ∙ length-map S₀ server_payload)
+    go (frame_end Q q c' e n l e2 cut) =
+        let p = same_cut limits.server _ _ _ _ _ small.1 cut w₀.2.server_cut in
+        one_more (omega (arith, clients_same, length-map S server_payload, ap length e, length_push Q q, ap length p.0, length-map S₀ server_payload))
+
+module _ (limits : Limits) (small : AreSmall limits) (h : History) (v : Conversation) (M N : List Message) (a : IsOrder limits h v M) (b : IsOrder limits h v N) where
+  abbrev Agree : History → Type 0
+  Agree g = (x : WholeFront limits M g) (y : WholeFront limits N g) → x.first ≡ y.first
+
+  -- what is whole of both is the same frames
+  same_whole_fronts : (g : History) (x : WholeFront limits M g) (y : WholeFront limits N g) → (clients x.first ≡ clients y.first) × (servers x.first ≡ servers y.first)
+  same_whole_fronts g x y =
+      let s = same_whole limits small g _ _ _ _ _ _ _ _ x.whole.2 y.whole.2 in
+      let lc = sym (length-map (clients x.first) client_payload) ∙ ap length s.0 ∙ length-map (clients y.first) client_payload in
+      let ls = sym (length-map (servers x.first) server_payload) ∙ ap length s.1 ∙ length-map (servers y.first) server_payload in (
+        same_front (clients x.first) (clients x.more) (clients y.first) (clients y.more) (sym (clients-append x.first x.more) ∙ sym (ap clients x.is) ∙ a.client ∙ sym b.client ∙ ap clients y.is ∙ clients-append y.first y.more) lc,
+        same_front (servers x.first) (servers x.more) (servers y.first) (servers y.more) (sym (servers-append x.first x.more) ∙ sym (ap servers x.is) ∙ a.server ∙ sym b.server ∙ ap servers y.is ∙ servers-append y.first y.more) ls,
+      )
+
+  step : (g : History) (x : Side × ℕ) (r : History) → h ≡ g ++ x ∷ r → Agree g → Agree (g ++ x ∷ [])
+  step g x r e agree p q = go (grows limits small g x.0 x.1 (clients p.first) (servers p.first) (clients p₀.first) (servers p₀.first) p.whole p₀.whole)
+    where
+      p₀ : WholeFront limits M g
+      p₀ = let w = a.fronts g (x ∷ r) e in record { first = w.0; more = w.1; is = w.2; whole = w.3 }
+
+      q₀ : WholeFront limits N g
+      q₀ = let w = b.fronts g (x ∷ r) e in record { first = w.0; more = w.1; is = w.2; whole = w.3 }
+
+      sides : (clients p.first ≡ clients q.first) × (servers p.first ≡ servers q.first)
+      sides = same_whole_fronts (g ++ x ∷ []) p q
+
+      first : p₀.first ≡ q₀.first
+      first = agree p₀ q₀
+
+      lengths : length p.first ≡ length q.first
+      lengths = omega (arith, length-messages p.first, length-messages q.first, ap length sides.0, ap length sides.1)
+
+      pushed : length p.first ≡ length p₀.first + 1 → p.first ≡ q.first
+      pushed l =
+          let i = fronts_nested p₀.first p₀.more p.first p.more (sym p₀.is ∙ p.is) (omega arith) in
+          let j = fronts_nested q₀.first q₀.more q.first q.more (sym q₀.is ∙ q.is) (omega (arith, lengths, ap length first)) in
+          let ni = nil_from_length i.1 (omega (arith, l, ap length i.2, length-append p₀.first (i.0 ∷ i.1))) in
+          let nj = nil_from_length j.1 (omega (arith, l, lengths, ap length first, ap length j.2, length-append q₀.first (j.0 ∷ j.1))) in
+          let pi = i.2 ∙ ap (λ z. p₀.first ++ i.0 ∷ z) ni in
+          let qj = j.2 ∙ ap (λ z. q₀.first ++ j.0 ∷ z) nj ∙ ap (λ z. z ++ j.0 ∷ []) (sym first) in
+          let c = append_cancel_left (clients p₀.first) (clients (i.0 ∷ [])) (clients (j.0 ∷ [])) (sym (clients-append p₀.first (i.0 ∷ [])) ∙ sym (ap clients pi) ∙ sides.0 ∙ ap clients qj ∙ clients-append p₀.first (j.0 ∷ [])) in
+          let s = append_cancel_left (servers p₀.first) (servers (i.0 ∷ [])) (servers (j.0 ∷ [])) (sym (servers-append p₀.first (i.0 ∷ [])) ∙ sym (ap servers pi) ∙ sides.1 ∙ ap servers qj ∙ servers-append p₀.first (j.0 ∷ [])) in
+          pi ∙ ap (λ z. p₀.first ++ z ∷ []) (same_message i.0 j.0 c s) ∙ sym qj
+
+      go : Grows limits g (x.0, x.1) (clients p.first) (servers p.first) (clients p₀.first) (servers p₀.first) → p.first ≡ q.first
+      go (no_more c s) =
+          let l : length p.first ≡ length p₀.first = omega (arith, c, s, length-messages p.first, length-messages p₀.first) in
+          same_front p.first p.more p₀.first p₀.more (sym p.is ∙ p₀.is) l ∙ first ∙ same_front q₀.first q₀.more q.first q.more (sym q₀.is ∙ q.is) (omega (arith, l, lengths, ap length first))
+      go (one_more n) = pushed (omega (arith, n, length-messages p.first, length-messages p₀.first))
+
+  at_start : Agree []
+  at_start x y = empty x.first x.whole ∙ sym (empty y.first y.whole)
+    where
+      empty : (P : List Message) → AreWholeIn limits [] (clients P) (servers P) → P ≡ []
+      empty P w =
+          let c = no_frames (client_payloads (clients P)) w.0 (sym (no_bytes Client) ∙ w.2.client_cut.whole) in
+          let s = no_frames (server_payloads (servers P)) w.1 (sym (no_bytes Server) ∙ w.2.server_cut.whole) in
+          nil_from_length P (omega (arith, length-messages P, ap length c, ap length s, length-map (clients P) client_payload, length-map (servers P) server_payload))
+
+  along : (g r : History) → h ≡ g ++ r → Agree g → Agree h
+  along g [] e agree = subst Agree (sym (append-nil g) ∙ sym e) agree
+  along g (x ∷ r) e agree = along (g ++ x ∷ []) r (e ∙ sym (append_assoc g (x ∷ []) r)) (step g x r e agree)
+
+  pub order_once : (cb sb : List ℕ) → IsWhole limits h v.client v.server cb sb → M ≡ N
+  order_once cb sb w =
+      along [] h refl at_start
+      (record { first = M; more = []; is = sym (append-nil M); whole = (cb, sb, subst (λ z. IsWhole limits h z (servers M) cb sb) (sym a.client) (subst (λ z. IsWhole limits h v.client z cb sb) (sym a.server) w)) })
+      (record { first = N; more = []; is = sym (append-nil N); whole = (cb, sb, subst (λ z. IsWhole limits h z (servers N) cb sb) (sym b.client) (subst (λ z. IsWhole limits h v.client z cb sb) (sym b.server) w)) })

@@ -1,0 +1,184 @@
+-- What the payload crates prove of their forms, as it is used here.
+use Rattle.std.proofs.Common.{◌≡◌, ◌≢◌, ℕ, ◌<◌, ◌≤◌, List, [], ◌∷◌, ◌++◌, length, map, ℤ, refl, sym, ap, ◌∙◌, subst, arith, append_assoc, length-append}
+use Rattle.std.specs.List.{flat_map}
+use Rattle.std.proofs.lemmas.List.{length-map}
+use Rattle.zk_jute.specs.Item.{Item, AnInt, ABoolean, item_bytes, bytes_of}
+use Rattle.zk_jute.proofs.Decided.{one_fault}
+use Rattle.zk_jute.proofs.Layouts.{bytes_both}
+use Rattle.zk_records.specs.declared.header.MultiHeader.{MultiHeader}
+use Rattle.zk_records.specs.Codes.{op_number}
+use Rattle.zk_records.specs.Records.{reply_header, watcher_event}
+use Rattle.zk_asks.specs.declared.frame.Part.{Part}
+use Rattle.zk_asks.specs.declared.frame.Ask.TheVariants as asked
+use Rattle.zk_asks.specs.Forms.{marked, part_header, end_header, header_items}
+use Rattle.zk_asks.specs.Frames.{op_of_part, record_of, part_items, body_items, parts_of_ask, op_of_ask}
+use Rattle.zk_asks.proofs.First.{first_unique, first_excludes, first_injective}
+use Rattle.zk_asks.proofs.Later.{ask_unique, ask_excludes, ask_injective}
+use Rattle.zk_answers.specs.Frames.{header_of, rest_items, event_header}
+use Rattle.zk_answers.proofs.Connected.{connected_unique, connected_excludes, connected_injective}
+use Rattle.zk_answers.proofs.Heads.{head_unique, head_excludes}
+use Rattle.zk_answers.proofs.Replies.{reply_unique, reply_excludes, reply_injective, reply_heads}
+use Rattle.zk_answers.proofs.Events.{event_unique, event_excludes, event_injective, event_head}
+use Rattle.zk_jute.specs.declared.fault.Reason.{Reason}
+use Rattle.zk_records.specs.declared.header.ReplyHeader.{ReplyHeader}
+use Rattle.zk_records.specs.declared.op.Op.{Op}
+use Rattle.zk_records.specs.declared.op.PartOp.{PartOp}
+use Rattle.zk_asks.specs.declared.frame.Ask.{Ask as Asked}
+use Rattle.zk_asks.specs.declared.frame.ClientFrame.{ClientFrame}
+use Rattle.zk_asks.specs.declared.frame.ClientFrame.TheVariants.{Connect, Ask}
+use Rattle.zk_asks.specs.Codes.{event_xid}
+use Rattle.zk_asks.specs.Frames.{IsFirst, IsLater, ops_of_ask}
+use Rattle.zk_asks.specs.Frames as asks
+use Rattle.zk_asks.specs.Faults.{IsFirstFault, IsAskFault}
+use Rattle.zk_answers.specs.declared.frame.Reply.{Reply}
+use Rattle.zk_answers.specs.declared.frame.ServerFrame.{ServerFrame}
+use Rattle.zk_answers.specs.declared.frame.ServerFrame.TheVariants.{Connected, Answered, Event}
+use Rattle.zk_answers.specs.Frames.{IsConnected, IsEvent, Fits}
+use Rattle.zk_answers.specs.Frames as answers
+use Rattle.zk_answers.specs.Faults.{IsConnectedFault, IsHead, IsHeadFault, IsReplyFault, IsEventFault}
+use Rattle.zk_talk.specs.Payloads.{client_payload, server_payload}
+
+abbrev pub Same : ℕ → ℕ → Reason → Reason → Type 0
+Same m n r s = (m ≡ n) × (r ≡ s)
+
+pub client_is : (f : ClientFrame) (p : List ℕ) → p ≡ asks.payload f → client_payload f ≡ p
+unfolding client_payload
+client_is f p e = sym e
+
+pub server_is : (s : ServerFrame) (p : List ℕ) → p ≡ answers.payload s → server_payload s ≡ p
+unfolding server_payload
+server_is s p e = sym e
+
+-- ---- the client's first frame, and the others
+
+pub first_inj : (f g : ClientFrame) → IsFirst f → IsFirst g → asks.IsSent f → asks.IsSent g → client_payload f ≡ client_payload g → f ≡ g
+unfolding client_payload
+first_inj f g a b c d e = first_injective f g a b c d e
+
+pub first_excluded : (p : List ℕ) (place : ℕ) (reason : Reason) → IsFirstFault p place reason → (f : ClientFrame) → IsFirst f → asks.IsSent f → client_payload f ≡ p → ⊥
+unfolding client_payload
+first_excluded p place reason fault f a c e = first_excludes f place reason a c (subst (λ z. IsFirstFault z place reason) (sym e) fault)
+
+pub first_once : (p : List ℕ) (m n : ℕ) (r s : Reason) → IsFirstFault p m r → IsFirstFault p n s → Same m n r s
+first_once p m n r s a b = first_unique p m n r s a b
+
+pub ask_inj : (f g : ClientFrame) → IsLater f → IsLater g → asks.IsSent f → asks.IsSent g → client_payload f ≡ client_payload g → f ≡ g
+unfolding client_payload
+ask_inj f g a b c d e = ask_injective f g a b c d e
+
+pub ask_excluded : (p : List ℕ) (place : ℕ) (reason : Reason) → IsAskFault p place reason → (f : ClientFrame) → IsLater f → asks.IsSent f → client_payload f ≡ p → ⊥
+unfolding client_payload
+ask_excluded p place reason fault f a c e = ask_excludes f place reason a c (subst (λ z. IsAskFault z place reason) (sym e) fault)
+
+pub ask_once : (p : List ℕ) (m n : ℕ) (r s : Reason) → IsAskFault p m r → IsAskFault p n s → Same m n r s
+ask_once p m n r s a b = ask_unique p m n r s a b
+
+-- each part has a byte
+parts_long : (ps : List Part) (more : List Item) → length ps ≤ length (bytes_of (flat_map part_items ps ++ more))
+parts_long [] more = omega arith
+parts_long (p ∷ ps) more =
+    let mark = marked (part_header (op_of_part p)) in
+    let rest = record_of p ++ (flat_map part_items ps ++ more) in
+    let split : flat_map part_items (p ∷ ps) ++ more ≡ mark ++ rest = append_assoc (mark ++ record_of p) (flat_map part_items ps) more ∙ append_assoc mark (record_of p) (flat_map part_items ps ++ more) in
+    let bytes = ap bytes_of split ∙ bytes_both mark rest ∙ ap (λ z. bytes_of mark ++ z) (bytes_both (record_of p) (flat_map part_items ps ++ more)) in
+    let some : 0 < length (bytes_of mark) = mark_long (part_header (op_of_part p)) in
+    omega (arith, some, ap length bytes, length-append (bytes_of mark) (bytes_of (record_of p) ++ bytes_of (flat_map part_items ps ++ more)), length-append (bytes_of (record_of p)) (bytes_of (flat_map part_items ps ++ more)), parts_long ps more)
+  where
+    mark_long : (h : MultiHeader) → 0 < length (bytes_of (marked h))
+    mark_long h = omega (arith, length-append (item_bytes (AnInt h.kind)) (bytes_of (ABoolean h.done ∷ AnInt h.err ∷ [])), int_long h.kind)
+      where
+        int_long : (z : ℤ) → length (item_bytes (AnInt z)) ≡ 4
+        int_long z = refl
+
+pub few_parts : (xid : ℤ) (ask : Asked) → length (ops_of_ask ask) ≤ length (client_payload (Ask xid ask))
+unfolding client_payload
+few_parts xid ask =
+    let head = header_items xid (op_number (op_of_ask ask)) in
+    omega (arith, length-map (parts_of_ask ask) op_of_part, in_body ask, ap length (bytes_both head (body_items ask)), length-append (bytes_of head) (bytes_of (body_items ask)))
+  where
+    in_body : (ask : Asked) → length (parts_of_ask ask) ≤ length (bytes_of (body_items ask))
+    in_body (asked.Multi ps) = parts_long ps (marked end_header)
+    in_body (asked.Create b) = omega arith
+    in_body (asked.Delete b) = omega arith
+    in_body (asked.Exists b) = omega arith
+    in_body (asked.GetData b) = omega arith
+    in_body (asked.SetData b) = omega arith
+    in_body (asked.GetAcl b) = omega arith
+    in_body (asked.SetAcl b) = omega arith
+    in_body (asked.GetChildren b) = omega arith
+    in_body (asked.Sync b) = omega arith
+    in_body asked.Ping = omega arith
+    in_body (asked.GetChildren2 b) = omega arith
+    in_body (asked.Auth b) = omega arith
+    in_body (asked.SetWatches b) = omega arith
+    in_body asked.CloseSession = omega arith
+
+-- ---- the server's first frame
+
+pub connected_inj : (s t : ServerFrame) → IsConnected s → IsConnected t → answers.IsSent s → answers.IsSent t → server_payload s ≡ server_payload t → s ≡ t
+unfolding server_payload
+connected_inj s t a b c d e = connected_injective s t a b c d e
+
+pub connected_excluded : (p : List ℕ) (place : ℕ) (reason : Reason) → IsConnectedFault p place reason → (s : ServerFrame) → IsConnected s → answers.IsSent s → server_payload s ≡ p → ⊥
+unfolding server_payload
+connected_excluded p place reason fault s a c e = connected_excludes s place reason a c (subst (λ z. IsConnectedFault z place reason) (sym e) fault)
+
+pub connected_once : (p : List ℕ) (m n : ℕ) (r s : Reason) → IsConnectedFault p m r → IsConnectedFault p n s → Same m n r s
+connected_once p m n r s a b = connected_unique p m n r s a b
+
+-- ---- headers
+
+-- the payload begins with a header of this xid
+pub record HasHead (p : List ℕ) (xid : ℤ) : Type 0 where
+  pub header : ReplyHeader
+  pub rest : List ℕ
+  pub is : IsHead p header rest
+  pub xid_is : header.xid ≡ xid
+
+pub head_once : (p : List ℕ) (m n : ℕ) (r s : Reason) → IsHeadFault p m r → IsHeadFault p n s → Same m n r s
+head_once p m n r s a b = one_fault reply_header.layout p m n r s a b
+
+pub head_excluded : (p : List ℕ) (place : ℕ) (reason : Reason) → IsHeadFault p place reason → (header : ReplyHeader) (rest : List ℕ) → IsHead p header rest → ⊥
+head_excluded p place reason fault header rest h = head_excludes p header rest place reason h fault
+
+pub same_head : (p : List ℕ) (a b : ReplyHeader) (r s : List ℕ) → IsHead p a r → IsHead p b s → a ≡ b
+same_head p a b r s x y = (head_unique p a b r s x y).0
+
+-- ---- replies
+
+pub reply_inj : (op : Op) (parts : List PartOp) (r q : Reply) → Fits op parts r → Fits op parts q → answers.IsSent (Answered r) → answers.IsSent (Answered q) → server_payload (Answered r) ≡ server_payload (Answered q) → Answered r ≡ Answered q
+unfolding server_payload
+reply_inj op parts r q a b c d e = reply_injective op parts (Answered r) (Answered q) a b c d e
+
+pub reply_excluded : (op : Op) (parts : List PartOp) (p : List ℕ) (place : ℕ) (reason : Reason) → IsReplyFault op parts p place reason → (r : Reply) → Fits op parts r → answers.IsSent (Answered r) → server_payload (Answered r) ≡ p → ⊥
+unfolding server_payload
+reply_excluded op parts p place reason fault r a c e = reply_excludes op parts (Answered r) place reason a c (subst (λ z. IsReplyFault op parts z place reason) (sym e) fault)
+
+pub reply_once : (op : Op) (parts : List PartOp) (p : List ℕ) (m n : ℕ) (r s : Reason) → IsReplyFault op parts p m r → IsReplyFault op parts p n s → Same m n r s
+reply_once op parts p m n r s a b = reply_unique op parts p m n r s a b
+
+pub reply_head_is : (p : List ℕ) (r : Reply) → answers.IsSent (Answered r) → server_payload (Answered r) ≡ p → HasHead p r.xid
+unfolding server_payload
+reply_head_is p r c e = record { header = header_of r; rest = bytes_of (rest_items r.outcome); is = subst (λ z. IsHead z (header_of r) (bytes_of (rest_items r.outcome))) e (reply_heads r c); xid_is = refl }
+
+pub reply_no_event : (r : Reply) → answers.IsSent (Answered r) → r.xid ≢ event_xid
+reply_no_event r c = c.0
+
+-- ---- events
+
+pub event_inj : (s t : ServerFrame) → IsEvent s → IsEvent t → answers.IsSent s → answers.IsSent t → server_payload s ≡ server_payload t → s ≡ t
+unfolding server_payload
+event_inj s t a b c d e = event_injective s t a b c d e
+
+pub event_excluded : (p : List ℕ) (place : ℕ) (reason : Reason) → IsEventFault p place reason → (s : ServerFrame) → IsEvent s → answers.IsSent s → server_payload s ≡ p → ⊥
+unfolding server_payload
+event_excluded p place reason fault s a c e = event_excludes s place reason a c (subst (λ z. IsEventFault z place reason) (sym e) fault)
+
+pub event_once : (p : List ℕ) (m n : ℕ) (r s : Reason) → IsEventFault p m r → IsEventFault p n s → Same m n r s
+event_once p m n r s a b = event_unique p m n r s a b
+
+pub event_head_is : (p : List ℕ) (s : ServerFrame) → IsEvent s → answers.IsSent s → server_payload s ≡ p → HasHead p event_xid
+unfolding server_payload
+event_head_is p (Event z k) a c e = record { header = event_header z; rest = bytes_of (watcher_event.items k); is = subst (λ y. IsHead y (event_header z) (bytes_of (watcher_event.items k))) e (event_head z k c); xid_is = refl }
+event_head_is p (Connected t g) a c e = absurd a
+event_head_is p (Answered r) a c e = absurd a

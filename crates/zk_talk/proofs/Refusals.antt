@@ -1,0 +1,141 @@
+-- Why a history is not good with one more frame.
+use Rattle.std.proofs.Common.{◌≡◌, ◌≢◌, ℕ, ◌≤◌, List, [], ◌∷◌, ◌++◌, length, refl, sym, ap, ◌∙◌, subst, arith}
+use Rattle.zk_asks.specs.declared.frame.ClientFrame.{ClientFrame}
+use Rattle.zk_asks.specs.declared.frame.ClientFrame.TheVariants.{Connect, Ask}
+use Rattle.zk_answers.specs.declared.frame.ServerFrame.{ServerFrame}
+use Rattle.zk_answers.specs.declared.frame.ServerFrame.TheVariants.{Connected, Answered, Event}
+use Rattle.zk_answers.specs.declared.frame.Reply.{Reply}
+use Rattle.zk_talk.specs.Payloads.{client_payload, server_payload}
+use Rattle.zk_talk.specs.declared.message.Side.TheVariants.{Client, Server}
+use Rattle.zk_talk.specs.declared.limits.Limits.{Limits}
+use Rattle.zk_talk.specs.Splits.{EachAfter}
+use Rattle.zk_talk.specs.History.{History}
+use Rattle.zk_frames.specs.Framing.{frame}
+use Rattle.zk_waiting.specs.Lane.{lane_of}
+use Rattle.zk_talk.specs.Conversation.{asks_on, replies_on, ClientMay, ServerMay, IsAnswered, Conversation, load}
+use Rattle.zk_talk.specs.Good.{Good, IsGood}
+use Rattle.zk_talk.proofs.Small.{AreSmall}
+use Rattle.std.proofs.Common.{ℤ, pos, negsuc}
+use Rattle.zk_jute.specs.declared.fault.Reason.{Reason}
+use Rattle.zk_records.specs.declared.header.ReplyHeader.{ReplyHeader}
+use Rattle.zk_asks.specs.declared.frame.Ask.{Ask as Asked}
+use Rattle.zk_asks.specs.Codes.{event_xid}
+use Rattle.zk_asks.specs.Frames.{IsFirst, IsLater, op_of_ask, ops_of_ask}
+use Rattle.zk_asks.specs.Frames as asks
+use Rattle.zk_answers.specs.Frames.{IsConnected, IsEvent, Fits}
+use Rattle.zk_answers.specs.Frames as answers
+use Rattle.zk_answers.specs.Faults.{IsHead}
+use Rattle.zk_talk.proofs.Payloads.{HasHead, first_excluded, connected_excluded, ask_excluded, ask_inj, head_excluded, reply_excluded, event_excluded, same_head, reply_head_is, reply_no_event, event_head_is}
+use Rattle.zk_waiting.specs.Lane.{same_lane}
+use Rattle.zk_talk.specs.Conversation.{is_ask_on}
+use Rattle.zk_talk.specs.Fault.{IsNext, IsClientFault, IsServerFault}
+use Rattle.zk_talk.specs.Fault.IsClientFault.{connect_fault, ask_fault, queue_full}
+use Rattle.zk_talk.specs.Fault.IsServerFault.{no_connect, connected_fault, head_fault, event_fault, unasked, wrong_xid, reply_fault}
+use Rattle.zk_talk.proofs.Turns.{count_split, nth_passing, same_lane-itself}
+use Rattle.zk_talk.proofs.Loads.{load_ask}
+use Rattle.zk_talk.proofs.GoodSteps.{found_client, found_server}
+
+-- what may stand after no frame, and after some
+pub may_first : (C : List ClientFrame) (f : ClientFrame) → C ≡ [] → ClientMay C f → IsFirst f × asks.IsSent f
+may_first [] f n m = m
+may_first (c ∷ cs) f n m = absurd (cc)
+
+pub may_later : (C : List ClientFrame) (f : ClientFrame) → C ≢ [] → ClientMay C f → IsLater f × asks.IsSent f
+may_later [] f n m = absurd (n refl)
+may_later (c ∷ cs) f n m = m
+
+pub sent_first : (C : List ClientFrame) (S : List ServerFrame) (s : ServerFrame) → S ≡ [] → ServerMay C S s → IsConnected s × answers.IsSent s × (C ≢ [])
+sent_first C [] (Connected t g) n m = (tt, m.0, m.1)
+sent_first C [] (Answered r) n m = absurd m
+sent_first C [] (Event z k) n m = absurd m
+sent_first C (x ∷ xs) s n m = absurd (cc)
+
+pub data SentLater (C : List ClientFrame) (S : List ServerFrame) (s : ServerFrame) : Type 0 where
+  a_reply : (r : Reply) → s ≡ Answered r → answers.IsSent (Answered r) → IsAnswered C S r → SentLater C S s
+  an_event : IsEvent s → answers.IsSent s → SentLater C S s
+
+pub sent_later : (C : List ClientFrame) (S : List ServerFrame) (s : ServerFrame) → S ≢ [] → ServerMay C S s → SentLater C S s
+sent_later C [] s n m = absurd (n refl)
+sent_later C (x ∷ xs) (Connected t g) n m = absurd m
+sent_later C (x ∷ xs) (Answered r) n m = a_reply r refl m.0 m.1
+sent_later C (x ∷ xs) (Event z k) n m = an_event tt m
+
+-- no frame that may stand after the client's has a payload with a fault
+client_alone : (limits : Limits) (v : Conversation) (p : List ℕ) (place : ℕ) (reason : Reason) → EachAfter (ServerMay v.client) v.server → IsClientFault limits v p place reason →
+    (f : ClientFrame) → ClientMay v.client f → client_payload f ≡ p → load (v.client ++ f ∷ []) v.server ≤ limits.waiting → ⊥
+client_alone limits v p place reason each (connect_fault n bad) f may e fits =
+    let t = may_first v.client f n may in
+    first_excluded p place reason bad f t.0 t.1 e
+client_alone limits v p place reason each (ask_fault n bad) f may e fits =
+    let t = may_later v.client f n may in
+    ask_excluded p place reason bad f t.0 t.1 e
+client_alone limits v p place reason each (queue_full n g later sent pay over x y) f may e fits =
+    let t = may_later v.client f n may in
+    let same = ask_inj g f later t.0 sent t.1 (pay ∙ sym e) in
+    omega (arith, over, fits, ap (λ z. load (v.client ++ z ∷ []) v.server) same, load_ask v g each)
+
+-- two headers of one payload have one xid
+xid_of : (p : List ℕ) (xid : ℤ) (header : ReplyHeader) (rest : List ℕ) → HasHead p xid → IsHead p header rest → xid ≡ header.xid
+xid_of p xid header rest h k = sym h.xid_is ∙ ap (λ z. z.xid) (same_head p h.header header h.rest rest h.is k)
+
+-- the next ask of the lane is the one that the reply answers
+next_is : (v : Conversation) (r : Reply) (next xid : ℤ) (ask : Asked) → r.xid ≡ xid → IsNext v (lane_of xid) next ask → (w : IsAnswered v.client v.server r) → (next ≡ r.xid) × (ask ≡ w.ask)
+next_is v r next xid ask e n w =
+    let lane = lane_of r.xid in
+    let lanes : lane_of xid ≡ lane = ap lane_of (sym e) in
+    let counts = subst (λ l. asks_on l n.asked ≡ replies_on l v.server) lanes n.counts in
+    let s = nth_passing (is_ask_on lane) n.asked (Ask next ask) n.after w.asked (Ask r.xid w.ask) w.after (sym n.stands ∙ w.stands)
+    (ap (same_lane lane) (n.same_lane ∙ lanes) ∙ same_lane-itself lane) (same_lane-itself lane) (counts ∙ sym w.counts) in
+    let t = s.1 in
+    (cc, cc)
+
+server_alone : (v : Conversation) (p : List ℕ) (place : ℕ) (reason : Reason) → IsServerFault v p place reason → (s : ServerFrame) → ServerMay v.client v.server s → server_payload s ≡ p → ⊥
+server_alone v p place reason (no_connect es ec a b) s may e = (sent_first v.client v.server s es may).2 ec
+server_alone v p place reason (connected_fault es ec bad) s may e =
+    let t = sent_first v.client v.server s es may in
+    connected_excluded p place reason bad s t.0 t.1 e
+server_alone v p place reason (head_fault n bad) s may e = go (sent_later v.client v.server s n may)
+  where
+    go : SentLater v.client v.server s → ⊥
+    go (a_reply r q ok w) = let h = reply_head_is p r ok (ap server_payload (sym q) ∙ e) in head_excluded p place reason bad h.header h.rest h.is
+    go (an_event k ok) = let h = event_head_is p s k ok e in head_excluded p place reason bad h.header h.rest h.is
+server_alone v p place reason (event_fault n header rest h is bad) s may e = go (sent_later v.client v.server s n may)
+  where
+    go : SentLater v.client v.server s → ⊥
+    go (a_reply r q ok w) = reply_no_event r ok (xid_of p r.xid header rest (reply_head_is p r ok (ap server_payload (sym q) ∙ e)) h ∙ is)
+    go (an_event k ok) = event_excluded p place reason bad s k ok e
+server_alone v p place reason (unasked n header rest h m few a b) s may e = go (sent_later v.client v.server s n may)
+  where
+    go : SentLater v.client v.server s → ⊥
+    go (a_reply r q ok w) =
+        let same = xid_of p r.xid header rest (reply_head_is p r ok (ap server_payload (sym q) ∙ e)) h in
+        let few' = subst (λ z. asks_on (lane_of z) v.client ≤ replies_on (lane_of z) v.server) (sym same) few in
+        omega (arith, few', w.counts, ap (asks_on (lane_of r.xid)) w.stands, count_split (is_ask_on (lane_of r.xid)) w.asked (Ask r.xid w.ask) w.after (same_lane-itself (lane_of r.xid)))
+    go (an_event k ok) = m (sym (xid_of p event_xid header rest (event_head_is p s k ok e) h))
+server_alone v p place reason (wrong_xid n header rest h m next ask nx other a b) s may e = go (sent_later v.client v.server s n may)
+  where
+    go : SentLater v.client v.server s → ⊥
+    go (a_reply r q ok w) =
+        let same = xid_of p r.xid header rest (reply_head_is p r ok (ap server_payload (sym q) ∙ e)) h in
+        other ((next_is v r next header.xid ask same nx w).0 ∙ same)
+    go (an_event k ok) = m (sym (xid_of p event_xid header rest (event_head_is p s k ok e) h))
+server_alone v p place reason (reply_fault n header rest h m ask nx bad) s may e = go (sent_later v.client v.server s n may)
+  where
+    go : SentLater v.client v.server s → ⊥
+    go (a_reply r q ok w) =
+        let same = xid_of p r.xid header rest (reply_head_is p r ok (ap server_payload (sym q) ∙ e)) h in
+        let fits = subst (λ z. Fits (op_of_ask z) (ops_of_ask z) r) (sym (next_is v r header.xid header.xid ask same nx w).1) w.fits in
+        reply_excluded (op_of_ask ask) (ops_of_ask ask) p place reason bad r fits ok (ap server_payload (sym q) ∙ e)
+    go (an_event k ok) = m (sym (xid_of p event_xid header rest (event_head_is p s k ok e) h))
+
+module _ (limits : Limits) (small : AreSmall limits) (h : History) (b : ℕ) (v : Conversation) (cb sb : List ℕ) (g : Good limits h v cb sb) (p : List ℕ) (place : ℕ) (reason : Reason) where
+  -- A payload with a fault leaves no good history.
+  pub client_refused : cb ++ b ∷ [] ≡ frame p → length p ≤ limits.client → IsClientFault limits v p place reason → IsGood limits (h ++ (Client, b) ∷ []) → ⊥
+  client_refused e l fault n =
+      let f = found_client limits small h b v cb sb g p e l n in
+      client_alone limits v p place reason g.conversation.server fault f.found f.may f.payload f.fits
+
+  pub server_refused : sb ++ b ∷ [] ≡ frame p → length p ≤ limits.server → IsServerFault v p place reason → IsGood limits (h ++ (Server, b) ∷ []) → ⊥
+  server_refused e l fault n =
+      let f = found_server limits small h b v cb sb g p e l n in
+      server_alone v p place reason fault f.found f.may f.payload

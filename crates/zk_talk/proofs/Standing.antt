@@ -1,0 +1,138 @@
+-- A talk goes on with its history.
+use Rattle.std.proofs.Common.{◌≡◌, ℕ, ◌+◌, ◌<◌, ◌≤◌, ◌^◌, ◌⊎◌, inl, inr, List, [], ◌∷◌, ◌++◌, length, refl, sym, ap, ◌∙◌, subst, arith, append_assoc, length-append}
+use Rattle.std.proofs.lemmas.List.{append-nil, length_push}
+use Rattle.zk_talk.specs.declared.message.Side.{Side}
+use Rattle.zk_talk.specs.declared.message.Side.TheVariants.{Client, Server}
+use Rattle.zk_talk.specs.declared.limits.Limits.{Limits}
+use Rattle.zk_talk.specs.History.{History, side_bytes}
+use Rattle.zk_frames.specs.Framing.{frame, IsBeginning}
+use Rattle.zk_talk.specs.Conversation.{Conversation}
+use Rattle.zk_talk.specs.Good.{IsWhole, AreWholeIn, Good, IsGood}
+use Rattle.zk_talk.proofs.Small.{AreSmall}
+use Rattle.zk_frames.proofs.Cuts.{length-frame}
+use Rattle.zk_talk.proofs.Histories.{side_bytes-same, server-bytes-client, client-bytes-server}
+use Rattle.std.proofs.Common.{take}
+use Rattle.std.proofs.lemmas.List.{map_push, take-append-le}
+use Rattle.std.proofs.lemmas.Bool.{cases_lt}
+use Rattle.zk_jute.specs.declared.fault.Reason.{Reason}
+use Rattle.zk_talk.specs.declared.message.Message.{Message}
+use Rattle.zk_talk.specs.declared.message.Message.TheVariants.{Client as FromClient, Server as FromServer}
+use Rattle.zk_talk.specs.History.{on}
+use Rattle.zk_talk.specs.Good.{clients, servers, IsOrder}
+use Rattle.zk_talk.specs.Fault.{IsCause}
+use Rattle.zk_talk.specs.Fault.IsCause.{stream_end, length_range, payload_fault}
+use Rattle.zk_talk.proofs.Lists.{FrontOfPushed, front_of_pushed}
+use Rattle.zk_talk.proofs.Lists.FrontOfPushed.{all_of_it, front_of}
+use Rattle.zk_frames.proofs.Cuts.{take-frame}
+use Rattle.zk_talk.proofs.GoodSteps.{good_more_client, good_more_server, bad_client_length, bad_server_length, client_full, server_full}
+use Rattle.zk_talk.proofs.Refusals.{client_refused, server_refused}
+
+-- ---- Beginnings
+pub beginning_left : (limit : ℕ) (c d : List ℕ) → IsBeginning limit (c ++ d) → IsBeginning limit c
+beginning_left limit c d (inl short) = inl (omega (arith, length-append c d))
+beginning_left limit c d (inr w) = go (cases_lt (length c) 4)
+  where
+    go : ((length c < 4) ⊎ (4 ≤ length c)) → IsBeginning limit c
+    go (inl short) = inl short
+    go (inr long) = inr (w.0, sym (take-append-le 4 c d long) ∙ w.1, w.2, omega (arith, w.3, length-append c d))
+
+pub frame_front : (limit : ℕ) (c d q : List ℕ) (y : ℕ) → length q ≤ limit → c ++ y ∷ d ≡ frame q → IsBeginning limit c
+frame_front limit c d q y l e = go (cases_lt (length c) 4)
+  where
+    go : ((length c < 4) ⊎ (4 ≤ length c)) → IsBeginning limit c
+    go (inl short) = inl short
+    go (inr long) = inr (length q, sym (take-append-le 4 c (y ∷ d) long) ∙ ap (take 4) (e ∙ sym (append-nil (frame q))) ∙ take-frame q [], l, omega (arith, length-frame q, ap length e, length-append c (y ∷ d)))
+
+-- ---- Order
+pub clients-append : (M N : List Message) → clients (M ++ N) ≡ clients M ++ clients N
+clients-append [] N = refl
+clients-append (FromClient f ∷ M) N = ap (λ z. f ∷ z) (clients-append M N)
+clients-append (FromServer f ∷ M) N = clients-append M N
+
+pub servers-append : (M N : List Message) → servers (M ++ N) ≡ servers M ++ servers N
+servers-append [] N = refl
+servers-append (FromClient f ∷ M) N = servers-append M N
+servers-append (FromServer f ∷ M) N = ap (λ z. f ∷ z) (servers-append M N)
+
+module _ (limits : Limits) (h : History) (x : Side × ℕ) (v w : Conversation) (cb sb : List ℕ) (M more : List Message) where
+  -- the messages in order, with those that the byte makes whole
+  pub order_more : IsOrder limits h v M → clients (M ++ more) ≡ w.client → servers (M ++ more) ≡ w.server → IsWhole limits (h ++ x ∷ []) w.client w.server cb sb → IsOrder limits (h ++ x ∷ []) w (M ++ more)
+  order_more o c s whole = record {
+    client = c;
+    server = s;
+    fronts = λ front rest e. go front rest (front_of_pushed h x front rest e);
+  }
+    where
+      go : (front rest : History) → FrontOfPushed h x front rest → (first after : List Message) × (M ++ more ≡ first ++ after) × AreWholeIn limits front (clients first) (servers first)
+      go front rest (all_of_it f r) = (
+        M ++ more,
+        [],
+        sym (append-nil (M ++ more)),
+        (
+          cb,
+          sb,
+          subst (λ z. IsWhole limits z (clients (M ++ more)) (servers (M ++ more)) cb sb) (sym f)
+              (subst (λ z. IsWhole limits (h ++ x ∷ []) z (servers (M ++ more)) cb sb) (sym c) (subst (λ z. IsWhole limits (h ++ x ∷ []) w.client z cb sb) (sym s) whole)),
+        ),
+      )
+      go front rest (front_of r' f r) =
+          let p = o.fronts front r' f in
+          (p.0, p.1 ++ more, ap (λ z. z ++ more) p.2 ∙ append_assoc p.0 p.1 more, p.3)
+
+pub order_same : (limits : Limits) (h : History) (x : Side × ℕ) (v : Conversation) (cb sb : List ℕ) (M : List Message) → IsOrder limits h v M → IsWhole limits (h ++ x ∷ []) v.client v.server cb sb → IsOrder limits (h ++ x ∷ []) v M
+order_same limits h x v cb sb M o whole =
+    subst (IsOrder limits (h ++ x ∷ []) v) (append-nil M)
+    (order_more limits h x v v cb sb M [] o (ap clients (append-nil M) ∙ o.client) (ap servers (append-nil M) ∙ o.server) whole)
+
+-- ---- A piece within a frame
+pub record Runs (limits : Limits) (h : History) (v : Conversation) (M : List Message) (cb sb : List ℕ) : Type 0 where
+  pub good : Good limits h v cb sb
+  pub order : IsOrder limits h v M
+
+module _ (limits : Limits) (small : AreSmall limits) (v : Conversation) (M : List Message) where
+  pub runs_client : (bs : List ℕ) (h : History) (cb sb : List ℕ) → Runs limits h v M cb sb → IsBeginning limits.client (cb ++ bs) → length (side_bytes Client h) + length bs < 2 ^ 62 → Runs limits (h ++ on Client bs) v M (cb ++ bs) sb
+  runs_client [] h cb sb r begin size = subst (λ z. Runs limits z v M (cb ++ []) sb) (sym (append-nil h)) (subst (λ z. Runs limits h v M z sb) (sym (append-nil cb)) r)
+  runs_client (b ∷ bs) h cb sb r begin size =
+      let begin' = subst (IsBeginning limits.client) (sym (append_assoc cb (b ∷ []) bs)) begin in
+      let g = good_more_client limits small h b v cb sb r.good (beginning_left limits.client (cb ++ b ∷ []) bs begin') (omega arith) in
+      let o = order_same limits h (Client, b) v (cb ++ b ∷ []) sb M r.order g.whole in
+      let next = runs_client bs (h ++ (Client, b) ∷ []) (cb ++ b ∷ []) sb (record { good = g; order = o }) begin' (omega (arith, size, ap length (side_bytes-same Client h b), length_push (side_bytes Client h) b)) in
+      subst (λ z. Runs limits z v M (cb ++ b ∷ bs) sb) (append_assoc h ((Client, b) ∷ []) (on Client bs)) (subst (λ z. Runs limits ((h ++ (Client, b) ∷ []) ++ on Client bs) v M z sb) (append_assoc cb (b ∷ []) bs) next)
+
+  pub runs_server : (bs : List ℕ) (h : History) (cb sb : List ℕ) → Runs limits h v M cb sb → IsBeginning limits.server (sb ++ bs) → length (side_bytes Server h) + length bs < 2 ^ 62 → Runs limits (h ++ on Server bs) v M cb (sb ++ bs)
+  runs_server [] h cb sb r begin size = subst (λ z. Runs limits z v M cb (sb ++ [])) (sym (append-nil h)) (subst (λ z. Runs limits h v M cb z) (sym (append-nil sb)) r)
+  runs_server (b ∷ bs) h cb sb r begin size =
+      let begin' = subst (IsBeginning limits.server) (sym (append_assoc sb (b ∷ []) bs)) begin in
+      let g = good_more_server limits small h b v cb sb r.good (beginning_left limits.server (sb ++ b ∷ []) bs begin') (omega arith) in
+      let o = order_same limits h (Server, b) v cb (sb ++ b ∷ []) M r.order g.whole in
+      let next = runs_server bs (h ++ (Server, b) ∷ []) cb (sb ++ b ∷ []) (record { good = g; order = o }) begin' (omega (arith, size, ap length (side_bytes-same Server h b), length_push (side_bytes Server h) b)) in
+      subst (λ z. Runs limits z v M cb (sb ++ b ∷ bs)) (append_assoc h ((Server, b) ∷ []) (on Server bs)) (subst (λ z. Runs limits ((h ++ (Server, b) ∷ []) ++ on Server bs) v M cb z) (append_assoc sb (b ∷ []) bs) next)
+
+-- the bytes of a piece on its own side and on the other
+pub bytes-on : (side : Side) (bs : List ℕ) (h : History) → length (side_bytes side (h ++ on side bs)) ≡ length (side_bytes side h) + length bs
+bytes-on side [] h = ap (λ z. length (side_bytes side z)) (append-nil h) ∙ omega arith
+bytes-on side (b ∷ bs) h = ap (λ z. length (side_bytes side z)) (sym (append_assoc h ((side, b) ∷ []) (on side bs))) ∙ bytes-on side bs (h ++ (side, b) ∷ []) ∙ omega (arith, ap length (side_bytes-same side h b), length_push (side_bytes side h) b)
+
+pub server-on-client : (bs : List ℕ) (h : History) → side_bytes Server (h ++ on Client bs) ≡ side_bytes Server h
+server-on-client [] h = ap (side_bytes Server) (append-nil h)
+server-on-client (b ∷ bs) h = ap (side_bytes Server) (sym (append_assoc h ((Client, b) ∷ []) (on Client bs))) ∙ server-on-client bs (h ++ (Client, b) ∷ []) ∙ server-bytes-client h b
+
+pub client-on-server : (bs : List ℕ) (h : History) → side_bytes Client (h ++ on Server bs) ≡ side_bytes Client h
+client-on-server [] h = ap (side_bytes Client) (append-nil h)
+client-on-server (b ∷ bs) h = ap (side_bytes Client) (sym (append_assoc h ((Server, b) ∷ []) (on Server bs))) ∙ client-on-server bs (h ++ (Server, b) ∷ []) ∙ client-bytes-server h b
+
+pub on-push : (side : Side) (bs : List ℕ) (b : ℕ) → on side (bs ++ b ∷ []) ≡ on side bs ++ (side, b) ∷ []
+on-push side bs b = map_push (λ (z : ℕ). (side, z)) bs b
+
+-- ---- A byte that nothing good goes on with
+pub cause_client : (limits : Limits) → AreSmall limits → (h : History) (b : ℕ) (v : Conversation) (cb sb : List ℕ) → Good limits h v cb sb → (place : ℕ) (reason : Reason) →
+    IsCause limits v Client (length (side_bytes Client h)) cb b place reason → IsGood limits (h ++ (Client, b) ∷ []) → ⊥
+cause_client limits small h b v cb sb g place reason (stream_end e a r) = client_full limits small h b v cb sb g (omega arith)
+cause_client limits small h b v cb sb g place reason (length_range e bad a r) = bad_client_length limits small h b v cb sb g bad
+cause_client limits small h b v cb sb g place reason (payload_fault e p w l f) = client_refused limits small h b v cb sb g p place reason w l f
+
+pub cause_server : (limits : Limits) → AreSmall limits → (h : History) (b : ℕ) (v : Conversation) (cb sb : List ℕ) → Good limits h v cb sb → (place : ℕ) (reason : Reason) →
+    IsCause limits v Server (length (side_bytes Server h)) sb b place reason → IsGood limits (h ++ (Server, b) ∷ []) → ⊥
+cause_server limits small h b v cb sb g place reason (stream_end e a r) = server_full limits small h b v cb sb g (omega arith)
+cause_server limits small h b v cb sb g place reason (length_range e bad a r) = bad_server_length limits small h b v cb sb g bad
+cause_server limits small h b v cb sb g place reason (payload_fault e p w l f) = server_refused limits small h b v cb sb g p place reason w l f

@@ -1,0 +1,176 @@
+-- What a talk stands for after a piece.
+use Rattle.std.proofs.Common.{◌≡◌, ℕ, ◌+◌, ◌<◌, ◌≤◌, ◌^◌, List, [], ◌∷◌, ◌++◌, length, refl, sym, ap, ◌∙◌, subst, arith, append_assoc}
+use Rattle.std.proofs.lemmas.List.{append-nil, map-append, length_push}
+use Rattle.zk_asks.specs.declared.frame.ClientFrame.{ClientFrame}
+use Rattle.zk_answers.specs.declared.frame.ServerFrame.{ServerFrame}
+use Rattle.zk_talk.specs.Payloads.{client_payload, server_payload}
+use Rattle.zk_talk.specs.declared.message.Side.TheVariants.{Client, Server}
+use Rattle.zk_talk.specs.History.{History, side_bytes}
+use Rattle.zk_frames.specs.Framing.{frame, IsBeginning}
+use Rattle.zk_talk.specs.Conversation.{with_client, with_server, ClientMay, ServerMay, load}
+use Rattle.zk_talk.specs.Good.{Good}
+use Rattle.std.proofs.Common.{Some}
+use Rattle.zk_jute.specs.declared.fault.Reason.{Reason}
+use Rattle.zk_waiting.specs.declared.lane.Lane.{Lane}
+use Rattle.zk_talk.specs.declared.message.Message.{Message}
+use Rattle.zk_talk.specs.declared.message.Message.TheVariants.{Client as FromClient, Server as FromServer}
+use Rattle.zk_talk.specs.History.{on}
+use Rattle.zk_talk.specs.Good.{clients, servers, IsOrder}
+use Rattle.zk_talk.specs.Fault.{IsCause, fault_of}
+use Rattle.zk_waiting.specs.Waiting.{Lanes, queue_on}
+use Rattle.zk_talk.specs.Queues.{IsQueue}
+use Rattle.zk_talk.specs.Stands.{TalkState, Stands, Refuses}
+use Rattle.zk_jute.specs.Reading.{told_place}
+use Rattle.zk_talk.proofs.Small.{small_limits}
+use Rattle.zk_talk.proofs.Queues.{weight_is_load}
+use Rattle.zk_talk.proofs.GoodSteps.{good_client, good_server}
+use Rattle.zk_talk.proofs.Standing.{frame_front, clients-append, servers-append, order_more, runs_client, runs_server, bytes-on, server-on-client, client-on-server, on-push, cause_client, cause_server}
+
+module _ (t : TalkState) (h : History) (M : List Message) (st : Stands t h M) where
+  -- ---- The client's pieces
+  pub more_client : (bs : List ℕ) → IsBeginning t.limits.client (t.client_held ++ bs) → t.client_size + length bs < 2 ^ 62 →
+      Stands (record t { client_held = t.client_held ++ bs; client_size = t.client_size + length bs }) (h ++ on Client bs) M
+  more_client bs begin size =
+      let r = runs_client t.limits (small_limits t.limits) st.conversation M bs h t.client_held t.server_held (record { good = st.good; order = st.order }) begin (omega (arith, size, st.client_size)) in
+      record {
+        conversation = st.conversation;
+        good = r.good;
+        order = r.order;
+        client_frames = st.client_frames;
+        server_frames = st.server_frames;
+        client_size = omega (arith, st.client_size, bytes-on Client bs h);
+        server_size = st.server_size ∙ ap length (sym (server-on-client bs h));
+        queues = st.queues;
+        no_fault = st.no_fault;
+      }
+
+  pub whole_client : (bs : List ℕ) (b : ℕ) (f : ClientFrame) (w : Lanes) → (t.client_held ++ bs) ++ b ∷ [] ≡ frame (client_payload f) → length (client_payload f) ≤ t.limits.client → ClientMay st.conversation.client f →
+      load (st.conversation.client ++ f ∷ []) st.conversation.server ≤ t.limits.waiting → t.client_size + (length bs + 1) < 2 ^ 62 → ((lane : Lane) → IsQueue lane (with_client st.conversation f) (queue_on lane w)) →
+      Stands (record t { client_held = []; client_size = t.client_size + (length bs + 1); client_frames = t.client_frames + 1; waiting = w }) (h ++ on Client (bs ++ b ∷ [])) (M ++ FromClient f ∷ [])
+  whole_client bs b f w e l may fits size qs =
+      let v = st.conversation in
+      let begin = frame_front t.limits.client (t.client_held ++ bs) [] (client_payload f) b l e in
+      let r = runs_client t.limits (small_limits t.limits) v M bs h t.client_held t.server_held (record { good = st.good; order = st.order }) begin (omega (arith, size, st.client_size)) in
+      let h' = h ++ on Client bs in
+      let n = bytes-on Client bs h in
+      let g = good_client t.limits (small_limits t.limits) h' b v (t.client_held ++ bs) t.server_held r.good f e l may fits (omega (arith, size, st.client_size)) in
+      let o = order_more t.limits h' (Client, b) v (with_client v f) [] t.server_held M (FromClient f ∷ []) r.order
+      (clients-append M (FromClient f ∷ []) ∙ ap (λ z. z ++ f ∷ []) st.order.client) (servers-append M (FromClient f ∷ []) ∙ append-nil (servers M) ∙ st.order.server) g.whole in
+      let whole : h' ++ (Client, b) ∷ [] ≡ h ++ on Client (bs ++ b ∷ []) = append_assoc h (on Client bs) ((Client, b) ∷ []) ∙ ap (λ z. h ++ z) (sym (on-push Client bs b)) in
+      record {
+        conversation = with_client v f;
+        good = subst (λ z. Good t.limits z (with_client v f) [] t.server_held) whole g;
+        order = subst (λ z. IsOrder t.limits z (with_client v f) (M ++ FromClient f ∷ [])) whole o;
+        client_frames = omega (arith, st.client_frames, length_push v.client f);
+        server_frames = st.server_frames;
+        client_size = omega (arith, st.client_size, bytes-on Client (bs ++ b ∷ []) h, length_push bs b);
+        server_size = st.server_size ∙ ap length (sym (server-on-client (bs ++ b ∷ []) h));
+        queues = qs;
+        no_fault = st.no_fault;
+      }
+
+  pub fault_client : (held : List ℕ) (place told : ℕ) → told ≡ told_place place → (reason : Reason) (bs : List ℕ) (b : ℕ) (more : List ℕ) → IsBeginning t.limits.client (t.client_held ++ bs) → t.client_size + length bs < 2 ^ 62 →
+      IsCause t.limits st.conversation Client (t.client_size + length bs) (t.client_held ++ bs) b place reason →
+      Refuses (record t { client_held = held; fault = Some (fault_of Client t.client_frames (t.client_size + length bs + 1) told reason) }) (h ++ on Client (bs ++ b ∷ more)) M (fault_of Client t.client_frames (t.client_size + length bs + 1) told reason)
+  fault_client held place told is reason bs b more begin size cause =
+      let v = st.conversation in
+      let r = runs_client t.limits (small_limits t.limits) v M bs h t.client_held t.server_held (record { good = st.good; order = st.order }) begin (omega (arith, size, st.client_size)) in
+      let h' = h ++ on Client bs in
+      let n : t.client_size + length bs ≡ length (side_bytes Client h') = omega (arith, bytes-on Client bs h, st.client_size) in
+      let cause' = subst (λ z. IsCause t.limits v Client z (t.client_held ++ bs) b place reason) n cause in
+      let bad = cause_client t.limits (small_limits t.limits) h' b v (t.client_held ++ bs) t.server_held r.good place reason cause' in
+      record {
+        kept = refl;
+        is = record {
+          before = h';
+          byte = b;
+          after = on Client more;
+          conversation = v;
+          client_rest = t.client_held ++ bs;
+          server_rest = t.server_held;
+          stands = ap (λ z. h ++ z) (map-append (λ (z : ℕ). (Client, z)) bs (b ∷ more)) ∙ sym (append_assoc h (on Client bs) ((Client, b) ∷ on Client more));
+          good = r.good;
+          bad = bad;
+          frame = st.client_frames;
+          offset = omega (arith, n);
+          place = place;
+          told = is;
+          cause = cause';
+        };
+        order = r.order;
+        load = weight_is_load v t.waiting st.queues;
+      }
+
+  -- ---- The server's pieces
+  pub more_server : (bs : List ℕ) → IsBeginning t.limits.server (t.server_held ++ bs) → t.server_size + length bs < 2 ^ 62 →
+      Stands (record t { server_held = t.server_held ++ bs; server_size = t.server_size + length bs }) (h ++ on Server bs) M
+  more_server bs begin size =
+      let r = runs_server t.limits (small_limits t.limits) st.conversation M bs h t.client_held t.server_held (record { good = st.good; order = st.order }) begin (omega (arith, size, st.server_size)) in
+      record {
+        conversation = st.conversation;
+        good = r.good;
+        order = r.order;
+        client_frames = st.client_frames;
+        server_frames = st.server_frames;
+        client_size = st.client_size ∙ ap length (sym (client-on-server bs h));
+        server_size = omega (arith, st.server_size, bytes-on Server bs h);
+        queues = st.queues;
+        no_fault = st.no_fault;
+      }
+
+  pub whole_server : (bs : List ℕ) (b : ℕ) (s : ServerFrame) (w : Lanes) → (t.server_held ++ bs) ++ b ∷ [] ≡ frame (server_payload s) → length (server_payload s) ≤ t.limits.server → ServerMay st.conversation.client st.conversation.server s →
+      t.server_size + (length bs + 1) < 2 ^ 62 → ((lane : Lane) → IsQueue lane (with_server st.conversation s) (queue_on lane w)) →
+      Stands (record t { server_held = []; server_size = t.server_size + (length bs + 1); server_frames = t.server_frames + 1; waiting = w }) (h ++ on Server (bs ++ b ∷ [])) (M ++ FromServer s ∷ [])
+  whole_server bs b s w e l may size qs =
+      let v = st.conversation in
+      let begin = frame_front t.limits.server (t.server_held ++ bs) [] (server_payload s) b l e in
+      let r = runs_server t.limits (small_limits t.limits) v M bs h t.client_held t.server_held (record { good = st.good; order = st.order }) begin (omega (arith, size, st.server_size)) in
+      let h' = h ++ on Server bs in
+      let n = bytes-on Server bs h in
+      let g = good_server t.limits (small_limits t.limits) h' b v t.client_held (t.server_held ++ bs) r.good s e l may (omega (arith, size, st.server_size)) in
+      let o = order_more t.limits h' (Server, b) v (with_server v s) t.client_held [] M (FromServer s ∷ []) r.order
+      (clients-append M (FromServer s ∷ []) ∙ append-nil (clients M) ∙ st.order.client) (servers-append M (FromServer s ∷ []) ∙ ap (λ z. z ++ s ∷ []) st.order.server) g.whole in
+      let whole : h' ++ (Server, b) ∷ [] ≡ h ++ on Server (bs ++ b ∷ []) = append_assoc h (on Server bs) ((Server, b) ∷ []) ∙ ap (λ z. h ++ z) (sym (on-push Server bs b)) in
+      record {
+        conversation = with_server v s;
+        good = subst (λ z. Good t.limits z (with_server v s) t.client_held []) whole g;
+        order = subst (λ z. IsOrder t.limits z (with_server v s) (M ++ FromServer s ∷ [])) whole o;
+        client_frames = st.client_frames;
+        server_frames = omega (arith, st.server_frames, length_push v.server s);
+        client_size = st.client_size ∙ ap length (sym (client-on-server (bs ++ b ∷ []) h));
+        server_size = omega (arith, st.server_size, bytes-on Server (bs ++ b ∷ []) h, length_push bs b);
+        queues = qs;
+        no_fault = st.no_fault;
+      }
+
+  pub fault_server : (held : List ℕ) (place told : ℕ) → told ≡ told_place place → (reason : Reason) (bs : List ℕ) (b : ℕ) (more : List ℕ) → IsBeginning t.limits.server (t.server_held ++ bs) → t.server_size + length bs < 2 ^ 62 →
+      IsCause t.limits st.conversation Server (t.server_size + length bs) (t.server_held ++ bs) b place reason →
+      Refuses (record t { server_held = held; fault = Some (fault_of Server t.server_frames (t.server_size + length bs + 1) told reason) }) (h ++ on Server (bs ++ b ∷ more)) M (fault_of Server t.server_frames (t.server_size + length bs + 1) told reason)
+  fault_server held place told is reason bs b more begin size cause =
+      let v = st.conversation in
+      let r = runs_server t.limits (small_limits t.limits) v M bs h t.client_held t.server_held (record { good = st.good; order = st.order }) begin (omega (arith, size, st.server_size)) in
+      let h' = h ++ on Server bs in
+      let n : t.server_size + length bs ≡ length (side_bytes Server h') = omega (arith, bytes-on Server bs h, st.server_size) in
+      let cause' = subst (λ z. IsCause t.limits v Server z (t.server_held ++ bs) b place reason) n cause in
+      let bad = cause_server t.limits (small_limits t.limits) h' b v t.client_held (t.server_held ++ bs) r.good place reason cause' in
+      record {
+        kept = refl;
+        is = record {
+          before = h';
+          byte = b;
+          after = on Server more;
+          conversation = v;
+          client_rest = t.client_held;
+          server_rest = t.server_held ++ bs;
+          stands = ap (λ z. h ++ z) (map-append (λ (z : ℕ). (Server, z)) bs (b ∷ more)) ∙ sym (append_assoc h (on Server bs) ((Server, b) ∷ on Server more));
+          good = r.good;
+          bad = bad;
+          frame = st.server_frames;
+          offset = omega (arith, n);
+          place = place;
+          told = is;
+          cause = cause';
+        };
+        order = r.order;
+        load = weight_is_load v t.waiting st.queues;
+      }

@@ -1,0 +1,38 @@
+use Rattle.std.proofs.Common.{subst, arith, length, take}
+use Rattle.zk_talk.specs.contracts.talk.Talk.{the_view}
+use Rattle.zk_talk.specs.declared.stream.Advance.TheVariants.{Within, Whole, Refused}
+use Rattle.zk_talk.specs.Advance.{IsAdvance}
+use Rattle.zk_talk.proofs.Answering.{client_goes, client_stops, client_makes, client_fails}
+use Rattle.zk_talk.proofs.talk.Talk.client_piece.Goals as goal
+
+pub returns-in-Within-clause-ok : goal.returns-in-Within-clause-ok
+returns-in-Within-clause-ok c =
+    let T = the_view c.self.inside in
+    let s = c.take.new.self in
+    let a = subst (λ z. IsAdvance z T.client_size T.client_held c.args.piece.now Within s.frames.bytes) c.self.invariant.0.same (c.in-Within.ensures).advance in
+    rw (← c.self.view_is) (omega arith, (λ l. l), client_goes T c.args.piece.now s s (c.in-Within.ensures).count (c.in-Within.ensures).size a)
+
+pub returns-in-Ok-clause-ok : goal.returns-in-Ok-clause-ok
+returns-in-Ok-clause-ok c =
+    let T = the_view c.self.inside in
+    let s = c.take.new.self in
+    let k = c.in-Ok.ensures in
+    let a = subst (λ z. IsAdvance z T.client_size T.client_held c.args.piece.now (Whole c.in-Whole.used) s.frames.bytes) c.self.invariant.0.same (c.in-Whole.ensures).advance in
+    rw (← c.self.view_is) (a.1, (λ l. a.0), client_makes T c.args.piece.now s c.client_frame.new.stream (c.in-Whole.ensures).count (c.in-Whole.ensures).size c.in-Whole.used c.in-Ok.frame c.client_frame.new.waiting a c.self.invariant.2 k.waits k.found k.passed)
+
+pub returns-in-Err-clause-err : goal.returns-in-Err-clause-err
+returns-in-Err-clause-err c =
+    let T = the_view c.self.inside in
+    let s = c.take.new.self in
+    let k = c.in-Err.ensures in
+    let a = subst (λ z. IsAdvance z T.client_size T.client_held c.args.piece.now (Whole c.in-Whole.used) s.frames.bytes) c.self.invariant.0.same (c.in-Whole.ensures).advance in
+    rw (← c.self.view_is) (client_fails T c.args.piece.now s c.client_frame.new.stream (c.in-Whole.ensures).count (c.in-Whole.ensures).size c.client_frame.new.waiting c.refuse.new.kept c.in-Whole.used c.in-Err.item c.refuse.result a c.self.invariant.2
+    c.refuse.ensures.wanting c.refuse.ensures.refused k.same k.back k.stays k.fault)
+
+pub returns-in-Refused-clause-err : goal.returns-in-Refused-clause-err
+returns-in-Refused-clause-err c =
+    let T = the_view c.self.inside in
+    let s = c.take.new.self in
+    let k = c.in-Refused.ensures in
+    let a = subst (λ z. IsAdvance z T.client_size T.client_held c.args.piece.now (Refused c.in-Refused.used c.in-Refused.reason) s.frames.bytes) c.self.invariant.0.same k.advance in
+    rw (← c.self.view_is) (client_stops T c.args.piece.now s s k.count k.size c.refuse-in-Refused.new.kept c.in-Refused.used c.in-Refused.reason c.refuse-in-Refused.result a c.refuse-in-Refused.ensures.refused)

@@ -1,0 +1,29 @@
+-- What is answered for a list of pieces.
+use Rattle.std.specs.Prelude.{ℕ, List, ◌++◌, Option, Some, None}
+use Rattle.std.specs.List.{flat_map}
+use Rattle.std.specs.Borrow.{Bor}
+use Rattle.zk_talk.specs.declared.message.Side.{Side}
+use Rattle.zk_talk.specs.declared.message.Message.{Message}
+use Rattle.zk_talk.specs.declared.limits.Limits.{Limits}
+use Rattle.zk_talk.specs.declared.message.Fault.{Fault}
+use Rattle.zk_talk.specs.declared.message.Ending.{Ending}
+use Rattle.zk_talk.specs.declared.message.Ending.TheVariants.{Whole, Cut, Refused}
+use Rattle.zk_talk.specs.History.{History, on}
+use Rattle.zk_talk.specs.Conversation.{Conversation}
+use Rattle.zk_talk.specs.Good.{Good, IsOrder}
+use Rattle.zk_talk.specs.Fault.{IsFaultOf}
+use Rattle.zk_talk.specs.Stands.{TalkState, Stands, Refuses}
+
+abbrev pub history_of : List (Side × Bor (List ℕ)) → History
+history_of pieces = flat_map (λ (p : Side × Bor (List ℕ)). on p.0 p.1.now) pieces
+
+-- the messages of the history up to its fault, where there is one
+abbrev pub AreMessages : Limits → History → List Message → Ending → Type 0
+AreMessages limits h messages (Refused fault) = (is : IsFaultOf limits h fault) × IsOrder limits is.before is.conversation messages
+AreMessages limits h messages (Cut side frame got) = (v : Conversation) × (client_rest : List ℕ) × (server_rest : List ℕ) × Good limits h v client_rest server_rest × IsOrder limits h v messages
+AreMessages limits h messages (Whole n) = (v : Conversation) × (client_rest : List ℕ) × (server_rest : List ℕ) × Good limits h v client_rest server_rest × IsOrder limits h v messages
+
+-- a talk after all of a piece, with the messages so far, or with the history's fault
+abbrev pub Feeds : TalkState → List Message → Side → List ℕ → Option Fault → TalkState → List Message → Type 0
+Feeds old before side bytes None new after = (h : History) → Stands old h before → Stands new (h ++ on side bytes) after
+Feeds old before side bytes (Some fault) new after = (h : History) → Stands old h before → Refuses new (h ++ on side bytes) after fault

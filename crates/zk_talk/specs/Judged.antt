@@ -1,0 +1,53 @@
+-- How a payload's judgement is told.
+use Rattle.std.specs.Prelude.{◌≡◌, ℕ, ◌<◌, ◌≤◌, ◌+◌, ◌⊎◌, List, [], ◌∷◌, ◌++◌, length, Some, slice_get}
+use Rattle.zk_jute.specs.declared.fault.ItemFault.{ItemFault}
+use Rattle.zk_jute.specs.declared.fault.Reason.{Reason}
+use Rattle.zk_jute.specs.declared.fault.Reason.TheVariants.{QueueFull}
+use Rattle.zk_jute.specs.Reading.{told_place, no_memory}
+use Rattle.zk_asks.specs.declared.frame.ClientFrame.{ClientFrame}
+use Rattle.zk_asks.specs.declared.frame.ClientFrame.TheVariants.{Connect, Ask}
+use Rattle.zk_asks.specs.Frames.{IsFirst, IsLater, op_of_ask, ops_of_ask}
+use Rattle.zk_asks.specs.Faults.{IsFirstFault, IsAskFault}
+use Rattle.zk_answers.specs.declared.frame.ServerFrame.{ServerFrame}
+use Rattle.zk_answers.specs.declared.frame.ServerFrame.TheVariants.{Connected, Answered, Event}
+use Rattle.zk_waiting.specs.Lane.{lane_of}
+use Rattle.zk_waiting.specs.Waiting.{Lanes, Request, queue_on, weight_of, IsPut, IsDropped}
+use Rattle.zk_talk.specs.Payloads.{client_payload}
+use Rattle.zk_talk.specs.Conversation.{Conversation, ClientMay, load, weight}
+
+-- the fault, its place told in 32 bits
+abbrev pub Tells : (ℕ → Reason → Type 0) → ItemFault → Type 0
+Tells IsTheFault e = (place : ℕ) × IsTheFault place e.reason × (e.place ≡ told_place place)
+
+-- by the number of frames before it: the first frame's kind, or another's
+abbrev pub IsInTurn : ℕ → ClientFrame → Type 0
+IsInTurn count f = (count ≡ 0 → IsFirst f) × ((count ≡ 0 → ⊥) → IsLater f)
+
+-- its fault, likewise
+abbrev pub IsTurnFault : ℕ → List ℕ → ItemFault → Type 0
+IsTurnFault count p e = (count ≡ 0 → Tells (IsFirstFault p) e) × ((count ≡ 0 → ⊥) → Tells (IsAskFault p) e)
+
+-- want of memory, or the queue is full
+abbrev pub IsPutRefusal : ClientFrame → Lanes → ItemFault → Type 0
+IsPutRefusal f old e = (e ≡ no_memory) ⊎ (IsLater f × (e ≡ record { place = 0; reason = QueueFull }) × (old.max < weight_of old + weight f))
+
+-- the frame may stand after those of v, and the load is then within what may wait
+abbrev pub IsNextOf : Lanes → List ℕ → Conversation → ClientFrame → Type 0
+IsNextOf old p v f = (client_payload f ≡ p) × ClientMay v.client f × (load v.client v.server ≤ old.max → load (v.client ++ f ∷ []) v.server ≤ old.max)
+
+-- the frame waits for its reply, if it is to have one
+abbrev pub IsRemembered : ClientFrame → Lanes → Lanes → Type 0
+IsRemembered (Connect hello read_only) old new = new ≡ old
+IsRemembered (Ask xid ask) old new = (weight_of old + weight (Ask xid ask) ≤ old.max) × IsPut (lane_of xid) (record { xid = xid; op = op_of_ask ask; parts = ops_of_ask ask }) old new
+
+-- a reply has an ask in its lane
+abbrev pub HasAsk : ServerFrame → Lanes → Type 0
+HasAsk (Connected hello read_only) w = Unit {0}
+HasAsk (Answered reply) w = (r : Request) × (slice_get (queue_on (lane_of reply.xid) w) 0 ≡ Some r)
+HasAsk (Event zxid event) w = Unit {0}
+
+-- what it answers waits no more
+abbrev pub IsForgotten : ServerFrame → Lanes → Lanes → Type 0
+IsForgotten (Connected hello read_only) old new = new ≡ old
+IsForgotten (Answered reply) old new = IsDropped (lane_of reply.xid) old new
+IsForgotten (Event zxid event) old new = new ≡ old

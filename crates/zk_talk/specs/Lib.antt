@@ -1,0 +1,16 @@
+pub mod Ranges
+pub mod Splits
+pub mod History
+pub mod Payloads
+pub mod Conversation
+pub mod Good
+pub mod Fault
+pub mod Ending
+pub mod Queues
+pub mod Stands
+pub mod Describes
+pub mod Sound
+pub mod Judged
+pub mod Advance
+pub mod Taking
+pub mod Answer

@@ -1,0 +1,57 @@
+-- Which history a talk stands for.
+use Rattle.std.specs.Prelude.{◌≡◌, ℕ, ◌<◌, ◌^◌, List, length, Option, Some, None}
+use Rattle.zk_waiting.specs.declared.lane.Lane.{Lane}
+use Rattle.zk_waiting.specs.Waiting.{Lanes, queue_on, weight_of}
+use Rattle.zk_talk.specs.declared.message.Side.{Side}
+use Rattle.zk_talk.specs.declared.message.Side.TheVariants.{Client, Server}
+use Rattle.zk_talk.specs.declared.message.Message.{Message}
+use Rattle.zk_talk.specs.declared.message.Fault.{Fault}
+use Rattle.zk_talk.specs.declared.limits.Limits.{Limits}
+use Rattle.zk_talk.specs.History.{History, side_bytes}
+use Rattle.zk_talk.specs.Conversation.{Conversation, load}
+use Rattle.zk_talk.specs.Good.{Good, IsOrder}
+use Rattle.zk_talk.specs.Fault.{IsFaultOf}
+use Rattle.zk_talk.specs.Queues.{IsQueue}
+
+-- what is known of a talk
+pub record TalkState : Type 0 where
+  pub limits : Limits
+  pub client_held : List ℕ
+  pub server_held : List ℕ
+  pub waiting : Lanes
+  pub client_frames : ℕ
+  pub server_frames : ℕ
+  pub client_size : ℕ
+  pub server_size : ℕ
+  pub fault : Option Fault
+
+-- The talk has come through this history, and has given these messages.
+pub record Stands (t : TalkState) (h : History) (messages : List Message) : Type 0 where
+  pub conversation : Conversation
+  pub good : Good t.limits h conversation t.client_held t.server_held
+  pub order : IsOrder t.limits h conversation messages
+  pub client_frames : t.client_frames ≡ length conversation.client
+  pub server_frames : t.server_frames ≡ length conversation.server
+  pub client_size : t.client_size ≡ length (side_bytes Client h)
+  pub server_size : t.server_size ≡ length (side_bytes Server h)
+  pub queues : (lane : Lane) → IsQueue lane conversation (queue_on lane t.waiting)
+  pub no_fault : t.fault ≡ None
+
+-- The talk has refused this history, after these messages; what waits is what waited before the byte that decided it.
+pub record Refuses (t : TalkState) (h : History) (messages : List Message) (fault : Fault) : Type 0 where
+  pub kept : t.fault ≡ Some fault
+  pub is : IsFaultOf t.limits h fault
+  pub order : IsOrder t.limits is.before is.conversation messages
+  pub load : weight_of t.waiting ≡ load is.conversation.client is.conversation.server
+
+abbrev pub held_on : Side → TalkState → List ℕ
+held_on Client t = t.client_held
+held_on Server t = t.server_held
+
+abbrev pub frames_on : Side → TalkState → ℕ
+frames_on Client t = t.client_frames
+frames_on Server t = t.server_frames
+
+abbrev pub size_on : Side → TalkState → ℕ
+size_on Client t = t.client_size
+size_on Server t = t.server_size

@@ -1,0 +1,51 @@
+//! What a conversation is made of.
+
+use zk_answers::ServerFrame;
+use zk_asks::ClientFrame;
+use zk_jute::Reason;
+
+/// Who sends.
+#[derive(Clone, Copy, Debug, PartialEq, Eq)]
+pub enum Side {
+    Client,
+    Server,
+}
+
+/// What is sent in one frame.
+#[derive(Drop)]
+pub enum Message {
+    Client(ClientFrame),
+    Server(ServerFrame),
+}
+
+/// Why a conversation is refused, and where.
+#[derive(Clone, Copy, Debug, PartialEq, Eq)]
+pub struct Fault {
+    /// Whose byte decided it.
+    pub side: Side,
+    /// The number of that side's frame, from 0.
+    pub frame: u64,
+    /// The number of that side's bytes up to and with the one that decided it.
+    pub offset: u64,
+    /// Bytes from the beginning of the frame's payload.
+    pub place: u32,
+    pub reason: Reason,
+}
+
+/// How a history ends.
+#[derive(Clone, Copy, Debug, PartialEq, Eq)]
+pub enum Ending {
+    /// Both sides end with a whole frame; so many frames of the client have no answer.
+    Whole { unanswered: u32 },
+    /// The side ends within its frame of this number, after so many bytes of it.
+    Cut { side: Side, frame: u64, got: u32 },
+    /// The history is that of no conversation.
+    Refused(Fault),
+}
+
+/// The messages of a history, and how it ends.
+#[derive(Drop)]
+pub struct Ended {
+    pub messages: Vec<Message>,
+    pub ending: Ending,
+}

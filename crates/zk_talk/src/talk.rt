@@ -1,0 +1,285 @@
+//! The conversation, as it comes.
+ghost use Rattle.std.specs.Prelude.{◌≡◌, ◌≤◌, ◌<◌, ◌+◌, ◌^◌, ℕ, List, [], length, take, Some, None, Err, IfOk, IfErr, MatchOption};
+ghost use Rattle.std.specs.Option.{option_to_list};
+ghost use Rattle.zk_jute.specs.declared.fault.Reason.TheVariants.{NoMemory};
+ghost use Rattle.zk_jute.specs.Reading.{no_memory};
+ghost use Rattle.zk_talk.specs.declared.message.Side.TheVariants.{Client, Server};
+ghost use Rattle.zk_talk.specs.declared.message.Fault.{Fault};
+ghost use Rattle.zk_talk.specs.declared.message.Message.{Message};
+ghost use Rattle.zk_talk.specs.declared.message.Ending.TheVariants.{Refused};
+ghost use Rattle.zk_talk.specs.History.{History};
+ghost use Rattle.zk_talk.specs.Conversation.{Conversation, load};
+ghost use Rattle.zk_talk.specs.Good.{Good};
+ghost use Rattle.zk_talk.specs.Fault.{fault_of, side_limit, rest_on};
+ghost use Rattle.zk_talk.specs.Ending.{IsEnding};
+ghost use Rattle.zk_talk.specs.Stands.{held_on, Stands, Refuses};
+ghost use Rattle.zk_talk.specs.Taking.{GoesOn, Fails};
+
+use crate::frame::{client_frame, is_no_memory, server_frame};
+use crate::limits::Limits;
+use crate::message::{Ending, Fault, Message, Side};
+use crate::stream::{Advance, Stream};
+use std::alloc::Global;
+use std::marker::Model;
+use zk_jute::{ItemFault, Reason};
+use zk_waiting::Waiting;
+
+/// What a piece gave.
+#[derive(Drop)]
+pub struct Taken {
+    /// So many of the piece's bytes were used.
+    pub used: usize,
+    /// The message that the last of them made whole.
+    pub message: Option<Message>,
+}
+
+/// What is known of a conversation after the bytes so far. The bytes of both sides come in any
+/// pieces; a reply may not end before its request has ended.
+#[derive(Drop)]
+pub struct Talk {
+    alloc: Global,
+    limits: Limits,
+    client: Stream,
+    server: Stream,
+    waiting: Waiting,
+    fault: Option<Fault>,
+}
+
+impl Model for Talk {
+    ghost use Rattle.std.specs.Prelude.{◌≡◌};
+    ghost use Rattle.zk_talk.specs.Stands.{TalkState};
+    ghost use Rattle.zk_talk.specs.Sound.{IsSide};
+
+    ghost Value = { TalkState };
+
+    ghost view = { λ t. record { limits = t.limits; client_held = t.client.frames.bytes; server_held = t.server.frames.bytes; waiting = t.waiting; client_frames = t.client.count; server_frames = t.server.count; client_size = t.client.size; server_size = t.server.size; fault = t.fault } };
+
+    ghost invariant = { λ t. IsSide t.limits.client t.fault t.client × IsSide t.limits.server t.fault t.server × (t.waiting.max ≡ t.limits.waiting) };
+}
+
+/// The fault of an item of this side's frame, behind so many bytes of the side.
+fn fault_at(side: Side, frame: u64, offset: u64, item: ItemFault) -> Fault
+    ensures { result ≡ fault_of side frame offset item.place item.reason }
+{
+    Fault {
+        side,
+        frame,
+        offset,
+        place: item.place,
+        reason: item.reason,
+    }
+}
+
+/// Memory is wanted.
+fn wanting() -> ItemFault
+    ensures { result ≡ no_memory }
+{
+    ItemFault {
+        place: 0,
+        reason: Reason::NoMemory,
+    }
+}
+
+/// The fault of the frame that so many more bytes have brought; it is kept, but for want of
+/// memory.
+fn refuse(
+    kept: &mut Option<Fault>,
+    side: Side,
+    stream: &Stream,
+    used: usize,
+    item: ItemFault,
+) -> Fault
+    requires { stream.now.size + used < 2 ^ 64 }
+    ensures wanting { item.reason ≡ NoMemory → (result ≡ fault_of side stream.now.count stream.now.size 0 NoMemory) × (kept.new ≡ kept.old) }
+    ensures refused { (item.reason ≡ NoMemory → ⊥) → (result ≡ fault_of side stream.now.count (stream.now.size + used) item.place item.reason) × (kept.new ≡ Some result) }
+{
+    if is_no_memory(item) {
+        return fault_at(side, stream.count, stream.size, wanting());
+    }
+    let fault = fault_at(side, stream.count, stream.size + used as u64, item);
+    *kept = Some(fault);
+    fault
+}
+
+impl Talk {
+    /// A conversation of which nothing has come.
+    pub fn new(alloc: Global, limits: Limits) -> Self
+        ensures limits { result.limits ≡ limits }
+        ensures stands { Stands result [] [] }
+    {
+        Talk {
+            alloc,
+            limits,
+            client: Stream::new(alloc, limits.client()),
+            server: Stream::new(alloc, limits.server()),
+            waiting: Waiting::new(alloc, limits.waiting()),
+            fault: None,
+        }
+    }
+
+    fn client_piece(&mut self, piece: &[u8]) -> Result<Taken, Fault>
+        requires { self.old.fault ≡ None }
+        ensures limits { self.new.limits ≡ self.old.limits }
+        ensures ok { IfOk result (λ t. (t.used ≤ length piece.now) × (0 < length piece.now → 0 < t.used) × GoesOn self.old Client (take t.used piece.now) (option_to_list t.message) self.new) }
+        ensures exact { IfOk result (λ t. MatchOption t.message (t.used ≡ length piece.now) (λ m. self.new.client_held ≡ [])) }
+        ensures err { IfErr result (λ e. Fails self.old Client piece.now e self.new) }
+    {
+        match self.client.take(piece) {
+            Advance::Within => {
+                self.client.size += piece.len() as u64;
+                Ok(Taken {
+                    used: piece.len(),
+                    message: None,
+                })
+            }
+            Advance::Whole(used) => {
+                match client_frame(self.alloc, &mut self.client, &mut self.waiting, used) {
+                    Ok(frame) => Ok(Taken {
+                        used,
+                        message: Some(Message::Client(frame)),
+                    }),
+                    Err(item) => {
+                        let stream = &self.client;
+                        Err(refuse(&mut self.fault, Side::Client, stream, used, item))
+                    }
+                }
+            }
+            Advance::Refused(used, reason) => {
+                let item = ItemFault { place: 0, reason };
+                Err(refuse(&mut self.fault, Side::Client, &self.client, used, item))
+            }
+            Advance::Wanting => {
+                Err(refuse(&mut self.fault, Side::Client, &self.client, 0, wanting()))
+            }
+        }
+    }
+
+    fn server_piece(&mut self, piece: &[u8]) -> Result<Taken, Fault>
+        requires { self.old.fault ≡ None }
+        ensures limits { self.new.limits ≡ self.old.limits }
+        ensures ok { IfOk result (λ t. (t.used ≤ length piece.now) × (0 < length piece.now → 0 < t.used) × GoesOn self.old Server (take t.used piece.now) (option_to_list t.message) self.new) }
+        ensures exact { IfOk result (λ t. MatchOption t.message (t.used ≡ length piece.now) (λ m. self.new.server_held ≡ [])) }
+        ensures err { IfErr result (λ e. Fails self.old Server piece.now e self.new) }
+    {
+        match self.server.take(piece) {
+            Advance::Within => {
+                self.server.size += piece.len() as u64;
+                Ok(Taken {
+                    used: piece.len(),
+                    message: None,
+                })
+            }
+            Advance::Whole(used) => {
+                match server_frame(
+                    self.alloc,
+                    self.client.count,
+                    &mut self.server,
+                    &mut self.waiting,
+                    used,
+                ) {
+                    Ok(frame) => Ok(Taken {
+                        used,
+                        message: Some(Message::Server(frame)),
+                    }),
+                    Err(item) => {
+                        let stream = &self.server;
+                        Err(refuse(&mut self.fault, Side::Server, stream, used, item))
+                    }
+                }
+            }
+            Advance::Refused(used, reason) => {
+                let item = ItemFault { place: 0, reason };
+                Err(refuse(&mut self.fault, Side::Server, &self.server, used, item))
+            }
+            Advance::Wanting => {
+                Err(refuse(&mut self.fault, Side::Server, &self.server, 0, wanting()))
+            }
+        }
+    }
+
+    /// Takes the piece up to the end of the first frame that becomes whole, or all of it.
+    ///
+    /// # Errors
+    ///
+    /// The fault of the history so far with the piece: it is kept, and each later call answers it
+    /// and uses nothing. NoMemory where a growth was refused: the talk is then as before the call.
+    pub fn take(&mut self, side: Side, piece: &[u8]) -> Result<Taken, Fault>
+        ensures limits { self.new.limits ≡ self.old.limits }
+        // What is used goes on with the history, and what it makes whole is the newest message.
+        ensures ok { IfOk result (λ t. (t.used ≤ length piece.now) × (0 < length piece.now → 0 < t.used) × GoesOn self.old side (take t.used piece.now) (option_to_list t.message) self.new) }
+        // With no message all was used, and with one nothing past its frame.
+        ensures exact { IfOk result (λ t. MatchOption t.message (t.used ≡ length piece.now) (λ m. held_on side self.new ≡ [])) }
+        // Want of memory changes nothing; another refusal is the history's fault.
+        ensures err { IfErr result (λ e. Fails self.old side piece.now e self.new) }
+        // A fault is kept.
+        ensures kept { (f : Fault) → self.old.fault ≡ Some f → (result ≡ Err f) × (self.new ≡ self.old) }
+    {
+        if let Some(fault) = self.fault {
+            return Err(fault);
+        }
+        match side {
+            Side::Client => self.client_piece(piece),
+            Side::Server => self.server_piece(piece),
+        }
+    }
+
+    /// How the history so far ends.
+    pub fn finish(&self) -> Ending
+        ensures stands { (h : History) (M : List Message) → Stands self.now h M → IsEnding self.now.limits h result }
+        ensures refuses { (h : History) (M : List Message) (f : Fault) → Refuses self.now h M f → result ≡ Refused f }
+    {
+        if let Some(fault) = self.fault {
+            return Ending::Refused(fault);
+        }
+        let got = self.client.frames.held();
+        if got > 0 {
+            let frame = self.client.count;
+            return Ending::Cut {
+                side: Side::Client,
+                frame,
+                got,
+            };
+        }
+        let got = self.server.frames.held();
+        if got > 0 {
+            let frame = self.server.count;
+            return Ending::Cut {
+                side: Side::Server,
+                frame,
+                got,
+            };
+        }
+        let asks = self.waiting.count();
+        if self.client.count > 0 && self.server.count == 0 {
+            Ending::Whole {
+                unanswered: asks + 1,
+            }
+        } else {
+            Ending::Whole { unanswered: asks }
+        }
+    }
+
+    /// The number of the side's bytes that are held: those of the frame that isn't whole, its
+    /// length included.
+    pub fn held(&self, side: Side) -> u32
+        ensures value { result ≡ length (held_on side self.now) }
+        // It is the length of the side's beginning.
+        ensures stands { (h : History) (M : List Message) (v : Conversation) (client_rest server_rest : List ℕ) → Stands self.now h M → Good self.now.limits h v client_rest server_rest → result ≡ length (rest_on side client_rest server_rest) }
+        ensures most { result ≤ 4 + side_limit self.now.limits side }
+    {
+        match side {
+            Side::Client => self.client.frames.held(),
+            Side::Server => self.server.frames.held(),
+        }
+    }
+
+    /// What the requests weigh that wait for their replies: 1 each, and 1 more for each part of a
+    /// multi. After a fault those before the byte that decided it.
+    pub fn waiting(&self) -> u32
+        ensures stands { (h : History) (M : List Message) (v : Conversation) (client_rest server_rest : List ℕ) → Stands self.now h M → Good self.now.limits h v client_rest server_rest → result ≡ load v.client v.server }
+        ensures refuses { (h : History) (M : List Message) (f : Fault) (r : Refuses self.now h M f) → result ≡ load r.is.conversation.client r.is.conversation.server }
+        ensures most { result ≤ self.now.limits.waiting }
+    {
+        self.waiting.weight()
+    }
+}
