@@ -67,8 +67,8 @@ size-or-not : (n : ℕ) → IsSize n ⊎ (IsSize n → ⊥)
 size-or-not n = elim (cases_lt n 1) [
   | inl less ↦ inr (λ i. omega (arith, i.0, less))
   | inr some ↦ elim (cases_lt 16777220 n) [
-      | inl more ↦ inr (λ i. omega (arith, i.1, more))
-      | inr few ↦ inl (some, few)
+    | inl more ↦ inr (λ i. omega (arith, i.1, more))
+    | inr few ↦ inl (some, few)
   ]
 ]
 
@@ -95,8 +95,8 @@ goes-by (suc n) (b ∷ bytes) less =
     elim (cases_eq b 67) [
       | inl client ↦ subst (λ c. Goes (c ∷ bytes)) (sym client) (after-side Client bytes next)
       | inr not_client ↦ elim (cases_eq b 83) [
-          | inl server ↦ subst (λ c. Goes (c ∷ bytes)) (sym server) (after-side Server bytes next)
-          | inr not_server ↦ λ pieces each. shorter _ _ _ (in-tail pieces (NoSide b bytes) (b ∷ bytes) each (record { not_client = not_client; not_server = not_server }) refl)
+        | inl server ↦ subst (λ c. Goes (c ∷ bytes)) (sym server) (after-side Server bytes next)
+        | inr not_server ↦ λ pieces each. shorter _ _ _ (in-tail pieces (NoSide b bytes) (b ∷ bytes) each (record { not_client = not_client; not_server = not_server }) refl)
       ]
     ]
 
@@ -110,11 +110,11 @@ any x = elim (cases_Bool _) [
       let same : take 4 x ≡ head = (bytes_eq-Decides (take 4 x) head).0 equal in
       subst (λ l. Starts l []) (ap (λ l. l ++ drop 4 x) (sym same) ∙ take-append-drop 4 x) (goes (drop 4 x) [] (λ k d lt. absurd (omega arith)))
   | inr other ↦ record {
-      recording = Headless x;
-      spells = record { sound = λ e. false≢true (sym other ∙ (bytes_eq-Decides (take 4 x) head).1 e); is = refl };
-      after = [];
-      history = refl;
-    }
+    recording = Headless x;
+    spells = record { sound = λ e. false≢true (sym other ∙ (bytes_eq-Decides (take 4 x) head).1 e); is = refl };
+    after = [];
+    history = refl;
+  }
 ]
 
 -- whatever follows what a reader has read

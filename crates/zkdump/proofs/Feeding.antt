@@ -45,7 +45,7 @@ pub grown-then : (listing : Listing) (before during after : Option (List ℕ)) (
 grown-then listing before during after now more p q = (
   length (text_of listing now) + q.0,
   subst (Appends before after) (sym (take-append-add (text_of listing now) (text_of listing more) q.0) ∙ ap (take (length (text_of listing now) + q.0)) (sym (text_of-append listing now more)))
-  (Appends-then before during after _ _ p q.1),
+      (Appends-then before during after _ _ p q.1),
 )
 
 pub grown-whole : (before after : Option (List ℕ)) (text : List ℕ) → Appends before after text → HasGrownIn before after text
@@ -70,9 +70,11 @@ module _ (listing : Listing) (old mid new : TalkState) (before during after : Op
       let r = taken h messages i in
       let joined : (h ++ on side (take at' bytes)) ++ on side (take used (drop at' bytes)) ≡ h ++ on side (take (at' + used) bytes) =
       on-append side (take at' bytes) (take used (drop at' bytes)) h ∙ ap (λ b. h ++ on side b) (sym (take-add at' used bytes)) in
-      let s = subst (λ z. Stands new z ((messages ++ r.0) ++ now)) joined (goes (h ++ on side (take at' bytes)) (messages ++ r.0) r.1) in
-      (r.0 ++ now, subst (Stands new (h ++ on side (take (at' + used) bytes))) (append_assoc messages r.0 now) s,
-      told-then listing before during after r.0 now r.2 told)
+      let s = subst (λ z. Stands new z ((messages ++ r.0) ++ now)) joined (goes (h ++ on side (take at' bytes)) (messages ++ r.0) r.1) in (
+        r.0 ++ now,
+        subst (Stands new (h ++ on side (take (at' + used) bytes))) (append_assoc messages r.0 now) s,
+        told-then listing before during after r.0 now r.2 told,
+      )
 
   -- the next lines were begun
   pub begins-more : (used : ℕ) (now : List Message) → GoesOn mid side (take used (drop at' bytes)) now new → new.limits ≡ old.limits → HasGrownIn during after (text_of listing now) →
@@ -84,10 +86,14 @@ module _ (listing : Listing) (old mid new : TalkState) (before during after : Op
       on-append side (take at' bytes) (take used (drop at' bytes)) h ∙ ap (λ b. h ++ on side b) (sym (take-add at' used bytes)) in
       let s = subst (λ z. Stands new z ((messages ++ r.0) ++ now)) joined (goes (h ++ on side (take at' bytes)) (messages ++ r.0) r.1) in
       let split : on side bytes ≡ on side part ++ on side (drop (at' + used) bytes) =
-      sym (ap (on side) (take-append-drop (at' + used) bytes)) ∙ map-append (λ (v : ℕ). (side, v)) part (drop (at' + used) bytes) in
-      (on side part, on side (drop (at' + used) bytes), split, r.0 ++ now,
-      good-here new old.limits (h ++ on side part) (messages ++ (r.0 ++ now)) limits_are (subst (Stands new (h ++ on side part)) (append_assoc messages r.0 now) s),
-      grown-then listing before during after r.0 now r.2 told)
+      sym (ap (on side) (take-append-drop (at' + used) bytes)) ∙ map-append (λ (v : ℕ). (side, v)) part (drop (at' + used) bytes) in (
+        on side part,
+        on side (drop (at' + used) bytes),
+        split,
+        r.0 ++ now,
+        good-here new old.limits (h ++ on side part) (messages ++ (r.0 ++ now)) limits_are (subst (Stands new (h ++ on side part)) (append_assoc messages r.0 now) s),
+        grown-then listing before during after r.0 now r.2 told,
+      )
 
   -- nothing more was taken
   pub begins-here : mid.limits ≡ old.limits → Begins listing old before (on side bytes) during
@@ -95,9 +101,14 @@ module _ (listing : Listing) (old mid new : TalkState) (before during after : Op
       let r = taken h messages i in
       let part = take at' bytes in
       let split : on side bytes ≡ on side part ++ on side (drop at' bytes) =
-      sym (ap (on side) (take-append-drop at' bytes)) ∙ map-append (λ (v : ℕ). (side, v)) part (drop at' bytes) in
-      (on side part, on side (drop at' bytes), split, r.0, good-here mid old.limits (h ++ on side part) (messages ++ r.0) limits_are r.1,
-      grown-whole before during (text_of listing r.0) r.2)
+      sym (ap (on side) (take-append-drop at' bytes)) ∙ map-append (λ (v : ℕ). (side, v)) part (drop at' bytes) in (
+        on side part,
+        on side (drop at' bytes),
+        split,
+        r.0,
+        good-here mid old.limits (h ++ on side part) (messages ++ r.0) limits_are r.1,
+        grown-whole before during (text_of listing r.0) r.2,
+      )
 
   pub rejects-later : (fault : Fault) → (fault.reason ≡ NoMemory → ⊥) → Fails mid side (drop at' bytes) fault new → Rejects listing old before (on side bytes) fault new during
   rejects-later fault known (inl w) h messages i = absurd (known (ap (λ (f : Fault). f.reason) w.0))

@@ -62,27 +62,35 @@ module _ (limits : Limits) (before mid after : Option (List ℕ)) (x block : Lis
   pub found-answer : (stop : Stop) → IsStop limits (x ++ block) messages listing during stop contents_now →
       IfOk (answer_of stop) (λ summary. (all : List Message) × IsFound limits before after all summary × Appends contents contents_now (text_of listing all))
   found-answer (Fails fault) i = tt
-  found-answer (Found summary) i = (messages ++ i.0, record {
-    bytes = x ++ block;
-    recording = i.1.recording;
-    reads = reads before after (x ++ block) i.1.recording (Consumes-then before mid after x block p q) i.1.spells;
-    is = i.1.is;
-    only = λ others other o. outcome-once limits i.1.recording (messages ++ i.0) others summary other i.1.is o;
-    enough = inr i.1.decided;
-  }, told-then listing contents during contents_now messages i.0 told i.2)
+  found-answer (Found summary) i = (
+    messages ++ i.0,
+    record {
+      bytes = x ++ block;
+      recording = i.1.recording;
+      reads = reads before after (x ++ block) i.1.recording (Consumes-then before mid after x block p q) i.1.spells;
+      is = i.1.is;
+      only = λ others other o. outcome-once limits i.1.recording (messages ++ i.0) others summary other i.1.is o;
+      enough = inr i.1.decided;
+    },
+    told-then listing contents during contents_now messages i.0 told i.2,
+  )
 
   pub begun-answer : (stop : Stop) → IsStop limits (x ++ block) messages listing during stop contents_now →
       OnErr (answer_of stop) ((all : List Message) × HasBegun limits before after all × HasGrownIn contents contents_now (text_of listing all))
   begun-answer (Found summary) i = tt
-  begun-answer (Fails fault) i = (messages ++ i.0, record {
-    bytes = x ++ block;
-    recording = i.1.recording;
-    reads = reads before after (x ++ block) i.1.recording (Consumes-then before mid after x block p q) i.1.spells;
-    front = i.1.front;
-    rest = i.1.rest;
-    splits = i.1.splits;
-    good = i.1.good;
-  }, grown-then listing contents during contents_now messages i.0 told i.2)
+  begun-answer (Fails fault) i = (
+    messages ++ i.0,
+    record {
+      bytes = x ++ block;
+      recording = i.1.recording;
+      reads = reads before after (x ++ block) i.1.recording (Consumes-then before mid after x block p q) i.1.spells;
+      front = i.1.front;
+      rest = i.1.rest;
+      splits = i.1.splits;
+      good = i.1.good;
+    },
+    grown-then listing contents during contents_now messages i.0 told i.2,
+  )
 
 pub if-found : (stop : Stop) (P : Type 0) → P → IfFound stop P
 if-found (Found summary) P p = p

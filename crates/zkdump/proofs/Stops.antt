@@ -67,15 +67,18 @@ halt-stops limits y h bytes messages listing old new before after (Found (Ended 
 halt-stops limits y h bytes messages listing old new before after (Found (Ended (Whole unanswered))) i st e f halts = absurd halts
 halt-stops limits y h bytes messages listing old new before after (Found (Broken damage)) i st e f halts = absurd halts
 halt-stops limits y h bytes messages listing old new before after (Fails fault) i st e f halts =
-    let b = halts h messages st in
-    (b.3, record {
-      recording = i.recording;
-      spells = i.spells;
-      front = h ++ b.0;
-      rest = b.1 ++ i.after;
-      splits = i.history ∙ ap (λ k. (h ++ k) ++ i.after) b.2 ∙ ap (λ k. k ++ i.after) (sym (append_assoc h b.0 b.1)) ∙ append_assoc (h ++ b.0) b.1 i.after;
-      good = subst (λ l. IsGoodWith l (h ++ b.0) (messages ++ b.3)) e b.4;
-    }, b.5)
+    let b = halts h messages st in (
+      b.3,
+      record {
+        recording = i.recording;
+        spells = i.spells;
+        front = h ++ b.0;
+        rest = b.1 ++ i.after;
+        splits = i.history ∙ ap (λ k. (h ++ k) ++ i.after) b.2 ∙ ap (λ k. k ++ i.after) (sym (append_assoc h b.0 b.1)) ∙ append_assoc (h ++ b.0) b.1 i.after;
+        good = subst (λ l. IsGoodWith l (h ++ b.0) (messages ++ b.3)) e b.4;
+      },
+      b.5,
+    )
 
 -- a damage other than the end stands whatever follows it
 pub decides-by_damage : (limits : Limits) (x block : List ℕ) (n : ℕ) (h : History) (messages : List Message) (d : Damage) →

@@ -7,8 +7,8 @@ ghost use Rattle.zkdump.specs.Lines.{text_of};
 ghost use Rattle.zkdump.specs.Outcome.{IsFound, IsRunning, HasBegun, HasGrownIn};
 ghost use Rattle.zkdump.specs.Running.{HasListed, HasReached, HasStopped};
 
-use crate::progress::Progress;
 use crate::listing::{Listing, RunFault};
+use crate::progress::Progress;
 use crate::streams::{Sink, Source, write_whole};
 use crate::summary::{Status, Summary};
 use std::alloc::Global;

@@ -17,13 +17,17 @@ use zk_talk::Limits;
 /// A connect request and its response, and an exists request of `/a` and its reply, which is NONODE.
 const CONNECT: [u8; 49] =
     *b"\0\0\0\x2d\0\0\0\0\0\0\0\0\0\0\0\0\0\0\x75\x30\0\0\0\0\0\0\0\0\0\0\0\x10\0\0\0\0\0\0\0\0\0\0\0\0\0\0\0\0\0";
+
 const CONNECTED: [u8; 41] =
     *b"\0\0\0\x25\0\0\0\0\0\0\x75\x30\x01\0\0\0\0\0\0\x01\0\0\0\x10\0\x01\x02\x03\x04\x05\x06\x07\x08\x09\x0a\x0b\x0c\x0d\x0e\x0f\0";
+
 const EXISTS: [u8; 19] = *b"\0\0\0\x0f\0\0\0\x01\0\0\0\x03\0\0\0\x02/a\x01";
+
 const NO_NODE: [u8; 20] = *b"\0\0\0\x10\0\0\0\x01\0\0\0\0\0\0\0\x05\xff\xff\xff\x9b";
 
 /// The listing of those four.
-const MESSAGES: &str = "C connect version=0 zxid=0 timeout=30000 session=0 passwd=#00000000000000000000000000000000 ro=0
+const MESSAGES: &str =
+    "C connect version=0 zxid=0 timeout=30000 session=0 passwd=#00000000000000000000000000000000 ro=0
 S connect version=0 timeout=30000 session=72057594037927937 passwd=#000102030405060708090a0b0c0d0e0f ro=0
 C 1 exists path=\"/a\" watch=1
 S 1 exists zxid=5 err=-101/NONODE
@@ -121,7 +125,10 @@ fn refusals(rt: HostRuntime) -> Result<(), Fail> {
             &[
                 (b'C', &EXISTS),
                 (b'C', b"\0\0\0\x0f\0\0\0\x02\0\0\0\x03\0\0\0\x02/a\x01"),
-                (b'S', b"\0\0\0\x10\0\0\0\x02\0\0\0\0\0\0\0\x05\xff\xff\xff\x9b"),
+                (
+                    b'S',
+                    b"\0\0\0\x10\0\0\0\x02\0\0\0\0\0\0\0\x05\xff\xff\xff\x9b",
+                ),
             ],
             ". refused side=S frame=1 offset=61 place=0 reason=XidOrder expected=1 got=2\n",
         ),
@@ -201,7 +208,12 @@ fn options_count(rt: HostRuntime) -> Result<(), Fail> {
             1,
             ". refused side=C frame=2 offset=87 place=0 reason=QueueFull\n",
         ),
-        ("zkdump check --waiting 1", turns, 0, ". whole unanswered=0\n"),
+        (
+            "zkdump check --waiting 1",
+            turns,
+            0,
+            ". whole unanswered=0\n",
+        ),
         ("zkdump check", asks, 0, ". whole unanswered=2\n"),
     ];
     for (line, pieces, status, out) in table {
@@ -233,11 +245,7 @@ fn each_read_fails(rt: HostRuntime) -> Result<(), Fail> {
 }
 
 /// What `show` writes where a read fails, or a write, the first call being 1.
-fn shown(
-    rt: &impl AllocGlobal,
-    read: u64,
-    write: u64,
-) -> Result<(u8, String, String), Fail> {
+fn shown(rt: &impl AllocGlobal, read: u64, write: u64) -> Result<(u8, String, String), Fail> {
     let recording = connected(rt.alloc(), &[(b'C', &EXISTS), (b'S', &NO_NODE)])?;
     let mut reader = MemorySource::failing_at(&recording, read);
     let mut writer = MemorySink::failing_at(rt.alloc(), write);
@@ -251,17 +259,33 @@ fn shown(
 fn listings(rt: HostRuntime) -> Result<(), Fail> {
     let whole = format!(in rt.alloc(); "{MESSAGES}. whole unanswered=0\n")?;
     let (status, out, err) = shown(&rt, 0, 0)?;
-    assert_eq!(rt; (status, out.as_str(), err.as_str()), (0, whole.as_str(), ""));
+    assert_eq!(rt;
+        (status, out.as_str(), err.as_str()),
+        (0, whole.as_str(), "")
+    );
     let (status, out, err) = shown(&rt, 154, 0)?;
-    assert_eq!(rt; (status, out.as_str(), err.as_str()), (3, MESSAGES, "zkdump: read failed\n"));
+    assert_eq!(rt;
+        (status, out.as_str(), err.as_str()),
+        (3, MESSAGES, "zkdump: read failed\n")
+    );
     for read in 1..154 {
         let (status, out, _) = shown(&rt, read, 0)?;
-        assert!(rt; status == 3 && MESSAGES.starts_with(out.as_str()), "at {read}");
+        assert!(rt;
+            status == 3 && MESSAGES.starts_with(out.as_str()),
+            "at {read}"
+        );
     }
     for write in 1..40 {
         let (status, out, err) = shown(&rt, 0, write)?;
-        assert!(rt; whole.starts_with(out.as_str()) && out.len() as u64 == write - 1, "at {write}");
-        assert_eq!(rt; (status, err.as_str()), (3, "zkdump: write failed\n"), "at {write}");
+        assert!(rt;
+            whole.starts_with(out.as_str()) && out.len() as u64 == write - 1,
+            "at {write}"
+        );
+        assert_eq!(rt;
+            (status, err.as_str()),
+            (3, "zkdump: write failed\n"),
+            "at {write}"
+        );
     }
     Ok(())
 }
@@ -281,7 +305,11 @@ fn each_write_fails(rt: HostRuntime) -> Result<(), Fail> {
             line.starts_with(out.as_str()) && out.len() as u64 == call - 1,
             "at {call}"
         );
-        assert_eq!(rt; (status, err.as_str()), (3, "zkdump: write failed\n"), "at {call}");
+        assert_eq!(rt;
+            (status, err.as_str()),
+            (3, "zkdump: write failed\n"),
+            "at {call}"
+        );
     }
     Ok(())
 }
@@ -301,11 +329,7 @@ fn small_writes(rt: HostRuntime) -> Result<(), Fail> {
 }
 
 /// Over memory the contract of a check names the bytes.
-fn checked(
-    alloc: Global,
-    limits: Limits,
-    input: &[u8],
-) -> Result<(Status, MemorySink), RunFault>
+fn checked(alloc: Global, limits: Limits, input: &[u8]) -> Result<(Status, MemorySink), RunFault>
     ensures { IfOk result (λ r. (after : Option (List ℕ)) × HasListed limits Last (Some input.now) after (Some []) (⟦<MemorySink as Sink>⟧.contents r.1) r.0) }
 {
     let mut reader = FromRead::new(input);

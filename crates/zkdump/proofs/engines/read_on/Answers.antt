@@ -6,9 +6,10 @@ use Rattle.zkdump.proofs.engines.read_on.Goals as goal
 
 pub returns-in_default-clause-read : goal.returns-in_default-clause-read
 returns-in_default-clause-read g c = λ _.
-    let i = c.loop-turn.invariant.read in
-    (inl (c.in_default.ensures.failed ∙ ap (λ b. b || true) c.loop-turn.invariant.live),
-    (i.1, running c.args.limits _ _ i.0 i.1 _ _ (Consumes-kept _ _ _ i.0 i.2 c.in_default.ensures.bytes) i.3, i.4))
+    let i = c.loop-turn.invariant.read in (
+      inl (c.in_default.ensures.failed ∙ ap (λ b. b || true) c.loop-turn.invariant.live),
+      (i.1, running c.args.limits _ _ i.0 i.1 _ _ (Consumes-kept _ _ _ i.0 i.2 c.in_default.ensures.bytes) i.3, i.4),
+    )
 
 pub returns-in_default-clause-begun : goal.returns-in_default-clause-begun
 returns-in_default-clause-begun g c =
@@ -18,10 +19,13 @@ returns-in_default-clause-begun g c =
 pub returns-then-count-eq0-clause-ok : goal.returns-then-count-eq0-clause-ok
 returns-then-count-eq0-clause-ok g c =
     let i = c.loop-turn.invariant.read in
-    let r = c.in-Ok.ensures.bytes in
-    (i.1, found-at_end c.args.limits _ _ _ i.0 _ i.1 c.finish.result i.2 r.0 (rw c.if-count-eq0.true refl)
-    (r.1 c.if-count-eq0.true (omega (arith, c.read.auto.buf, c.loop-turn.invariant.block)))
-    (c.finish.ensures c.args.limits i.0 i.1 i.3), i.4)
+    let r = c.in-Ok.ensures.bytes in (
+      i.1,
+      found-at_end c.args.limits _ _ _ i.0 _ i.1 c.finish.result i.2 r.0 (rw c.if-count-eq0.true refl)
+          (r.1 c.if-count-eq0.true (omega (arith, c.read.auto.buf, c.loop-turn.invariant.block)))
+          (c.finish.ensures c.args.limits i.0 i.1 i.3),
+      i.4,
+    )
 
 pub returns-in-Err-clause-ok : goal.returns-in-Err-clause-ok
 returns-in-Err-clause-ok g c =

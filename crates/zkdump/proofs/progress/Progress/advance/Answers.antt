@@ -24,17 +24,23 @@ returns-in-Some-clause-stops g c = λ limits x messages i.
     let block = c.args.block.now in
     let used = c.next-part.result.used in
     let h = i.history ++ content_of c.next-part.result.side (take used block) in
-    let r = c.in_ok-give.ensures.taken i.history messages i.stands in
-    (r.0, decides-by_damage limits x block used h (messages ++ r.0) c.in-Some.damage (c.in-Some.ensures _ h (c.next-part.ensures.reads x i.history i.at))
-    (good-here _ limits h (messages ++ r.0) (c.in_ok-give.ensures.limits ∙ i.limits_are) r.1), r.2)
+    let r = c.in_ok-give.ensures.taken i.history messages i.stands in (
+      r.0,
+      decides-by_damage limits x block used h (messages ++ r.0) c.in-Some.damage (c.in-Some.ensures _ h (c.next-part.ensures.reads x i.history i.at))
+          (good-here _ limits h (messages ++ r.0) (c.in_ok-give.ensures.limits ∙ i.limits_are) r.1),
+      r.2,
+    )
 
 pub returns-in-None-clause-goes_on : goal.returns-in-None-clause-goes_on
 returns-in-None-clause-goes_on g c = λ limits x messages i.
-    let r = c.in_ok-give.ensures.taken i.history messages i.stands in
-    (r.0, record {
-      history = i.history ++ content_of c.next-part.result.side (take c.next-part.result.used c.args.block.now);
-      sound = c.next-part.ensures.sound;
-      at = c.next-part.ensures.reads x i.history i.at;
-      stands = r.1;
-      limits_are = c.in_ok-give.ensures.limits ∙ i.limits_are;
-    }, r.2)
+    let r = c.in_ok-give.ensures.taken i.history messages i.stands in (
+      r.0,
+      record {
+        history = i.history ++ content_of c.next-part.result.side (take c.next-part.result.used c.args.block.now);
+        sound = c.next-part.ensures.sound;
+        at = c.next-part.ensures.reads x i.history i.at;
+        stands = r.1;
+        limits_are = c.in_ok-give.ensures.limits ∙ i.limits_are;
+      },
+      r.2,
+    )

@@ -40,10 +40,12 @@ loop-at-preserved g c =
       live = c.in_ok-at.ensures.live;
       follows = λ limits x messages i.
           let so_far = c.loop-at.invariant.follows limits x messages i in
-          let here = c.in_ok-at.ensures.goes_on limits _ _ so_far.1 in
-          (so_far.0 ++ here.0, follows-further limits x block at used messages so_far.0 here.0 _ _
-          (subst (λ b. Follows limits ((x ++ take at block) ++ take used b) ((messages ++ so_far.0) ++ here.0) c.advance.new.self.recorder c.advance.new.self.talk) c.rest.ensures here.1),
-          told-then c.args.listing _ _ _ so_far.0 here.0 so_far.2 here.2);
+          let here = c.in_ok-at.ensures.goes_on limits _ _ so_far.1 in (
+            so_far.0 ++ here.0,
+            follows-further limits x block at used messages so_far.0 here.0 _ _
+                (subst (λ b. Follows limits ((x ++ take at block) ++ take used b) ((messages ++ so_far.0) ++ here.0) c.advance.new.self.recorder c.advance.new.self.talk) c.rest.ensures here.1),
+            told-then c.args.listing _ _ _ so_far.0 here.0 so_far.2 here.2,
+          );
     }
 
 pub returns-clause-goes_on : goal.returns-clause-goes_on
