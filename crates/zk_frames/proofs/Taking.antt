@@ -1,6 +1,5 @@
 -- What a piece makes of what is held.
-use Rattle.std.proofs.Common.{◌≡◌, ◌≢◌, ℕ, ◌+◌, ◌-◌, ◌<◌, ◌≤◌, ◌^◌, ◌⊎◌, inl, inr, Bool, true, false, List, [], ◌∷◌, ◌++◌, length, take, drop, pos, refl, sym, ap, ◌∙◌, subst, arith, append_assoc, length-append, length-drop, Result, Ok, Err, IfOk, IfErr, OnOk}
-use Rattle.std.specs.List.{AllByRecursion}
+use Rattle.std.proofs.Common.{◌≡◌, ◌≢◌, ℕ, ◌+◌, ◌<◌, ◌≤◌, ◌^◌, ◌⊎◌, inl, inr, Bool, true, false, List, [], ◌∷◌, ◌++◌, length, take, drop, refl, sym, ap, ◌∙◌, subst, arith, append_assoc, length-append, length-drop, Result, Ok, Err, IfOk, IfErr, OnOk}
 use Rattle.std.proofs.lemmas.List.{append-nil, take-append-le, take-append-drop, take-take, take_all, length-take-le}
 use Rattle.std.proofs.lemmas.List.Concat.{flat_map-append}
 use Rattle.std.proofs.lemmas.Bool.{cases_lt}
@@ -9,8 +8,8 @@ use Rattle.zk_frames.specs.declared.cutter.Standing.TheVariants.{Open, Whole, Re
 use Rattle.zk_frames.specs.declared.frames.Took.{Took}
 use Rattle.zk_frames.specs.declared.frames.FrameFault.{FrameFault}
 use Rattle.zk_frames.specs.declared.frames.FrameFault.TheVariants.{LengthRange}
-use Rattle.zk_frames.specs.Framing.{int_bytes, frame, frames, IsBeginning, IsFrame, IsBadLength, IsCut}
-use Rattle.zk_frames.specs.Held.{Held, IsLeft, IsHeld, IsWhole, IsRefused, EndsWell, IsNow, IsTaken, IsRefusal, GoesOn}
+use Rattle.zk_frames.specs.Framing.{frame, frames, IsBeginning, IsFrame, IsBadLength, IsCut}
+use Rattle.zk_frames.specs.Held.{Held, IsLeft, IsHeld, IsRefused, EndsWell, IsNow, IsTaken, IsRefusal, GoesOn}
 use Rattle.zk_frames.specs.Advance.{Holds, EndsAt, left_of, standing_of, IsAnswer}
 use Rattle.zk_frames.proofs.Cuts.{length-frame, take-frame, drop-frame, no_beginning, AllByRecursion-push}
 
@@ -98,12 +97,15 @@ goes_on false limit before part taken payloads c h =
     record { whole = ap (λ z. z ++ part) c.whole ∙ append_assoc (frames payloads) before part; within = c.within; beginning = h }
 goes_on true limit before part taken payloads c h =
     let p = h.0 in
-    let whole : taken ++ part ≡ frames (payloads ++ p ∷ []) ++ [] = ap (λ z. z ++ part) c.whole ∙ append_assoc (frames payloads) before part ∙ ap (λ z. frames payloads ++ z) h.1 ∙ sym (frames_push payloads p) ∙ sym (append-nil (frames (payloads ++ p ∷ []))) in
-    (p, h.1, record {
-      whole = whole;
-      within = AllByRecursion-push (λ z. length z ≤ limit) payloads p c.within h.2;
-      beginning = inl (omega arith);
-    })
+    let whole : taken ++ part ≡ frames (payloads ++ p ∷ []) ++ [] = ap (λ z. z ++ part) c.whole ∙ append_assoc (frames payloads) before part ∙ ap (λ z. frames payloads ++ z) h.1 ∙ sym (frames_push payloads p) ∙ sym (append-nil (frames (payloads ++ p ∷ []))) in (
+      p,
+      h.1,
+      record {
+        whole = whole;
+        within = AllByRecursion-push (λ z. length z ≤ limit) payloads p c.within h.2;
+        beginning = inl (omega arith);
+      },
+    )
 
 ends_well : (whole : Bool) (limit used all : ℕ) (after : List ℕ) → EndsAt (standing_of whole) used all → Holds limit (standing_of whole) after → EndsWell limit whole used all after
 ends_well false limit used all after e h = (e, h)
