@@ -4,6 +4,8 @@ use Rattle.zk_jute.specs.declared.fault.Reason.{Reason}
 use Rattle.zk_jute.specs.Item.{Item, bytes_of, HaveBytes}
 use Rattle.zk_jute.specs.Layout.{IsValueOf}
 use Rattle.zk_jute.proofs.Layouts.{bytes_only, bytes_both, have_parts}
+use Rattle.std.specs.Prelude.{ℤ}
+use Rattle.zk_jute.proofs.Decided.{one_fault}
 use Rattle.zk_jute.proofs.Sequels.{Same, Sequel, excluded, sequel_same, sequel_not}
 use Rattle.zk_records.specs.declared.header.ReplyHeader.{ReplyHeader}
 use Rattle.zk_records.specs.Records.{reply_header}
@@ -52,3 +54,15 @@ module _ (Judged : ReplyHeader → List ℕ → ℕ → Reason → Type 0) where
       sequel_not reply_header.layout AfterHead (bytes_of (reply_header.items header ++ rest)) (reply_header.items header) (bytes_of rest) (head_is header head.0) head.1 p r
       (λ a. not (subst (λ (h : ReplyHeader). Judged h (bytes_of rest) p r) (sym (reply_header.tells_apart header a.0 a.1)) a.2))
       (sequel (bytes_of (reply_header.items header ++ rest)) p r f)
+
+-- ---- the xid of the header that the bytes begin with, if they do
+
+pub xid_of : (src : List ℕ) (P : ℤ → Type 0) → (head : (header : ReplyHeader) × (rest : List ℕ) × IsHead src header rest) → P head.0.xid → (header : ReplyHeader) (rest : List ℕ) → IsHead src header rest → P header.xid
+xid_of src P head is header rest h = subst (λ (x : ReplyHeader). P x.xid) (head_unique src head.0 header head.1 rest head.2 h).0 is
+
+pub short_of : (src : List ℕ) (P : ℤ → Type 0) (place : ℕ) (reason : Reason) → IsHeadFault src place reason → (header : ReplyHeader) (rest : List ℕ) → IsHead src header rest → P header.xid
+short_of src P place reason f header rest h = absurd (head_excludes src header rest place reason h f)
+
+-- bytes have one fault of a header at most
+pub head_fault_unique : (bytes : List ℕ) (p q : ℕ) (r s : Reason) → IsHeadFault bytes p r → IsHeadFault bytes q s → Same p r q s
+head_fault_unique bytes p q r s f g = one_fault reply_header.layout bytes p q r s f g

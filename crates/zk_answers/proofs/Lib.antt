@@ -11,3 +11,6 @@ pub mod Outcomes
 pub mod Forms
 pub mod Refusals
 pub mod Shorts
+pub mod Opened
+pub mod Cased
+pub mod Covered

@@ -19,7 +19,8 @@ use Rattle.zk_records.specs.declared.op.PartOp.{PartOp}
 use Rattle.zk_records.specs.Records.{multi_header}
 use Rattle.zk_answers.specs.declared.frame.PartDone.{PartDone}
 use Rattle.zk_asks.specs.Forms.{marked}
-use Rattle.zk_answers.specs.Results.{result_header, error_header, result_layout, done_items, Answers, AnswerAll, MayAnswer, IsDoneFault, in_mark, bad_mark, in_result, in_error, other_error, behind_done}
+use Rattle.zk_answers.proofs.Dones.{result_items, result_is, items_of, done_is}
+use Rattle.zk_answers.specs.Results.{result_header, error_header, result_layout, done_items, Answers, AnswerAll, MayAnswer, IsDoneFault, in_mark, bad_mark, in_result, in_error, other_error, behind_result, behind_error}
 
 pub result_mark : (ops : List PartOp) (src : List ℕ) (place : ℕ) (e : ItemFault) → IsToldFault (IsValueOf multi_header.layout) src place e → IsToldAt (IsDoneFault ops) src place e
 unfolding IsToldAt
@@ -79,6 +80,21 @@ result_memory ops src place e m = inl m
 
 abbrev pub results_items : List PartDone → List Item
 results_items ds = flat_map done_items ds
+
+behind_done : (op : PartOp) (ops : List PartOp) (d : PartDone) (bytes rest : List ℕ) (behind : ℕ) (reason : Reason) → Answers op d → HaveBytes (done_items d) → bytes ≡ bytes_of (done_items d) ++ rest → IsDoneFault ops rest behind reason
+    → IsDoneFault (op ∷ ops) bytes (length (bytes_of (done_items d)) + behind) reason
+behind_done op ops d bytes rest behind reason answers have e f =
+    elim (done_is op d answers) [
+      | inl x ↦
+          let is : done_items d ≡ marked (result_header op) ++ result_items op x.0 = ap done_items x.1 ∙ items_of op x.0 in
+          let h = have_parts (marked (result_header op)) (result_items op x.0) (subst HaveBytes is have) in
+          subst (λ (i : List Item). IsDoneFault (op ∷ ops) bytes (length (bytes_of i) + behind) reason) (sym is)
+          (behind_result op ops (result_items op x.0) bytes rest behind reason (result_is op x.0, h.1) (e ∙ ap (λ (i : List Item). bytes_of i ++ rest) is) f)
+      | inr x ↦
+          let is : done_items d ≡ marked (error_header x.0) ++ (AnInt x.0 ∷ []) = ap done_items x.1 in
+          subst (λ (i : List Item). IsDoneFault (op ∷ ops) bytes (length (bytes_of i) + behind) reason) (sym is)
+          (behind_error op ops x.0 bytes rest behind reason (subst HaveBytes is have) (e ∙ ap (λ (i : List Item). bytes_of i ++ rest) is) f)
+    ]
 
 past : (a b : List PartOp) (ds : List PartDone) (rest : List ℕ) (behind : ℕ) (reason : Reason) → AnswerAll a ds → HaveBytes (results_items ds) → IsDoneFault b rest behind reason
     → IsDoneFault (a ++ b) (bytes_of (results_items ds) ++ rest) (length (bytes_of (results_items ds)) + behind) reason

@@ -16,7 +16,7 @@ use Rattle.zk_records.specs.Records.{multi_header}
 use Rattle.zk_answers.specs.declared.frame.PartDone.{PartDone}
 use Rattle.zk_answers.specs.declared.frame.PartDone.TheVariants as done
 use Rattle.zk_asks.specs.Forms.{end_header, marked}
-use Rattle.zk_answers.specs.Results.{result_header, error_header, done_items, multi_items, result_layout, Answers, AnswerAll, MayAnswer, IsDoneFault, in_mark, bad_mark, in_result, in_error, other_error, behind_done}
+use Rattle.zk_answers.specs.Results.{result_header, error_header, done_items, multi_items, result_layout, Answers, AnswerAll, MayAnswer, IsDoneFault, in_mark, bad_mark, in_result, in_error, other_error, behind_result, behind_error}
 use Rattle.zk_answers.proofs.Placed.{Placed, placed_same, placed_not}
 use Rattle.zk_answers.proofs.Dones.{mark_is, mark_same, result_mark, end_mark, not_error, error_same, Result, done_of, result_items, result_is, result_apart, items_of, done_is, multi_more, split_items, an_int}
 
@@ -41,28 +41,6 @@ AfterMark ops mark rest p r = (h : MultiHeader) × (mark ≡ marked h) × Judged
 place_behind : (a b : List Item) (behind : ℕ) → length (bytes_of a) ≡ 9 → length (bytes_of (a ++ b)) + behind ≡ 9 + (length (bytes_of b) + behind)
 place_behind a b behind nine = omega (arith, ap length (bytes_both a b), length-append (bytes_of a) (bytes_of b))
 
-behind_is : (op : PartOp) (ops : List PartOp) (d : PartDone) (bytes rest : List ℕ) (behind : ℕ) (r : Reason) → Answers op d → HaveBytes (done_items d) → bytes ≡ bytes_of (done_items d) ++ rest → IsDoneFault ops rest behind r
-    → Sequel multi_header.layout (AfterMark (op ∷ ops)) bytes (length (bytes_of (done_items d)) + behind) r
-behind_is op ops d bytes rest behind r answers have e f =
-    elim (done_is op d answers) [
-      | inl x ↦
-          let mark = marked (result_header op) in
-          let items = result_items op x.0 in
-          let is : done_items d ≡ mark ++ items = ap done_items x.1 ∙ items_of op x.0 in
-          let h = have_parts mark items (subst HaveBytes is have) in
-          let split = split_items mark items bytes rest (e ∙ ap (λ (i : List Item). bytes_of i ++ rest) is) in
-          let place : length (bytes_of (done_items d)) + behind ≡ 9 + (length (bytes_of items) + behind) = ap (λ (i : List Item). length (bytes_of i) + behind) is ∙ place_behind mark items behind refl in
-          inr (mark, bytes_of items ++ rest, result_mark op, split, (result_header op, refl, inr (inl (refl, inr (items, rest, (result_is op x.0, h.1), refl, (behind, place, f))))))
-      | inr x ↦
-          let mark = marked (error_header x.0) in
-          let items = AnInt x.0 ∷ [] in
-          let is : done_items d ≡ mark ++ items = ap done_items x.1 in
-          let h = have_parts mark items (subst HaveBytes is have) in
-          let split = split_items mark items bytes rest (e ∙ ap (λ (i : List Item). bytes_of i ++ rest) is) in
-          let place : length (bytes_of (done_items d)) + behind ≡ 9 + (length (bytes_of items) + behind) = ap (λ (i : List Item). length (bytes_of i) + behind) is ∙ place_behind mark items behind refl in
-          inr (mark, bytes_of items ++ rest, mark_is (error_header x.0) h.0, split, (error_header x.0, refl, inr (inr (x.0, refl, inr (items, rest, an_int x.0 h.1, refl, (x.0, refl, inr (refl, (behind, place, f))))))))
-    ]
-
 sequel : {ops : List PartOp} {bytes : List ℕ} {p : ℕ} {r : Reason} → IsDoneFault ops bytes p r → Sequel multi_header.layout (AfterMark ops) bytes p r
 sequel (in_mark ops bytes place reason f) = inl f
 sequel (bad_mark ops bytes rest header have e not) = inr (marked header, rest, mark_is header have, e, (header, refl, inl (not, refl, refl)))
@@ -73,7 +51,14 @@ sequel (other_error op ops e d bytes rest have o not) =
     let items = AnInt d ∷ [] in
     let h = have_parts mark items have in
     inr (mark, bytes_of items ++ rest, mark_is (error_header e) h.0, split_items mark items bytes rest o, (error_header e, refl, inr (inr (e, refl, inr (items, rest, an_int d h.1, refl, (d, refl, inl (not, refl, refl)))))))
-sequel (behind_done op ops d bytes rest behind reason answers have e f) = behind_is op ops d bytes rest behind reason answers have e f
+sequel (behind_result op ops result bytes rest behind reason v e f) =
+    let mark = marked (result_header op) in
+    inr (mark, bytes_of result ++ rest, result_mark op, split_items mark result bytes rest e, (result_header op, refl, inr (inl (refl, inr (result, rest, v, refl, (behind, place_behind mark result behind refl, f))))))
+sequel (behind_error op ops e bytes rest behind reason have o f) =
+    let mark = marked (error_header e) in
+    let items = AnInt e ∷ [] in
+    let h = have_parts mark items have in
+    inr (mark, bytes_of items ++ rest, mark_is (error_header e) h.0, split_items mark items bytes rest o, (error_header e, refl, inr (inr (e, refl, inr (items, rest, an_int e h.1, refl, (e, refl, inr (refl, (behind, place_behind mark items behind refl, f))))))))
 
 -- ---- one fault
 

@@ -1,3 +1,4 @@
 pub mod Results
 pub mod Frames
 pub mod Faults
+pub mod Openings

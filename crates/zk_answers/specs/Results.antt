@@ -73,8 +73,10 @@ pub data IsDoneFault : List PartOp → List ℕ → ℕ → Reason → Type 0 wh
   -- an error result whose int differs from its header's
   other_error : (op : PartOp) (ops : List PartOp) (e d : ℤ) (bytes rest : List ℕ) → HaveBytes (marked (error_header e) ++ (AnInt d ∷ [])) → Opens bytes (marked (error_header e) ++ (AnInt d ∷ [])) rest → d ≢ e
       → IsDoneFault (op ∷ ops) bytes 0 BadPart
-  behind_done : (op : PartOp) (ops : List PartOp) (d : PartDone) (bytes rest : List ℕ) (behind : ℕ) (reason : Reason) → Answers op d → HaveBytes (done_items d) → Opens bytes (done_items d) rest
-      → IsDoneFault ops rest behind reason → IsDoneFault (op ∷ ops) bytes (length (bytes_of (done_items d)) + behind) reason
+  behind_result : (op : PartOp) (ops : List PartOp) (result : List Item) (bytes rest : List ℕ) (behind : ℕ) (reason : Reason) → IsValueOf (result_layout op) result → Opens bytes (marked (result_header op) ++ result) rest
+      → IsDoneFault ops rest behind reason → IsDoneFault (op ∷ ops) bytes (length (bytes_of (marked (result_header op) ++ result)) + behind) reason
+  behind_error : (op : PartOp) (ops : List PartOp) (e : ℤ) (bytes rest : List ℕ) (behind : ℕ) (reason : Reason) → HaveBytes (marked (error_header e) ++ (AnInt e ∷ [])) → Opens bytes (marked (error_header e) ++ (AnInt e ∷ [])) rest
+      → IsDoneFault ops rest behind reason → IsDoneFault (op ∷ ops) bytes (length (bytes_of (marked (error_header e) ++ (AnInt e ∷ []))) + behind) reason
 
 -- what a header stands before, while a part is left
 abbrev pub ItsPlace : PartOp → MultiHeader → Mark → Type 0

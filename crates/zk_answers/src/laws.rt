@@ -1,5 +1,8 @@
 //! What the layer above rests on: a payload has one frame or one fault.
-ghost use Rattle.std.specs.Prelude.{◌≡◌, ℕ, List};
+ghost use Rattle.std.specs.Prelude.{◌≡◌, ◌↔◌, ℕ, List};
+ghost use Rattle.zk_asks.specs.Openings.{IsFlaggedOpeningFault};
+ghost use Rattle.zk_records.specs.Records.{connect_response};
+ghost use Rattle.zk_answers.specs.Openings.{IsReplyOpening, IsEventOpening};
 ghost use Rattle.zk_jute.specs.declared.fault.Reason.{Reason};
 ghost use Rattle.zk_records.specs.declared.header.ReplyHeader.{ReplyHeader};
 ghost use Rattle.zk_records.specs.declared.op.Op.{Op};
@@ -36,6 +39,16 @@ pub fn reply_laws()
 pub fn head_laws()
     // Bytes begin with one header at most.
     ensures unique { (bytes : List ℕ) (header other : ReplyHeader) (rest more : List ℕ) → IsHead bytes header rest → IsHead bytes other more → (header ≡ other) × (rest ≡ more) }
-    // They then have no fault of a header.
+    // They have one fault of a header at most.
+    ensures fault { (bytes : List ℕ) (place other : ℕ) (reason because : Reason) → IsHeadFault bytes place reason → IsHeadFault bytes other because → (place ≡ other) × (reason ≡ because) }
+    // And not both.
     ensures excludes { (bytes : List ℕ) (header : ReplyHeader) (rest : List ℕ) (place : ℕ) (reason : Reason) → IsHead bytes header rest → IsHeadFault bytes place reason → ⊥ }
+{}
+
+/// The cases of a fault, as the readers go through them, are those of openings of whole payloads:
+/// the items of some payload from its first on, and then what can't come next.
+pub fn opening_laws()
+    ensures connected { (bytes : List ℕ) (place : ℕ) (reason : Reason) → IsConnectedFault bytes place reason ↔ IsFlaggedOpeningFault connect_response.layout bytes place reason }
+    ensures reply { (op : Op) (parts : List PartOp) (bytes : List ℕ) (place : ℕ) (reason : Reason) → IsReplyFault op parts bytes place reason ↔ IsReplyOpening op parts bytes place reason }
+    ensures event { (bytes : List ℕ) (place : ℕ) (reason : Reason) → IsEventFault bytes place reason ↔ IsEventOpening bytes place reason }
 {}

@@ -7,7 +7,7 @@ use Rattle.zk_jute.specs.declared.fault.Reason.TheVariants.{Trailing}
 use Rattle.zk_jute.specs.Item.{Item, ABoolean, bytes_of}
 use Rattle.zk_jute.specs.Layout.{Layout, IsValueOf}
 use Rattle.zk_jute.specs.Apart.{unfolds_only}
-use Rattle.zk_jute.specs.Faults.{IsFault, Opens}
+use Rattle.zk_jute.specs.Faults.{IsFault}
 use Rattle.zk_jute.specs.Flagged.{flag_layout, IsFlaggedFault, in_value, in_flag, behind_flag}
 use Rattle.zk_jute.proofs.Layouts.{bytes_only, bytes_both}
 use Rattle.zk_jute.proofs.Sequels.{excluded}
@@ -34,9 +34,12 @@ flagged_opened l (in_flag bytes rest value q r v e some f) =
     of_either bytes (length (bytes_of value) + q) r
     (λ other w same. let one = bytes_only l value other rest [] v w (sym e ∙ same ∙ sym (append-nil (bytes_of other))) in some one.1)
     (behind_front (IsValueOf flag_layout) (IsWithFlag l) value bytes rest q r e
-    (λ o m k w next. ((m, (value, o ++ m, v, w, append_assoc value o m)), λ more u.
-      let same = unfolds_only l value u.0 (o ++ more) u.1 v.0 u.2.0 (sym (append_assoc value o more) ∙ u.4) in
-      next more (subst (IsValueOf flag_layout) (sym same.1) u.3)))
+    (λ o m k w next. (
+      (m, (value, o ++ m, v, w, append_assoc value o m)),
+      λ more u.
+          let same = unfolds_only l value u.0 (o ++ more) u.1 v.0 u.2.0 (sym (append_assoc value o more) ∙ u.4) in
+          next more (subst (IsValueOf flag_layout) (sym same.1) u.3),
+    ))
     f)
 flagged_opened l (behind_flag bytes rest value flag v w e some) = of_left bytes (length (bytes_of (value ++ flag))) (record { whole = value ++ flag; rest = rest; value = (value, flag, v, w, refl); splits = e; some = some; at = refl })
 
@@ -50,16 +53,16 @@ flagged_cased l (of_either bytes p r not f) =
     let at = f.at in
     elim (cut o more value flag b.4) [
       | inl c ↦ in_value bytes p r (record {
-          opening = o;
-          rest = f.rest;
-          begins = (c.0 ∷ c.1, subst (IsValueOf l) c.2 b.2);
-          splits = f.splits;
-          next = f.next;
-          is_next = λ x w. goes_on l o c.0 c.1 x flag f.next (subst (IsValueOf l) c.2 b.2) w (f.is_next (x ++ flag) (o ++ x, flag, w, b.3, sym (append_assoc o x flag)));
-          behind = f.behind;
-          bad = f.bad;
-          at = f.at;
-        })
+        opening = o;
+        rest = f.rest;
+        begins = (c.0 ∷ c.1, subst (IsValueOf l) c.2 b.2);
+        splits = f.splits;
+        next = f.next;
+        is_next = λ x w. goes_on l o c.0 c.1 x flag f.next (subst (IsValueOf l) c.2 b.2) w (f.is_next (x ++ flag) (o ++ x, flag, w, b.3, sym (append_assoc o x flag)));
+        behind = f.behind;
+        bad = f.bad;
+        at = f.at;
+      })
       | inr c ↦
           let m = c.0 in
           let rest : List ℕ = bytes_of m ++ f.rest in

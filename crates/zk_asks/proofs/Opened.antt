@@ -1,24 +1,23 @@
 -- The fault of a request over its openings is the one of the reader's cases.
 use Rattle.std.proofs.Common.{◌≡◌, ℕ, ◌+◌, ◌⊎◌, inl, inr, Bool, List, [], ◌∷◌, ◌++◌, length, map, refl, sym, ap, subst, ◌∙◌, append_assoc, arith}
-use Rattle.std.specs.Prelude.{ℤ, pos, negsuc, ◌≢◌, ◌↔◌}
+use Rattle.std.specs.Prelude.{ℤ, pos, negsuc}
 use Rattle.std.proofs.lemmas.Int.{ints}
 use Rattle.std.proofs.lemmas.List.{append-nil, length-append, append_cancel_left, map-append}
 use Rattle.zk_jute.specs.declared.fault.Reason.{Reason}
-use Rattle.zk_jute.specs.declared.fault.Reason.TheVariants.{Trailing, BadPart}
+use Rattle.zk_jute.specs.declared.fault.Reason.TheVariants.{BadPart}
 use Rattle.zk_jute.specs.Item.{Kind, Int, Boolean, Item, AnInt, ALong, ABoolean, AUstring, ABuffer, ACount, kind_of, bytes_of, HaveBytes}
-use Rattle.zk_jute.specs.Layout.{Layout, End, One, IsValueOf, ◌then◌}
+use Rattle.zk_jute.specs.Layout.{IsValueOf, ◌then◌}
 use Rattle.zk_jute.specs.Apart.{cons_is, unfolds_only}
-use Rattle.zk_jute.specs.Faults.{Begins, IsNext, IsBad, IsFault, Opens}
-use Rattle.zk_jute.proofs.Layouts.{bytes_both, have_parts}
+use Rattle.zk_jute.specs.Faults.{IsNext, IsBad, IsFault, Opens}
+use Rattle.zk_jute.proofs.Layouts.{bytes_both}
 use Rattle.zk_records.specs.Records.{multi_header}
 use Rattle.zk_records.specs.declared.header.MultiHeader.{MultiHeader}
 use Rattle.zk_records.specs.declared.op.Op.{Op}
 use Rattle.zk_records.specs.declared.op.Op.TheVariants as ops
 use Rattle.zk_records.specs.declared.op.PartOp.{PartOp}
 use Rattle.zk_records.specs.Codes.{op_number}
-use Rattle.zk_asks.specs.Codes.{IsAllowed}
 use Rattle.zk_asks.specs.Forms.{part_layout, part_header, end_header, MayStand, marked, header_items, Body, Fields, Parts, body_of}
-use Rattle.zk_asks.specs.Faults.{IsMultiFault, in_mark, bad_mark, in_part, behind_part, IsFaultOf, IsBodyFault, IsAskFault, in_header, unknown_op, bad_xid, in_body, behind_body}
+use Rattle.zk_asks.specs.Faults.{IsMultiFault, in_mark, bad_mark, in_part, behind_part, IsFaultOf, IsAskFault, in_header, unknown_op, bad_xid, in_body, behind_body}
 use Rattle.zk_asks.specs.Openings.{AreParts, no_part, one_more, AreHeaded, last, a_part_before, IsHeaded, IsRequest, IsRequested, IsOpeningFault, of_header, of_type, of_xid, of_item, of_part, of_rest}
 use Rattle.zk_asks.proofs.Openings.{cut, NextIs, next_follows, goes_on, behind_front, drop_front}
 use Rattle.zk_asks.proofs.Parts.{mark_is}
@@ -130,8 +129,8 @@ bad_behind op part bytes rest q r v e b =
     let at = b.7 in
     let group : mark ++ (part ++ parts) ≡ (mark ++ part) ++ parts = sym (append_assoc mark part parts) in
     let split : bytes ≡ bytes_of ((mark ++ (part ++ parts)) ++ marked h) ++ b.2 =
-        e ∙ ap (λ (x : List ℕ). bytes_of (mark ++ part) ++ x) b.6 ∙ sym (append_assoc (bytes_of (mark ++ part)) (bytes_of (parts ++ marked h)) b.2)
-        ∙ ap (λ (x : List ℕ). x ++ b.2) (sym (bytes_both (mark ++ part) (parts ++ marked h)) ∙ ap bytes_of (sym (append_assoc (mark ++ part) parts (marked h)) ∙ ap (λ (x : List Item). x ++ marked h) (sym group))) in
+    e ∙ ap (λ (x : List ℕ). bytes_of (mark ++ part) ++ x) b.6 ∙ sym (append_assoc (bytes_of (mark ++ part)) (bytes_of (parts ++ marked h)) b.2)
+    ∙ ap (λ (x : List ℕ). x ++ b.2) (sym (bytes_both (mark ++ part) (parts ++ marked h)) ∙ ap bytes_of (sym (append_assoc (mark ++ part) parts (marked h)) ∙ ap (λ (x : List Item). x ++ marked h) (sym group))) in
     let place : length (bytes_of (mark ++ part)) + q ≡ length (bytes_of (mark ++ (part ++ parts))) = omega (arith, ap (λ (x : List Item). length (bytes_of x)) group, ap length (bytes_both (mark ++ part) parts), length-append (bytes_of (mark ++ part)) (bytes_of parts)) in
     (mark ++ (part ++ parts), h, b.2, one_more op part parts v b.3, b.4, b.5, split, place, b.8)
 
@@ -141,27 +140,27 @@ multi_opened (in_mark bytes p r f) =
     inl (subst (λ (q : ℕ). IsFault AreHeaded bytes q r) same
     (behind_front (IsValueOf multi_header.layout) AreHeaded [] bytes bytes p r refl
     (λ o m k v next.
-      let s = mark_shape (o ++ m) v in
-      let n = next m v in
-      let c = loose_begins o n.0 n.1 s.0 (ap (λ (x : List Item). o ++ x) (sym n.2) ∙ s.1) in
-      ((c.0, subst AreHeaded c.1 (loose_headed s.0 (subst HaveBytes s.1 v.1))), λ more w. next_mark o m k v next w more refl))
+    let s = mark_shape (o ++ m) v in
+    let n = next m v in
+    let c = loose_begins o n.0 n.1 s.0 (ap (λ (x : List Item). o ++ x) (sym n.2) ∙ s.1) in
+    ((c.0, subst AreHeaded c.1 (loose_headed s.0 (subst HaveBytes s.1 v.1))), λ more w. next_mark o m k v next w more refl))
     f))
 multi_opened (bad_mark bytes rest h have e not) = inr ([], h, rest, no_part, have, not, e, refl, refl)
 multi_opened (in_part bytes rest op q r e f) =
     let mark = marked (part_header op) in
     inl (behind_front (IsValueOf (part_layout op)) AreHeaded mark bytes rest q r e
     (λ o m k v next.
-      let group : mark ++ ((o ++ m) ++ marked end_header) ≡ (mark ++ o) ++ (m ++ marked end_header) = ap (λ (x : List Item). mark ++ x) (append_assoc o m (marked end_header)) ∙ sym (append_assoc mark o (m ++ marked end_header)) in
-      ((m ++ marked end_header, subst AreHeaded group (a_part_before op (o ++ m) (marked end_header) v ending)), λ more w. next_part op o m k v next w more (append_assoc mark o more)))
+    let group : mark ++ ((o ++ m) ++ marked end_header) ≡ (mark ++ o) ++ (m ++ marked end_header) = ap (λ (x : List Item). mark ++ x) (append_assoc o m (marked end_header)) ∙ sym (append_assoc mark o (m ++ marked end_header)) in
+    ((m ++ marked end_header, subst AreHeaded group (a_part_before op (o ++ m) (marked end_header) v ending)), λ more w. next_part op o m k v next w more (append_assoc mark o more)))
     f)
 multi_opened (behind_part bytes rest op part q r v e f) =
     let mark = marked (part_header op) in
     elim (multi_opened f) [
       | inl g ↦ inl (behind_front AreHeaded AreHeaded (mark ++ part) bytes rest q r e
-        (λ o m k w next.
+          (λ o m k w next.
           let group : (more : List Item) → ((mark ++ part) ++ o) ++ more ≡ mark ++ (part ++ (o ++ more)) = λ more. append_assoc (mark ++ part) o more ∙ append_assoc mark part (o ++ more) in
           ((m, subst AreHeaded (sym (group m)) (a_part_before op part (o ++ m) v w)), λ more u. next_behind op part o k v next u more (group more)))
-        g)
+          g)
       | inr b ↦ inr (bad_behind op part bytes rest q r v e b)
     ]
 
@@ -182,11 +181,11 @@ within_mark h o i m have e bytes rest opens k kind far r bad =
       splits = opens;
       next = k;
       is_next = λ more v.
-        let s = mark_shape (o ++ more) v in
-        let kinds : map kind_of more ≡ kind_of i ∷ map kind_of m =
-            append_cancel_left (map kind_of o) (map kind_of more) (kind_of i ∷ map kind_of m)
-            (sym (map-append kind_of o more) ∙ ap (map kind_of) s.1 ∙ kinds_same s.0 h ∙ ap (map kind_of) e ∙ map-append kind_of o (i ∷ m)) in
-        first_kind more (kind_of i) (map kind_of m) k kinds kind;
+          let s = mark_shape (o ++ more) v in
+          let kinds : map kind_of more ≡ kind_of i ∷ map kind_of m =
+          append_cancel_left (map kind_of o) (map kind_of more) (kind_of i ∷ map kind_of m)
+          (sym (map-append kind_of o more) ∙ ap (map kind_of) s.1 ∙ kinds_same s.0 h ∙ ap (map kind_of) e ∙ map-append kind_of o (i ∷ m)) in
+          first_kind more (kind_of i) (map kind_of m) k kinds kind;
       behind = far;
       bad = bad;
       at = refl;
@@ -208,9 +207,9 @@ within_part op o i m v bytes rest opens k next far r bad =
       splits = refl;
       next = k;
       is_next = λ more w.
-        let group : mark ++ ((o ++ more) ++ marked end_header) ≡ (mark ++ o) ++ (more ++ marked end_header) = ap (λ (x : List Item). mark ++ x) (append_assoc o more (marked end_header)) ∙ sym (append_assoc mark o (more ++ marked end_header)) in
-        let n = next (more ++ marked end_header) (subst AreHeaded group (a_part_before op (o ++ more) (marked end_header) w ending)) in
-        goes_on (part_layout op) o i m more (marked end_header) k v w n;
+          let group : mark ++ ((o ++ more) ++ marked end_header) ≡ (mark ++ o) ++ (more ++ marked end_header) = ap (λ (x : List Item). mark ++ x) (append_assoc o more (marked end_header)) ∙ sym (append_assoc mark o (more ++ marked end_header)) in
+          let n = next (more ++ marked end_header) (subst AreHeaded group (a_part_before op (o ++ more) (marked end_header) w ending)) in
+          goes_on (part_layout op) o i m more (marked end_header) k v w n;
       behind = far;
       bad = bad;
       at = refl;
@@ -293,9 +292,12 @@ request_opened : (xid : ℤ) (op : Op) (bytes rest : List ℕ) (q : ℕ) (r : Re
 request_opened xid op bytes rest q r e f =
     let front = header_items xid (op_number op) in
     behind_front (IsHeaded (body_of op)) (IsRequest xid op) front bytes rest q r e
-    (λ o m k v next. ((m, (o ++ m, v, append_assoc front o m)), λ more w.
-      let same : w.0 ≡ o ++ more = append_cancel_left front w.0 (o ++ more) (sym w.2 ∙ append_assoc front o more) in
-      next more (subst (IsHeaded (body_of op)) same w.1)))
+    (λ o m k v next. (
+      (m, (o ++ m, v, append_assoc front o m)),
+      λ more w.
+          let same : w.0 ≡ o ++ more = append_cancel_left front w.0 (o ++ more) (sym w.2 ∙ append_assoc front o more) in
+          next more (subst (IsHeaded (body_of op)) same w.1),
+    ))
     f
 
 part_opened : (xid : ℤ) (bytes rest : List ℕ) (q : ℕ) (r : Reason) → IsRequested xid ops.Multi bytes → Opens bytes (header_items xid (op_number ops.Multi)) rest → BadAt rest q r → IsOpeningFault bytes (8 + q) r

@@ -81,8 +81,8 @@ drop_front K front have bytes rest p r e f =
           let kind : f.next ≡ kind_of c.0 = sym n.3 ∙ ap kind_of (sym same.0) in
           let h = have_parts o (c.0 ∷ c.1) (subst HaveBytes c.2 have) in
           let split : bytes_of front ++ rest ≡ bytes_of o ++ (item_bytes c.0 ++ (bytes_of c.1 ++ rest)) =
-              ap (λ (x : List Item). bytes_of x ++ rest) c.2 ∙ ap (λ (x : List ℕ). x ++ rest) (bytes_both o (c.0 ∷ c.1)) ∙ append_assoc (bytes_of o) (bytes_of (c.0 ∷ c.1)) rest
-              ∙ ap (λ (x : List ℕ). bytes_of o ++ x) (append_assoc (item_bytes c.0) (bytes_of c.1) rest) in
+          ap (λ (x : List Item). bytes_of x ++ rest) c.2 ∙ ap (λ (x : List ℕ). x ++ rest) (bytes_both o (c.0 ∷ c.1)) ∙ append_assoc (bytes_of o) (bytes_of (c.0 ∷ c.1)) rest
+          ∙ ap (λ (x : List ℕ). bytes_of o ++ x) (append_assoc (item_bytes c.0) (bytes_of c.1) rest) in
           let left : f.rest ≡ item_bytes c.0 ++ (bytes_of c.1 ++ rest) = append_cancel_left (bytes_of o) f.rest (item_bytes c.0 ++ (bytes_of c.1 ++ rest)) (sym f.splits ∙ e ∙ split) in
           let one : IsBad (kind_of c.0) f.rest r f.behind = subst (λ (k : Kind). IsBad k f.rest r f.behind) kind f.bad in
           absurd (item_not c.0 (bytes_of c.1 ++ rest) r f.behind h.1.0 (subst (λ (x : List ℕ). IsBad (kind_of c.0) x r f.behind) left one))
@@ -90,18 +90,21 @@ drop_front K front have bytes rest p r e f =
           let m = c.0 in
           let at = f.at in
           let split : bytes_of o ++ f.rest ≡ bytes_of front ++ (bytes_of m ++ f.rest) = ap (λ (x : List Item). bytes_of x ++ f.rest) c.1 ∙ ap (λ (x : List ℕ). x ++ f.rest) (bytes_both front m) ∙ append_assoc (bytes_of front) (bytes_of m) f.rest in
-          let number : p ≡ length (bytes_of front) + (length (bytes_of m) + f.behind) = omega (arith, ap (λ (x : List Item). length (bytes_of x)) c.1, ap length (bytes_both front m), length-append (bytes_of front) (bytes_of m)) in
-          (length (bytes_of m) + f.behind, number, record {
-            opening = m;
-            rest = f.rest;
-            begins = (f.begins.0, subst K c.2 b.1);
-            splits = append_cancel_left (bytes_of front) rest (bytes_of m ++ f.rest) (sym e ∙ f.splits ∙ split);
-            next = f.next;
-            is_next = λ more k. f.is_next more (m ++ more, k, ap (λ (x : List Item). x ++ more) c.1 ∙ append_assoc front m more);
-            behind = f.behind;
-            bad = f.bad;
-            at = refl;
-          })
+          let number : p ≡ length (bytes_of front) + (length (bytes_of m) + f.behind) = omega (arith, ap (λ (x : List Item). length (bytes_of x)) c.1, ap length (bytes_both front m), length-append (bytes_of front) (bytes_of m)) in (
+            length (bytes_of m) + f.behind,
+            number,
+            record {
+              opening = m;
+              rest = f.rest;
+              begins = (f.begins.0, subst K c.2 b.1);
+              splits = append_cancel_left (bytes_of front) rest (bytes_of m ++ f.rest) (sym e ∙ f.splits ∙ split);
+              next = f.next;
+              is_next = λ more k. f.is_next more (m ++ more, k, ap (λ (x : List Item). x ++ more) c.1 ∙ append_assoc front m more);
+              behind = f.behind;
+              bad = f.bad;
+              at = refl;
+            },
+          )
     ]
 
 -- what comes next in a value that goes on, and in a tail behind it, does so in the value

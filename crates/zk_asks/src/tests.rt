@@ -8,10 +8,12 @@ use zk_jute::{ItemFault, List, Reason};
 use zk_records::{Op, PartOp};
 
 /// A connect request of time-out 30,000 and a password of sixteen zeros, 45 bytes with its boolean.
-const HELLO: &[u8] = b"\0\0\0\0\0\0\0\0\0\0\0\0\0\0\x75\x30\0\0\0\0\0\0\0\0\0\0\0\x10\0\0\0\0\0\0\0\0\0\0\0\0\0\0\0\0\0";
+const HELLO: &[u8] =
+    b"\0\0\0\0\0\0\0\0\0\0\0\0\0\0\x75\x30\0\0\0\0\0\0\0\0\0\0\0\x10\0\0\0\0\0\0\0\0\0\0\0\0\0\0\0\0\0";
 
 /// A multi of create, check and setData.
-const THREE: &[u8] = b"\0\0\0\x01\0\0\0\x0e\0\0\0\x01\0\xff\xff\xff\xff\0\0\0\x02/a\0\0\0\0\0\0\0\x01\0\0\0\x1f\0\0\0\x05world\0\0\0\x06anyone\0\0\0\0\0\0\0\x0d\0\xff\xff\xff\xff\0\0\0\x02/a\0\0\0\x03\0\0\0\x05\0\xff\xff\xff\xff\0\0\0\x02/a\0\0\0\x01a\0\0\0\x03\xff\xff\xff\xff\x01\xff\xff\xff\xff";
+const THREE: &[u8] =
+    b"\0\0\0\x01\0\0\0\x0e\0\0\0\x01\0\xff\xff\xff\xff\0\0\0\x02/a\0\0\0\0\0\0\0\x01\0\0\0\x1f\0\0\0\x05world\0\0\0\x06anyone\0\0\0\0\0\0\0\x0d\0\xff\xff\xff\xff\0\0\0\x02/a\0\0\0\x03\0\0\0\x05\0\xff\xff\xff\xff\0\0\0\x02/a\0\0\0\x01a\0\0\0\x03\xff\xff\xff\xff\x01\xff\xff\xff\xff";
 
 /// The frame of a payload, written again as it.
 fn again(
@@ -75,17 +77,29 @@ fn first_payloads(rt: HostRuntime) -> Result<(), Fail> {
     let mut other = Vec::new(alloc);
     other.extend_from_slice(&HELLO[..44])?;
     other.push(2)?;
-    refused(&rt, read_first(alloc, other.as_slice()), 44, Reason::BadBool)?;
+    refused(
+        &rt,
+        read_first(alloc, other.as_slice()),
+        44,
+        Reason::BadBool,
+    )?;
     other.truncate(44);
     other.extend_from_slice(&[0, 0])?;
-    refused(&rt, read_first(alloc, other.as_slice()), 45, Reason::Trailing)
+    refused(
+        &rt,
+        read_first(alloc, other.as_slice()),
+        45,
+        Reason::Trailing,
+    )
 }
 
 #[test]
 fn set_watches(rt: HostRuntime) -> Result<(), Fail> {
     let alloc = rt.alloc();
-    let own = b"\xff\xff\xff\xf8\0\0\0\x65\0\0\0\0\0\0\0\x05\0\0\0\x01\0\0\0\x02/a\0\0\0\0\xff\xff\xff\xff";
-    let other = b"\0\0\0\x05\0\0\0\x65\0\0\0\0\0\0\0\x05\0\0\0\x01\0\0\0\x02/a\0\0\0\0\xff\xff\xff\xff";
+    let own =
+        b"\xff\xff\xff\xf8\0\0\0\x65\0\0\0\0\0\0\0\x05\0\0\0\x01\0\0\0\x02/a\0\0\0\0\xff\xff\xff\xff";
+    let other =
+        b"\0\0\0\x05\0\0\0\x65\0\0\0\0\0\0\0\x05\0\0\0\x01\0\0\0\x02/a\0\0\0\0\xff\xff\xff\xff";
     let (xid, ask) = asked(&rt, alloc, own)?;
     assert_eq!(rt; xid, -8);
     let Ask::SetWatches(watches) = ask else {
@@ -106,7 +120,11 @@ fn set_watches(rt: HostRuntime) -> Result<(), Fail> {
 fn requests(rt: HostRuntime) -> Result<(), Fail> {
     let alloc = rt.alloc();
     let rows: [(&[u8], i32, Op); 4] = [
-        (b"\xff\xff\xff\xfc\0\0\0\x64\0\0\0\0\0\0\0\x06digest\0\0\0\x03a:b", -4, Op::Auth),
+        (
+            b"\xff\xff\xff\xfc\0\0\0\x64\0\0\0\0\0\0\0\x06digest\0\0\0\x03a:b",
+            -4,
+            Op::Auth,
+        ),
         (b"\0\0\0\x01\0\0\0\x03\0\0\0\x02/a\x01", 1, Op::Exists),
         (b"\xff\xff\xff\xfe\0\0\0\x0b", -2, Op::Ping),
         (b"\0\0\0\x07\xff\xff\xff\xf5", 7, Op::CloseSession),
@@ -126,14 +144,38 @@ fn requests(rt: HostRuntime) -> Result<(), Fail> {
 fn refusals(rt: HostRuntime) -> Result<(), Fail> {
     let alloc = rt.alloc();
     let rows: [(&[u8], u32, Reason); 9] = [
-        (b"\xff\xff\xff\xff\0\0\0\x03\0\0\0\x02/a\x01", 4, Reason::XidOp),
-        (b"\xff\xff\xff\xf8\0\0\0\x03\0\0\0\x02/a\x01", 4, Reason::XidOp),
-        (b"\xff\xff\xff\xff\0\0\0\x0d\0\0\0\x02/a\x01", 4, Reason::UnknownOp),
+        (
+            b"\xff\xff\xff\xff\0\0\0\x03\0\0\0\x02/a\x01",
+            4,
+            Reason::XidOp,
+        ),
+        (
+            b"\xff\xff\xff\xf8\0\0\0\x03\0\0\0\x02/a\x01",
+            4,
+            Reason::XidOp,
+        ),
+        (
+            b"\xff\xff\xff\xff\0\0\0\x0d\0\0\0\x02/a\x01",
+            4,
+            Reason::UnknownOp,
+        ),
         (b"\0\0\0\x01\0\0\0\x03\0\0\0\x02/a\x02", 14, Reason::BadBool),
-        (b"\0\0\0\x01\0\0\0\x03\0\0\0\x02/a\x01\0", 15, Reason::Trailing),
-        (b"\0\0\0\x01\0\0\0\x0d\0\0\0\x02/a\xff\xff\xff\xff", 4, Reason::UnknownOp),
+        (
+            b"\0\0\0\x01\0\0\0\x03\0\0\0\x02/a\x01\0",
+            15,
+            Reason::Trailing,
+        ),
+        (
+            b"\0\0\0\x01\0\0\0\x0d\0\0\0\x02/a\xff\xff\xff\xff",
+            4,
+            Reason::UnknownOp,
+        ),
         (b"\0\0\0\x01\0\0\0\x0b", 4, Reason::XidOp),
-        (b"\0\0\0\x01\0\0\0\x03\0\0\0\x02/\xc3\0", 13, Reason::BadText),
+        (
+            b"\0\0\0\x01\0\0\0\x03\0\0\0\x02/\xc3\0",
+            13,
+            Reason::BadText,
+        ),
         (b"\xff\xff\xff\xff\0\0", 4, Reason::Short),
     ];
     for (payload, place, reason) in rows {
@@ -143,30 +185,40 @@ fn refusals(rt: HostRuntime) -> Result<(), Fail> {
 }
 
 #[test]
-fn multis(rt: HostRuntime) -> Result<(), Fail> {
-    let alloc = rt.alloc();
+fn empty_multi(rt: HostRuntime) -> Result<(), Fail> {
     let none = b"\0\0\0\x01\0\0\0\x0e\xff\xff\xff\xff\x01\xff\xff\xff\xff";
-    let (_, ask) = asked(&rt, alloc, none)?;
+    let (_, ask) = asked(&rt, rt.alloc(), none)?;
     assert_eq!(rt; ask.op(), Op::Multi);
     assert_eq!(rt; ask.parts().len(), 0);
-    let (_, ask) = asked(&rt, alloc, THREE)?;
-    let parts = ask.parts();
-    assert_eq!(rt; parts.len(), 3);
-    assert_eq!(rt; parts[0].op(), PartOp::Create);
-    assert_eq!(rt; parts[1].op(), PartOp::Check);
-    assert_eq!(rt; parts[2].op(), PartOp::SetData);
-    let rows: [(&[u8], u32, Reason); 4] = [
-        // A multi within a multi.
-        (b"\0\0\0\x01\0\0\0\x0e\0\0\0\x0e\0\xff\xff\xff\xff\xff\xff\xff\xff\x01\xff\xff\xff\xff", 8, Reason::BadPart),
-        // A header that can't be one of a part is still read to its end.
-        (b"\0\0\0\x01\0\0\0\x0e\0\0\0\x0e\x02", 12, Reason::BadBool),
-        (b"\0\0\0\x01\0\0\0\x0e\0\0\0\x0e\0\xff", 13, Reason::Short),
-        (b"\0\0\0\x01\0\0\0\x0e\0\0\0\x0d\0\xff\xff\xff\xff\0\0\0\x02/a\0\0", 23, Reason::Short),
-    ];
-    for (payload, place, reason) in rows {
-        refused(&rt, read_ask(alloc, payload), place, reason)?;
-    }
     Ok(())
+}
+
+#[test]
+fn three_parts(rt: HostRuntime) -> Result<(), Fail> {
+    let (_, ask) = asked(&rt, rt.alloc(), THREE)?;
+    let [first, second, third] = ask.parts() else {
+        return Err("not three parts")?;
+    };
+    assert_eq!(rt; first.op(), PartOp::Create);
+    assert_eq!(rt; second.op(), PartOp::Check);
+    assert_eq!(rt; third.op(), PartOp::SetData);
+    Ok(())
+}
+
+#[test]
+fn multi_refusals(rt: HostRuntime) -> Result<(), Fail> {
+    let alloc = rt.alloc();
+    // A multi within a multi.
+    let nested =
+        b"\0\0\0\x01\0\0\0\x0e\0\0\0\x0e\0\xff\xff\xff\xff\xff\xff\xff\xff\x01\xff\xff\xff\xff";
+    refused(&rt, read_ask(alloc, nested), 8, Reason::BadPart)?;
+    // A header that can't be one of a part is still read to its end.
+    let flag = b"\0\0\0\x01\0\0\0\x0e\0\0\0\x0e\x02";
+    refused(&rt, read_ask(alloc, flag), 12, Reason::BadBool)?;
+    let cut = b"\0\0\0\x01\0\0\0\x0e\0\0\0\x0e\0\xff";
+    refused(&rt, read_ask(alloc, cut), 13, Reason::Short)?;
+    let record = b"\0\0\0\x01\0\0\0\x0e\0\0\0\x0d\0\xff\xff\xff\xff\0\0\0\x02/a\0\0";
+    refused(&rt, read_ask(alloc, record), 23, Reason::Short)
 }
 
 /// A request for an operation, and for the parts of its multi.

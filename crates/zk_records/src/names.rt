@@ -5,7 +5,7 @@ ghost use Rattle.zk_records.specs.Names as names;
 
 use crate::op::{Op, PartOp};
 
-/// The name of an operation, as in the log of a server.
+/// The name of an operation: that of its number in `ZooDefs.OpCode`.
 pub fn op_name(op: Op) -> &'static str
     ensures { result.now ≡ names.op_name op }
 {
@@ -28,7 +28,7 @@ pub fn op_name(op: Op) -> &'static str
     }
 }
 
-/// The name of a part's operation.
+/// The name of a part's operation: that of its number in `ZooDefs.OpCode`.
 pub fn part_name(op: PartOp) -> &'static str
     ensures { result.now ≡ names.part_name op }
 {

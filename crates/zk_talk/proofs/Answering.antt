@@ -162,4 +162,3 @@ module _ (t : TalkState) (piece : List ℕ) (s s' : Stream) (count : s.count ≡
           subst (λ z. Fails t Server piece z (record t { server_held = s'.frames.bytes; server_frames = s'.count; server_size = s'.size; waiting = w; fault = kept })) (sym same)
           (subst (Fails t Server piece (fault_of Server t.server_frames (t.server_size + used) e.place e.reason)) (λ i. record t { server_held = (sym q i).frames.bytes; server_frames = sym count' i; server_size = sym size' i; waiting = sym same_w i; fault = sym holds i })
           (server_judged t piece s.frames.bytes used e a (λ v d. fault n v (subst (λ z. Describes t.client_frames z t.waiting v) (sym count) d))))
-

@@ -173,4 +173,3 @@ fail_end_server t held piece k l full begin h M st =
     let size' : t.server_size + length (take k piece) + 1 ≡ t.server_size + (k + 1) = omega (arith, n) in
     subst (λ z. Refuses (record t { server_held = held; fault = Some (fault_of Server t.server_frames z 0 StreamEnd) }) (h ++ on Server piece) M (fault_of Server t.server_frames z 0 StreamEnd)) size'
     (subst (λ z. Refuses (record t { server_held = held; fault = Some (fault_of Server t.server_frames (t.server_size + length (take k piece) + 1) 0 StreamEnd) }) (h ++ on Server z) M (fault_of Server t.server_frames (t.server_size + length (take k piece) + 1) 0 StreamEnd)) (sym cut) r)
-

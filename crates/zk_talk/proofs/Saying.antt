@@ -121,8 +121,7 @@ module _ (limits : Limits) (asked welcomed : Bool) (w : Lanes) (v : Conversation
     pub client_said : (x : Lanes) → w.max ≡ limits.waiting → MaySend f → Fit limits.client (asks.frame_items f) → IsRemembered f w x → IsSaidClient limits v f × Heard true welcomed x (with_client v f)
     unfolding client_payload
     client_said x room may fit put =
-        let clientMay = may_stand connect refl kind in
-        (
+        let clientMay = may_stand connect refl kind in (
           (clientMay, fit.1, loads f connect refl kind put),
           record {
             client = λ e. not_empty v.client f [] e;
@@ -216,8 +215,7 @@ module _ (limits : Limits) (asked welcomed : Bool) (w : Lanes) (v : Conversation
       IsSaidServer limits v s × Heard asked true x (with_server v s)
   unfolding server_payload
   server_said s c k turn x may fit left =
-      let here = server_may s c k turn may fit in
-      (
+      let here = server_may s c k turn may fit in (
         (here, fit.1),
         record {
           client = heard.client;

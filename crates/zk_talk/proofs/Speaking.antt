@@ -69,8 +69,7 @@ module _ (s : SpeakerState) (m : Message) where
       (before : List Message) → Says s before → MaySay s.limits before m × Says (record { limits = s.limits; asked = true; welcomed = s.welcomed; waiting = x }) (before ++ m ∷ [])
   ok_client f x e max all before says =
       let step = all s.welcomed (conversation_of before) says.heard in
-      let may = subst (MaySay s.limits before) (sym e) step.0 in
-      (
+      let may = subst (MaySay s.limits before) (sym e) step.0 in (
         may,
         record {
           said = EachAfter-push (MaySay s.limits) before m says.said may;
@@ -84,8 +83,7 @@ module _ (s : SpeakerState) (m : Message) where
       (before : List Message) → Says s before → MaySay s.limits before m × Says (record { limits = s.limits; asked = s.asked; welcomed = true; waiting = x }) (before ++ m ∷ [])
   ok_server f x e max all before says =
       let step = all (conversation_of before) says.heard in
-      let may = subst (MaySay s.limits before) (sym e) step.0 in
-      (
+      let may = subst (MaySay s.limits before) (sym e) step.0 in (
         may,
         record {
           said = EachAfter-push (MaySay s.limits) before m says.said may;

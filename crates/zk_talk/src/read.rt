@@ -72,7 +72,11 @@ fn feed(
 
 /// The conversation that these pieces are, however they were cut: its messages in the order of
 /// their last bytes, and how it ends. Behind a fault nothing is read.
-pub fn read_all(alloc: Global, limits: Limits, pieces: &[(Side, &[u8])]) -> Result<Ended, AllocError>
+pub fn read_all(
+    alloc: Global,
+    limits: Limits,
+    pieces: &[(Side, &[u8])],
+) -> Result<Ended, AllocError>
     // A history that spells a conversation gives it back, in the order of the last bytes.
     ensures whole { IfOk result (λ e. (v : Conversation) → Good limits (history_of pieces.now) v [] [] →
         IsOrder limits (history_of pieces.now) v e.messages.items × (e.ending ≡ Whole (unanswered v))) }

@@ -129,11 +129,7 @@ fn may_send(message: &ClientFrame) -> bool
 }
 
 /// The request waits for its reply.
-fn put_request(
-    alloc: Global,
-    waiting: &mut Waiting,
-    message: &ClientFrame,
-) -> Result<(), SayFault>
+fn put_request(alloc: Global, waiting: &mut Waiting, message: &ClientFrame) -> Result<(), SayFault>
     requires { length (client_payload message.now) < 2 ^ 32 }
     ensures max { waiting.new.max ≡ waiting.old.max }
     ensures ok { OnOk result (IsRemembered message.now waiting.old waiting.new) }

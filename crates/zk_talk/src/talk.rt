@@ -2,6 +2,7 @@
 ghost use Rattle.std.specs.Prelude.{◌≡◌, ◌≤◌, ◌<◌, ◌+◌, ◌^◌, ℕ, List, [], length, take, Some, None, Err, IfOk, IfErr, MatchOption};
 ghost use Rattle.std.specs.Option.{option_to_list};
 ghost use Rattle.zk_jute.specs.declared.fault.Reason.TheVariants.{NoMemory};
+ghost use Rattle.zk_jute.specs.Reading.{no_memory};
 ghost use Rattle.zk_talk.specs.declared.message.Side.TheVariants.{Client, Server};
 ghost use Rattle.zk_talk.specs.declared.message.Fault.{Fault};
 ghost use Rattle.zk_talk.specs.declared.message.Message.{Message};
@@ -69,6 +70,16 @@ fn fault_at(side: Side, frame: u64, offset: u64, item: ItemFault) -> Fault
     }
 }
 
+/// Memory is wanted.
+fn wanting() -> ItemFault
+    ensures { result ≡ no_memory }
+{
+    ItemFault {
+        place: 0,
+        reason: Reason::NoMemory,
+    }
+}
+
 /// The fault of the frame that so many more bytes have brought; it is kept, but for want of
 /// memory.
 fn refuse(
@@ -83,11 +94,7 @@ fn refuse(
     ensures refused { (item.reason ≡ NoMemory → ⊥) → (result ≡ fault_of side stream.now.count (stream.now.size + used) item.place item.reason) × (kept.new ≡ Some result) }
 {
     if is_no_memory(item) {
-        let wanting = ItemFault {
-            place: 0,
-            reason: Reason::NoMemory,
-        };
-        return fault_at(side, stream.count, stream.size, wanting);
+        return fault_at(side, stream.count, stream.size, wanting());
     }
     let fault = fault_at(side, stream.count, stream.size + used as u64, item);
     *kept = Some(fault);
@@ -142,12 +149,7 @@ impl Talk {
                 Err(refuse(&mut self.fault, Side::Client, &self.client, used, item))
             }
             Advance::Wanting => {
-                let (frame, size) = (self.client.count, self.client.size);
-                let item = ItemFault {
-                    place: 0,
-                    reason: Reason::NoMemory,
-                };
-                Err(fault_at(Side::Client, frame, size, item))
+                Err(refuse(&mut self.fault, Side::Client, &self.client, 0, wanting()))
             }
         }
     }
@@ -190,12 +192,7 @@ impl Talk {
                 Err(refuse(&mut self.fault, Side::Server, &self.server, used, item))
             }
             Advance::Wanting => {
-                let (frame, size) = (self.server.count, self.server.size);
-                let item = ItemFault {
-                    place: 0,
-                    reason: Reason::NoMemory,
-                };
-                Err(fault_at(Side::Server, frame, size, item))
+                Err(refuse(&mut self.fault, Side::Server, &self.server, 0, wanting()))
             }
         }
     }
@@ -237,16 +234,26 @@ impl Talk {
         let got = self.client.frames.held();
         if got > 0 {
             let frame = self.client.count;
-            return Ending::Cut { side: Side::Client, frame, got };
+            return Ending::Cut {
+                side: Side::Client,
+                frame,
+                got,
+            };
         }
         let got = self.server.frames.held();
         if got > 0 {
             let frame = self.server.count;
-            return Ending::Cut { side: Side::Server, frame, got };
+            return Ending::Cut {
+                side: Side::Server,
+                frame,
+                got,
+            };
         }
         let asks = self.waiting.count();
         if self.client.count > 0 && self.server.count == 0 {
-            Ending::Whole { unanswered: asks + 1 }
+            Ending::Whole {
+                unanswered: asks + 1,
+            }
         } else {
             Ending::Whole { unanswered: asks }
         }

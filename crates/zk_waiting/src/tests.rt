@@ -1,12 +1,12 @@
+ghost use Rattle.std.specs.Prelude.{[], ◌∷◌, refl};
+ghost use Rattle.zk_records.specs.declared.op.Op.TheVariants as ops;
+ghost use Rattle.zk_records.specs.declared.op.PartOp.TheVariants as kinds;
+
 use super::*;
 use std::process::Abort;
 use std::test::Fail;
 use zk_asks::Asked;
 use zk_records::{Op, PartOp};
-
-ghost use Rattle.std.specs.Prelude.{[], ◌∷◌, refl};
-ghost use Rattle.zk_records.specs.declared.op.Op.TheVariants as ops;
-ghost use Rattle.zk_records.specs.declared.op.PartOp.TheVariants as kinds;
 
 /// A request without parts.
 struct Exists {}

@@ -20,6 +20,6 @@ returns-in-Ok-clause-found c = λ m v d. subst (λ z. IsNextOf c.args.waiting.no
 
 pub returns-after-is_no_memory-clause-fault : goal.returns-after-is_no_memory-clause-fault
 returns-after-is_no_memory-clause-fault c = λ n. elim (c.in-Err.ensures).fault [
-    inl q ↦ absurd (n (ap (λ z. z.reason) q))
+  | inl q ↦ absurd (n (ap (λ z. z.reason) q))
   | inr k ↦ λ limits m v q d. subst (λ z. Tells (IsClientFault limits v z) c.in-Err.item) (carried c.args.stream.now.frames.bytes c.payload.result.now c.payload.ensures) (k limits m v q d)
-  ]
+]

@@ -17,6 +17,6 @@ returns-in-Ok-clause-found c = λ v d. subst (λ z. (server_payload c.in-Ok.fram
 
 pub returns-after-is_no_memory-clause-fault : goal.returns-after-is_no_memory-clause-fault
 returns-after-is_no_memory-clause-fault c = λ n. elim (c.in-Err.ensures).fault [
-    inl q ↦ absurd (n (ap (λ z. z.reason) q))
+  | inl q ↦ absurd (n (ap (λ z. z.reason) q))
   | inr k ↦ λ v d. subst (λ z. Tells (IsServerFault v z) c.in-Err.item) (carried c.args.stream.now.frames.bytes c.payload.result.now c.payload.ensures) (k v d)
-  ]
+]

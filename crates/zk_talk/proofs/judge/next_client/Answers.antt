@@ -11,6 +11,6 @@ pub returns-in-Err-remember-clause-fault : goal.returns-in-Err-remember-clause-f
 returns-in-Err-remember-clause-fault c =
     let f = (c.in-Ok.ensures).found in
     elim (c.in-Err-remember.ensures).err.1 [
-      inl q ↦ inl q
-    | inr r ↦ inr (λ limits m v q d. J.put_refused _ _ _ v d limits c.args.payload.now c.in-Ok.frame c.in-Err-remember.e q (J.in_turn _ _ _ v d c.in-Ok.frame f.0 f.1) f.2 r)
+      | inl q ↦ inl q
+      | inr r ↦ inr (λ limits m v q d. J.put_refused _ _ _ v d limits c.args.payload.now c.in-Ok.frame c.in-Err-remember.e q (J.in_turn _ _ _ v d c.in-Ok.frame f.0 f.1) f.2 r)
     ]

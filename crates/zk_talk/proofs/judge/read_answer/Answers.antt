@@ -60,4 +60,4 @@ returns-else-expected-head-clause-fault c =
     let same : c.in-Some.slot.xid ≡ c.args.head.now.xid = omega (arith, ints, c.if-expected-head.false, c.xid-expected.ensures) in
     let fit = (c.in-Some.ensures).fit in
     IfErr-weaker c.read_reply.result _ _ (λ e f. told_answer c.args.waiting.now _ c.args.payload.now
-      (λ n m v y d place reason x. J.reply_refused n m c.args.waiting.now v d c.args.payload.now place reason c.args.head.now h.0 c.in-Some.slot y h.1 c.requires.reply some same (subst (λ z. IsReplyFault c.in-Some.slot.op z c.args.payload.now place reason) fit.parts x)) e f) c.read_reply.ensures.fault
+    (λ n m v y d place reason x. J.reply_refused n m c.args.waiting.now v d c.args.payload.now place reason c.args.head.now h.0 c.in-Some.slot y h.1 c.requires.reply some same (subst (λ z. IsReplyFault c.in-Some.slot.op z c.args.payload.now place reason) fit.parts x)) e f) c.read_reply.ensures.fault

@@ -21,4 +21,4 @@ returns-in-Err-put_request-clause-err c =
     let sent : c.may_send.result ≡ true = cc in
     let fits = subst (λ z. Fit z (frame_items c.args.message.now)) c.client.ensures c.in-Ok.ensures.fits in
     either_way c.in-Err-put_request.e _ _ (λ welcomed v heard.
-        client_full c.args.limits c.args.asked welcomed c.args.waiting.now v heard c.args.message.now c.is_connect.result c.is_connect.ensures (unequal _ _ c.if-is_connect-asked.false) c.in-Err-put_request.e c.requires.room (c.may_send.ensures.0 sent) fits c.in-Err-put_request.ensures.err)
+    client_full c.args.limits c.args.asked welcomed c.args.waiting.now v heard c.args.message.now c.is_connect.result c.is_connect.ensures (unequal _ _ c.if-is_connect-asked.false) c.in-Err-put_request.e c.requires.room (c.may_send.ensures.0 sent) fits c.in-Err-put_request.ensures.err)

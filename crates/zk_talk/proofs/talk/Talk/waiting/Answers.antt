@@ -10,5 +10,5 @@ pub returns-clause-stands : goal.returns-clause-stands
 returns-clause-stands c =
     let T = the_view c.self.inside in
     rw (← c.self.view_is) (λ h M v cr sr st g.
-      let same = (same_good T.limits (small_limits T.limits) h st.conversation v T.client_held T.server_held cr sr st.good g).0 in
-      c.weight.ensures.value ∙ weight_is_load st.conversation T.waiting st.queues ∙ (λ i. load (same i).client (same i).server))
+    let same = (same_good T.limits (small_limits T.limits) h st.conversation v T.client_held T.server_held cr sr st.good g).0 in
+    c.weight.ensures.value ∙ weight_is_load st.conversation T.waiting st.queues ∙ (λ i. load (same i).client (same i).server))

@@ -1,0 +1,9 @@
+pub mod Forms
+pub mod Runs
+pub mod Numbers
+pub mod Flags
+pub mod Many
+pub mod Texts
+pub mod Blobs
+pub mod Codes
+pub mod Words

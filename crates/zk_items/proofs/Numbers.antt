@@ -1,0 +1,130 @@
+-- Numbers are read as they are written.
+use Rattle.std.specs.Prelude.{◌≡◌, ◌≢◌, ℕ, zero, suc, ◌+◌, ◌*◌, ◌/◌, ◌%◌, ◌^◌, ◌<◌, ◌≤◌, List, [], ◌∷◌, ◌++◌, length, take, drop, Option, Some, None, Result, Ok, Err, Bool, true, false, ◌==◌, ◌&&◌, ◌||◌, nat_le, nat_lt, if◌then◌else◌, ℤ, pos, negsuc, codes, IsUtf8, bytes_eq, refl, slice_index}
+use Rattle.std.specs.List.{prefix_len, AllByRecursion}
+use Rattle.std.specs.Fmt.{signed_decimal, decimal}
+use Rattle.std.specs.Str.{IsAscii}
+use Rattle.std.specs.Str.Parse.{signed_digits_value, digits_value, AllDigits, ParsesSigned, without_leading_sign, without_leading_plus}
+use Rattle.std.proofs.Common.{ap, sym, ◌∙◌, append_assoc, cond, arith, subst, ltb-true, lt-ltb, le-leb, ne_eqb, neg_ℤ, FitsSigned, w32, w64}
+use Rattle.std.proofs.lemmas.List.{take-append-drop}
+use Rattle.std.proofs.Math.Seq.{take-append_seam, drop-append_seam}
+use Rattle.std.proofs.lemmas.Fmt.{decimal_is_IsNumeral, IsAscii-signed, parse-signed_decimal}
+use Rattle.std.proofs.lemmas.Str.{IsUtf8-from_ascii}
+use Rattle.std.proofs.lemmas.Str.Parse.{digit_from_value}
+use Rattle.std.proofs.lemmas.Slice.Eq.{bytes_eq-Decides}
+use Rattle.zk_items.specs.Form.{Form, Read, stops, goes_on}
+use Rattle.zk_items.specs.Leaf.{in_number, in_range, num_of, num_at, int, long}
+use Rattle.zk_items.proofs.Forms.{Lawful, if_some, some_is}
+use Rattle.zk_items.proofs.Runs.{run_is, ends, stops_ends}
+
+pub all_digits : (ds : List ℕ) → AllDigits 10 ds → AllByRecursion (λ b. in_number b ≡ true) ds
+all_digits [] h = tt
+all_digits (c ∷ cs) h = let r = digit_from_value c h.0 in (is_digit c r.0 r.1, all_digits cs h.1) where
+  is_digit : (c : ℕ) → 48 ≤ c → c ≤ 57 → in_number c ≡ true
+  is_digit c low high = ap (λ (t : Bool). (t && nat_le c 57) || c == 45) (le-leb 48 c low) ∙ ap (λ (t : Bool). t || c == 45) (le-leb c 57 high)
+
+-- digits write their number
+pub plain_value : (ds : List ℕ) → AllDigits 10 ds → 0 < length ds → signed_digits_value 10 ds ≡ pos (digits_value 10 ds)
+plain_value [] h some = absurd (omega arith)
+plain_value (c ∷ cs) h some =
+    let r = digit_from_value c h.0 in
+    let minus : (c == 45) ≡ false = ne_eqb c 45 (omega arith) in
+    let plus : (c == 43) ≡ false = ne_eqb c 43 (omega arith) in
+    let front : without_leading_plus (c ∷ cs) ≡ c ∷ cs = ap (λ (t : Bool). drop (cond t 1 0) (c ∷ cs)) plus in
+    let sign : without_leading_sign (c ∷ cs) ≡ c ∷ cs = ap (λ (t : Bool). cond t (drop 1 (c ∷ cs)) (without_leading_plus (c ∷ cs))) minus ∙ front in
+    ap (λ (t : Bool). cond t (neg_ℤ (pos (digits_value 10 (without_leading_sign (c ∷ cs))))) (pos (digits_value 10 (without_leading_sign (c ∷ cs))))) minus
+    ∙ ap (λ (ds : List ℕ). pos (digits_value 10 ds)) sign
+
+pub written_value : (x : ℤ) → in_range 63 x ≡ true → (signed_digits_value 10 (signed_decimal x) ≡ x) × AllByRecursion (λ b. in_number b ≡ true) (signed_decimal x)
+written_value (pos n) fit =
+    let small : n < 2 ^ 63 = ltb-true n (2 ^ 63) fit in
+    let d = decimal_is_IsNumeral n (omega arith) in
+    (plain_value (decimal n) d.0.1 d.0.0 ∙ ap pos d.1, all_digits (decimal n) d.0.1)
+written_value (negsuc n) fit =
+    let small : n < 2 ^ 63 = ltb-true n (2 ^ 63) fit in
+    let d = decimal_is_IsNumeral (suc n) (omega arith) in
+    (ap (λ (m : ℕ). neg_ℤ (pos m)) d.1, (refl, all_digits (decimal (suc n)) d.0.1))
+
+pub number_goes_on : (b : ℕ) → in_number b ≡ true → goes_on b ≡ true
+number_goes_on b h = elim (nat_le 48 b && nat_le b 57) as (λ t. (t || b == 45) ≡ true → (t || (nat_le 65 b && nat_le b 90) || (nat_le 97 b && nat_le b 122) || b == 45 || b == 47) ≡ true) [
+  | true ↦ λ _. refl
+  | false ↦ λ h. grind arith
+] h
+
+pub equal_bytes : (xs ys : List ℕ) → xs ≡ ys → bytes_eq xs ys ≡ true
+equal_bytes xs ys e = grind (arith, bytes_eq-Decides, e)
+
+pub num_of_some : (k : ℕ) (x : ℤ) (run rest : List ℕ) → in_range 63 x ≡ true → in_range k x ≡ true → run ≡ signed_decimal x → num_of k run rest ≡ Some (x, rest)
+unfolding num_of
+num_of_some k x run rest wide fit e =
+    let v : signed_digits_value 10 run ≡ x = ap (signed_digits_value 10) e ∙ (written_value x wide).0 in
+    ap (λ (z : ℤ). cond (bytes_eq (signed_decimal z) run && in_range k z) (Some (z, rest)) None) v
+    ∙ ap (λ (t : Bool). cond (t && in_range k x) (Some (x, rest)) None) (equal_bytes (signed_decimal x) run (sym e))
+    ∙ ap (λ (t : Bool). cond t (Some (x, rest)) None) fit
+
+pub num_of_sound : (k : ℕ) (run rest : List ℕ) (x : ℤ) (behind : List ℕ) → num_of k run rest ≡ Some (x, behind) → (run ≡ signed_decimal x) × (in_range k x ≡ true) × (rest ≡ behind)
+unfolding num_of
+num_of_sound k run rest x behind e =
+    let z = signed_digits_value 10 run in
+    let a = if_some (bytes_eq (signed_decimal z) run && in_range k z) (Some (z, rest)) (x, behind) e in
+    let ends = some_is (z, rest) (x, behind) a.1 in
+    let parts = both_pass (bytes_eq (signed_decimal z) run) (in_range k z) a.0 in
+    (same_bytes run (signed_decimal z) (signed_decimal x) parts.0 (ap signed_decimal ends.0), ap (in_range k) (sym ends.0) ∙ parts.1, ends.1) where
+      both_pass : (a b : Bool) → (a && b) ≡ true → (a ≡ true) × (b ≡ true)
+      both_pass true b e = (refl, e)
+      both_pass false b e = absurd cc
+
+      same_bytes : (run a b : List ℕ) → bytes_eq a run ≡ true → a ≡ b → run ≡ b
+      same_bytes run a b e h = let d : a ≡ run = grind (arith, bytes_eq-Decides, e) in sym d ∙ h
+
+pub num_again : (k : ℕ) (small : (n : ℕ) → n < 2 ^ k → n < 2 ^ 63) (x : ℤ) (rest : List ℕ) → in_range k x ≡ true → ends in_number rest ≡ true → num_at k (signed_decimal x ++ rest) ≡ Some (x, rest)
+unfolding num_at
+num_again k small x rest fit stop =
+    let wide = widen k small x fit in
+    let w = written_value x wide in
+    let len : prefix_len in_number (signed_decimal x ++ rest) ≡ length (signed_decimal x) = run_is in_number (signed_decimal x) rest w.1 stop in
+    ap (λ (n : ℕ). num_of k (take n (signed_decimal x ++ rest)) (drop n (signed_decimal x ++ rest))) len
+    ∙ ap (λ (r : List ℕ). num_of k r (drop (length (signed_decimal x)) (signed_decimal x ++ rest))) (take-append_seam (signed_decimal x) rest)
+    ∙ ap (λ (r : List ℕ). num_of k (signed_decimal x) r) (drop-append_seam (signed_decimal x) rest)
+    ∙ num_of_some k x (signed_decimal x) rest wide fit refl where
+      widen : (k : ℕ) (small : (n : ℕ) → n < 2 ^ k → n < 2 ^ 63) (x : ℤ) → in_range k x ≡ true → in_range 63 x ≡ true
+      widen k small (pos n) fit = lt-ltb n (2 ^ 63) (small n (ltb-true n (2 ^ k) fit))
+      widen k small (negsuc n) fit = lt-ltb n (2 ^ 63) (small n (ltb-true n (2 ^ k) fit))
+
+pub num_sound : (k : ℕ) (bytes : List ℕ) (x : ℤ) (rest : List ℕ) → num_at k bytes ≡ Some (x, rest) → (bytes ≡ signed_decimal x ++ rest) × (in_range k x ≡ true)
+unfolding num_at
+num_sound k bytes x rest e =
+    let n = prefix_len in_number bytes in
+    let s = num_of_sound k (take n bytes) (drop n bytes) x rest e in
+    (sym (take-append-drop n bytes) ∙ ap (λ (r : List ℕ). r ++ drop n bytes) s.0 ∙ ap (λ (r : List ℕ). signed_decimal x ++ r) s.2, s.1)
+
+pub int_is : Lawful int
+int_is = record { again = λ x rest fit stop. num_again 31 (λ n h. omega arith) x rest fit (stops_ends in_number number_goes_on rest stop); sound = num_sound 31 }
+
+pub long_is : Lawful long
+long_is = record { again = λ x rest fit stop. num_again 63 (λ n h. h) x rest fit (stops_ends in_number number_goes_on rest stop); sound = num_sound 63 }
+
+-- ---- what the readers cite
+
+pub num_none : (k : ℕ) (run rest : List ℕ) → ((z : ℤ) → in_range k z ≡ true → run ≢ signed_decimal z) → num_of k run rest ≡ None
+num_none k run rest h = pick (num_of k run rest) refl where
+  pick : (r : Read ℤ) → num_of k run rest ≡ r → r ≡ None
+  pick None e = refl
+  pick (Some q) e = let s = num_of_sound k run rest q.0 q.1 e in absurd (h q.0 s.1 s.0)
+
+pub number_text : (z : ℤ) (run : List ℕ) → in_range 63 z ≡ true → run ≡ signed_decimal z → IsUtf8 run
+number_text z run fit e = subst (λ (r : List ℕ). IsUtf8 r) (sym e) (IsUtf8-from_ascii (signed_decimal z) (ascii z fit)) where
+  ascii : (z : ℤ) → in_range 63 z ≡ true → IsAscii (signed_decimal z)
+  ascii (pos n) fit = let small : n < 2 ^ 63 = ltb-true n (2 ^ 63) fit in IsAscii-signed (pos n) small
+  ascii (negsuc n) fit = let small : n < 2 ^ 63 = ltb-true n (2 ^ 63) fit in IsAscii-signed (negsuc n) small
+
+pub wide : (z : ℤ) → in_range 31 z ≡ true → in_range 63 z ≡ true
+wide (pos n) fit = let small : n < 2 ^ 31 = ltb-true n (2 ^ 31) fit in lt-ltb n (2 ^ 63) (omega arith)
+wide (negsuc n) fit = let small : n < 2 ^ 31 = ltb-true n (2 ^ 31) fit in lt-ltb n (2 ^ 63) (omega arith)
+
+pub parse_int : {E : Type 0} (z : ℤ) (run : List ℕ) (r : Result ℤ E) → in_range 31 z ≡ true → run ≡ signed_decimal z → ParsesSigned w32 10 run r → r ≡ Ok z
+parse_int (pos n) run r fit e h = let small : n < 2 ^ 31 = ltb-true n (2 ^ 31) fit in parse-signed_decimal w32 (pos n) run r (record { sfits = small }) (omega arith) e h
+parse_int (negsuc n) run r fit e h = let small : n < 2 ^ 31 = ltb-true n (2 ^ 31) fit in parse-signed_decimal w32 (negsuc n) run r (record { sfits = small }) (omega arith) e h
+
+pub parse_long : {E : Type 0} (z : ℤ) (run : List ℕ) (r : Result ℤ E) → in_range 63 z ≡ true → run ≡ signed_decimal z → ParsesSigned w64 10 run r → r ≡ Ok z
+parse_long (pos n) run r fit e h = let small : n < 2 ^ 63 = ltb-true n (2 ^ 63) fit in parse-signed_decimal w64 (pos n) run r (record { sfits = small }) (omega arith) e h
+parse_long (negsuc n) run r fit e h = let small : n < 2 ^ 63 = ltb-true n (2 ^ 63) fit in parse-signed_decimal w64 (negsuc n) run r (record { sfits = small }) (omega arith) e h

@@ -1,0 +1,165 @@
+-- Texts are read as they are spelled.
+use Rattle.std.specs.Prelude.{◌≡◌, ◌≢◌, ℕ, zero, suc, ◌+◌, ◌*◌, ◌/◌, ◌%◌, ◌^◌, ◌<◌, ◌≤◌, List, [], ◌∷◌, ◌++◌, length, take, drop, Option, Some, None, Result, Ok, Err, Bool, true, false, ◌==◌, ◌&&◌, ◌||◌, nat_le, nat_lt, if◌then◌else◌, ℤ, pos, negsuc, codes, IsUtf8, bytes_eq, refl, slice_index}
+use Rattle.std.specs.List.{flat_map, AllByRecursion}
+use Rattle.std.specs.Str.{is_utf8}
+use Rattle.std.proofs.Common.{ap, sym, ◌∙◌, append_assoc, cond, arith, subst, eqb-true}
+use Rattle.std.proofs.lemmas.Str.{IsUtf8-from_is_utf8, is_utf8-from_IsUtf8}
+use Rattle.zk_jute.specs.declared.value.Text.{Text}
+use Rattle.zk_jute.specs.declared.value.Text.TheVariants as texts
+use Rattle.zk_items.specs.Form.{Read, ◌>>=◌, stops}
+use Rattle.zk_items.specs.Many.{many_at}
+use Rattle.zk_items.specs.Leaf.{is_plain, hex_digit, hex_value, symbol_spell, text_spell, text_fits, symbol_at, text_at, text, checked, escape_at}
+use Rattle.zk_items.proofs.Forms.{Lawful, bind_some, some_is, if_some, if_not}
+use Rattle.zk_items.proofs.Many.{many_again, many_sound}
+
+hex_back : (n : ℕ) → n < 16 → hex_value (hex_digit n) ≡ Some n
+hex_back n small = grind arith
+
+symbol_again : (b : ℕ) (rest : List ℕ) → b < 256 → symbol_at (symbol_spell b ++ rest) ≡ Some (Some b, rest)
+unfolding symbol_at
+symbol_again b rest small = pick (is_plain b) refl where
+  pick : (t : Bool) → is_plain b ≡ t → symbol_at (cond t (b ∷ []) (92 ∷ hex_digit (b / 16) ∷ hex_digit (b % 16) ∷ []) ++ rest) ≡ Some (Some b, rest)
+  pick true e = grind (arith, e)
+  pick false e =
+      let h = hex_back (b / 16) (omega arith) in
+      let l = hex_back (b % 16) (omega arith) in
+      let v : 16 * (b / 16) + b % 16 ≡ b = omega arith in
+      rw (h, l, v, e) refl
+
+value_digit : (c v : ℕ) → hex_value c ≡ Some v → (c ≡ hex_digit v) × (v < 16)
+value_digit c v e = (grind (arith, e), grind (arith, e))
+
+record IsEscape (bytes : List ℕ) (o : Option ℕ) (rest : List ℕ) : Type 0 where
+  pub byte : ℕ
+  pub is : o ≡ Some byte
+  pub spelled : bytes ≡ hex_digit (byte / 16) ∷ hex_digit (byte % 16) ∷ rest
+  pub odd : is_plain byte ≡ false
+  pub small : byte < 256
+
+escape_is : (bytes : List ℕ) (o : Option ℕ) (rest : List ℕ) → escape_at bytes ≡ Some (o, rest) → IsEscape bytes o rest
+escape_is [] o rest e = absurd cc
+escape_is (h ∷ []) o rest e = absurd cc
+escape_is (h ∷ l ∷ r) o rest e =
+    let a = bind_some (hex_value h) (λ a. hex_value l >>= λ b. cond (is_plain (16 * a + b)) None (Some (Some (16 * a + b), r))) (o, rest) e in
+    let b = bind_some (hex_value l) (λ b. cond (is_plain (16 * a.0 + b)) None (Some (Some (16 * a.0 + b), r))) (o, rest) a.2 in
+    let n = 16 * a.0 + b.0 in
+    let k = if_not (is_plain n) (Some (Some n, r)) (o, rest) b.2 in
+    let ends = some_is (Some n, r) (o, rest) k.1 in
+    let high = value_digit h a.0 a.1 in
+    let low = value_digit l b.0 b.1 in
+    let small_a : a.0 < 16 = high.1 in
+    let small_b : b.0 < 16 = low.1 in
+    let quotient : n / 16 ≡ a.0 = omega arith in
+    let remainder : n % 16 ≡ b.0 = omega arith in
+    record {
+      byte = n;
+      is = sym ends.0;
+      spelled = ap (λ (c : ℕ). c ∷ l ∷ r) (high.0 ∙ ap hex_digit (sym quotient)) ∙ ap (λ (c : ℕ). hex_digit (n / 16) ∷ c ∷ r) (low.0 ∙ ap hex_digit (sym remainder)) ∙ ap (λ (r : List ℕ). hex_digit (n / 16) ∷ hex_digit (n % 16) ∷ r) ends.1;
+      odd = k.0;
+      small = omega arith;
+    }
+
+symbol_sound : (bytes : List ℕ) (b : ℕ) (rest : List ℕ) → symbol_at bytes ≡ Some (Some b, rest) → (bytes ≡ symbol_spell b ++ rest) × (b < 256)
+unfolding symbol_at
+symbol_sound [] b rest e = absurd cc
+symbol_sound (c ∷ bytes) b rest e = first (c == 34) e where
+  third : (t : Bool) → is_plain c ≡ t → cond {A = Read (Option ℕ)} t (Some (Some c, bytes)) None ≡ Some (Some b, rest) → (c ∷ bytes ≡ symbol_spell b ++ rest) × (b < 256)
+  third true is e =
+      let h = some_is (Some c, bytes) (Some b, rest) e in
+      let same : c ≡ b = let k = h.0 in cc in
+      let plain : is_plain b ≡ true = ap is_plain (sym same) ∙ is in
+      let small : b < 256 = grind (arith, plain) in
+      (ap (λ (c : ℕ). c ∷ bytes) same ∙ ap (λ (r : List ℕ). b ∷ r) h.1 ∙ sym (ap (λ (t : Bool). cond t (b ∷ []) (92 ∷ hex_digit (b / 16) ∷ hex_digit (b % 16) ∷ []) ++ rest) plain), small)
+  third false is e = absurd cc
+
+  second : (t : Bool) → (c == 92) ≡ t → cond {A = Read (Option ℕ)} t (escape_at bytes) (cond {A = Read (Option ℕ)} (is_plain c) (Some (Some c, bytes)) None) ≡ Some (Some b, rest) → (c ∷ bytes ≡ symbol_spell b ++ rest) × (b < 256)
+  second true is e =
+      let h = escape_is bytes (Some b) rest e in
+      let same : h.byte ≡ b = let k = h.is in cc in
+      let spelled : bytes ≡ hex_digit (b / 16) ∷ hex_digit (b % 16) ∷ rest = h.spelled ∙ ap (λ (b : ℕ). hex_digit (b / 16) ∷ hex_digit (b % 16) ∷ rest) same in
+      let odd : is_plain b ≡ false = ap is_plain (sym same) ∙ h.odd in
+      let small : b < 256 = let k = h.small in omega arith in
+      (ap (λ (c : ℕ). c ∷ bytes) (eqb-true c 92 is) ∙ ap (λ (r : List ℕ). 92 ∷ r) spelled ∙ sym (ap (λ (t : Bool). cond t (b ∷ []) (92 ∷ hex_digit (b / 16) ∷ hex_digit (b % 16) ∷ []) ++ rest) odd), small)
+  second false is e = third (is_plain c) refl e
+
+  first : (t : Bool) → cond {A = Read (Option ℕ)} t (Some (None, bytes)) (cond (c == 92) (escape_at bytes) (cond {A = Read (Option ℕ)} (is_plain c) (Some (Some c, bytes)) None)) ≡ Some (Some b, rest) → (c ∷ bytes ≡ symbol_spell b ++ rest) × (b < 256)
+  first true e = let h = some_is (None, bytes) (Some b, rest) e in let k = h.0 in absurd cc
+  first false e = second (c == 92) refl e
+
+symbol_end : (bytes rest : List ℕ) → symbol_at bytes ≡ Some (None, rest) → bytes ≡ 34 ∷ rest
+unfolding symbol_at
+symbol_end [] rest e = absurd cc
+symbol_end (c ∷ bytes) rest e = first (c == 34) refl e where
+  third : (t : Bool) → cond {A = Read (Option ℕ)} t (Some (Some c, bytes)) None ≡ Some (None, rest) → c ∷ bytes ≡ 34 ∷ rest
+  third true e = let h = some_is (Some c, bytes) (None, rest) e in let k = h.0 in absurd cc
+  third false e = absurd cc
+
+  second : (t : Bool) → cond {A = Read (Option ℕ)} t (escape_at bytes) (cond {A = Read (Option ℕ)} (is_plain c) (Some (Some c, bytes)) None) ≡ Some (None, rest) → c ∷ bytes ≡ 34 ∷ rest
+  second true e = let h = escape_is bytes None rest e in let k = h.is in absurd cc
+  second false e = third (is_plain c) e
+
+  first : (t : Bool) → (c == 34) ≡ t → cond {A = Read (Option ℕ)} t (Some (None, bytes)) (cond (c == 92) (escape_at bytes) (cond {A = Read (Option ℕ)} (is_plain c) (Some (Some c, bytes)) None)) ≡ Some (None, rest) → c ∷ bytes ≡ 34 ∷ rest
+  first true is e = let h = some_is (None, bytes) (None, rest) e in ap (λ (c : ℕ). c ∷ bytes) (eqb-true c 34 is) ∙ ap (λ (r : List ℕ). 34 ∷ r) h.1
+  first false is e = second (c == 92) e
+
+end_again : (rest : List ℕ) → symbol_at (34 ∷ rest) ≡ Some (None, rest)
+unfolding symbol_at
+end_again rest = refl
+
+longer : (t rest : List ℕ) → length t < length (flat_map symbol_spell t ++ (34 ∷ rest))
+longer [] rest = omega arith
+longer (b ∷ t) rest = pick (is_plain b) (longer t rest) where
+  pick : (p : Bool) → length t < length (flat_map symbol_spell t ++ (34 ∷ rest)) → suc (length t) < length ((cond p (b ∷ []) (92 ∷ hex_digit (b / 16) ∷ hex_digit (b % 16) ∷ []) ++ flat_map symbol_spell t) ++ (34 ∷ rest))
+  pick true h = omega arith
+  pick false h = omega arith
+
+many_symbols : (t rest : List ℕ) → AllByRecursion (λ b. b < 256) t → many_at symbol_at (length (flat_map symbol_spell t ++ (34 ∷ rest))) (flat_map symbol_spell t ++ (34 ∷ rest)) ≡ Some (t, rest)
+many_symbols t rest fit = many_again symbol_at symbol_spell (λ b. b < 256) 34 (λ _. true) (λ x r f _. symbol_again x r f) (λ _ _ _. refl) (λ r. end_again r) (λ _. refl) _ t rest fit (longer t rest)
+
+pub text_again : (x : Text) (rest : List ℕ) → text_fits x → stops rest ≡ true → text_at (text_spell x ++ rest) ≡ Some (x, rest)
+unfolding text_at
+text_again texts.Null rest fit stop = refl
+text_again (texts.Full t) rest fit stop =
+    let regroup : (flat_map symbol_spell t ++ (34 ∷ [])) ++ rest ≡ flat_map symbol_spell t ++ (34 ∷ rest) = append_assoc (flat_map symbol_spell t) (34 ∷ []) rest in
+    ap (λ (b : List ℕ). many_at symbol_at (length b) b >>= checked) regroup
+    ∙ ap (λ (r : Read (List ℕ)). r >>= checked) (many_symbols t rest fit.1)
+    ∙ ap (λ (b : Bool). cond b (Some (texts.Full t, rest)) None) (is_utf8-from_IsUtf8 t fit.0)
+
+pub text_sound : (bytes : List ℕ) (x : Text) (rest : List ℕ) → text_at bytes ≡ Some (x, rest) → (bytes ≡ text_spell x ++ rest) × text_fits x
+unfolding text_at
+text_sound [] x rest e = absurd cc
+text_sound (c ∷ bytes) x rest e = first (c == 126) refl e where
+  second : (t : Bool) → (c == 34) ≡ t → cond t (many_at symbol_at (length bytes) bytes >>= checked) None ≡ Some (x, rest) → (c ∷ bytes ≡ text_spell x ++ rest) × text_fits x
+  second false is e = absurd cc
+  second true is e =
+      let a = bind_some (many_at symbol_at (length bytes) bytes) checked (x, rest) e in
+      let s = many_sound symbol_at symbol_spell (λ b. b < 256) 34 symbol_sound symbol_end (length bytes) bytes a.0.0 a.0.1 a.1 in
+      let k = if_some (is_utf8 a.0.0) (Some (texts.Full a.0.0, a.0.1)) (x, rest) a.2 in
+      let ends = some_is (texts.Full a.0.0, a.0.1) (x, rest) k.1 in
+      let same : c ≡ 34 = eqb-true c 34 is in
+      subst (λ (x : Text). (c ∷ bytes ≡ text_spell x ++ rest) × text_fits x) ends.0 (
+        ap (λ (c : ℕ). c ∷ bytes) same
+            ∙ ap (λ (b : List ℕ). 34 ∷ b) (s.0 ∙ ap (λ (r : List ℕ). flat_map symbol_spell a.0.0 ++ (34 ∷ r)) ends.1 ∙ sym (append_assoc (flat_map symbol_spell a.0.0) (34 ∷ []) rest)),
+        (IsUtf8-from_is_utf8 a.0.0 k.0, s.1),
+      )
+
+  first : (t : Bool) → (c == 126) ≡ t → cond t (Some (texts.Null, bytes)) (cond (c == 34) (many_at symbol_at (length bytes) bytes >>= checked) None) ≡ Some (x, rest) → (c ∷ bytes ≡ text_spell x ++ rest) × text_fits x
+  first false is e = second (c == 34) refl e
+  first true is e =
+      let ends = some_is (texts.Null, bytes) (x, rest) e in
+      let same : c ≡ 126 = eqb-true c 126 is in
+      subst (λ (x : Text). (c ∷ bytes ≡ text_spell x ++ rest) × text_fits x) ends.0 (ap (λ (c : ℕ). c ∷ bytes) same ∙ ap (λ (b : List ℕ). 126 ∷ b) ends.1, tt)
+
+pub text_is : Lawful text
+text_is = record { again = text_again; sound = text_sound }
+
+-- ---- what the readers cite
+
+pub utf8_true : (bs : List ℕ) → IsUtf8 bs → is_utf8 bs ≡ true
+utf8_true bs h = is_utf8-from_IsUtf8 bs h
+
+pub utf8_false : (bs : List ℕ) → (IsUtf8 bs → ⊥) → is_utf8 bs ≡ false
+utf8_false bs h = pick (is_utf8 bs) refl where
+  pick : (t : Bool) → is_utf8 bs ≡ t → t ≡ false
+  pick true e = absurd (h (IsUtf8-from_is_utf8 bs e))
+  pick false e = refl

@@ -1,0 +1,16 @@
+-- One after another, up to an end.
+use Rattle.std.specs.Prelude.{ℕ, zero, suc, List, [], ◌∷◌, Option, Some, None}
+use Rattle.zk_items.specs.Form.{Read, ◌>>=◌}
+
+-- with an item in front
+abbrev pub with_first : {X : Type 0} → X → Read (List X) → Read (List X)
+with_first x read = read >>= λ q. Some (x ∷ q.0, q.1)
+
+abbrev pub then_more : {X : Type 0} → (List ℕ → Read (List X)) → Option X × List ℕ → Read (List X)
+then_more next (None, rest) = Some ([], rest)
+then_more next (Some x, rest) = with_first x (next rest)
+
+-- fewer than so many, and the end
+abbrev pub many_at : {X : Type 0} → (List ℕ → Read (Option X)) → ℕ → List ℕ → Read (List X)
+many_at at zero bytes = None
+many_at at (suc n) bytes = at bytes >>= then_more (many_at at n)

@@ -1,0 +1,152 @@
+//! Numbers with names: errors and types of events.
+ghost use Rattle.std.specs.Prelude.{◌≡◌, ◌++◌, Some, None, OnOk, option_copied};
+ghost use Rattle.zk_items.specs.Form.{Gives, Passes};
+ghost use Rattle.zk_items.specs.Codes.{name_at, name_spell};
+ghost use Rattle.zk_items.specs.Codes as codes;
+
+use crate::fault::{LineFault, LineReason};
+use crate::reader::Reader;
+use crate::write::put_int;
+use std::alloc::AllocError;
+use zk_records::{code_name, event_name};
+
+#[tactic(auto, unfolding(crate::specs::Codes::error_name))]
+fn error_name(number: i32) -> Option<&'static str>
+    ensures { option_copied result ≡ codes.error_name number }
+{
+    code_name(number)
+}
+
+#[tactic(auto, unfolding(crate::specs::Codes::type_name))]
+fn type_name(number: i32) -> Option<&'static str>
+    ensures { option_copied result ≡ codes.type_name number }
+{
+    event_name(number)
+}
+
+/// Passes `/` and the name.
+#[tactic(auto, unfolding(crate::specs::Codes::name_at))]
+fn read_name(line: &mut Reader<'_>, name: &str, fault: LineFault) -> Result<(), LineFault>
+    ensures { Passes result line.new (name_at (Some name.now) line.old) }
+{
+    if !line.passes(b"/") {
+        return Err(fault);
+    }
+    if !line.passes(name.as_bytes()) {
+        return Err(fault);
+    }
+    Ok(())
+}
+
+/// No name may stand next.
+#[tactic(auto, unfolding(crate::specs::Codes::name_at))]
+fn read_no_name(line: &Reader<'_>, fault: LineFault) -> Result<(), LineFault>
+    ensures { Passes result line.now (name_at None line.now) }
+{
+    if line.is_next(b'/') {
+        Err(fault)
+    } else {
+        Ok(())
+    }
+}
+
+/// Passes what stands behind the number of an error.
+fn read_error_name(line: &mut Reader<'_>, number: i32, fault: LineFault) -> Result<(), LineFault>
+    ensures { Passes result line.new (name_at (codes.error_name number) line.old) }
+{
+    match error_name(number) {
+        Some(name) => read_name(line, name, fault),
+        None => read_no_name(line, fault),
+    }
+}
+
+/// Passes what stands behind the number of a type of event.
+fn read_type_name(line: &mut Reader<'_>, number: i32, fault: LineFault) -> Result<(), LineFault>
+    ensures { Passes result line.new (name_at (codes.type_name number) line.old) }
+{
+    match type_name(number) {
+        Some(name) => read_name(line, name, fault),
+        None => read_no_name(line, fault),
+    }
+}
+
+/// The number of an error that is next, and its name.
+pub fn read_error_code(line: &mut Reader<'_>) -> Result<i32, LineFault>
+    ensures { Gives result line.new (codes.error_code.at line.old) }
+{
+    let fault = line.fault(LineReason::Name);
+    let number = line.int()?;
+    read_error_name(line, number, fault)?;
+    Ok(number)
+}
+
+fn is_zero(number: i32) -> bool
+    ensures { result ≡ codes.is_zero number }
+{
+    number == 0
+}
+
+/// The number of an error that is next, which isn't 0, and its name.
+pub fn read_failure_code(line: &mut Reader<'_>) -> Result<i32, LineFault>
+    ensures { Gives result line.new (codes.failure_code.at line.old) }
+{
+    let no_number = line.fault(LineReason::Number);
+    let no_name = line.fault(LineReason::Name);
+    let number = line.int()?;
+    if is_zero(number) {
+        return Err(no_number);
+    }
+    read_error_name(line, number, no_name)?;
+    Ok(number)
+}
+
+/// The number of an event's type that is next, and its name.
+pub fn read_event_code(line: &mut Reader<'_>) -> Result<i32, LineFault>
+    ensures { Gives result line.new (codes.event_code.at line.old) }
+{
+    let fault = line.fault(LineReason::Name);
+    let number = line.int()?;
+    read_type_name(line, number, fault)?;
+    Ok(number)
+}
+
+fn put_name(out: &mut Vec<u8>, name: &str) -> Result<(), AllocError>
+    ensures { OnOk result (out.new.items ≡ out.old.items ++ name_spell (Some name.now)) }
+{
+    out.extend_from_slice(b"/")?;
+    out.extend_from_slice(name.as_bytes())
+}
+
+fn put_error_name(out: &mut Vec<u8>, number: i32) -> Result<(), AllocError>
+    ensures { OnOk result (out.new.items ≡ out.old.items ++ name_spell (codes.error_name number)) }
+{
+    match error_name(number) {
+        Some(name) => put_name(out, name),
+        None => Ok(()),
+    }
+}
+
+fn put_type_name(out: &mut Vec<u8>, number: i32) -> Result<(), AllocError>
+    ensures { OnOk result (out.new.items ≡ out.old.items ++ name_spell (codes.type_name number)) }
+{
+    match type_name(number) {
+        Some(name) => put_name(out, name),
+        None => Ok(()),
+    }
+}
+
+/// Appends the number of an error, and `/` and its name where it has one.
+pub fn put_error_code(out: &mut Vec<u8>, number: i32) -> Result<(), AllocError>
+    ensures { OnOk result (out.new.items ≡ out.old.items ++ codes.error_code.spell number) }
+{
+    put_int(out, number)?;
+    put_error_name(out, number)
+}
+
+/// Appends the number of an event's type, and `/` and its name where it has one.
+pub fn put_event_code(out: &mut Vec<u8>, number: i32) -> Result<(), AllocError>
+    ensures { OnOk result (out.new.items ≡ out.old.items ++ codes.event_code.spell number) }
+{
+    put_int(out, number)?;
+    put_type_name(out, number)
+}

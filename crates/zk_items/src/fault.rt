@@ -1,0 +1,79 @@
+//! Why a line is refused, and where.
+
+ghost use Rattle.std.specs.Prelude.{◌≡◌};
+ghost use Rattle.zk_items.specs.Reasons.{reason_name};
+
+use std::alloc::{AllocError, AllocFailed};
+
+/// Why a line is refused.
+#[derive(Clone, Copy, Debug, PartialEq, Eq)]
+pub enum LineReason {
+    /// A fixed word, a name of an operation or part, a bit or a sign doesn't stand there.
+    Word,
+    /// No number of the range stands there.
+    Number,
+    /// No text stands there.
+    Text,
+    /// No blob stands there.
+    Blob,
+    /// A number's name doesn't follow it, or a name follows a number that has none.
+    Name,
+    /// Bytes stand behind the last item.
+    Rest,
+    /// A growth was refused.
+    NoMemory,
+    /// A line that begins with `.` isn't the ending line that is due, or isn't the last.
+    Ending,
+}
+
+/// The item at which a line is refused. Columns count bytes from 1 and stand still at
+/// 4,294,967,295; that of `NoMemory` is 0.
+#[derive(Clone, Copy, Debug, PartialEq, Eq)]
+pub struct LineFault {
+    pub column: u32,
+    pub reason: LineReason,
+}
+
+impl From<AllocError> for LineFault {
+    ghost use Rattle.std.specs.Prelude.{◌≡◌};
+    ghost use Rattle.zk_items.specs.declared.fault.LineReason.TheVariants.{NoMemory};
+
+    ghost from_gives = { λ _ e. e.reason ≡ NoMemory };
+
+    fn from(_e: AllocError) -> LineFault {
+        LineFault {
+            column: 0,
+            reason: LineReason::NoMemory,
+        }
+    }
+}
+
+impl<T: Drop> From<AllocFailed<T>> for LineFault {
+    ghost use Rattle.std.specs.Prelude.{◌≡◌};
+    ghost use Rattle.zk_items.specs.declared.fault.LineReason.TheVariants.{NoMemory};
+
+    ghost from_gives = { λ _ e. e.reason ≡ NoMemory };
+
+    fn from(_e: AllocFailed<T>) -> LineFault {
+        LineFault {
+            column: 0,
+            reason: LineReason::NoMemory,
+        }
+    }
+}
+
+/// A reason's name.
+pub fn line_reason_name(reason: &LineReason) -> &'static str
+    ensures { result.now ≡ reason_name reason.now }
+{
+    match reason {
+        LineReason::Word => "Word",
+        LineReason::Number => "Number",
+        LineReason::Text => "Text",
+        LineReason::Blob => "Blob",
+        LineReason::Name => "Name",
+        LineReason::Rest => "Rest",
+        LineReason::NoMemory => "NoMemory",
+        LineReason::Ending => "Ending",
+    }
+}

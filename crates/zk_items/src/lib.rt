@@ -1,0 +1,18 @@
+//! The items of a line that shows a message: numbers, texts, blobs, lists, and their signs.
+#![tactic(auto)]
+
+mod code;
+mod fault;
+mod number;
+mod reader;
+mod symbol;
+mod word;
+mod write;
+
+pub use code::{
+    put_error_code, put_event_code, read_error_code, read_event_code, read_failure_code,
+};
+pub use fault::{LineFault, LineReason, line_reason_name};
+pub use reader::Reader;
+pub use word::{Word, word_bytes};
+pub use write::{put_bit, put_blob, put_int, put_long, put_read_only, put_text, put_word};

@@ -1,0 +1,114 @@
+//! Runs of bytes, and the numbers that they write.
+ghost use Rattle.std.specs.Prelude.{◌≡◌, ◌≢◌, ◌≤◌, length, IfSome, IfNone, bytes_eq, ℤ, true};
+ghost use Rattle.std.specs.List.{prefix_len};
+ghost use Rattle.std.specs.Fmt.{signed_decimal};
+ghost use Rattle.zk_items.specs.Leaf as leaf;
+ghost use Rattle.zk_items.specs.Leaf.{in_number, in_name, in_hex, in_word};
+
+use itoa::Buffer;
+
+fn is_in_number(b: u8) -> bool
+    ensures { result ≡ in_number b }
+{
+    b.is_ascii_digit() || b == b'-'
+}
+
+/// The length of the run of digits and `-` in front.
+pub fn number_len(bytes: &[u8]) -> usize
+    ensures value { result ≡ prefix_len in_number bytes.now }
+    ensures within { result ≤ length bytes.now }
+{
+    bytes.iter().take_while(|b| is_in_number(**b)).count()
+}
+
+fn is_in_name(b: u8) -> bool
+    ensures { result ≡ in_name b }
+{
+    b.is_ascii_alphanumeric()
+}
+
+/// The length of the run of letters and digits in front.
+pub fn name_len(bytes: &[u8]) -> usize
+    ensures value { result ≡ prefix_len in_name bytes.now }
+    ensures within { result ≤ length bytes.now }
+{
+    bytes.iter().take_while(|b| is_in_name(**b)).count()
+}
+
+fn is_in_word(b: u8) -> bool
+    ensures { result ≡ in_word b }
+{
+    b.is_ascii_alphabetic()
+}
+
+/// The length of the run of letters in front.
+pub fn letters_len(bytes: &[u8]) -> usize
+    ensures value { result ≡ prefix_len in_word bytes.now }
+    ensures within { result ≤ length bytes.now }
+{
+    bytes.iter().take_while(|b| is_in_word(**b)).count()
+}
+
+fn is_in_hex(b: u8) -> bool
+    ensures { result ≡ in_hex b }
+{
+    matches!(b, b'0'..=b'9' | b'a'..=b'f')
+}
+
+/// The length of the run of lower-case hexadecimal digits in front.
+pub fn hex_len(bytes: &[u8]) -> usize
+    ensures value { result ≡ prefix_len in_hex bytes.now }
+    ensures within { result ≤ length bytes.now }
+{
+    bytes.iter().take_while(|b| is_in_hex(**b)).count()
+}
+
+fn is_int(n: i32, run: &[u8]) -> bool
+    ensures { (z : ℤ) → z ≡ n → result ≡ bytes_eq (signed_decimal z) run.now }
+{
+    Buffer::new().format(n).as_bytes() == run
+}
+
+fn is_long(n: i64, run: &[u8]) -> bool
+    ensures { (z : ℤ) → z ≡ n → result ≡ bytes_eq (signed_decimal z) run.now }
+{
+    Buffer::new().format(n).as_bytes() == run
+}
+
+/// The number that is written just so: no sign but `-`, no leading zero.
+pub fn int_of(run: &[u8]) -> Option<i32>
+    ensures found { IfSome result (λ n. (run.now ≡ signed_decimal n) × (leaf.in_range 31 n ≡ true)) }
+    ensures none { IfNone result ((z : ℤ) → leaf.in_range 31 z ≡ true → run.now ≢ signed_decimal z) }
+{
+    let text = match std::str::from_utf8(run) {
+        Ok(text) => text,
+        Err(_) => return None,
+    };
+    let n = match text.parse::<i32>() {
+        Ok(n) => n,
+        Err(_) => return None,
+    };
+    if !is_int(n, run) {
+        return None;
+    }
+    Some(n)
+}
+
+/// The number that is written just so: no sign but `-`, no leading zero.
+pub fn long_of(run: &[u8]) -> Option<i64>
+    ensures found { IfSome result (λ n. (run.now ≡ signed_decimal n) × (leaf.in_range 63 n ≡ true)) }
+    ensures none { IfNone result ((z : ℤ) → leaf.in_range 63 z ≡ true → run.now ≢ signed_decimal z) }
+{
+    let text = match std::str::from_utf8(run) {
+        Ok(text) => text,
+        Err(_) => return None,
+    };
+    let n = match text.parse::<i64>() {
+        Ok(n) => n,
+        Err(_) => return None,
+    };
+    if !is_long(n, run) {
+        return None;
+    }
+    Some(n)
+}

@@ -1,0 +1,287 @@
+//! A line, read from left to right.
+ghost use Rattle.std.specs.Prelude.{◌≡◌, ◌↔◌, IsTrue, [], length, take, drop, MatchBool, IfErr, Some, None};
+ghost use Rattle.std.specs.List.{prefix_len};
+ghost use Rattle.zk_items.specs.Form.{Gives, GivesSeen, Passes, word_at};
+ghost use Rattle.zk_items.specs.Leaf.{in_name, in_word, num_at, bit_at, ro_at, text_at, blob_at, symbol_at};
+ghost use Rattle.zk_items.specs.Codes.{is_next};
+ghost use Rattle.zk_items.specs.Many.{many_at};
+ghost use Rattle.zk_items.specs.Words.{word_of};
+
+use crate::fault::{LineFault, LineReason};
+use crate::number::{hex_len, int_of, letters_len, long_of, name_len, number_len};
+use crate::symbol::{hex_value, is_plain, text_of};
+use crate::word::{Word, word_bytes};
+use hex::FromHexError;
+use std::alloc::{AllocError, Global};
+use std::marker::Model;
+use zk_jute::{Blob, Bytes, Chars, Text};
+
+/// What is left of a line.
+#[derive(Drop)]
+pub struct Reader<'a> {
+    alloc: Global,
+    whole: usize,
+    ahead: &'a [u8],
+}
+
+impl<'a> Model for Reader<'a> {
+    ghost use Rattle.std.specs.Prelude.{List, ℕ};
+
+    ghost Value = { List ℕ };
+
+    ghost view = { λ a. a.ahead.now };
+}
+
+impl<'a> Reader<'a> {
+    /// The whole line is ahead.
+    pub fn new(alloc: Global, line: &'a [u8]) -> Self
+        ensures { result ≡ line.now }
+    {
+        Reader {
+            alloc,
+            whole: line.len(),
+            ahead: line,
+        }
+    }
+
+    /// The fault of the item that is next.
+    pub fn fault(&self, reason: LineReason) -> LineFault
+        ensures { result.reason ≡ reason }
+    {
+        let column = self
+            .whole
+            .saturating_sub(self.ahead.len())
+            .saturating_add(1);
+        LineFault {
+            column: u32::try_from(column).unwrap_or(u32::MAX),
+            reason,
+        }
+    }
+
+    /// What grows by what is read takes memory of this.
+    pub fn alloc(&self) -> Global {
+        self.alloc
+    }
+
+    /// The number of bytes ahead.
+    pub fn left(&self) -> usize
+        ensures { result ≡ length self.now }
+    {
+        self.ahead.len()
+    }
+
+    /// Whether the line has ended.
+    pub fn is_done(&self) -> bool
+        ensures { IsTrue result ↔ (self.now ≡ []) }
+    {
+        self.ahead.is_empty()
+    }
+
+    /// Whether the byte is next.
+    pub fn is_next(&self, sign: u8) -> bool
+        ensures { result ≡ is_next sign self.now }
+    {
+        self.ahead.first() == Some(&sign)
+    }
+
+    /// The longest run of letters and digits ahead, which may be empty.
+    pub fn name(&mut self) -> &'a [u8]
+        ensures name { result.now ≡ take (prefix_len in_name self.old) self.old }
+        ensures rest { self.new ≡ drop (prefix_len in_name self.old) self.old }
+    {
+        let (name, rest) = self.ahead.split_at(name_len(self.ahead));
+        self.ahead = rest;
+        name
+    }
+
+    /// The longest run of letters ahead, left where it stands.
+    pub fn letters(&self) -> &'a [u8]
+        ensures { result.now ≡ take (prefix_len in_word self.now) self.now }
+    {
+        &self.ahead[..letters_len(self.ahead)]
+    }
+
+    /// Passes these bytes, which stand next.
+    pub fn front(&mut self, word: &[u8]) -> Result<(), LineFault>
+        ensures read { Passes result self.new (word_at word.now self.old) }
+        ensures none { IfErr result (λ e. (word_at word.now self.old ≡ None) × (self.new ≡ self.old)) }
+    {
+        match self.ahead.strip_prefix(word) {
+            Some(rest) => {
+                self.ahead = rest;
+                Ok(())
+            }
+            None => Err(self.fault(LineReason::Word)),
+        }
+    }
+
+    /// Passes these bytes if they stand next.
+    pub fn passes(&mut self, word: &[u8]) -> bool
+        ensures { MatchBool result (word_at word.now self.old ≡ Some self.new) ((word_at word.now self.old ≡ None) × (self.new ≡ self.old)) }
+    {
+        self.front(word).is_ok()
+    }
+
+    /// Passes the word, which stands next.
+    pub fn word(&mut self, word: Word) -> Result<(), LineFault>
+        ensures { Passes result self.new (word_at (word_of word) self.old) }
+    {
+        self.front(word_bytes(word))
+    }
+
+    /// The bit that is next: `0` or `1`.
+    #[tactic(auto, unfolding(crate::specs::Leaf::bit_at))]
+    pub fn bit(&mut self) -> Result<bool, LineFault>
+        ensures { Gives result self.new (bit_at self.old) }
+    {
+        let Some((first, rest)) = self.ahead.split_first() else {
+            return Err(self.fault(LineReason::Word));
+        };
+        let value = match *first {
+            b'0' => false,
+            b'1' => true,
+            _ => return Err(self.fault(LineReason::Word)),
+        };
+        self.ahead = rest;
+        Ok(value)
+    }
+
+    /// The bit that is next, or `-` where there is none.
+    #[tactic(auto, unfolding(crate::specs::Leaf::ro_at))]
+    pub fn read_only(&mut self) -> Result<Option<bool>, LineFault>
+        ensures { Gives result self.new (ro_at self.old) }
+    {
+        let Some((first, rest)) = self.ahead.split_first() else {
+            return Err(self.fault(LineReason::Word));
+        };
+        let value = match *first {
+            b'-' => None,
+            b'0' => Some(false),
+            b'1' => Some(true),
+            _ => return Err(self.fault(LineReason::Word)),
+        };
+        self.ahead = rest;
+        Ok(value)
+    }
+
+    /// The int that is next.
+    #[tactic(auto, using(crate::proofs::Numbers::num_of_some, crate::proofs::Numbers::num_none), unfolding(crate::specs::Leaf::num_at))]
+    pub fn int(&mut self) -> Result<i32, LineFault>
+        ensures { Gives result self.new (num_at 31 self.old) }
+    {
+        let (run, rest) = self.ahead.split_at(number_len(self.ahead));
+        let Some(n) = int_of(run) else {
+            return Err(self.fault(LineReason::Number));
+        };
+        self.ahead = rest;
+        Ok(n)
+    }
+
+    /// The long that is next.
+    #[tactic(auto, using(crate::proofs::Numbers::num_of_some, crate::proofs::Numbers::num_none), unfolding(crate::specs::Leaf::num_at))]
+    pub fn long(&mut self) -> Result<i64, LineFault>
+        ensures { Gives result self.new (num_at 63 self.old) }
+    {
+        let (run, rest) = self.ahead.split_at(number_len(self.ahead));
+        let Some(n) = long_of(run) else {
+            return Err(self.fault(LineReason::Number));
+        };
+        self.ahead = rest;
+        Ok(n)
+    }
+
+    /// The blob that is next: `~`, or `#` and the longest run of lower-case digits.
+    #[tactic(auto, unfolding(crate::specs::Leaf::blob_at))]
+    pub fn blob(&mut self) -> Result<Blob, LineFault>
+        ensures { Gives result self.new (blob_at self.old) }
+    {
+        match self.ahead.split_first() {
+            Some((b'~', rest)) => {
+                self.ahead = rest;
+                Ok(Blob::Null)
+            }
+            Some((b'#', rest)) => {
+                let (run, rest) = rest.split_at(hex_len(rest));
+                let bytes = match hex::decode(self.alloc, run) {
+                    Ok(bytes) => bytes,
+                    Err(FromHexError::OutOfMemory) => return Err(LineFault::from(AllocError)),
+                    Err(_) => return Err(self.fault(LineReason::Blob)),
+                };
+                self.ahead = rest;
+                Ok(Blob::Full(Bytes::new(bytes)))
+            }
+            _ => Err(self.fault(LineReason::Blob)),
+        }
+    }
+
+    /// The next byte of the text that fails so, or its end.
+    #[tactic(auto, unfolding(crate::specs::Leaf::symbol_at))]
+    fn symbol(&mut self, fault: LineFault) -> Result<Option<u8>, LineFault>
+        ensures exact { Gives result self.new (symbol_at self.old) }
+    {
+        let Some((first, rest)) = self.ahead.split_first() else {
+            return Err(fault);
+        };
+        if *first == b'"' {
+            self.ahead = rest;
+            return Ok(None);
+        }
+        if *first == b'\\' {
+            let [high, low, rest @ ..] = rest else {
+                return Err(fault);
+            };
+            let (Some(high), Some(low)) = (hex_value(*high), hex_value(*low)) else {
+                return Err(fault);
+            };
+            let byte = 16 * high + low;
+            if is_plain(byte) {
+                return Err(fault);
+            }
+            self.ahead = rest;
+            return Ok(Some(byte));
+        }
+        if !is_plain(*first) {
+            return Err(fault);
+        }
+        self.ahead = rest;
+        Ok(Some(*first))
+    }
+
+    /// The bytes of the text that fails so, up to the sign behind it.
+    fn inside(&mut self, fault: LineFault) -> Result<Vec<u8>, LineFault>
+        ensures { GivesSeen (λ v. v.items) result self.new (many_at symbol_at (length self.old) self.old) }
+    {
+        let mut bytes = Vec::new(self.alloc);
+        for turn in 0..self.ahead.len() {
+            match self.symbol(fault) {
+                Ok(None) => return Ok(bytes),
+                Ok(Some(byte)) => bytes.push(byte)?,
+                Err(e) => return Err(e),
+            }
+        }
+        Err(fault)
+    }
+
+    /// The text that is next: `~`, or its bytes between quotation marks.
+    #[tactic(auto, unfolding(crate::specs::Leaf::text_at))]
+    pub fn text(&mut self) -> Result<Text, LineFault>
+        ensures { Gives result self.new (text_at self.old) }
+    {
+        let fault = self.fault(LineReason::Text);
+        match self.ahead.split_first() {
+            Some((b'~', rest)) => {
+                self.ahead = rest;
+                Ok(Text::Null)
+            }
+            Some((b'"', rest)) => {
+                self.ahead = rest;
+                let bytes = self.inside(fault)?;
+                match text_of(bytes) {
+                    Some(text) => Ok(Text::Full(Chars::new(text))),
+                    None => Err(fault),
+                }
+            }
+            _ => Err(fault),
+        }
+    }
+}

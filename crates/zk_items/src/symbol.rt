@@ -1,0 +1,43 @@
+//! The bytes of a text, as a line spells them.
+ghost use Rattle.std.specs.Prelude.{◌≡◌, ◌<◌, IfSome, IfNone, string_bytes, true, false};
+ghost use Rattle.std.specs.Str.{is_utf8};
+ghost use Rattle.zk_items.specs.Leaf as leaf;
+
+/// Whether a byte stands for itself within a text: 20 to 7e, but for `"` and `\`.
+pub fn is_plain(b: u8) -> bool
+    ensures { result ≡ leaf.is_plain b }
+{
+    matches!(b, 32..=126) && b != b'"' && b != b'\\'
+}
+
+/// The value of a lower-case hexadecimal digit.
+pub fn hex_value(c: u8) -> Option<u8>
+    ensures value { result ≡ leaf.hex_value c }
+    ensures low { IfSome result (λ v. v < 16) }
+{
+    match c {
+        b'0'..=b'9' => Some(c - b'0'),
+        b'a'..=b'f' => Some(c - b'a' + 10),
+        _ => None,
+    }
+}
+
+/// The lower-case hexadecimal digit of a value.
+pub fn hex_digit(n: u8) -> u8
+    requires { n < 16 }
+    ensures { result ≡ leaf.hex_digit n }
+{
+    if n < 10 { b'0' + n } else { b'a' - 10 + n }
+}
+
+/// The text of the bytes, where they are UTF-8.
+#[tactic(auto, using(crate::proofs::Texts::utf8_true, crate::proofs::Texts::utf8_false))]
+pub fn text_of(bytes: Vec<u8>) -> Option<String>
+    ensures found { IfSome result (λ text. (string_bytes text ≡ bytes.items) × (is_utf8 bytes.items ≡ true)) }
+    ensures none { IfNone result (is_utf8 bytes.items ≡ false) }
+{
+    if !simdutf8::is_utf8(bytes.as_slice()) {
+        return None;
+    }
+    String::from_utf8(bytes).ok()
+}

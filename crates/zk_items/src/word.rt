@@ -1,0 +1,71 @@
+//! The fixed words of a line.
+ghost use Rattle.std.specs.Prelude.{◌≡◌};
+ghost use Rattle.zk_items.specs.Words.{word_of};
+
+/// A fixed word before a field, or a sign.
+#[derive(Clone, Copy, Debug, PartialEq, Eq)]
+pub enum Word {
+    Acl,
+    Auth,
+    Blank,
+    Blob,
+    ChildWatches,
+    Close,
+    Colon,
+    Comma,
+    DataWatches,
+    Err,
+    ExistWatches,
+    Flags,
+    Kind,
+    Names,
+    Open,
+    Parts,
+    Passwd,
+    Path,
+    ReadOnly,
+    Scheme,
+    Session,
+    Stat,
+    State,
+    Timeout,
+    Version,
+    Watch,
+    Zxid,
+}
+
+/// The bytes of a word.
+#[tactic(auto, unfolding(crate::specs::Words::word_of))]
+pub fn word_bytes(word: Word) -> &'static [u8]
+    ensures { result.now ≡ word_of word }
+{
+    match word {
+        Word::Acl => b" acl=",
+        Word::Auth => b" auth=",
+        Word::Blank => b" ",
+        Word::Blob => b" blob=",
+        Word::ChildWatches => b" childWatches=",
+        Word::Close => b")",
+        Word::Colon => b":",
+        Word::Comma => b",",
+        Word::DataWatches => b" dataWatches=",
+        Word::Err => b" err=",
+        Word::ExistWatches => b" existWatches=",
+        Word::Flags => b" flags=",
+        Word::Kind => b" kind=",
+        Word::Names => b" names=",
+        Word::Open => b"(",
+        Word::Parts => b" {",
+        Word::Passwd => b" passwd=",
+        Word::Path => b" path=",
+        Word::ReadOnly => b" ro=",
+        Word::Scheme => b" scheme=",
+        Word::Session => b" session=",
+        Word::Stat => b" stat=",
+        Word::State => b" state=",
+        Word::Timeout => b" timeout=",
+        Word::Version => b" version=",
+        Word::Watch => b" watch=",
+        Word::Zxid => b" zxid=",
+    }
+}

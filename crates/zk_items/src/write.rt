@@ -1,0 +1,111 @@
+//! The items of a line, written.
+ghost use Rattle.std.specs.Prelude.{◌≡◌, ◌++◌, OnOk};
+ghost use Rattle.std.specs.Fmt.{signed_decimal};
+ghost use Rattle.std.specs.List.{flat_map};
+ghost use Rattle.zk_items.specs.Leaf.{text_spell, blob_spell, symbol_spell, bit_spell, ro_spell};
+ghost use Rattle.hex.specs.Hex.{encode_lower};
+ghost use Rattle.zk_items.specs.Words.{word_of};
+
+use crate::symbol::{hex_digit, is_plain};
+use crate::word::{Word, word_bytes};
+use itoa::Buffer;
+use std::alloc::AllocError;
+use zk_jute::{Blob, Text};
+
+/// Appends a fixed word.
+pub fn put_word(out: &mut Vec<u8>, word: Word) -> Result<(), AllocError>
+    ensures { OnOk result (out.new.items ≡ out.old.items ++ word_of word) }
+{
+    out.extend_from_slice(word_bytes(word))
+}
+
+/// Appends an int.
+pub fn put_int(out: &mut Vec<u8>, n: i32) -> Result<(), AllocError>
+    ensures { OnOk result (out.new.items ≡ out.old.items ++ signed_decimal n) }
+{
+    out.extend_from_slice(Buffer::new().format(n).as_bytes())
+}
+
+/// Appends a long.
+pub fn put_long(out: &mut Vec<u8>, n: i64) -> Result<(), AllocError>
+    ensures { OnOk result (out.new.items ≡ out.old.items ++ signed_decimal n) }
+{
+    out.extend_from_slice(Buffer::new().format(n).as_bytes())
+}
+
+/// Appends a bit: `0` or `1`.
+pub fn put_bit(out: &mut Vec<u8>, bit: bool) -> Result<(), AllocError>
+    ensures { OnOk result (out.new.items ≡ out.old.items ++ bit_spell bit) }
+{
+    out.extend_from_slice(if bit { b"1" } else { b"0" })
+}
+
+/// Appends a bit, or `-` where there is none.
+pub fn put_read_only(out: &mut Vec<u8>, bit: Option<bool>) -> Result<(), AllocError>
+    ensures { OnOk result (out.new.items ≡ out.old.items ++ ro_spell bit) }
+{
+    match bit {
+        None => out.extend_from_slice(b"-"),
+        Some(bit) => put_bit(out, bit),
+    }
+}
+
+/// Appends a blob: `~`, or `#` and its bytes' digits.
+pub fn put_blob(out: &mut Vec<u8>, blob: &Blob) -> Result<(), AllocError>
+    ensures { OnOk result (out.new.items ≡ out.old.items ++ blob_spell blob.now) }
+{
+    match blob {
+        Blob::Null => out.extend_from_slice(b"~"),
+        Blob::Full(bytes) => {
+            out.extend_from_slice(b"#")?;
+            put_digits(out, bytes.as_slice())
+        }
+    }
+}
+
+/// Appends two lower-case digits for each byte.
+fn put_digits(out: &mut Vec<u8>, bytes: &[u8]) -> Result<(), AllocError>
+    ensures { OnOk result (out.new.items ≡ out.old.items ++ encode_lower bytes.now) }
+{
+    let start = out.len();
+    let room = bytes.len().saturating_mul(2);
+    out.resize(start.saturating_add(room), 0)?;
+    match hex::encode_to_slice(bytes, &mut out[start..]) {
+        Ok(()) => Ok(()),
+        Err(_) => Err(AllocError),
+    }
+}
+
+fn put_symbol(out: &mut Vec<u8>, b: u8) -> Result<(), AllocError>
+    ensures { OnOk result (out.new.items ≡ out.old.items ++ symbol_spell b) }
+{
+    if is_plain(b) {
+        out.push(b)?;
+        Ok(())
+    } else {
+        out.extend_from_slice(&[b'\\', hex_digit(b / 16), hex_digit(b % 16)])
+    }
+}
+
+fn put_symbols(out: &mut Vec<u8>, bytes: &[u8]) -> Result<(), AllocError>
+    ensures { OnOk result (out.new.items ≡ out.old.items ++ flat_map symbol_spell bytes.now) }
+{
+    for b in bytes {
+        put_symbol(out, *b)?;
+    }
+    Ok(())
+}
+
+/// Appends a text: `~`, or its bytes between quotation marks.
+pub fn put_text(out: &mut Vec<u8>, text: &Text) -> Result<(), AllocError>
+    ensures { OnOk result (out.new.items ≡ out.old.items ++ text_spell text.now) }
+{
+    match text {
+        Text::Null => out.extend_from_slice(b"~"),
+        Text::Full(text) => {
+            out.extend_from_slice(b"\"")?;
+            put_symbols(out, text.as_str().as_bytes())?;
+            out.extend_from_slice(b"\"")
+        }
+    }
+}

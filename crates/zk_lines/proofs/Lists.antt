@@ -1,0 +1,45 @@
+-- The lists of a line.
+use Rattle.std.proofs.Common.{◌≡◌, ℕ, List, [], ◌∷◌, ◌++◌, Option, Some, None, Bool, true, false, ◌==◌, refl, ap, ◌∙◌, append_assoc, cond, arith, ne_eqb}
+use Rattle.std.specs.Prelude.{ℤ, pos, negsuc}
+use Rattle.std.specs.Fmt.{signed_decimal, decimal}
+use Rattle.std.specs.List.{AllByRecursion}
+use Rattle.zk_jute.specs.declared.value.Text.{Text}
+use Rattle.zk_jute.specs.declared.value.Text.TheVariants as texts
+use Rattle.zk_records.specs.declared.acl.Acl.{Acl}
+use Rattle.zk_items.specs.Form.{Form, word_at, ◌and◌}
+use Rattle.zk_items.specs.Words.{word_of, field}
+use Rattle.zk_items.specs.declared.word.Word.TheVariants.{Colon}
+use Rattle.zk_items.specs.Leaf.{text, text_fits, text_spell, in_number, in_range}
+use Rattle.zk_items.proofs.Forms.{Lawful}
+use Rattle.zk_items.proofs.Numbers.{wide, written_value}
+use Rattle.zk_items.proofs.Texts.{text_is}
+use Rattle.zk_lines.specs.Series.{list_of}
+use Rattle.zk_lines.specs.Records.{acl}
+use Rattle.zk_lines.proofs.Records.{acl_is}
+use Rattle.zk_lines.proofs.Series.{list_is, NeverBegins}
+
+text_begins : (x : Text) (rest : List ℕ) → text_fits x → word_at (93 ∷ []) (text_spell x ++ rest) ≡ None
+unfolding word_at
+text_begins texts.Null rest fit = refl
+text_begins (texts.Full t) rest fit = refl
+
+pub texts_is : Lawful (list_of text)
+texts_is = list_is text text_is text_begins
+
+-- what begins with a number and a colon doesn't begin with a bracket
+number_begins : (ds more : List ℕ) → AllByRecursion (λ b. in_number b ≡ true) ds → word_at (93 ∷ []) (ds ++ (58 ∷ more)) ≡ None
+unfolding word_at
+number_begins [] more all = refl
+number_begins (d ∷ ds) more all =
+    let h : in_number d ≡ true = all.0 in
+    let other : (93 == d) ≡ false = grind (arith, h) in
+    ap (λ (t : Bool). cond t (Some (ds ++ (58 ∷ more))) None) other
+
+acl_begins : (a : Acl) (rest : List ℕ) → acl.fits a → word_at (93 ∷ []) (acl.spell a ++ rest) ≡ None
+unfolding word_of
+acl_begins a rest fit =
+    let names = (field Colon text and field Colon text).spell (a.who.scheme, a.who.ident) in
+    ap (word_at (93 ∷ [])) (append_assoc (signed_decimal a.perms) names rest) ∙ number_begins (signed_decimal a.perms) _ (written_value a.perms (wide a.perms fit.0)).1
+
+pub acls_is : Lawful (list_of acl)
+acls_is = list_is acl acl_is acl_begins

@@ -1,0 +1,6 @@
+use Rattle.std.proofs.Common.{◌≡◌, ◌++◌, ◌∷◌, take}
+use Rattle.std.specs.List.{flat_map}
+use Rattle.zk_lines.proofs.list.put_elements.Given as goal
+
+abbrev pub invariant-loop-item : goal.invariant-loop-item
+invariant-loop-item g l = l.out.items ≡ l.fn.out.items ++ flat_map (λ y. l.sign ∷ g.T.Item.spell y) (take l.item-index l.items)

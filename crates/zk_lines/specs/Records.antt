@@ -1,0 +1,44 @@
+-- The records that are items: an entry of an access list, and what is known of a node.
+use Rattle.std.specs.Prelude.{ℤ}
+use Rattle.zk_records.specs.declared.acl.Acl.{Acl}
+use Rattle.zk_records.specs.declared.stat.Stat.{Stat}
+use Rattle.zk_items.specs.Form.{Form, closed, fields, ◌and◌}
+use Rattle.zk_items.specs.Leaf.{int, long, text}
+use Rattle.zk_items.specs.Words.{word_of, field}
+use Rattle.zk_items.specs.declared.word.Word.TheVariants.{Close, Colon, Comma, Open}
+
+-- perms, scheme and ident
+abbrev pub acl : Form Acl
+acl = fields (int and field Colon text and field Colon text)
+    (λ a. (a.perms, (a.who.scheme, a.who.ident)))
+    (λ p. record { perms = p.0; who = record { scheme = p.1.0; ident = p.1.1 } })
+
+-- czxid, mzxid, ctime, mtime
+abbrev pub times : Form (ℤ × (ℤ × (ℤ × ℤ)))
+times = field Open long and field Comma long and field Comma long and field Comma long
+
+-- version, cversion, aversion
+abbrev pub versions : Form (ℤ × (ℤ × ℤ))
+versions = field Comma int and field Comma int and field Comma int
+
+-- ephemeral_owner, data_length, num_children, pzxid
+abbrev pub sizes : Form (ℤ × (ℤ × (ℤ × ℤ)))
+sizes = field Comma long and field Comma int and field Comma int and field Comma long
+
+-- the eleven numbers in order
+abbrev pub stat : Form Stat
+stat = fields (closed (times and versions and sizes) (word_of Close))
+    (λ s. ((s.czxid, (s.mzxid, (s.ctime, s.mtime))), ((s.version, (s.cversion, s.aversion)), (s.ephemeral_owner, (s.data_length, (s.num_children, s.pzxid))))))
+    (λ p. record {
+      czxid = p.0.0;
+      mzxid = p.0.1.0;
+      ctime = p.0.1.1.0;
+      mtime = p.0.1.1.1;
+      version = p.1.0.0;
+      cversion = p.1.0.1.0;
+      aversion = p.1.0.1.1;
+      ephemeral_owner = p.1.1.0;
+      data_length = p.1.1.1.0;
+      num_children = p.1.1.1.1.0;
+      pzxid = p.1.1.1.1.1;
+    })

@@ -1,0 +1,21 @@
+//! One line a message, and back.
+#![tactic(auto)]
+
+mod answer;
+mod ask;
+mod ending;
+mod item;
+mod line;
+mod list;
+mod name;
+mod record;
+mod request;
+
+pub use ending::ending_line;
+pub use line::{line_of, read_line};
+pub use zk_items::{LineFault, LineReason, line_reason_name};
+
+#[cfg(test)]
+mod samples;
+#[cfg(test)]
+mod tests;

@@ -1,0 +1,126 @@
+//! The records that are items of a line: an entry of an access list, and what is known of a node.
+ghost use Rattle.std.specs.Prelude.{◌≡◌, ◌++◌, OnOk};
+ghost use Rattle.zk_items.specs.Form.{Gives};
+ghost use Rattle.zk_lines.specs.Records as records;
+
+use crate::item::{Item, put_field, read_field};
+use std::alloc::AllocError;
+use zk_items::{LineFault, Reader, Word, put_int, put_word};
+use zk_records::{Acl, Id, Stat};
+
+impl Item for Acl {
+    ghost use Rattle.zk_lines.specs.Records.{acl};
+
+    ghost spell = { acl.spell };
+
+    ghost at = { acl.at };
+
+    fn read(line: &mut Reader<'_>) -> Result<Self, LineFault> {
+        let perms = line.int()?;
+        let scheme = read_field(line, Word::Colon)?;
+        let ident = read_field(line, Word::Colon)?;
+        Ok(Acl {
+            perms,
+            who: Id { scheme, ident },
+        })
+    }
+
+    fn put(&self, out: &mut Vec<u8>) -> Result<(), AllocError> {
+        put_int(out, self.perms)?;
+        put_field(out, Word::Colon, &self.who.scheme)?;
+        put_field(out, Word::Colon, &self.who.ident)
+    }
+}
+
+impl Item for Stat {
+    ghost use Rattle.zk_lines.specs.Records.{stat};
+
+    ghost spell = { stat.spell };
+
+    ghost at = { stat.at };
+
+    fn read(line: &mut Reader<'_>) -> Result<Self, LineFault> {
+        let (czxid, (mzxid, (ctime, mtime))) = times(line)?;
+        let (version, (cversion, aversion)) = versions(line)?;
+        let (ephemeral_owner, (data_length, (num_children, pzxid))) = sizes(line)?;
+        line.word(Word::Close)?;
+        Ok(Stat {
+            czxid,
+            mzxid,
+            ctime,
+            mtime,
+            version,
+            cversion,
+            aversion,
+            ephemeral_owner,
+            data_length,
+            num_children,
+            pzxid,
+        })
+    }
+
+    fn put(&self, out: &mut Vec<u8>) -> Result<(), AllocError> {
+        put_times(out, self)?;
+        put_versions(out, self)?;
+        put_sizes(out, self)?;
+        put_word(out, Word::Close)
+    }
+}
+
+/// The times of a Stat: czxid, mzxid, ctime, mtime.
+fn times(line: &mut Reader<'_>) -> Result<(i64, (i64, (i64, i64))), LineFault>
+    ensures { Gives result line.new (records.times.at line.old) }
+{
+    let czxid = read_field(line, Word::Open)?;
+    let mzxid = read_field(line, Word::Comma)?;
+    let ctime = read_field(line, Word::Comma)?;
+    let mtime = read_field(line, Word::Comma)?;
+    Ok((czxid, (mzxid, (ctime, mtime))))
+}
+
+/// The versions of a Stat: version, cversion, aversion.
+fn versions(line: &mut Reader<'_>) -> Result<(i32, (i32, i32)), LineFault>
+    ensures { Gives result line.new (records.versions.at line.old) }
+{
+    let version = read_field(line, Word::Comma)?;
+    let cversion = read_field(line, Word::Comma)?;
+    let aversion = read_field(line, Word::Comma)?;
+    Ok((version, (cversion, aversion)))
+}
+
+/// The rest of a Stat: ephemeral owner, data length, number of children, pzxid.
+fn sizes(line: &mut Reader<'_>) -> Result<(i64, (i32, (i32, i64))), LineFault>
+    ensures { Gives result line.new (records.sizes.at line.old) }
+{
+    let ephemeral_owner = read_field(line, Word::Comma)?;
+    let data_length = read_field(line, Word::Comma)?;
+    let num_children = read_field(line, Word::Comma)?;
+    let pzxid = read_field(line, Word::Comma)?;
+    Ok((ephemeral_owner, (data_length, (num_children, pzxid))))
+}
+
+fn put_times(out: &mut Vec<u8>, stat: &Stat) -> Result<(), AllocError>
+    ensures { OnOk result (out.new.items ≡ out.old.items ++ records.times.spell (stat.now.czxid, (stat.now.mzxid, (stat.now.ctime, stat.now.mtime)))) }
+{
+    put_field(out, Word::Open, &stat.czxid)?;
+    put_field(out, Word::Comma, &stat.mzxid)?;
+    put_field(out, Word::Comma, &stat.ctime)?;
+    put_field(out, Word::Comma, &stat.mtime)
+}
+
+fn put_versions(out: &mut Vec<u8>, stat: &Stat) -> Result<(), AllocError>
+    ensures { OnOk result (out.new.items ≡ out.old.items ++ records.versions.spell (stat.now.version, (stat.now.cversion, stat.now.aversion))) }
+{
+    put_field(out, Word::Comma, &stat.version)?;
+    put_field(out, Word::Comma, &stat.cversion)?;
+    put_field(out, Word::Comma, &stat.aversion)
+}
+
+fn put_sizes(out: &mut Vec<u8>, stat: &Stat) -> Result<(), AllocError>
+    ensures { OnOk result (out.new.items ≡ out.old.items ++ records.sizes.spell (stat.now.ephemeral_owner, (stat.now.data_length, (stat.now.num_children, stat.now.pzxid)))) }
+{
+    put_field(out, Word::Comma, &stat.ephemeral_owner)?;
+    put_field(out, Word::Comma, &stat.data_length)?;
+    put_field(out, Word::Comma, &stat.num_children)?;
+    put_field(out, Word::Comma, &stat.pzxid)
+}

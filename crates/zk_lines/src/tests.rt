@@ -1,0 +1,122 @@
+use super::*;
+use crate::samples::{FAULTS, LINES};
+use std::alloc::Global;
+use std::process::Abort;
+use std::test::Fail;
+use zk_asks::{Ask, ClientFrame};
+use zk_jute::{Chars, Reason, Text};
+use zk_records::PathAsk;
+use zk_talk::{Ending, Fault, Message, Side};
+
+fn back_and_forth(rt: &impl Abort, alloc: Global, line: &[u8]) -> Result<(), Fail> {
+    let Ok(message) = read_line(alloc, line) else {
+        return Err("not read")?;
+    };
+    assert_eq!(rt; line_of(alloc, &message)?.as_slice(), line);
+    Ok(())
+}
+
+#[test]
+fn lines(rt: HostRuntime) -> Result<(), Fail> {
+    for line in LINES {
+        back_and_forth(&rt, rt.alloc(), line)?;
+    }
+    Ok(())
+}
+
+#[test]
+fn faults(rt: HostRuntime) -> Result<(), Fail> {
+    for (line, column, reason) in FAULTS {
+        let fault = LineFault { column, reason };
+        assert_eq!(rt; read_line(rt.alloc(), line).err().ok_or("read")?, fault);
+    }
+    Ok(())
+}
+
+/// A sync of a path.
+fn sync(path: String) -> Message {
+    let path = Text::Full(Chars::new(path));
+    Message::Client(ClientFrame::Ask {
+        xid: 1,
+        ask: Ask::Sync(PathAsk { path }),
+    })
+}
+
+#[test]
+fn every_byte_of_a_text(rt: HostRuntime) -> Result<(), Fail> {
+    for byte in 0..128u8 {
+        let mut path = String::new(rt.alloc());
+        path.push(char::from(byte))?;
+        let line = line_of(rt.alloc(), &sync(path))?;
+        let spelled = match byte {
+            b'"' => format!(in rt.alloc(); "\\22")?,
+            b'\\' => format!(in rt.alloc(); "\\5c")?,
+            32..=126 => format!(in rt.alloc(); "{}", char::from(byte))?,
+            _ => format!(in rt.alloc(); "\\{byte:02x}")?,
+        };
+        let wanted = format!(in rt.alloc(); "C 1 sync path=\"{spelled}\"")?;
+        assert_eq!(rt; line.as_slice(), wanted.as_bytes());
+        back_and_forth(&rt, rt.alloc(), line.as_slice())?;
+    }
+    Ok(())
+}
+
+#[test]
+fn lines_of_four_megabytes(rt: HostRuntime) -> Result<(), Fail> {
+    let mut text = Vec::from_slice(rt.alloc(), b"C 1 sync path=\"")?;
+    text.resize(4_000_000, b'a')?;
+    text.push(b'"')?;
+    back_and_forth(&rt, rt.alloc(), text.as_slice())?;
+    let mut blob = Vec::from_slice(rt.alloc(), b"C 1 setData path=~ blob=#")?;
+    blob.resize(4_000_025, b'7')?;
+    blob.extend_from_slice(b" version=0")?;
+    back_and_forth(&rt, rt.alloc(), blob.as_slice())
+}
+
+fn refused(place: u32, reason: Reason) -> Ending {
+    Ending::Refused(Fault {
+        side: Side::Server,
+        frame: 1,
+        offset: 61,
+        place,
+        reason,
+    })
+}
+
+#[test]
+fn endings(rt: HostRuntime) -> Result<(), Fail> {
+    let order = Reason::XidOrder {
+        expected: 1,
+        got: -2,
+    };
+    let cut = Ending::Cut {
+        side: Side::Client,
+        frame: u64::MAX,
+        got: 3,
+    };
+    let rows = [
+        (
+            Ending::Whole {
+                unanswered: u32::MAX,
+            },
+            ". whole unanswered=4294967295",
+        ),
+        (cut, ". cut side=C frame=18446744073709551615 got=3"),
+        (
+            refused(12, Reason::EventErr),
+            ". refused side=S frame=1 offset=61 place=12 reason=EventErr",
+        ),
+        (
+            refused(0, order),
+            ". refused side=S frame=1 offset=61 place=0 reason=XidOrder expected=1 got=-2",
+        ),
+    ];
+    for (ending, line) in rows {
+        assert_eq!(rt;
+            ending_line(rt.alloc(), &ending)?.as_slice(),
+            line.as_bytes()
+        );
+    }
+    assert_eq!(rt; line_reason_name(&LineReason::Ending), "Ending");
+    Ok(())
+}

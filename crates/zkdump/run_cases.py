@@ -1,0 +1,126 @@
+#!/usr/bin/env python3
+"""Runs the program over stored cases and recordings, and compares every byte that it writes.
+
+    run_cases.py [--program PATH] [--minutes N] check|show|build ..
+
+For each word given, the cases of the folder cases/WORD beside this file, and then the recordings of
+the folder captures/ at the top of the repository. The program is the script zkdump at the top, unless
+--program names another. It prints each case that differs and one last line. The exit status is 0 where
+none differs, 1 where one does, 2 where the words are not understood.
+
+A case NAME is the files
+
+    NAME.args    the program's words, one a line
+    NAME.in      its standard input         (no file: nothing)
+    NAME.out     its standard output        (no file: nothing)
+    NAME.err     its standard error         (no file: nothing)
+    NAME.status  its exit status            (no file: 0)
+
+A recording is NAME.zkr, and NAME.show is its listing. For check the last line of the listing is
+expected; for show the whole of it; for build, where the conversation is whole, that the recording made
+of the listing has that listing again. The status is 0 where the listing ends in ". whole", else 1.
+"""
+
+import argparse
+import pathlib
+import subprocess
+import sys
+
+HERE = pathlib.Path(__file__).resolve().parent
+TOP = HERE.parent.parent
+WORDS = ("check", "show", "build")
+
+
+class Runner:
+    """Runs one program, and counts what differs."""
+
+    def __init__(self, program, seconds):
+        self.program = program
+        self.seconds = seconds
+        self.total = 0
+        self.differing = 0
+
+    def run(self, words, data):
+        """Standard output, standard error and status; None where the program did not end in time."""
+        try:
+            done = subprocess.run([self.program, *words], input=data, capture_output=True,
+                                  timeout=self.seconds, check=False)
+        except subprocess.TimeoutExpired:
+            return None
+        return done.stdout, done.stderr, done.returncode
+
+    def expect(self, name, words, data, wanted):
+        """Counts a run, and tells how it differs from what is wanted; gives whether it is the same."""
+        self.total += 1
+        found = self.run(words, data)
+        if found == wanted:
+            return True
+        self.differing += 1
+        print(f"{name}: {difference(wanted, found)}")
+        return False
+
+
+def difference(wanted, found):
+    """The first of the three results that is another one, in words."""
+    if found is None:
+        return "the program did not end in time"
+    for what, want, got in zip(("standard output", "standard error", "status"), wanted, found):
+        if want == got:
+            continue
+        if isinstance(want, int):
+            return f"status {got} in place of {want}"
+        at = next((k for k, (a, b) in enumerate(zip(want, got)) if a != b), min(len(want), len(got)))
+        return (f"{what} differs at byte {at}\n    wanted {want[max(0, at - 30):at + 90]!r}"
+                f"\n    found  {got[max(0, at - 30):at + 90]!r}")
+    return "differs"
+
+
+def stored(path, missing):
+    return path.read_bytes() if path.exists() else missing
+
+
+def run_cases(runner, folder):
+    for args in sorted(folder.glob("*.args")):
+        words = args.read_text().splitlines()
+        wanted = (stored(args.with_suffix(".out"), b""), stored(args.with_suffix(".err"), b""),
+                  int(stored(args.with_suffix(".status"), b"0")))
+        runner.expect(f"{folder.name}/{args.stem}", words, stored(args.with_suffix(".in"), b""), wanted)
+
+
+def run_captures(runner, folder, word):
+    for recording in sorted(folder.glob("*.zkr")):
+        listing = recording.with_suffix(".show").read_bytes()
+        last = listing.rstrip(b"\n").rsplit(b"\n", 1)[-1] + b"\n"
+        whole = last.startswith(b". whole ")
+        status = 0 if whole else 1
+        name = f"captures/{recording.stem} ({word})"
+        if word == "check":
+            runner.expect(name, [word], recording.read_bytes(), (last, b"", status))
+        elif word == "show":
+            runner.expect(name, [word], recording.read_bytes(), (listing, b"", status))
+        elif whole:
+            made = runner.run([word], listing)
+            if made is None or made[1:] != (b"", 0):
+                runner.total += 1
+                runner.differing += 1
+                print(f"{name}: {'the program did not end in time' if made is None else made[1:]}")
+                continue
+            runner.expect(name, ["show"], made[0], (listing, b"", 0))
+
+
+def main():
+    parser = argparse.ArgumentParser(description="Runs the program over stored cases and recordings.")
+    parser.add_argument("words", nargs="+", choices=WORDS)
+    parser.add_argument("--program", default=str(TOP / "zkdump"))
+    parser.add_argument("--minutes", type=float, default=2.0, help="for one run of the program")
+    options = parser.parse_args()
+    runner = Runner(options.program, options.minutes * 60)
+    for word in options.words:
+        run_cases(runner, HERE / "cases" / word)
+        run_captures(runner, TOP / "captures", word)
+    print(f"{runner.total} cases, {runner.differing} differ")
+    return 1 if runner.differing else 0
+
+
+if __name__ == "__main__":
+    sys.exit(main())

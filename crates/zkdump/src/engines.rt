@@ -1,0 +1,139 @@
+//! The engines that read a recording: its listing, and the listing's last line alone.
+ghost use Rattle.std.specs.Prelude.{◌≡◌, ◌≢◌, ◌+◌, ◌^◌, ◌<◌, ◌≤◌, ◌⊎◌, ◌++◌, ℕ, List, [], false, true, IfOk, OnErr, IsErrOf, Err};
+ghost use Rattle.std.specs.Io.KnownBytes.{Appends};
+ghost use Rattle.zk_talk.specs.declared.message.Message.{Message};
+ghost use Rattle.zkdump.specs.declared.listing.Listing.TheVariants.{All, Last};
+ghost use Rattle.zkdump.specs.Lines.{text_of};
+ghost use Rattle.zkdump.specs.Outcome.{IsFound, IsRunning, HasBegun, HasGrownIn};
+ghost use Rattle.zkdump.specs.Running.{HasListed, HasReached, HasStopped};
+
+use crate::listing::{Listing, RunFault};
+use crate::progress::Progress;
+use crate::streams::{Sink, Source, write_whole};
+use crate::summary::{Status, Summary};
+use std::alloc::Global;
+use zk_talk::Limits;
+
+/// How often a run reads at most.
+const MOST_READS: u64 = 4_294_967_296;
+
+/// How many bytes a run reads at once, at most.
+const BLOCK: usize = 4096;
+
+/// Reads until what the recording comes to stands, or to the end, and writes the lines of its messages.
+fn read_on<R: Source, W: Sink>(
+    alloc: Global,
+    limits: Limits,
+    listing: Listing,
+    reader: &mut R,
+    writer: &mut W,
+) -> Result<Summary, RunFault>
+    requires live { R.has_failed reader.old ≡ false }
+    requires reads { R.read_count reader.old < 2 ^ 62 }
+    requires writer { W.has_failed writer.old ≡ false }
+    ensures ok { IfOk result (λ summary. (messages : List Message) × IsFound limits (R.remaining reader.old) (R.remaining reader.new) messages summary
+        × Appends (W.contents writer.old) (W.contents writer.new) (text_of listing messages)) }
+    ensures read { IsErrOf result RunFault.Read → ((R.has_failed reader.new ≡ true) ⊎ (R.read_count reader.old + 4294967296 ≤ R.read_count reader.new))
+        × ((messages : List Message) × IsRunning limits (R.remaining reader.old) (R.remaining reader.new) messages
+        × Appends (W.contents writer.old) (W.contents writer.new) (text_of listing messages)) }
+    ensures begun { OnErr result ((messages : List Message) × HasBegun limits (R.remaining reader.old) (R.remaining reader.new) messages
+        × HasGrownIn (W.contents writer.old) (W.contents writer.new) (text_of listing messages)) }
+    ensures live { IfOk result (λ _. W.has_failed writer.new ≡ false) }
+    ensures failed { IsErrOf result RunFault.Write → W.has_failed writer.new ≡ true }
+{
+    let mut progress = Progress::new(alloc, limits);
+    let mut buf = [0; BLOCK];
+    for _turn in 0..MOST_READS {
+        let Ok(count) = reader.read(&mut buf) else {
+            return Err(RunFault::Read);
+        };
+        if count == 0 {
+            return Ok(progress.finish());
+        }
+        if let Err(stop) = progress.feed(alloc, &buf[..count], listing, writer) {
+            return stop.answer();
+        }
+    }
+    Err(RunFault::Read)
+}
+
+/// Reads a recording until a fault, a damage or its end, and writes its listing.
+fn run<R: Source, W: Sink>(
+    alloc: Global,
+    limits: Limits,
+    listing: Listing,
+    reader: &mut R,
+    writer: &mut W,
+) -> Result<Status, RunFault>
+    requires reader { R.has_failed reader.old ≡ false }
+    requires reads { R.read_count reader.old < 2 ^ 62 }
+    requires writer { W.has_failed writer.old ≡ false }
+    ensures ok { IfOk result (λ status. HasListed limits listing (R.remaining reader.old) (R.remaining reader.new) (W.contents writer.old) (W.contents writer.new) status) }
+    ensures read { IsErrOf result RunFault.Read → ((R.has_failed reader.new ≡ true) ⊎ (R.read_count reader.old + 4294967296 ≤ R.read_count reader.new))
+        × HasReached limits listing (R.remaining reader.old) (R.remaining reader.new) (W.contents writer.old) (W.contents writer.new) }
+    ensures write { IsErrOf result RunFault.Write → W.has_failed writer.new ≡ true }
+    ensures begun { OnErr result (HasStopped limits listing (R.remaining reader.old) (R.remaining reader.new) (W.contents writer.old) (W.contents writer.new)) }
+{
+    let summary = read_on(alloc, limits, listing, reader, writer)?;
+    let line = summary.last_line(alloc)?;
+    write_whole(writer, &line)?;
+    Ok(summary.status())
+}
+
+/// Reads a recording until a fault, a damage or its end, and writes the last line of its listing.
+///
+/// # Errors
+/// `Read` where the reader failed or was read 4,294,967,296 times and came to no end, `Write` where the writer failed
+/// or took nothing, `Memory` where a growth was refused.
+pub fn check_run<R: Source, W: Sink>(
+    alloc: Global,
+    limits: Limits,
+    reader: &mut R,
+    writer: &mut W,
+) -> Result<Status, RunFault>
+    requires reader { R.has_failed reader.old ≡ false }
+    requires reads { R.read_count reader.old < 2 ^ 62 }
+    requires writer { W.has_failed writer.old ≡ false }
+
+    // The last line is written of what was read: all there is, or what decides.
+    ensures ok { IfOk result (λ status. HasListed limits Last (R.remaining reader.old) (R.remaining reader.new) (W.contents writer.old) (W.contents writer.new) status) }
+
+    // A failed read, or one too many, leaves nothing written.
+    ensures read { IsErrOf result RunFault.Read → ((R.has_failed reader.new ≡ true) ⊎ (R.read_count reader.old + 4294967296 ≤ R.read_count reader.new))
+        × HasReached limits Last (R.remaining reader.old) (R.remaining reader.new) (W.contents writer.old) (W.contents writer.new) }
+    ensures write { IsErrOf result RunFault.Write → W.has_failed writer.new ≡ true }
+
+    // A run that stops early has written a front of the line.
+    ensures begun { OnErr result (HasStopped limits Last (R.remaining reader.old) (R.remaining reader.new) (W.contents writer.old) (W.contents writer.new)) }
+{
+    run(alloc, limits, Listing::Last, reader, writer)
+}
+
+/// Reads a recording until a fault, a damage or its end, and writes its listing. Each message's line is written before
+/// the next read.
+///
+/// # Errors
+/// As those of `check_run`.
+pub fn show_run<R: Source, W: Sink>(
+    alloc: Global,
+    limits: Limits,
+    reader: &mut R,
+    writer: &mut W,
+) -> Result<Status, RunFault>
+    requires reader { R.has_failed reader.old ≡ false }
+    requires reads { R.read_count reader.old < 2 ^ 62 }
+    requires writer { W.has_failed writer.old ≡ false }
+
+    // The listing is written of what was read: all there is, or what decides.
+    ensures ok { IfOk result (λ status. HasListed limits All (R.remaining reader.old) (R.remaining reader.new) (W.contents writer.old) (W.contents writer.new) status) }
+
+    // After a failed read, or one too many, the line of each message that is whole in what was read stands written.
+    ensures read { IsErrOf result RunFault.Read → ((R.has_failed reader.new ≡ true) ⊎ (R.read_count reader.old + 4294967296 ≤ R.read_count reader.new))
+        × HasReached limits All (R.remaining reader.old) (R.remaining reader.new) (W.contents writer.old) (W.contents writer.new) }
+    ensures write { IsErrOf result RunFault.Write → W.has_failed writer.new ≡ true }
+
+    // A run that stops early has written a front of the listing.
+    ensures begun { OnErr result (HasStopped limits All (R.remaining reader.old) (R.remaining reader.new) (W.contents writer.old) (W.contents writer.new)) }
+{
+    run(alloc, limits, Listing::All, reader, writer)
+}

@@ -1,0 +1,46 @@
+//! `zkdump` reads a recorded conversation from standard input. `zkdump show` writes a line for each message, and
+//! how the recording ends; `zkdump check` writes how it ends alone.
+#![tactic(auto)]
+
+pub mod engines;
+pub mod listing;
+#[cfg(test)]
+mod memory;
+pub mod options;
+pub mod progress;
+pub mod recording;
+pub mod run;
+pub mod streams;
+pub mod summary;
+#[cfg(test)]
+mod tests;
+pub mod words;
+
+use options::UsageFault;
+use run::{refuse, run_words};
+use std::process::ExitCode;
+use std::rt::Env;
+use std::{env, io};
+use streams::{FromRead, FromWrite};
+
+/// The words of the command line.
+fn arguments(rt: &(impl Env + AllocGlobal)) -> Result<Vec<String>, UsageFault> {
+    match env::args(rt) {
+        Ok(words) => Ok(words.collect(rt.alloc())?),
+        Err(error) => match error.kind() {
+            io::ErrorKind::OutOfMemory => Err(UsageFault::Memory),
+            _ => Err(UsageFault::Words),
+        },
+    }
+}
+
+fn main(rt: HostRuntime) -> ExitCode {
+    let mut reader = FromRead::new(rt.stdin());
+    let mut writer = FromWrite::new(rt.stdout());
+    let mut faults = FromWrite::new(rt.stderr());
+    let status = match arguments(&rt) {
+        Ok(words) => run_words(rt.alloc(), words, &mut reader, &mut writer, &mut faults),
+        Err(fault) => refuse(fault, &mut faults),
+    };
+    ExitCode::from(status)
+}
