@@ -1,6 +1,5 @@
 -- What a piece makes of what is held.
-use Rattle.std.proofs.Common.{◌≡◌, ◌≢◌, ℕ, ◌+◌, ◌-◌, ◌<◌, ◌≤◌, ◌^◌, ◌⊎◌, inl, inr, Bool, true, false, List, [], ◌∷◌, ◌++◌, length, take, drop, pos, refl, sym, ap, ◌∙◌, subst, arith, append_assoc, length-append, length-drop, Result, Ok, Err, IfOk, IfErr, OnOk}
-use Rattle.std.specs.List.{AllByRecursion}
+use Rattle.std.proofs.Common.{◌≡◌, ◌≢◌, ℕ, ◌+◌, ◌<◌, ◌≤◌, ◌^◌, ◌⊎◌, inl, inr, Bool, true, false, List, [], ◌∷◌, ◌++◌, length, take, drop, refl, sym, ap, ◌∙◌, subst, arith, append_assoc, length-append, length-drop, Result, Ok, Err, IfOk, IfErr, OnOk}
 use Rattle.std.proofs.lemmas.List.{append-nil, take-append-le, take-append-drop, take-take, take_all, length-take-le}
 use Rattle.std.proofs.lemmas.List.Concat.{flat_map-append}
 use Rattle.std.proofs.lemmas.Bool.{cases_lt}
@@ -9,8 +8,8 @@ use Rattle.zk_frames.specs.declared.cutter.Standing.TheVariants.{Open, Whole, Re
 use Rattle.zk_frames.specs.declared.frames.Took.{Took}
 use Rattle.zk_frames.specs.declared.frames.FrameFault.{FrameFault}
 use Rattle.zk_frames.specs.declared.frames.FrameFault.TheVariants.{LengthRange}
-use Rattle.zk_frames.specs.Framing.{int_bytes, frame, frames, IsBeginning, IsFrame, IsBadLength, IsCut}
-use Rattle.zk_frames.specs.Held.{Held, IsLeft, IsHeld, IsWhole, IsRefused, EndsWell, IsNow, IsTaken, IsRefusal, GoesOn}
+use Rattle.zk_frames.specs.Framing.{frame, frames, IsBeginning, IsFrame, IsBadLength, IsCut}
+use Rattle.zk_frames.specs.Held.{Held, IsLeft, IsHeld, IsRefused, EndsWell, IsNow, IsTaken, IsRefusal, GoesOn}
 use Rattle.zk_frames.specs.Advance.{Holds, EndsAt, left_of, standing_of, IsAnswer}
 use Rattle.zk_frames.proofs.Cuts.{length-frame, take-frame, drop-frame, no_beginning, AllByRecursion-push}
 

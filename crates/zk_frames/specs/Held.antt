@@ -3,7 +3,7 @@ use Rattle.std.specs.Prelude.{◌≡◌, ℕ, ◌<◌, ◌≤◌, ◌⊎◌, Lis
 use Rattle.zk_frames.specs.declared.frames.Took.{Took}
 use Rattle.zk_frames.specs.declared.frames.FrameFault.{FrameFault}
 use Rattle.zk_frames.specs.declared.frames.FrameFault.TheVariants.{LengthRange, NoMemory}
-use Rattle.zk_frames.specs.Framing.{frame, frames, IsBeginning, IsFrame, IsBadLength, IsCut}
+use Rattle.zk_frames.specs.Framing.{frame, IsBeginning, IsFrame, IsBadLength, IsCut}
 
 -- the bytes that are held: a beginning, a whole frame, or the four bytes of a length out of range
 pub record Held : Type 0 where

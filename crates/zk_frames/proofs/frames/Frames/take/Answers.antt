@@ -1,4 +1,4 @@
-use Rattle.std.proofs.Common.{◌≡◌, ◌<◌, ◌^◌, ◌∙◌, ◌++◌, List, ℕ, take, sym, ap, subst, arith, IfOk, IfErr}
+use Rattle.std.proofs.Common.{◌<◌, ◌^◌, ◌∙◌, ◌++◌, List, ℕ, take, sym, subst, arith, IfOk, IfErr}
 use Rattle.zk_frames.specs.Framing.{IsCut}
 use Rattle.zk_frames.specs.Advance.{Holds}
 use Rattle.zk_frames.specs.Held.{Held, IsLeft, IsTaken, IsRefusal, IsRefused, GoesOn}

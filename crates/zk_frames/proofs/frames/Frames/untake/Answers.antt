@@ -1,4 +1,4 @@
-use Rattle.std.proofs.Common.{◌≡◌, ℕ, ◌<◌, ◌-◌, ◌∙◌, arith, ap, sym, subst, length, List}
+use Rattle.std.proofs.Common.{◌<◌, ◌-◌, arith, ap, sym, subst, length}
 use Rattle.zk_frames.specs.Framing.{IsBeginning}
 use Rattle.zk_frames.specs.Held.{Held, IsRefused}
 use Rattle.zk_frames.proofs.Taking.{front_holds}
