@@ -19,3 +19,10 @@ pub use round::{read_is_said, said_is_read};
 pub use say::{SayFault, say_name};
 pub use speaker::Speaker;
 pub use talk::{Taken, Talk};
+
+#[cfg(test)]
+mod refusal_tests;
+#[cfg(test)]
+mod reply_tests;
+#[cfg(test)]
+mod tests;

@@ -1,0 +1,347 @@
+//! Whole conversations, limits, and what is held.
+use super::*;
+use std::alloc::Global;
+use std::process::Abort;
+use std::test::Fail;
+use zk_answers::ServerFrame;
+use zk_asks::ClientFrame;
+use zk_jute::Reason;
+use zk_records::op_name;
+
+pub const CONNECT: &[u8] =
+    b"\0\0\0-\0\0\0\0\0\0\0\0\0\0\0\0\0\0u0\0\0\0\0\0\0\0\0\0\0\0\x10\0\0\0\0\0\0\0\0\0\0\0\0\0\0\0\0\0";
+
+pub const CONNECTED: &[u8] =
+    b"\0\0\0%\0\0\0\0\0\0u0\x01\0\0\0\0\0\0\x01\0\0\0\x10\0\x01\x02\x03\x04\x05\x06\x07\x08\x09\x0a\x0b\x0c\x0d\x0e\x0f\0";
+
+pub const EXISTS: &[u8] = b"\0\0\0\x0f\0\0\0\x01\0\0\0\x03\0\0\0\x02/a\x01";
+
+pub const NO_NODE: &[u8] = b"\0\0\0\x10\0\0\0\x01\0\0\0\0\0\0\0\x05\xff\xff\xff\x9b";
+
+pub fn usual() -> Result<Limits, Fail> {
+    limits(4_194_304, 65_536)
+}
+
+pub fn limits(frame: u32, waiting: u32) -> Result<Limits, Fail> {
+    Ok(Limits::new(frame, frame, waiting).ok_or("no limits")?)
+}
+
+pub fn refused(side: Side, frame: u64, offset: u64, place: u32, reason: Reason) -> Ending {
+    Ending::Refused(Fault {
+        side,
+        frame,
+        offset,
+        place,
+        reason,
+    })
+}
+
+/// Who says what, under which xid.
+fn label(alloc: Global, message: &Message) -> Result<String, Fail> {
+    Ok(match message {
+        Message::Client(ClientFrame::Connect { .. }) => format!(in alloc; "C connect")?,
+        Message::Client(ClientFrame::Ask { xid, ask }) => {
+            format!(in alloc; "C {} {}", xid, op_name(ask.op()))?
+        }
+        Message::Server(ServerFrame::Connected { .. }) => format!(in alloc; "S connect")?,
+        Message::Server(ServerFrame::Answered(reply)) => {
+            format!(in alloc; "S {} {}", reply.xid, op_name(reply.op()))?
+        }
+        Message::Server(ServerFrame::Event { .. }) => format!(in alloc; "S event")?,
+    })
+}
+
+/// The pieces are read as these messages, and end so.
+pub fn reads(
+    rt: &impl Abort,
+    alloc: Global,
+    limits: Limits,
+    pieces: &[(Side, &[u8])],
+    labels: &[&str],
+    ending: Ending,
+) -> Result<(), Fail> {
+    let ended = read_all(alloc, limits, pieces)?;
+    assert_eq!(rt; ended.ending, ending);
+    assert_eq!(rt; ended.messages.len(), labels.len());
+    for (message, wanted) in ended.messages.iter().zip(labels.iter()) {
+        let told = label(alloc, message)?;
+        assert_eq!(rt; told.as_str(), *wanted);
+    }
+    Ok(())
+}
+
+#[test]
+fn connects(rt: HostRuntime) -> Result<(), Fail> {
+    reads(
+        &rt,
+        rt.alloc(),
+        usual()?,
+        &[(Side::Client, CONNECT), (Side::Server, CONNECTED)],
+        &["C connect", "S connect"],
+        Ending::Whole { unanswered: 0 },
+    )?;
+    reads(
+        &rt,
+        rt.alloc(),
+        usual()?,
+        &[
+            (
+                Side::Client,
+                b"\0\0\0,\0\0\0\0\0\0\0\0\0\0\0\0\0\0u0\0\0\0\0\0\0\0\0\0\0\0\x10\0\0\0\0\0\0\0\0\0\0\0\0\0\0\0\0",
+            ),
+            (
+                Side::Server,
+                b"\0\0\0$\0\0\0\0\0\0u0\x01\0\0\0\0\0\0\x01\0\0\0\x10\0\x01\x02\x03\x04\x05\x06\x07\x08\x09\x0a\x0b\x0c\x0d\x0e\x0f",
+            ),
+        ],
+        &["C connect", "S connect"],
+        Ending::Whole { unanswered: 0 },
+    )?;
+    reads(
+        &rt,
+        rt.alloc(),
+        usual()?,
+        &[],
+        &[],
+        Ending::Whole { unanswered: 0 },
+    )?;
+    reads(
+        &rt,
+        rt.alloc(),
+        usual()?,
+        &[(Side::Client, CONNECT)],
+        &["C connect"],
+        Ending::Whole { unanswered: 1 },
+    )?;
+    reads(
+        &rt,
+        rt.alloc(),
+        usual()?,
+        &[(Side::Client, b"\0\0\0")],
+        &[],
+        Ending::Cut {
+            side: Side::Client,
+            frame: 0,
+            got: 3,
+        },
+    )?;
+    reads(
+        &rt,
+        rt.alloc(),
+        usual()?,
+        &[(Side::Client, b"\0\0\0\0")],
+        &[],
+        refused(Side::Client, 0, 4, 0, Reason::Short),
+    )?;
+    reads(
+        &rt,
+        rt.alloc(),
+        usual()?,
+        &[(Side::Client, b"ruok")],
+        &[],
+        refused(Side::Client, 0, 4, 0, Reason::LengthRange),
+    )?;
+    Ok(())
+}
+
+#[test]
+fn limits_of_frames(rt: HostRuntime) -> Result<(), Fail> {
+    reads(
+        &rt,
+        rt.alloc(),
+        limits(64, 65_536)?,
+        &[
+            (Side::Client, CONNECT),
+            (Side::Server, CONNECTED),
+            (
+                Side::Client,
+                b"\0\0\0@\0\0\0\x01\0\0\0\x03\0\0\03/aaaaaaaaaaaaaaaaaaaaaaaaaaaaaaaaaaaaaaaaaaaaaaaaaa\x01",
+            ),
+        ],
+        &["C connect", "S connect", "C 1 exists"],
+        Ending::Whole { unanswered: 1 },
+    )?;
+    reads(
+        &rt,
+        rt.alloc(),
+        limits(64, 65_536)?,
+        &[
+            (Side::Client, CONNECT),
+            (Side::Server, CONNECTED),
+            (Side::Client, b"\0\0\0A"),
+        ],
+        &["C connect", "S connect"],
+        refused(Side::Client, 1, 53, 0, Reason::LengthRange),
+    )?;
+    reads(
+        &rt,
+        rt.alloc(),
+        limits(64, 65_536)?,
+        &[
+            (Side::Client, CONNECT),
+            (Side::Server, CONNECTED),
+            (Side::Client, b"\xff\xff\xff\xff"),
+        ],
+        &["C connect", "S connect"],
+        refused(Side::Client, 1, 53, 0, Reason::LengthRange),
+    )?;
+    reads(
+        &rt,
+        rt.alloc(),
+        usual()?,
+        &[
+            (Side::Client, CONNECT),
+            (Side::Server, CONNECTED),
+            (
+                Side::Client,
+                b"\0\0\0\x0f\0\0\0\x01\0\0\0\x04\0\0\0\x02/a\0",
+            ),
+            (Side::Server, b"\0@\0\x01"),
+        ],
+        &["C connect", "S connect", "C 1 getData"],
+        refused(Side::Server, 1, 45, 0, Reason::LengthRange),
+    )?;
+    Ok(())
+}
+
+#[test]
+fn limits_of_waiting(rt: HostRuntime) -> Result<(), Fail> {
+    reads(
+        &rt,
+        rt.alloc(),
+        limits(4_194_304, 1)?,
+        &[
+            (Side::Client, CONNECT),
+            (Side::Server, CONNECTED),
+            (Side::Client, EXISTS),
+            (Side::Client, EXISTS),
+        ],
+        &["C connect", "S connect", "C 1 exists"],
+        refused(Side::Client, 2, 87, 0, Reason::QueueFull),
+    )?;
+    reads(
+        &rt,
+        rt.alloc(),
+        limits(4_194_304, 1)?,
+        &[
+            (Side::Client, CONNECT),
+            (Side::Server, CONNECTED),
+            (Side::Client, EXISTS),
+            (Side::Server, NO_NODE),
+            (Side::Client, EXISTS),
+            (Side::Server, NO_NODE),
+        ],
+        &[
+            "C connect",
+            "S connect",
+            "C 1 exists",
+            "S 1 exists",
+            "C 1 exists",
+            "S 1 exists",
+        ],
+        Ending::Whole { unanswered: 0 },
+    )?;
+    reads(
+        &rt,
+        rt.alloc(),
+        limits(4_194_304, 4)?,
+        &[
+            (Side::Client, CONNECT),
+            (Side::Server, CONNECTED),
+            (
+                Side::Client,
+                b"\0\0\0n\0\0\0\x01\0\0\0\x0e\0\0\0\x01\0\xff\xff\xff\xff\0\0\0\x02/a\0\0\0\0\0\0\0\x01\0\0\0\x1f\0\0\0\x05world\0\0\0\x06anyone\0\0\0\0\0\0\0\x0d\0\xff\xff\xff\xff\0\0\0\x02/a\0\0\0\x03\0\0\0\x05\0\xff\xff\xff\xff\0\0\0\x02/a\0\0\0\x01a\0\0\0\x03\xff\xff\xff\xff\x01\xff\xff\xff\xff",
+            ),
+        ],
+        &["C connect", "S connect", "C 1 multi"],
+        Ending::Whole { unanswered: 1 },
+    )?;
+    reads(
+        &rt,
+        rt.alloc(),
+        limits(4_194_304, 3)?,
+        &[
+            (Side::Client, CONNECT),
+            (Side::Server, CONNECTED),
+            (
+                Side::Client,
+                b"\0\0\0n\0\0\0\x01\0\0\0\x0e\0\0\0\x01\0\xff\xff\xff\xff\0\0\0\x02/a\0\0\0\0\0\0\0\x01\0\0\0\x1f\0\0\0\x05world\0\0\0\x06anyone\0\0\0\0\0\0\0\x0d\0\xff\xff\xff\xff\0\0\0\x02/a\0\0\0\x03\0\0\0\x05\0\xff\xff\xff\xff\0\0\0\x02/a\0\0\0\x01a\0\0\0\x03\xff\xff\xff\xff\x01\xff\xff\xff\xff",
+            ),
+        ],
+        &["C connect", "S connect"],
+        refused(Side::Client, 1, 163, 0, Reason::QueueFull),
+    )?;
+    Ok(())
+}
+
+/// One byte a piece: a request and two replies turn about.
+#[test]
+fn bytes_in_turn(rt: HostRuntime) -> Result<(), Fail> {
+    let mut answers = Vec::new(rt.alloc());
+    answers.extend_from_slice(CONNECTED)?;
+    answers.extend_from_slice(NO_NODE)?;
+    let mut pieces: Vec<(Side, &[u8])> = Vec::new(rt.alloc());
+    for byte in CONNECT.chunks(1) {
+        pieces.push((Side::Client, byte))?;
+    }
+    for (asked, answered) in EXISTS.chunks(1).zip(answers.chunks(1)) {
+        pieces.push((Side::Client, asked))?;
+        pieces.push((Side::Server, answered))?;
+    }
+    for byte in answers[EXISTS.len()..].chunks(1) {
+        pieces.push((Side::Server, byte))?;
+    }
+    let labels = ["C connect", "C 1 exists", "S connect", "S 1 exists"];
+    let whole = Ending::Whole { unanswered: 0 };
+    reads(&rt, rt.alloc(), usual()?, &pieces, &labels, whole)
+}
+
+/// What is held, and what waits, within a request and behind it.
+#[test]
+fn held_and_waiting(rt: HostRuntime) -> Result<(), Fail> {
+    let mut talk = Talk::new(rt.alloc(), usual()?);
+    talk.take(Side::Client, CONNECT)?;
+    let cut = EXISTS.len() - 1;
+    let taken = talk.take(Side::Client, &EXISTS[..cut])?;
+    assert_eq!(&rt; taken.used, cut);
+    assert!(&rt; taken.message.is_none());
+    assert_eq!(&rt; talk.held(Side::Client), 18);
+    assert_eq!(&rt; talk.held(Side::Server), 0);
+    assert_eq!(&rt; talk.waiting(), 0);
+    let taken = talk.take(Side::Client, &EXISTS[cut..])?;
+    assert!(&rt; taken.message.is_some());
+    assert_eq!(&rt; talk.held(Side::Client), 0);
+    assert_eq!(&rt; talk.held(Side::Server), 0);
+    assert_eq!(&rt; talk.waiting(), 1);
+    Ok(())
+}
+
+/// A fault is answered for good, and no byte is used.
+#[test]
+fn fault_is_kept(rt: HostRuntime) -> Result<(), Fail> {
+    let mut talk = Talk::new(rt.alloc(), usual()?);
+    talk.take(Side::Client, CONNECT)?;
+    talk.take(Side::Server, CONNECTED)?;
+    talk.take(Side::Client, EXISTS)?;
+    let early = b"\0\0\0\x10\0\0\0\x02\0\0\0\0\0\0\0\x05\xff\xff\xff\x9b";
+    let Err(fault) = talk.take(Side::Server, early) else {
+        return Err("taken")?;
+    };
+    assert_eq!(&rt;
+        fault.reason,
+        Reason::XidOrder {
+            expected: 1,
+            got: 2
+        }
+    );
+    for (side, piece) in [
+        (Side::Client, b"".as_slice()),
+        (Side::Server, b"".as_slice()),
+        (Side::Client, b"\0".as_slice()),
+        (Side::Server, b"\0".as_slice()),
+    ] {
+        assert_eq!(&rt; talk.take(side, piece).err(), Some(fault));
+    }
+    assert_eq!(&rt; talk.finish(), Ending::Refused(fault));
+    Ok(())
+}
