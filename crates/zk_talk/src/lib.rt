@@ -25,4 +25,6 @@ mod refusal_tests;
 #[cfg(test)]
 mod reply_tests;
 #[cfg(test)]
+mod speaker_tests;
+#[cfg(test)]
 mod tests;
