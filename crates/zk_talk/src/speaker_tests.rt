@@ -72,33 +72,65 @@ fn no_node(xid: i32, op: Op) -> Result<Message, Fail> {
 fn begun(alloc: Global, client: u32, waiting: u32) -> Result<Speaker, Fail> {
     let limits = Limits::new(client, 4_194_304, waiting).ok_or("no limits")?;
     let mut speaker = Speaker::new(alloc, limits);
-    let mut out = Vec::new(alloc);
-    said(&mut speaker, &connect(), &mut out)?;
-    said(&mut speaker, &connected(), &mut out)?;
+    begin(alloc, &mut speaker)?;
     Ok(speaker)
 }
 
-fn said(speaker: &mut Speaker, message: &Message, out: &mut Vec<u8>) -> Result<(), Fail> {
-    match speaker.say(message, out) {
+fn begin(alloc: Global, speaker: &mut Speaker) -> Result<(), Fail> {
+    let mut out = Vec::new(alloc);
+    said(speaker, connect(), &mut out)?;
+    said(speaker, connected(), &mut out)
+}
+
+/// The message is said.
+fn said(speaker: &mut Speaker, message: Message, out: &mut Vec<u8>) -> Result<(), Fail> {
+    match speaker.say(&message, out) {
         Ok(()) => Ok(()),
         Err(fault) => Err(say_name(&fault))?,
     }
+}
+
+/// What the message is refused for; the output is as before.
+fn refusal(alloc: Global, speaker: &mut Speaker, message: Message) -> Option<SayFault> {
+    let mut out = Vec::new(alloc);
+    speaker.say(&message, &mut out).err()
 }
 
 #[test]
 fn connect_comes_first(rt: HostRuntime) -> Result<(), Fail> {
     let limits = Limits::new(4_194_304, 4_194_304, 65_536).ok_or("no limits")?;
     let mut speaker = Speaker::new(rt.alloc(), limits);
-    let mut out = Vec::new(rt.alloc());
-    let path = exists(rt.alloc(), 1, "/a")?;
-    assert_eq!(rt; speaker.say(&path, &mut out), Err(SayFault::NotFirst));
-    assert_eq!(rt; speaker.say(&connected(), &mut out), Err(SayFault::Unasked));
+    let early = refusal(rt.alloc(), &mut speaker, ping(-2));
+    assert_eq!(rt; early, Some(SayFault::NotFirst));
+    let unasked = refusal(rt.alloc(), &mut speaker, connected());
+    assert_eq!(rt; unasked, Some(SayFault::Unasked));
     assert_eq!(rt; speaker.unanswered(), 0);
-    said(&mut speaker, &connect(), &mut out)?;
+    Ok(())
+}
+
+#[test]
+fn connect_comes_once(rt: HostRuntime) -> Result<(), Fail> {
+    let limits = Limits::new(4_194_304, 4_194_304, 65_536).ok_or("no limits")?;
+    let mut speaker = Speaker::new(rt.alloc(), limits);
+    let mut out = Vec::new(rt.alloc());
+    said(&mut speaker, connect(), &mut out)?;
     assert_eq!(rt; speaker.unanswered(), 1);
-    assert_eq!(rt; speaker.say(&connect(), &mut out), Err(SayFault::NotFirst));
-    assert_eq!(rt; speaker.say(&event(), &mut out), Err(SayFault::NotFirst));
     assert_eq!(rt; out.len(), 32);
+    let again = refusal(rt.alloc(), &mut speaker, connect());
+    assert_eq!(rt; again, Some(SayFault::NotFirst));
+    let early = refusal(rt.alloc(), &mut speaker, event());
+    assert_eq!(rt; early, Some(SayFault::NotFirst));
+    Ok(())
+}
+
+/// The first request has to wait for the connect request.
+#[test]
+fn requests_come_later(rt: HostRuntime) -> Result<(), Fail> {
+    let limits = Limits::new(4_194_304, 4_194_304, 65_536).ok_or("no limits")?;
+    let mut speaker = Speaker::new(rt.alloc(), limits);
+    let request = exists(rt.alloc(), 1, "/a")?;
+    let early = refusal(rt.alloc(), &mut speaker, request);
+    assert_eq!(rt; early, Some(SayFault::NotFirst));
     Ok(())
 }
 
@@ -107,12 +139,12 @@ fn replies_fit_their_requests(rt: HostRuntime) -> Result<(), Fail> {
     let mut speaker = begun(rt.alloc(), 4_194_304, 65_536)?;
     let mut out = Vec::new(rt.alloc());
     assert_eq!(rt; speaker.say(&ping(1), &mut out), Err(SayFault::Misfit));
-    said(&mut speaker, &exists(rt.alloc(), 1, "/a")?, &mut out)?;
+    said(&mut speaker, exists(rt.alloc(), 1, "/a")?, &mut out)?;
     assert_eq!(rt;
         out.as_slice(),
         b"\0\0\0\x0f\0\0\0\x01\0\0\0\x03\0\0\0\x02/a\x01".as_slice()
     );
-    said(&mut speaker, &exists(rt.alloc(), 2, "/a")?, &mut out)?;
+    said(&mut speaker, exists(rt.alloc(), 2, "/a")?, &mut out)?;
     let order = SayFault::XidOrder {
         expected: 1,
         got: 2,
@@ -124,7 +156,7 @@ fn replies_fit_their_requests(rt: HostRuntime) -> Result<(), Fail> {
     let event = no_node(-1, Op::Exists)?;
     assert_eq!(rt; speaker.say(&event, &mut out), Err(SayFault::Misfit));
     assert_eq!(rt; speaker.unanswered(), 2);
-    said(&mut speaker, &no_node(1, Op::Exists)?, &mut out)?;
+    said(&mut speaker, no_node(1, Op::Exists)?, &mut out)?;
     said_is_read();
     read_is_said();
     Ok(())
@@ -150,9 +182,9 @@ fn payloads_within_the_limit(rt: HostRuntime) -> Result<(), Fail> {
 fn requests_within_the_weight(rt: HostRuntime) -> Result<(), Fail> {
     let mut speaker = begun(rt.alloc(), 4_194_304, 1)?;
     let mut out = Vec::new(rt.alloc());
-    said(&mut speaker, &exists(rt.alloc(), 1, "/a")?, &mut out)?;
+    said(&mut speaker, exists(rt.alloc(), 1, "/a")?, &mut out)?;
     let second = exists(rt.alloc(), 2, "/a")?;
     assert_eq!(rt; speaker.say(&second, &mut out), Err(SayFault::QueueFull));
-    said(&mut speaker, &no_node(1, Op::Exists)?, &mut out)?;
-    said(&mut speaker, &second, &mut out)
+    said(&mut speaker, no_node(1, Op::Exists)?, &mut out)?;
+    said(&mut speaker, second, &mut out)
 }

@@ -296,52 +296,74 @@ fn bytes_in_turn(rt: HostRuntime) -> Result<(), Fail> {
     reads(&rt, rt.alloc(), usual()?, &pieces, &labels, whole)
 }
 
+/// How much of the piece is used, and whether a message came.
+fn takes(talk: &mut Talk, side: Side, piece: &[u8]) -> Option<(usize, bool)> {
+    match talk.take(side, piece) {
+        Ok(taken) => Some((taken.used, taken.message.is_some())),
+        Err(_) => None,
+    }
+}
+
+/// How much is held of each side, and what waits.
+fn holds(talk: &Talk) -> (u32, u32, u32) {
+    (
+        talk.held(Side::Client),
+        talk.held(Side::Server),
+        talk.waiting(),
+    )
+}
+
 /// What is held, and what waits, within a request and behind it.
 #[test]
 fn held_and_waiting(rt: HostRuntime) -> Result<(), Fail> {
     let mut talk = Talk::new(rt.alloc(), usual()?);
-    talk.take(Side::Client, CONNECT)?;
-    let cut = EXISTS.len() - 1;
-    let taken = talk.take(Side::Client, &EXISTS[..cut])?;
-    assert_eq!(&rt; taken.used, cut);
-    assert!(&rt; taken.message.is_none());
-    assert_eq!(&rt; talk.held(Side::Client), 18);
-    assert_eq!(&rt; talk.held(Side::Server), 0);
-    assert_eq!(&rt; talk.waiting(), 0);
-    let taken = talk.take(Side::Client, &EXISTS[cut..])?;
-    assert!(&rt; taken.message.is_some());
-    assert_eq!(&rt; talk.held(Side::Client), 0);
-    assert_eq!(&rt; talk.held(Side::Server), 0);
-    assert_eq!(&rt; talk.waiting(), 1);
+    let connected = takes(&mut talk, Side::Client, CONNECT);
+    assert_eq!(&rt; connected, Some((CONNECT.len(), true)));
+    let within = takes(&mut talk, Side::Client, &EXISTS[..18]);
+    assert_eq!(&rt; within, Some((18, false)));
+    assert_eq!(&rt; holds(&talk), (18, 0, 0));
+    let whole = takes(&mut talk, Side::Client, &EXISTS[18..]);
+    assert_eq!(&rt; whole, Some((1, true)));
+    assert_eq!(&rt; holds(&talk), (0, 0, 1));
     Ok(())
+}
+
+/// What a piece is refused for.
+fn fault_of(talk: &mut Talk, side: Side, piece: &[u8]) -> Option<Fault> {
+    match talk.take(side, piece) {
+        Ok(_) => None,
+        Err(fault) => Some(fault),
+    }
+}
+
+/// A talk that has read both connect messages and a request.
+fn asked(alloc: Global) -> Result<Talk, Fail> {
+    let mut talk = Talk::new(alloc, usual()?);
+    takes(&mut talk, Side::Client, CONNECT);
+    takes(&mut talk, Side::Server, CONNECTED);
+    takes(&mut talk, Side::Client, EXISTS);
+    Ok(talk)
 }
 
 /// A fault is answered for good, and no byte is used.
 #[test]
 fn fault_is_kept(rt: HostRuntime) -> Result<(), Fail> {
-    let mut talk = Talk::new(rt.alloc(), usual()?);
-    talk.take(Side::Client, CONNECT)?;
-    talk.take(Side::Server, CONNECTED)?;
-    talk.take(Side::Client, EXISTS)?;
+    let mut talk = asked(rt.alloc())?;
     let early = b"\0\0\0\x10\0\0\0\x02\0\0\0\0\0\0\0\x05\xff\xff\xff\x9b";
-    let Err(fault) = talk.take(Side::Server, early) else {
-        return Err("taken")?;
-    };
-    assert_eq!(&rt;
-        fault.reason,
-        Reason::XidOrder {
+    let kept = Some(Fault {
+        side: Side::Server,
+        frame: 1,
+        offset: 61,
+        place: 0,
+        reason: Reason::XidOrder {
             expected: 1,
-            got: 2
-        }
-    );
-    for (side, piece) in [
-        (Side::Client, b"".as_slice()),
-        (Side::Server, b"".as_slice()),
-        (Side::Client, b"\0".as_slice()),
-        (Side::Server, b"\0".as_slice()),
-    ] {
-        assert_eq!(&rt; talk.take(side, piece).err(), Some(fault));
-    }
-    assert_eq!(&rt; talk.finish(), Ending::Refused(fault));
+            got: 2,
+        },
+    });
+    assert_eq!(&rt; fault_of(&mut talk, Side::Server, early), kept);
+    assert_eq!(&rt; fault_of(&mut talk, Side::Client, b""), kept);
+    assert_eq!(&rt; fault_of(&mut talk, Side::Server, b""), kept);
+    assert_eq!(&rt; fault_of(&mut talk, Side::Client, b"\0"), kept);
+    assert_eq!(&rt; fault_of(&mut talk, Side::Server, b"\0"), kept);
     Ok(())
 }
