@@ -35,22 +35,28 @@ S 1 exists zxid=5 err=-101/NONODE
 
 const USAGE: &str = "usage: zkdump show|check|build [--limit N] [--waiting N]\n";
 
+fn put_pieces(recording: &mut Vec<u8>, pieces: &[(u8, &[u8])]) -> Result<(), AllocError> {
+    for (side, bytes) in pieces {
+        let size = u32::try_from(bytes.len()).unwrap_or(u32::MAX);
+        recording.push(*side)?;
+        recording.extend_from_slice(&size.to_be_bytes())?;
+        recording.extend_from_slice(bytes)?;
+    }
+    Ok(())
+}
+
 /// A recording of these pieces.
 fn recorded(alloc: Global, pieces: &[(u8, &[u8])]) -> Result<Vec<u8>, AllocError> {
     let mut recording = Vec::from_slice(alloc, b"ZKR1")?;
-    for (side, bytes) in pieces {
-        recording.push(*side)?;
-        recording.extend_from_slice(&(bytes.len() as u32).to_be_bytes())?;
-        recording.extend_from_slice(bytes)?;
-    }
+    put_pieces(&mut recording, pieces)?;
     Ok(recording)
 }
 
 /// The pieces of a conversation that begins with both connect frames.
 fn connected(alloc: Global, pieces: &[(u8, &[u8])]) -> Result<Vec<u8>, AllocError> {
-    let mut recording = recorded(alloc, &[(b'C', &CONNECT), (b'S', &CONNECTED)])?;
-    let more = recorded(alloc, pieces)?;
-    recording.extend_from_slice(&more[4..])?;
+    let mut recording = Vec::from_slice(alloc, b"ZKR1")?;
+    put_pieces(&mut recording, &[(b'C', &CONNECT), (b'S', &CONNECTED)])?;
+    put_pieces(&mut recording, pieces)?;
     Ok(recording)
 }
 
