@@ -15,3 +15,4 @@ pub mod Advance
 pub mod Taking
 pub mod Answer
 pub mod Said
+pub mod SayNames

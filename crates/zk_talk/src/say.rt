@@ -9,6 +9,7 @@ ghost use Rattle.zk_talk.specs.declared.say.SayFault.TheVariants.{NoMemory};
 ghost use Rattle.zk_talk.specs.Payloads.{client_payload, server_payload};
 ghost use Rattle.zk_talk.specs.Conversation.{Conversation, with_client, with_server};
 ghost use Rattle.zk_talk.specs.Judged.{IsRemembered};
+ghost use Rattle.zk_talk.specs.SayNames as names;
 ghost use Rattle.zk_talk.specs.Said.{Heard, IsClientRefusal, IsServerRefusal, IsUnwritten, IsUnput, FitsNext, IsUnfit, MayAnswer, CannotAnswer, IsSaidClient, IsSaidServer};
 
 use crate::judge::{forget, remember};
@@ -39,7 +40,9 @@ pub enum SayFault {
 }
 
 /// The name of a fault.
-pub fn say_name(fault: &SayFault) -> &'static str {
+pub fn say_name(fault: &SayFault) -> &'static str
+    ensures { result.now ≡ names.say_name fault.now }
+{
     match fault {
         SayFault::NotFirst => "NotFirst",
         SayFault::Unasked => "Unasked",
