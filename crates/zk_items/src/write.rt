@@ -14,6 +14,7 @@ use std::alloc::AllocError;
 use zk_jute::{Blob, Text};
 
 /// Appends a fixed word.
+#[inline(always)]
 pub fn put_word(out: &mut Vec<u8>, word: Word) -> Result<(), AllocError>
     ensures { OnOk result (out.new.items ≡ out.old.items ++ word_of word) }
 {
