@@ -15,7 +15,7 @@ mod talk;
 pub use limits::Limits;
 pub use message::{Ended, Ending, Fault, Message, Side};
 pub use read::read_all;
-pub use round::{read_is_said, said_is_read};
+pub use round::{order_is_said, read_is_said, said_is_read, say_laws};
 pub use say::{SayFault, say_name};
 pub use speaker::Speaker;
 pub use talk::{Taken, Talk};
