@@ -5,3 +5,4 @@ pub mod Named
 pub mod Asks
 pub mod Answers
 pub mod Lines
+pub mod LawsHeld
