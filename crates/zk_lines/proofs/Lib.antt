@@ -6,3 +6,4 @@ pub mod Asks
 pub mod Answers
 pub mod Lines
 pub mod LawsHeld
+pub mod LawsShown
