@@ -5,3 +5,5 @@ pub mod Named
 pub mod Asks
 pub mod Answers
 pub mod Lines
+pub mod LawsHeld
+pub mod LawsShown
