@@ -15,6 +15,7 @@ pub mod Talks
 pub mod Headline
 pub mod FaultOnce
 pub mod OrderOnce
+pub mod FirstMessages
 pub mod Start
 pub mod Endings
 pub mod Feeding
