@@ -17,6 +17,7 @@ pub mod FaultOnce
 pub mod Exclusions
 pub mod OrderOnce
 pub mod Replays
+pub mod FirstMessages
 pub mod Start
 pub mod Endings
 pub mod Feeding

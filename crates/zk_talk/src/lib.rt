@@ -2,6 +2,7 @@
 #![tactic(auto)]
 
 mod frame;
+mod fronts;
 mod judge;
 mod limits;
 mod message;
@@ -12,6 +13,7 @@ mod speaker;
 mod stream;
 mod talk;
 
+pub use fronts::front_comes_first;
 pub use limits::Limits;
 pub use message::{Ended, Ending, Fault, Message, Side};
 pub use read::read_all;
