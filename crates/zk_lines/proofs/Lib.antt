@@ -6,4 +6,6 @@ pub mod Asks
 pub mod Answers
 pub mod Lines
 pub mod LawsHeld
+pub mod LawsPrinted
 pub mod LawsShown
+pub mod LawsEndings

@@ -1,5 +1,6 @@
 use Rattle.zk_lines.specs.Endings.{ending_text}
-use Rattle.zk_lines.proofs.LawsShown.{ending_printed, ending_dotted, in_range, unbroken}
+use Rattle.zk_lines.proofs.LawsPrinted.{in_range, unbroken}
+use Rattle.zk_lines.proofs.LawsEndings.{ending_printed, ending_dotted}
 use Rattle.zk_lines.proofs.laws.ending_laws.Goals as goal
 
 pub returns-clause-dotted : goal.returns-clause-dotted

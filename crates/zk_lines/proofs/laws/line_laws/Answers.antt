@@ -1,7 +1,8 @@
 use Rattle.zk_lines.specs.Lines.{line}
 use Rattle.zk_lines.proofs.Lines.{line_apart}
 use Rattle.zk_lines.proofs.LawsHeld.{said_held}
-use Rattle.zk_lines.proofs.LawsShown.{line_printed, line_lettered, in_range, unbroken}
+use Rattle.zk_lines.proofs.LawsPrinted.{in_range, unbroken}
+use Rattle.zk_lines.proofs.LawsShown.{line_printed, line_lettered}
 use Rattle.zk_lines.proofs.laws.line_laws.Goals as goal
 
 pub returns-clause-different : goal.returns-clause-different
