@@ -5,3 +5,7 @@ pub mod Named
 pub mod Asks
 pub mod Answers
 pub mod Lines
+pub mod LawsHeld
+pub mod LawsPrinted
+pub mod LawsShown
+pub mod LawsEndings

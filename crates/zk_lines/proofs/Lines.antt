@@ -151,6 +151,10 @@ line_again : (m : Message) → Fits m → message_at (line m) ≡ Some m
 line_again (message.Client f) fit = client_again f fit
 line_again (message.Server f) fit = server_again f fit
 
+-- a line is that of one message
+pub line_apart : (m n : Message) → Fits m → Fits n → line m ≡ line n → m ≡ n
+line_apart m n held other e = let k : Some m ≡ Some n = sym (line_again m held) ∙ ap message_at e ∙ line_again n other in cc
+
 said_some : {X : Type 0} (side : X → Message) (o : Option X) (m : Message) → said side o ≡ Some m → (x : X) × (o ≡ Some x) × (side x ≡ m)
 said_some side o m e =
     let b = bind_some o (λ f. Some (side f)) m e in

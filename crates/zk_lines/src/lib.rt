@@ -5,6 +5,7 @@ mod answer;
 mod ask;
 mod ending;
 mod item;
+mod laws;
 mod line;
 mod list;
 mod name;
@@ -12,6 +13,7 @@ mod record;
 mod request;
 
 pub use ending::ending_line;
+pub use laws::{ending_laws, line_laws};
 pub use line::{line_of, read_line};
 pub use zk_items::{LineFault, LineReason, line_reason_name};
 

@@ -117,6 +117,8 @@ fn endings(rt: HostRuntime) -> Result<(), Fail> {
             line.as_bytes()
         );
     }
+    line_laws();
+    ending_laws();
     assert_eq!(rt; line_reason_name(&LineReason::Ending), "Ending");
     Ok(())
 }

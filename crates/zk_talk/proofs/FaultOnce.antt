@@ -93,7 +93,7 @@ client_once limits v p m n r s (queue_full f g later sent q l i j) (ask_fault e 
 client_once limits v p m n r s (queue_full f g later sent q l i j) (queue_full f' g' later' sent' q' l' i' j') = (i ∙ sym i', j ∙ sym j')
 
 -- the next ask of a lane is one
-next_once : (v : Conversation) (lane other : Lane) (a b : ℤ) (x y : Asked) → lane ≡ other → IsNext v lane a x → IsNext v other b y → (a ≡ b) × (x ≡ y)
+pub next_once : (v : Conversation) (lane other : Lane) (a b : ℤ) (x y : Asked) → lane ≡ other → IsNext v lane a x → IsNext v other b y → (a ≡ b) × (x ≡ y)
 next_once v lane other a b x y e n k =
     let k' = subst (λ z. IsNext v z b y) (sym e) k in
     let s = nth_passing (is_ask_on lane) n.asked (Ask a x) n.after k'.asked (Ask b y) k'.after (sym n.stands ∙ k'.stands)
@@ -101,7 +101,7 @@ next_once v lane other a b x y e n k =
     let t = s.1 in
     (cc, cc)
 
-next_exists : (v : Conversation) (lane other : Lane) (a : ℤ) (x : Asked) → lane ≡ other → IsNext v lane a x → asks_on other v.client ≤ replies_on other v.server → ⊥
+pub next_exists : (v : Conversation) (lane other : Lane) (a : ℤ) (x : Asked) → lane ≡ other → IsNext v lane a x → asks_on other v.client ≤ replies_on other v.server → ⊥
 next_exists v lane other a x e n few =
     let few' = subst (λ z. asks_on z v.client ≤ replies_on z v.server) (sym e) few in
     omega (arith, few', n.counts, ap (asks_on lane) n.stands, count_split (is_ask_on lane) n.asked (Ask a x) n.after (ap (same_lane lane) n.same_lane ∙ same_lane-itself lane))

@@ -14,7 +14,10 @@ pub mod Standing
 pub mod Talks
 pub mod Headline
 pub mod FaultOnce
+pub mod Exclusions
 pub mod OrderOnce
+pub mod Replays
+pub mod FirstMessages
 pub mod Start
 pub mod Endings
 pub mod Feeding

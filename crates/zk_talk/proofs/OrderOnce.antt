@@ -92,7 +92,12 @@ grows limits small g Server b C S C₀ S₀ w w₀ =
         let p = same_cut limits.server _ _ _ _ _ small.1 cut w₀.2.server_cut in
         one_more (omega (arith, clients_same, length-map S server_payload, ap length e, length_push Q q, ap length p.0, length-map S₀ server_payload))
 
-module _ (limits : Limits) (small : AreSmall limits) (h : History) (v : Conversation) (M N : List Message) (a : IsOrder limits h v M) (b : IsOrder limits h v N) where
+-- in each front the messages come first whose frames are whole in it
+abbrev pub ComeFirst : Limits → History → List Message → Type 0
+ComeFirst limits h M = (front rest : History) → h ≡ front ++ rest → (first more : List Message) × (M ≡ first ++ more) × AreWholeIn limits front (clients first) (servers first)
+
+-- two lists of messages that come first, of which the first may have more frames
+module _ (limits : Limits) (small : AreSmall limits) (h : History) (M N : List Message) (a : ComeFirst limits h M) (b : ComeFirst limits h N) (C : List ClientFrame) (S : List ServerFrame) (all_clients : clients M ≡ clients N ++ C) (all_servers : servers M ≡ servers N ++ S) where
   abbrev Agree : History → Type 0
   Agree g = (x : WholeFront limits M g) (y : WholeFront limits N g) → x.first ≡ y.first
 
@@ -101,19 +106,21 @@ module _ (limits : Limits) (small : AreSmall limits) (h : History) (v : Conversa
   same_whole_fronts g x y =
       let s = same_whole limits small g _ _ _ _ _ _ _ _ x.whole.2 y.whole.2 in
       let lc = sym (length-map (clients x.first) client_payload) ∙ ap length s.0 ∙ length-map (clients y.first) client_payload in
-      let ls = sym (length-map (servers x.first) server_payload) ∙ ap length s.1 ∙ length-map (servers y.first) server_payload in (
-        same_front (clients x.first) (clients x.more) (clients y.first) (clients y.more) (sym (clients-append x.first x.more) ∙ sym (ap clients x.is) ∙ a.client ∙ sym b.client ∙ ap clients y.is ∙ clients-append y.first y.more) lc,
-        same_front (servers x.first) (servers x.more) (servers y.first) (servers y.more) (sym (servers-append x.first x.more) ∙ sym (ap servers x.is) ∙ a.server ∙ sym b.server ∙ ap servers y.is ∙ servers-append y.first y.more) ls,
+      let ls = sym (length-map (servers x.first) server_payload) ∙ ap length s.1 ∙ length-map (servers y.first) server_payload in
+      let mc = ap (λ z. clients z ++ C) y.is ∙ ap (λ z. z ++ C) (clients-append y.first y.more) ∙ append_assoc (clients y.first) (clients y.more) C in
+      let ms = ap (λ z. servers z ++ S) y.is ∙ ap (λ z. z ++ S) (servers-append y.first y.more) ∙ append_assoc (servers y.first) (servers y.more) S in (
+        same_front (clients x.first) (clients x.more) (clients y.first) (clients y.more ++ C) (sym (clients-append x.first x.more) ∙ sym (ap clients x.is) ∙ all_clients ∙ mc) lc,
+        same_front (servers x.first) (servers x.more) (servers y.first) (servers y.more ++ S) (sym (servers-append x.first x.more) ∙ sym (ap servers x.is) ∙ all_servers ∙ ms) ls,
       )
 
   step : (g : History) (x : Side × ℕ) (r : History) → h ≡ g ++ x ∷ r → Agree g → Agree (g ++ x ∷ [])
   step g x r e agree p q = go (grows limits small g x.0 x.1 (clients p.first) (servers p.first) (clients p₀.first) (servers p₀.first) p.whole p₀.whole)
     where
       p₀ : WholeFront limits M g
-      p₀ = let w = a.fronts g (x ∷ r) e in record { first = w.0; more = w.1; is = w.2; whole = w.3 }
+      p₀ = let w = a g (x ∷ r) e in record { first = w.0; more = w.1; is = w.2; whole = w.3 }
 
       q₀ : WholeFront limits N g
-      q₀ = let w = b.fronts g (x ∷ r) e in record { first = w.0; more = w.1; is = w.2; whole = w.3 }
+      q₀ = let w = b g (x ∷ r) e in record { first = w.0; more = w.1; is = w.2; whole = w.3 }
 
       sides : (clients p.first ≡ clients q.first) × (servers p.first ≡ servers q.first)
       sides = same_whole_fronts (g ++ x ∷ []) p q
@@ -155,8 +162,18 @@ module _ (limits : Limits) (small : AreSmall limits) (h : History) (v : Conversa
   along g [] e agree = subst Agree (sym (append-nil g) ∙ sym e) agree
   along g (x ∷ r) e agree = along (g ++ x ∷ []) r (e ∙ sym (append_assoc g (x ∷ []) r)) (step g x r e agree)
 
-  pub order_once : (cb sb : List ℕ) → IsWhole limits h v.client v.server cb sb → M ≡ N
-  order_once cb sb w =
+  -- what is whole of the first is all of the second, where that is whole
+  pub same_first : (first more : List Message) → M ≡ first ++ more → AreWholeIn limits h (clients first) (servers first) → AreWholeIn limits h (clients N) (servers N) → first ≡ N
+  same_first first more e w z =
       along [] h refl at_start
-      (record { first = M; more = []; is = sym (append-nil M); whole = (cb, sb, subst (λ z. IsWhole limits h z (servers M) cb sb) (sym a.client) (subst (λ z. IsWhole limits h v.client z cb sb) (sym a.server) w)) })
-      (record { first = N; more = []; is = sym (append-nil N); whole = (cb, sb, subst (λ z. IsWhole limits h z (servers N) cb sb) (sym b.client) (subst (λ z. IsWhole limits h v.client z cb sb) (sym b.server) w)) })
+      (record { first = first; more = more; is = e; whole = w })
+      (record { first = N; more = []; is = sym (append-nil N); whole = z })
+
+-- the frames of an order, whole in its history
+pub order_whole : (limits : Limits) (h : History) (v : Conversation) (M : List Message) → IsOrder limits h v M → (cb sb : List ℕ) → IsWhole limits h v.client v.server cb sb → AreWholeIn limits h (clients M) (servers M)
+order_whole limits h v M a cb sb w = (cb, sb, subst (λ z. IsWhole limits h z (servers M) cb sb) (sym a.client) (subst (λ z. IsWhole limits h v.client z cb sb) (sym a.server) w))
+
+pub order_once : (limits : Limits) → AreSmall limits → (h : History) (v : Conversation) (M N : List Message) → IsOrder limits h v M → IsOrder limits h v N → (cb sb : List ℕ) → IsWhole limits h v.client v.server cb sb → M ≡ N
+order_once limits small h v M N a b cb sb w =
+    same_first limits small h M N a.fronts b.fronts [] [] (a.client ∙ sym b.client ∙ sym (append-nil (clients N))) (a.server ∙ sym b.server ∙ sym (append-nil (servers N)))
+    M [] (sym (append-nil M)) (order_whole limits h v M a cb sb w) (order_whole limits h v N b cb sb w)

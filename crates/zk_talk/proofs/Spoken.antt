@@ -116,7 +116,7 @@ spoken_from limits before (m ∷ more) r may z =
     subst (Spoken limits) all
     (spoken_from limits (before ++ m ∷ []) more next (λ a x b e. subst (λ y. MaySay limits y x) (sym (append_assoc before (m ∷ []) a)) (may (m ∷ a) x b (ap (λ y. m ∷ y) e))) z')
 
-none_spoken : (limits : Limits) → Spoken limits []
+pub none_spoken : (limits : Limits) → Spoken limits []
 none_spoken limits =
     let s = start limits in
     let same : s.conversation ≡ no_conversation = (let c = sym s.order.client in let t = sym s.order.server in λ i. record { client = c i; server = t i }) in

@@ -2,6 +2,7 @@
 #![tactic(auto)]
 
 mod frame;
+mod fronts;
 mod judge;
 mod limits;
 mod message;
@@ -12,10 +13,11 @@ mod speaker;
 mod stream;
 mod talk;
 
+pub use fronts::front_comes_first;
 pub use limits::Limits;
 pub use message::{Ended, Ending, Fault, Message, Side};
 pub use read::read_all;
-pub use round::{read_is_said, said_is_read};
+pub use round::{order_is_said, read_is_said, said_is_read, say_laws};
 pub use say::{SayFault, say_name};
 pub use speaker::Speaker;
 pub use talk::{Taken, Talk};

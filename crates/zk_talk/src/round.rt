@@ -1,15 +1,24 @@
-//! What was said is read again.
+//! What may be said, and that what was said is read again.
 ghost use Rattle.std.specs.Prelude.{◌≡◌, List, []};
 ghost use Rattle.zk_talk.specs.declared.limits.Limits.{Limits};
+ghost use Rattle.zk_talk.specs.declared.say.SayFault.{SayFault};
+ghost use Rattle.zk_talk.specs.declared.message.Side.TheVariants.{Client, Server};
 ghost use Rattle.zk_talk.specs.declared.message.Message.{Message};
 ghost use Rattle.zk_talk.specs.declared.message.Ending.{Ending};
 ghost use Rattle.zk_talk.specs.declared.message.Ending.TheVariants.{Whole};
-ghost use Rattle.zk_talk.specs.History.{History};
+ghost use Rattle.zk_talk.specs.History.{History, side_bytes};
 ghost use Rattle.zk_talk.specs.Conversation.{Conversation};
 ghost use Rattle.zk_talk.specs.Good.{Good, IsOrder};
 ghost use Rattle.zk_talk.specs.Ending.{IsEnding, unanswered};
 ghost use Rattle.zk_talk.specs.Answer.{AreMessages};
-ghost use Rattle.zk_talk.specs.Said.{AreSaid, AreSized, AreFrames, said, conversation_of};
+ghost use Rattle.zk_talk.specs.Said.{AreSaid, AreSized, AreFrames, MaySay, IsSayFault, said, conversation_of};
+
+/// Why a message may not be said: no case holds of a message that may be said, and of any message
+/// one case holds at most.
+pub fn say_laws()
+    ensures exact { (limits : Limits) (before : List Message) (m : Message) (e : SayFault) → AreSaid limits before → MaySay limits before m → IsSayFault limits before m e → ⊥ }
+    ensures once { (limits : Limits) (before : List Message) (m : Message) (e f : SayFault) → IsSayFault limits before m e → IsSayFault limits before m f → e ≡ f }
+{}
 
 /// What is said may be read: the frames of messages that were said, one after another, are a
 /// history of just these messages in their order, and it ends whole.
@@ -24,4 +33,11 @@ pub fn said_is_read()
 /// ends whole, its messages, said in their order, give its bytes.
 pub fn read_is_said()
     ensures { (limits : Limits) (h : History) (v : Conversation) (messages : List Message) → AreFrames limits h → Good limits h v [] [] → IsOrder limits h v messages → AreSaid limits messages × (said messages ≡ h) }
+{}
+
+/// Whatever was read whole may be said: the messages of a good history that ends whole, however its
+/// bytes were cut and interleaved, may be said in the order of their last bytes, and then give each
+/// side its bytes.
+pub fn order_is_said()
+    ensures { (limits : Limits) (h : History) (v : Conversation) (messages : List Message) → Good limits h v [] [] → IsOrder limits h v messages → AreSaid limits messages × (side_bytes Client (said messages) ≡ side_bytes Client h) × (side_bytes Server (said messages) ≡ side_bytes Server h) × (conversation_of messages ≡ v) }
 {}

@@ -1,5 +1,5 @@
 //! Messages to bytes.
-ghost use Rattle.std.specs.Prelude.{◌≡◌, ◌++◌, ◌⊎◌, ◌∷◌, [], List, false, OnOk, OnErr, IfErr};
+ghost use Rattle.std.specs.Prelude.{◌≡◌, ◌≢◌, ◌++◌, ◌⊎◌, ◌∷◌, [], List, false, OnOk, OnErr, IfErr};
 ghost use Rattle.zk_frames.specs.Framing.{frame};
 ghost use Rattle.zk_talk.specs.declared.message.Message.{Message};
 ghost use Rattle.zk_talk.specs.declared.say.SayFault.TheVariants.{NoMemory};
@@ -49,8 +49,8 @@ impl Speaker {
         }
     }
 
-    /// Appends the message's frame to `out`, if the messages said so far and it, frame after frame,
-    /// are a conversation within the limits.
+    /// Appends the message's frame to `out`, where the messages said so far and it, frame after
+    /// frame, are a conversation within the limits, and only there.
     ///
     /// # Errors
     ///
@@ -64,6 +64,8 @@ impl Speaker {
         ensures same { OnErr result ((self.new ≡ self.old) × (out.new.items ≡ out.old.items)) }
         // Want of memory, or the case that refuses it.
         ensures err { IfErr result (λ e. (e ≡ NoMemory) ⊎ ((before : List Message) → Says self.old before → IsSayFault self.old.limits before message.now e)) }
+        // Only what may not be said is refused, but for want of memory.
+        ensures exact { IfErr result (λ e. e ≢ NoMemory → (before : List Message) → Says self.old before → MaySay self.old.limits before message.now → ⊥) }
     {
         match message {
             Message::Client(frame) => {

@@ -1,8 +1,9 @@
-use Rattle.std.proofs.Common.{◌≡◌, ◌++◌, ◌∷◌, [], ◌⊎◌, List, true, subst}
+use Rattle.std.proofs.Common.{◌≡◌, ◌≢◌, ◌++◌, ◌∷◌, [], ◌⊎◌, List, true, subst}
 use Rattle.zk_talk.specs.declared.message.Message.{Message}
 use Rattle.zk_talk.specs.declared.say.SayFault.TheVariants.{NoMemory}
 use Rattle.zk_talk.specs.Said.{SpeakerState, Says, MaySay, IsSayFault}
 use Rattle.zk_talk.proofs.Speaking.{ok_client, ok_server, err_client, err_server}
+use Rattle.zk_talk.proofs.Exclusions.{only_refused}
 use Rattle.zk_talk.proofs.speaker.Speaker.say.Goals as goal
 
 pub returns-in-Err-clause-err : goal.returns-in-Err-clause-err
@@ -32,3 +33,19 @@ returns-in-Ok-say_server-clause-said c =
     let m = c.args.message.now in
     subst (λ (z : SpeakerState). (before : List Message) → Says z before → MaySay z.limits before m × Says (record { limits = x.limits; asked = x.asked; welcomed = true; waiting = c.say_server.new.waiting }) (before ++ m ∷ [])) c.self.view_is
     (ok_server (record { limits = x.limits; asked = x.asked; welcomed = x.welcomed; waiting = x.waiting }) m c.in-Server.frame c.say_server.new.waiting c.in-Server.is c.in-Ok-say_server.ensures.max c.in-Ok-say_server.ensures.said)
+
+pub returns-in-Err-clause-exact : goal.returns-in-Err-clause-exact
+returns-in-Err-clause-exact c =
+    let x = c.self.inside in
+    let m = c.args.message.now in
+    let state : SpeakerState = record { limits = x.limits; asked = x.asked; welcomed = x.welcomed; waiting = x.waiting } in
+    subst (λ (z : SpeakerState). c.in-Err.e ≢ NoMemory → (before : List Message) → Says z before → MaySay z.limits before m → ⊥) c.self.view_is
+    (only_refused state m c.in-Err.e (err_client state m c.in-Client.frame c.in-Err.e c.in-Client.is c.in-Err.ensures.err))
+
+pub returns-in-Err-say_server-clause-exact : goal.returns-in-Err-say_server-clause-exact
+returns-in-Err-say_server-clause-exact c =
+    let x = c.self.inside in
+    let m = c.args.message.now in
+    let state : SpeakerState = record { limits = x.limits; asked = x.asked; welcomed = x.welcomed; waiting = x.waiting } in
+    subst (λ (z : SpeakerState). c.in-Err-say_server.e ≢ NoMemory → (before : List Message) → Says z before → MaySay z.limits before m → ⊥) c.self.view_is
+    (only_refused state m c.in-Err-say_server.e (err_server state m c.in-Server.frame c.in-Err-say_server.e c.in-Server.is c.in-Err-say_server.ensures.err))

@@ -1,0 +1,13 @@
+use Rattle.zk_lines.specs.Endings.{ending_text}
+use Rattle.zk_lines.proofs.LawsPrinted.{in_range, unbroken}
+use Rattle.zk_lines.proofs.LawsEndings.{ending_printed, ending_dotted}
+use Rattle.zk_lines.proofs.laws.ending_laws.Goals as goal
+
+pub returns-clause-dotted : goal.returns-clause-dotted
+returns-clause-dotted c = ending_dotted
+
+pub returns-clause-printed : goal.returns-clause-printed
+returns-clause-printed c = λ e. in_range (ending_text e) (ending_printed e)
+
+pub returns-clause-one_line : goal.returns-clause-one_line
+returns-clause-one_line c = λ e. unbroken (ending_text e) (ending_printed e)

@@ -1,0 +1,33 @@
+//! What rests on the lines: laws that are no call's result.
+ghost use Rattle.std.specs.Prelude.{◌≡◌, ◌≢◌, ◌≤◌, ℕ, List, ◌∷◌};
+ghost use Rattle.std.specs.List.{AllByRecursion};
+ghost use Rattle.zk_lines.specs.Endings.{ending_text};
+ghost use Rattle.zk_lines.specs.Lines.{Fits, line};
+ghost use Rattle.zk_talk.specs.declared.limits.Limits.{Limits};
+ghost use Rattle.zk_talk.specs.declared.message.Ending.{Ending};
+ghost use Rattle.zk_talk.specs.declared.message.Message.{Message};
+ghost use Rattle.zk_talk.specs.Said.{MaySay};
+
+/// The laws of lines.
+pub fn line_laws()
+    // Two messages that a program can hold have two lines.
+    ensures different { (m n : Message) → Fits m → Fits n → line m ≡ line n → m ≡ n }
+    // Every message that may be said can be held.
+    ensures said_fits { (limits : Limits) (before : List Message) (m : Message) → MaySay limits before m → Fits m }
+    // A line is made of the ASCII characters from the blank to `~`.
+    ensures printed { (m : Message) → Fits m → AllByRecursion (λ b. (32 ≤ b) × (b ≤ 126)) (line m) }
+    // So it has no line feed.
+    ensures one_line { (m : Message) → Fits m → AllByRecursion (λ b. b ≢ 10) (line m) }
+    // No message's line begins with a dot.
+    ensures not_dotted { (m : Message) (rest : List ℕ) → line m ≡ 46 ∷ rest → ⊥ }
+{}
+
+/// The laws of the lines of endings.
+pub fn ending_laws()
+    // Such a line begins with a dot.
+    ensures dotted { (e : Ending) → (rest : List ℕ) × (ending_text e ≡ 46 ∷ rest) }
+    // It is made of the ASCII characters from the blank to `~`.
+    ensures printed { (e : Ending) → AllByRecursion (λ b. (32 ≤ b) × (b ≤ 126)) (ending_text e) }
+    // So it has no line feed.
+    ensures one_line { (e : Ending) → AllByRecursion (λ b. b ≢ 10) (ending_text e) }
+{}

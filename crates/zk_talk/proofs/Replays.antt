@@ -1,0 +1,167 @@
+-- The messages of a good history may be said in the order of their last bytes.
+use Rattle.std.proofs.Common.{◌≡◌, ℕ, ◌+◌, ◌<◌, ◌≤◌, ◌^◌, List, [], ◌∷◌, ◌++◌, length, refl, sym, ap, ◌∙◌, subst, arith, append_assoc}
+use Rattle.std.proofs.lemmas.List.{append-nil, length_push}
+use Rattle.zk_frames.specs.Framing.{frame, IsCut, IsBeginning}
+use Rattle.zk_frames.proofs.Cuts.{same_cut}
+use Rattle.zk_talk.specs.declared.limits.Limits.{Limits}
+use Rattle.zk_talk.specs.declared.message.Side.{Side}
+use Rattle.zk_talk.specs.declared.message.Side.TheVariants.{Client, Server}
+use Rattle.zk_talk.specs.declared.message.Message.{Message}
+use Rattle.zk_talk.specs.declared.message.Message.TheVariants.{Client as FromClient, Server as FromServer}
+use Rattle.zk_talk.specs.Payloads.{client_payload, server_payload}
+use Rattle.zk_talk.specs.History.{History, side_bytes, on}
+use Rattle.zk_talk.specs.Conversation.{Conversation, with_client, with_server}
+use Rattle.zk_talk.specs.Good.{Good, IsGood, IsOrder, clients, servers, client_payloads, server_payloads, client_bytes, server_bytes}
+use Rattle.zk_talk.specs.Said.{AreSaid, MaySay, said, conversation_of}
+use Rattle.zk_talk.proofs.Small.{small_limits}
+use Rattle.zk_talk.proofs.Lists.{EachAfter-push, EachAfter-nil}
+use Rattle.zk_talk.proofs.Cuts.{cut_front, Shorter}
+use Rattle.zk_talk.proofs.Cuts.Shorter.{within_frame, frame_end}
+use Rattle.zk_talk.proofs.Histories.{side_bytes-append, side_bytes-same}
+use Rattle.zk_talk.proofs.GoodSteps.{good_more_client, good_more_server, good_client, good_server, found_client, found_server}
+use Rattle.zk_talk.proofs.GoodFronts.{good_front}
+use Rattle.zk_talk.proofs.Standing.{Runs, clients-append, servers-append, order_more, order_same, client-on-server, server-on-client}
+use Rattle.zk_talk.proofs.Headline.{same_good}
+use Rattle.zk_talk.proofs.OrderOnce.{order_once}
+use Rattle.zk_talk.proofs.Speaking.{one_client, one_server}
+use Rattle.zk_talk.proofs.Spoken.{none_spoken}
+
+-- a history whose messages may be said
+record Replay (limits : Limits) (g : History) : Type 0 where
+  messages : List Message
+  client_rest : List ℕ
+  server_rest : List ℕ
+  runs : Runs limits g (conversation_of messages) messages client_rest server_rest
+  are : AreSaid limits messages
+
+-- ---- One byte more
+module _ (limits : Limits) (g : History) (b : ℕ) (r : Replay limits g) where
+  abbrev v : Conversation
+  v = conversation_of r.messages
+
+  more_client : (n : IsGood limits (g ++ (Client, b) ∷ [])) → Shorter limits.client (side_bytes Client g) b (client_payloads n.0.client) n.1 → Replay limits (g ++ (Client, b) ∷ [])
+  more_client n (within_frame c e cut) =
+      let small = small_limits limits in
+      let rests = (same_cut limits.client _ _ _ _ _ small.0 cut r.runs.good.whole.client_cut).1 in
+      let begin = subst (IsBeginning limits.client) (e ∙ ap (λ z. z ++ b ∷ []) rests) n.3.whole.client_cut.beginning in
+      let size : length (side_bytes Client g) + 1 < 2 ^ 62 = omega (arith, n.3.client_size, ap length (side_bytes-same Client g b), length_push (side_bytes Client g) b) in
+      let next = good_more_client limits small g b v r.client_rest r.server_rest r.runs.good begin size in
+      record {
+        messages = r.messages;
+        client_rest = r.client_rest ++ b ∷ [];
+        server_rest = r.server_rest;
+        runs = record { good = next; order = order_same limits g (Client, b) v (r.client_rest ++ b ∷ []) r.server_rest r.messages r.runs.order next.whole };
+        are = r.are;
+      }
+  more_client n (frame_end Q p c e none l is cut) =
+      let small = small_limits limits in
+      let M = r.messages in
+      let rests = (same_cut limits.client _ _ _ _ _ small.0 cut r.runs.good.whole.client_cut).1 in
+      let whole : r.client_rest ++ b ∷ [] ≡ frame p = ap (λ z. z ++ b ∷ []) (sym rests) ∙ is in
+      let size : length (side_bytes Client g) + 1 < 2 ^ 62 = omega (arith, n.3.client_size, ap length (side_bytes-same Client g b), length_push (side_bytes Client g) b) in
+      let f = found_client limits small g b v r.client_rest r.server_rest r.runs.good p whole l n in
+      let within = subst (λ z. length z ≤ limits.client) (sym f.payload) l in
+      let next = good_client limits small g b v r.client_rest r.server_rest r.runs.good f.found (whole ∙ ap frame (sym f.payload)) within f.may f.fits size in
+      let order = order_more limits g (Client, b) v (with_client v f.found) [] r.server_rest M (FromClient f.found ∷ []) r.runs.order
+      (clients-append M (FromClient f.found ∷ [])) (servers-append M (FromClient f.found ∷ []) ∙ append-nil (servers M)) next.whole in
+      record {
+        messages = M ++ FromClient f.found ∷ [];
+        client_rest = [];
+        server_rest = r.server_rest;
+        runs = subst (λ z. Runs limits (g ++ (Client, b) ∷ []) z (M ++ FromClient f.found ∷ []) [] r.server_rest) (sym (one_client M f.found)) (record { good = next; order = order });
+        are = EachAfter-push (MaySay limits) M (FromClient f.found) r.are (f.may, within, f.fits);
+      }
+
+  more_server : (n : IsGood limits (g ++ (Server, b) ∷ [])) → Shorter limits.server (side_bytes Server g) b (server_payloads n.0.server) n.2 → Replay limits (g ++ (Server, b) ∷ [])
+  more_server n (within_frame c e cut) =
+      let small = small_limits limits in
+      let rests = (same_cut limits.server _ _ _ _ _ small.1 cut r.runs.good.whole.server_cut).1 in
+      let begin = subst (IsBeginning limits.server) (e ∙ ap (λ z. z ++ b ∷ []) rests) n.3.whole.server_cut.beginning in
+      let size : length (side_bytes Server g) + 1 < 2 ^ 62 = omega (arith, n.3.server_size, ap length (side_bytes-same Server g b), length_push (side_bytes Server g) b) in
+      let next = good_more_server limits small g b v r.client_rest r.server_rest r.runs.good begin size in
+      record {
+        messages = r.messages;
+        client_rest = r.client_rest;
+        server_rest = r.server_rest ++ b ∷ [];
+        runs = record { good = next; order = order_same limits g (Server, b) v r.client_rest (r.server_rest ++ b ∷ []) r.messages r.runs.order next.whole };
+        are = r.are;
+      }
+  more_server n (frame_end Q p c e none l is cut) =
+      let small = small_limits limits in
+      let M = r.messages in
+      let rests = (same_cut limits.server _ _ _ _ _ small.1 cut r.runs.good.whole.server_cut).1 in
+      let whole : r.server_rest ++ b ∷ [] ≡ frame p = ap (λ z. z ++ b ∷ []) (sym rests) ∙ is in
+      let size : length (side_bytes Server g) + 1 < 2 ^ 62 = omega (arith, n.3.server_size, ap length (side_bytes-same Server g b), length_push (side_bytes Server g) b) in
+      let s = found_server limits small g b v r.client_rest r.server_rest r.runs.good p whole l n in
+      let within = subst (λ z. length z ≤ limits.server) (sym s.payload) l in
+      let next = good_server limits small g b v r.client_rest r.server_rest r.runs.good s.found (whole ∙ ap frame (sym s.payload)) within s.may size in
+      let order = order_more limits g (Server, b) v (with_server v s.found) r.client_rest [] M (FromServer s.found ∷ []) r.runs.order
+      (clients-append M (FromServer s.found ∷ []) ∙ append-nil (clients M)) (servers-append M (FromServer s.found ∷ [])) next.whole in
+      record {
+        messages = M ++ FromServer s.found ∷ [];
+        client_rest = r.client_rest;
+        server_rest = [];
+        runs = subst (λ z. Runs limits (g ++ (Server, b) ∷ []) z (M ++ FromServer s.found ∷ []) r.client_rest []) (sym (one_server M s.found)) (record { good = next; order = order });
+        are = EachAfter-push (MaySay limits) M (FromServer s.found) r.are (s.may, within);
+      }
+
+one_more : (limits : Limits) (g : History) (side : Side) (b : ℕ) → Replay limits g → IsGood limits (g ++ (side, b) ∷ []) → Replay limits (g ++ (side, b) ∷ [])
+one_more limits g Client b r n =
+    more_client limits g b r n (cut_front limits.client (side_bytes Client g) b (client_payloads n.0.client) n.1 (subst (λ z. IsCut limits.client z (client_payloads n.0.client) n.1) (side_bytes-same Client g b) n.3.whole.client_cut))
+one_more limits g Server b r n =
+    more_server limits g b r n (cut_front limits.server (side_bytes Server g) b (server_payloads n.0.server) n.2 (subst (λ z. IsCut limits.server z (server_payloads n.0.server) n.2) (side_bytes-same Server g b) n.3.whole.server_cut))
+
+replay_from : (limits : Limits) (g h : History) → Replay limits g → IsGood limits (g ++ h) → Replay limits (g ++ h)
+replay_from limits g [] r n = subst (Replay limits) (sym (append-nil g)) r
+replay_from limits g (x ∷ h) r n =
+    let n' = subst (IsGood limits) (sym (append_assoc g (x ∷ []) h)) n in
+    let next = one_more limits g x.0 x.1 r (good_front limits (g ++ x ∷ []) h n') in
+    subst (Replay limits) (append_assoc g (x ∷ []) h) (replay_from limits (g ++ x ∷ []) h next n')
+
+replay : (limits : Limits) (h : History) → IsGood limits h → Replay limits h
+replay limits h n = replay_from limits [] h (record { messages = []; client_rest = []; server_rest = []; runs = none_spoken limits; are = EachAfter-nil (MaySay limits) }) n
+
+-- ---- Each side's bytes
+no_bytes : (side : Side) → side_bytes side [] ≡ []
+unfolding side_bytes
+no_bytes side = refl
+
+own_bytes : (side : Side) (bs : List ℕ) → side_bytes side (on side bs) ≡ bs
+unfolding side_bytes
+own_bytes Client [] = refl
+own_bytes Server [] = refl
+own_bytes Client (b ∷ bs) = ap (λ z. b ∷ z) (own_bytes Client bs)
+own_bytes Server (b ∷ bs) = ap (λ z. b ∷ z) (own_bytes Server bs)
+
+client_said : (M : List Message) → side_bytes Client (said M) ≡ client_bytes (clients M)
+client_said [] = no_bytes Client
+client_said (FromClient f ∷ M) =
+    let p = frame (client_payload f) in
+    side_bytes-append Client (on Client p) (said M) ∙ ap (λ z. z ++ side_bytes Client (said M)) (own_bytes Client p) ∙ ap (λ z. p ++ z) (client_said M)
+client_said (FromServer s ∷ M) =
+    let p = frame (server_payload s) in
+    side_bytes-append Client (on Server p) (said M) ∙ ap (λ z. z ++ side_bytes Client (said M)) (client-on-server p [] ∙ no_bytes Client) ∙ client_said M
+
+server_said : (M : List Message) → side_bytes Server (said M) ≡ server_bytes (servers M)
+server_said [] = no_bytes Server
+server_said (FromClient f ∷ M) =
+    let p = frame (client_payload f) in
+    side_bytes-append Server (on Client p) (said M) ∙ ap (λ z. z ++ side_bytes Server (said M)) (server-on-client p [] ∙ no_bytes Server) ∙ server_said M
+server_said (FromServer s ∷ M) =
+    let p = frame (server_payload s) in
+    side_bytes-append Server (on Server p) (said M) ∙ ap (λ z. z ++ side_bytes Server (said M)) (own_bytes Server p) ∙ ap (λ z. p ++ z) (server_said M)
+
+-- However a whole conversation's bytes were cut and interleaved, its messages may be said in their order, and give each side its bytes.
+pub order_said : (limits : Limits) (h : History) (v : Conversation) (M : List Message) → Good limits h v [] [] → IsOrder limits h v M →
+    AreSaid limits M × (side_bytes Client (said M) ≡ side_bytes Client h) × (side_bytes Server (said M) ≡ side_bytes Server h) × (conversation_of M ≡ v)
+order_said limits h v M g o =
+    let small = small_limits limits in
+    let r = replay limits h (v, [], [], g) in
+    let one = same_good limits small h (conversation_of r.messages) v r.client_rest r.server_rest [] [] r.runs.good g in
+    let order = subst (λ z. IsOrder limits h z r.messages) one.0 r.runs.order in
+    let messages = order_once limits small h v r.messages M order o [] [] g.whole in (
+      subst (AreSaid limits) messages r.are,
+      client_said M ∙ ap client_bytes o.client ∙ sym (append-nil (client_bytes v.client)) ∙ sym g.whole.client_cut.whole,
+      server_said M ∙ ap server_bytes o.server ∙ sym (append-nil (server_bytes v.server)) ∙ sym g.whole.server_cut.whole,
+      (let c = o.client in let s = o.server in λ i. record { client = c i; server = s i }),
+    )
