@@ -13,6 +13,9 @@ fn back_and_forth(rt: &impl Abort, alloc: Global, line: &[u8]) -> Result<(), Fai
         return Err("not read")?;
     };
     assert_eq!(rt; line_of(alloc, &message)?.as_slice(), line);
+    let mut listing = Vec::from_slice(alloc, b".\n")?;
+    put_line(&mut listing, &message)?;
+    assert_eq!(rt; &listing[2..], line);
     Ok(())
 }
 

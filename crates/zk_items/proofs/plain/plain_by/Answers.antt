@@ -1,4 +1,4 @@
-use Rattle.std.proofs.Common.{◌+◌, ◌-◌, ◌<◌, ◌≤◌, length, Fits, w64, sym, ◌∙◌, ap, arith}
+use Rattle.std.proofs.Common.{◌-◌, length, arith}
 use Rattle.std.proofs.lemmas.List.Sums.{prefix_len-le-length}
 use Rattle.zk_items.specs.Leaf.{is_plain}
 use Rattle.zk_items.proofs.Looks.{look_stops, look_passes, look_last}

@@ -1,6 +1,6 @@
-use Rattle.std.proofs.Common.{◌≡◌, ◌++◌, length, ℕ, ◌+◌, List, take, drop, sym, ap, ap₂, ◌∙◌, append_assoc}
-use Rattle.std.specs.List.{flat_map, prefix_len}
-use Rattle.zk_items.specs.Leaf.{is_plain, symbol_spell}
+use Rattle.std.proofs.Common.{◌≡◌, ◌++◌, ℕ, List, take, drop, ap, ap₂, ◌∙◌, append_assoc}
+use Rattle.std.specs.List.{flat_map}
+use Rattle.zk_items.specs.Leaf.{symbol_spell}
 use Rattle.zk_items.proofs.Looks.{plain_front}
 use Rattle.zk_items.proofs.write.put_symbols.Goals as goal
 

@@ -1,4 +1,4 @@
-use Rattle.std.proofs.Common.{◌≡◌, ◌≤◌, ◌<◌, length, ◌∙◌, arith, ap}
+use Rattle.std.proofs.Common.{length, ◌∙◌, ap}
 use Rattle.zk_items.specs.Leaf.{symbol_at}
 use Rattle.zk_items.specs.Many.{many_at}
 use Rattle.zk_items.proofs.Many.{with_front}
