@@ -5,5 +5,6 @@ pub mod Any
 pub mod Outcomes
 pub mod Stops
 pub mod Found
+pub mod Kept
 pub mod Stopped
 pub mod Once

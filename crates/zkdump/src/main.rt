@@ -3,6 +3,7 @@
 #![tactic(auto)]
 
 pub mod engines;
+mod lines;
 pub mod listing;
 #[cfg(test)]
 mod memory;
