@@ -7,3 +7,4 @@ pub mod Following
 pub mod Stopping
 pub mod Running
 pub mod Exits
+pub mod Building

@@ -2,6 +2,7 @@
 //! how the recording ends; `zkdump check` writes how it ends alone.
 #![tactic(auto)]
 
+pub mod built;
 pub mod engines;
 pub mod listing;
 #[cfg(test)]
