@@ -6,3 +6,6 @@ pub mod Outcomes
 pub mod Stops
 pub mod Found
 pub mod Once
+pub mod Accepted
+pub mod Taken
+pub mod Answered

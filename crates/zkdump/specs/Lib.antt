@@ -8,3 +8,4 @@ pub mod Stopping
 pub mod Running
 pub mod Exits
 pub mod Building
+pub mod Accepting

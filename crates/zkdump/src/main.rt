@@ -2,6 +2,8 @@
 //! how the recording ends; `zkdump check` writes how it ends alone.
 #![tactic(auto)]
 
+pub mod build;
+pub mod builder;
 pub mod built;
 pub mod engines;
 pub mod listing;
