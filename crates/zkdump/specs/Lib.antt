@@ -9,3 +9,4 @@ pub mod Running
 pub mod Exits
 pub mod Building
 pub mod Accepting
+pub mod Commands

@@ -1,6 +1,4 @@
 //! What is built of lines.
-ghost use Rattle.std.specs.Prelude.{◌≡◌};
-ghost use Rattle.zkdump.specs.Exits.{exit_of_built};
 
 use std::fmt;
 use std::fmt::Display;
