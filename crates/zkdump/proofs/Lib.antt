@@ -7,3 +7,6 @@ pub mod Stops
 pub mod Found
 pub mod Stopped
 pub mod Once
+pub mod Accepted
+pub mod Taken
+pub mod Answered

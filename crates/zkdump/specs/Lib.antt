@@ -7,3 +7,6 @@ pub mod Following
 pub mod Stopping
 pub mod Running
 pub mod Exits
+pub mod Building
+pub mod Accepting
+pub mod Commands
