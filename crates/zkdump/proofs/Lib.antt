@@ -6,3 +6,5 @@ pub mod Outcomes
 pub mod Stops
 pub mod Found
 pub mod Once
+pub mod Splits
+pub mod Verdicts

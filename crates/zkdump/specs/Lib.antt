@@ -7,3 +7,5 @@ pub mod Following
 pub mod Stopping
 pub mod Running
 pub mod Exits
+pub mod Building
+pub mod Rebuilding

@@ -2,7 +2,9 @@
 //! how the recording ends; `zkdump check` writes how it ends alone.
 #![tactic(auto)]
 
+pub mod built;
 pub mod engines;
+pub mod laws;
 pub mod listing;
 #[cfg(test)]
 mod memory;
