@@ -8,3 +8,4 @@ pub mod Found
 pub mod Once
 pub mod Splits
 pub mod Verdicts
+pub mod Builds

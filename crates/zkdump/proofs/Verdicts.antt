@@ -250,3 +250,18 @@ module _ (limits : Limits) (lines : List (List ℕ)) (M N : List Message) (b c :
       go : ((b ≡ c) ⊎ IsOdd (judged limits lines M b p).rest) → (b ≡ c) ⊎ IsForeign limits lines M
       go (inl e) = inl e
       go (inr o) = inr (odd_foreign o)
+
+-- ---- messages whose lines are accepted stand first
+
+module _ (limits : Limits) (all : List (List ℕ)) (others : List Message) (built : Built) (j : Judged limits all others built) (lines more : List (List ℕ)) (messages : List Message) (a : AreAccepted limits lines messages) where
+  stand_first : Apart line messages others more j.rest → (rest : List Message) × (others ≡ messages ++ rest)
+  stand_first (same f g) = ([], sym f ∙ sym (append-nil messages))
+  stand_first (shorter m rest f g) = (m ∷ rest, f)
+  stand_first (longer m rest f g) =
+      absurd (no_more limits others j.rest j.said built j.stands m (map line rest ++ more) (held limits others m rest messages f a.fit) (may_say limits others m rest messages f a.said) g)
+
+pub accepted_first : (limits : Limits) (all : List (List ℕ)) (others : List Message) (built : Built) → IsBuilt limits all others built →
+    (lines more : List (List ℕ)) (messages : List Message) → AreAccepted limits lines messages → all ≡ lines ++ more → (rest : List Message) × (others ≡ messages ++ rest)
+accepted_first limits all others built is lines more messages a e =
+    let j = judged limits all others built is in
+    stand_first limits all others built j lines more messages a (lines_apart messages others more j.rest a.fit j.fit (ap (λ z. z ++ more) (sym a.are) ∙ sym e ∙ j.is))

@@ -1,9 +1,11 @@
 //! What rests on the lines and recordings: laws that are no call's result.
-ghost use Rattle.std.specs.Prelude.{◌≡◌, ◌⊎◌, ℕ, List};
+ghost use Rattle.std.specs.Prelude.{◌≡◌, ◌⊎◌, ℕ, List, Option, Some};
+ghost use Rattle.std.specs.Io.KnownBytes.{Appends};
 ghost use Rattle.zk_talk.specs.declared.limits.Limits.{Limits};
 ghost use Rattle.zk_talk.specs.declared.message.Message.{Message};
 ghost use Rattle.zkdump.specs.declared.built.Built.{Built};
-ghost use Rattle.zkdump.specs.Building.{AreLines, IsBuilt};
+ghost use Rattle.zkdump.specs.Outcome.{HasGrownIn};
+ghost use Rattle.zkdump.specs.Building.{AreLines, IsBuilt, recording_of, HasBuilt, HasBegunBuilding};
 ghost use Rattle.zkdump.specs.Rebuilding.{AreAlike, IsForeign};
 
 /// Bytes are lines in one way, and lines come to one thing.
@@ -16,4 +18,14 @@ pub fn built_once()
     ensures alike { (limits : Limits) (lines : List (List ℕ)) (messages others : List Message) (built other : Built) → IsBuilt limits lines messages built → IsBuilt limits lines others other → AreAlike built other }
     // All of the answer is fixed, but where a line that begins with no dot is that of no message.
     ensures same { (limits : Limits) (lines : List (List ℕ)) (messages others : List Message) (built other : Built) → IsBuilt limits lines messages built → IsBuilt limits lines others other → (built ≡ other) ⊎ IsForeign limits lines messages }
+    // So over known bytes every run that answers writes the recording of these messages, and answers so.
+    ensures run { (limits : Limits) (x : List ℕ) (lines : List (List ℕ)) (messages : List Message) (built : Built) → AreLines x lines → IsBuilt limits lines messages built → (unread contents contents_now : Option (List ℕ)) (other : Built) → HasBuilt limits (Some x) unread contents contents_now other → AreAlike built other × Appends contents contents_now (recording_of messages) }
+{}
+
+/// What a run that stopped has written is a front of the recording that its bytes come to.
+pub fn begun_is_a_front()
+    // Its bytes being those that may be read, however many of them were.
+    ensures known { (limits : Limits) (x : List ℕ) (all : List (List ℕ)) (others : List Message) (built : Built) → AreLines x all → IsBuilt limits all others built → (unread contents contents_now : Option (List ℕ)) → HasBegunBuilding limits (Some x) unread contents contents_now → HasGrownIn contents contents_now (recording_of others) }
+    // Or those that were read.
+    ensures read { (limits : Limits) (unread unread_now contents contents_now : Option (List ℕ)) (begun : HasBegunBuilding limits unread unread_now contents contents_now) (all : List (List ℕ)) (others : List Message) (built : Built) → AreLines begun.bytes all → IsBuilt limits all others built → HasGrownIn contents contents_now (recording_of others) }
 {}

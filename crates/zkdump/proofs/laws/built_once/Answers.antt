@@ -1,3 +1,4 @@
+use Rattle.zkdump.proofs.Builds.{run_once}
 use Rattle.zkdump.proofs.Splits.{lines_once}
 use Rattle.zkdump.proofs.Verdicts.{messages_once, alike_once, same_once}
 use Rattle.zkdump.proofs.laws.built_once.Goals as goal
@@ -13,3 +14,6 @@ returns-clause-alike c = alike_once
 
 pub returns-clause-same : goal.returns-clause-same
 returns-clause-same c = same_once
+
+pub returns-clause-run : goal.returns-clause-run
+returns-clause-run c = run_once
