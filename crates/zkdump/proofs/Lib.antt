@@ -9,3 +9,4 @@ pub mod Once
 pub mod Splits
 pub mod Verdicts
 pub mod Builds
+pub mod Rebuilds
