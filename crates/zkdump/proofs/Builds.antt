@@ -1,5 +1,5 @@
 -- What a run writes is fixed by the bytes that it may read.
-use Rattle.std.proofs.Common.{◌≡◌, ℕ, ◌+◌, ◌≤◌, List, [], ◌∷◌, ◌++◌, length, take, map, Option, Some, None, min, refl, sym, ap, ◌∙◌, append_assoc, append-nil, arith, subst}
+use Rattle.std.proofs.Common.{◌≡◌, ℕ, List, [], ◌∷◌, ◌++◌, length, take, map, Option, Some, None, min, refl, sym, ap, ◌∙◌, append_assoc, append-nil, arith, subst}
 use Rattle.std.proofs.lemmas.List.{take-append-le, take_min}
 use Rattle.std.proofs.lemmas.List.Concat.{flat_map-append}
 use Rattle.std.proofs.lemmas.List.{map-append}
@@ -12,7 +12,7 @@ use Rattle.zkdump.specs.declared.built.Built.{Built}
 use Rattle.zkdump.specs.declared.built.Built.TheVariants.{Whole, LineRefused, SayRefused}
 use Rattle.zkdump.specs.Recording.{front, head, piece_bytes}
 use Rattle.zkdump.specs.Outcome.{HasGrownIn}
-use Rattle.zkdump.specs.Building.{AreLines, StandFirst, recording_of, piece_of, AreAccepted, AreEnded, IsNextLine, IsBehindEnding, IsBuilt, without_ending, with_ending, behind_ending, other_ending, no_message, not_said, Covers, HasBuilt, HasBegunBuilding}
+use Rattle.zkdump.specs.Building.{AreLines, StandFirst, recording_of, piece_of, AreAccepted, IsNextLine, IsBuilt, without_ending, with_ending, behind_ending, other_ending, no_message, not_said, Covers, HasBuilt, HasBegunBuilding}
 use Rattle.zkdump.specs.Rebuilding.{AreAlike}
 use Rattle.zkdump.proofs.Splits.{lines_once, first_lines}
 use Rattle.zkdump.proofs.Verdicts.{messages_once, alike_once, accepted_first}

@@ -1,3 +1,7 @@
+pub mod Splits
+pub mod Verdicts
+pub mod Builds
+pub mod Rebuilds
 pub mod Bytes
 pub mod Stages
 pub mod Feeding
@@ -6,7 +10,3 @@ pub mod Outcomes
 pub mod Stops
 pub mod Found
 pub mod Once
-pub mod Splits
-pub mod Verdicts
-pub mod Builds
-pub mod Rebuilds

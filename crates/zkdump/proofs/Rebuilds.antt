@@ -1,5 +1,5 @@
 -- What is built of the listing of a whole conversation.
-use Rattle.std.proofs.Common.{◌≡◌, ◌≢◌, ℕ, ◌+◌, ◌<◌, ◌≤◌, ◌^◌, List, [], ◌∷◌, ◌++◌, length, map, Option, Some, None, refl, sym, ap, ◌∙◌, append_assoc, append-nil, arith, subst}
+use Rattle.std.proofs.Common.{◌≡◌, ℕ, ◌<◌, ◌≤◌, ◌^◌, List, [], ◌∷◌, ◌++◌, length, map, Option, Some, refl, sym, ap, ◌∙◌, append-nil, arith, subst}
 use Rattle.std.proofs.Common.{w32}
 use Rattle.std.proofs.lemmas.Nat.{from_be_bytes-to_be_bytes_4}
 use Rattle.std.proofs.lemmas.List.Concat.{flat_map-append}
@@ -11,30 +11,26 @@ use Rattle.std.specs.Io.KnownBytes.{Appends}
 use Rattle.zk_frames.specs.Framing.{frame}
 use Rattle.zk_frames.proofs.Cuts.{length-frame}
 use Rattle.zk_talk.specs.declared.limits.Limits.{Limits}
-use Rattle.zk_talk.specs.declared.message.Side.{Side}
 use Rattle.zk_talk.specs.declared.message.Side.TheVariants.{Client, Server}
 use Rattle.zk_talk.specs.declared.message.Message.{Message}
 use Rattle.zk_talk.specs.declared.message.Message.TheVariants.{Client as FromClient, Server as FromServer}
 use Rattle.zk_talk.specs.declared.message.Ending.TheVariants.{Whole as whole}
-use Rattle.zk_talk.specs.History.{History, side_bytes, on}
+use Rattle.zk_talk.specs.History.{History, side_bytes}
 use Rattle.zk_talk.specs.Conversation.{Conversation}
 use Rattle.zk_talk.specs.Good.{Good, IsOrder}
 use Rattle.zk_talk.specs.Ending.{IsEnding, unanswered}
-use Rattle.zk_talk.specs.Splits.{EachAfter}
-use Rattle.zk_talk.specs.Said.{AreSaid, AreSized, MaySay, said, side_of, payload_of, conversation_of}
+use Rattle.zk_talk.specs.Said.{AreSaid, AreSized, MaySay, said, payload_of, conversation_of}
 use Rattle.zk_talk.proofs.Small.{small_limits}
 use Rattle.zk_talk.proofs.Headline.{same_good}
 use Rattle.zk_talk.proofs.Replays.{order_said}
 use Rattle.zk_talk.proofs.Spoken.{spoken}
 use Rattle.zk_lines.specs.Lines.{line, Fits}
-use Rattle.zk_lines.specs.Endings.{ending_text}
 use Rattle.zk_lines.proofs.LawsHeld.{said_held}
 use Rattle.zk_lines.proofs.LawsShown.{line_printed, ending_printed, unbroken}
 use Rattle.zkdump.specs.declared.built.Built.{Built}
 use Rattle.zkdump.specs.declared.built.Built.TheVariants.{Whole, LineRefused, SayRefused}
 use Rattle.zkdump.specs.declared.summary.Summary.TheVariants.{Ended}
-use Rattle.zkdump.specs.Recording.{Piece, IsPiece, number, piece_history, front, Spells, history_of, Recording, Pieces, Nothing}
-use Rattle.zkdump.specs.Lines.{message_line}
+use Rattle.zkdump.specs.Recording.{IsPiece, number, piece_history, Spells, history_of}
 use Rattle.zkdump.specs.Outcome.{IsOutcome}
 use Rattle.zkdump.specs.Building.{IsLine, with_feed, fed, AreLines, all_fed, recording_of, piece_of, due_ending, IsBuilt, with_ending, HasBuilt}
 use Rattle.zkdump.specs.Rebuilding.{whole_listing, one_a_piece, AreAlike}

@@ -1,5 +1,5 @@
 -- Lines come to one thing.
-use Rattle.std.proofs.Common.{◌≡◌, ◌≢◌, ℕ, ◌+◌, ◌⊎◌, inl, inr, List, [], ◌∷◌, ◌++◌, length, map, refl, sym, ap, ◌∙◌, append_assoc, append-nil, arith, subst}
+use Rattle.std.proofs.Common.{◌≡◌, ◌≢◌, ℕ, ◌+◌, ◌⊎◌, inl, inr, List, [], ◌∷◌, ◌++◌, length, map, refl, sym, ap, ◌∙◌, append_assoc, append-nil, subst}
 use Rattle.std.specs.List.{AllByRecursion}
 use Rattle.zk_talk.specs.declared.limits.Limits.{Limits}
 use Rattle.zk_talk.specs.declared.message.Message.{Message}
@@ -14,7 +14,7 @@ use Rattle.zk_lines.proofs.Lines.{line_apart}
 use Rattle.zk_lines.proofs.LawsShown.{line_lettered, ending_dotted}
 use Rattle.zkdump.specs.declared.built.Built.{Built}
 use Rattle.zkdump.specs.declared.built.Built.TheVariants.{Whole, LineRefused, SayRefused}
-use Rattle.zkdump.specs.Building.{due_ending, ending_fault, IsDotted, AreAccepted, AreEnded, IsNextLine, IsBehindEnding, IsBuilt, without_ending, with_ending, behind_ending, other_ending, no_message, not_said}
+use Rattle.zkdump.specs.Building.{due_ending, ending_fault, IsDotted, AreAccepted, IsNextLine, IsBuilt, without_ending, with_ending, behind_ending, other_ending, no_message, not_said}
 use Rattle.zkdump.specs.Rebuilding.{AreAlike, IsForeign}
 
 -- ---- two fronts of one list

@@ -2,10 +2,10 @@ pub mod Streams
 pub mod Recording
 pub mod Reading
 pub mod Lines
+pub mod Rebuilding
 pub mod Outcome
 pub mod Following
 pub mod Stopping
 pub mod Running
 pub mod Exits
 pub mod Building
-pub mod Rebuilding
