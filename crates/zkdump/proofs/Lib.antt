@@ -1,3 +1,7 @@
+pub mod Splits
+pub mod Verdicts
+pub mod Builds
+pub mod Rebuilds
 pub mod Bytes
 pub mod Stages
 pub mod Feeding

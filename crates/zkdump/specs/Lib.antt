@@ -2,6 +2,7 @@ pub mod Streams
 pub mod Recording
 pub mod Reading
 pub mod Lines
+pub mod Rebuilding
 pub mod Outcome
 pub mod Following
 pub mod Stopping

@@ -9,6 +9,7 @@ mod build_tests;
 pub mod builder;
 pub mod built;
 pub mod engines;
+pub mod laws;
 pub mod listing;
 #[cfg(test)]
 mod memory;
