@@ -59,12 +59,12 @@ module _ (limits : Limits) (bytes rest : List ℕ) (unread : Option (List ℕ)) 
 -- ---- a source whose bytes are known
 
 -- what was read of it, and what is left
-record Leaves (x bytes : List ℕ) (unread : Option (List ℕ)) : Type 0 where
-  rest : List ℕ
-  is : x ≡ bytes ++ rest
-  ends : IsAtEnd unread → rest ≡ []
+pub record Leaves (x bytes : List ℕ) (unread : Option (List ℕ)) : Type 0 where
+  pub rest : List ℕ
+  pub is : x ≡ bytes ++ rest
+  pub ends : IsAtEnd unread → rest ≡ []
 
-leaves : (x bytes : List ℕ) (unread : Option (List ℕ)) → Consumes (Some x) unread bytes → Leaves x bytes unread
+pub leaves : (x bytes : List ℕ) (unread : Option (List ℕ)) → Consumes (Some x) unread bytes → Leaves x bytes unread
 leaves x bytes None c = absurd c
 leaves x bytes (Some rest) c = record { rest = rest; is = c; ends = λ e. e }
 

@@ -1,3 +1,4 @@
+pub mod Shown
 pub mod Splits
 pub mod Verdicts
 pub mod Builds

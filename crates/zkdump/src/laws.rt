@@ -1,5 +1,5 @@
 //! What rests on the lines and recordings: laws that are no call's result.
-ghost use Rattle.std.specs.Prelude.{◌≡◌, ◌⊎◌, ℕ, List, [], Option, Some};
+ghost use Rattle.std.specs.Prelude.{◌≡◌, ◌⊎◌, ℕ, List, [], ◌++◌, Option, Some};
 ghost use Rattle.std.specs.Io.KnownBytes.{Appends};
 ghost use Rattle.zk_talk.specs.declared.limits.Limits.{Limits};
 ghost use Rattle.zk_talk.specs.declared.message.Side.TheVariants.{Client, Server};
@@ -12,9 +12,14 @@ ghost use Rattle.zk_talk.specs.Ending.{IsEnding};
 ghost use Rattle.zk_talk.specs.Said.{said};
 ghost use Rattle.zkdump.specs.declared.built.Built.{Built};
 ghost use Rattle.zkdump.specs.declared.built.Built.TheVariants.{Whole};
+ghost use Rattle.zkdump.specs.declared.listing.Listing.{Listing};
 ghost use Rattle.zkdump.specs.declared.summary.Summary.TheVariants.{Ended};
+ghost use Rattle.zkdump.specs.declared.summary.Status.{Status};
+ghost use Rattle.zkdump.specs.declared.summary.Status.TheVariants.{Good as good_end};
 ghost use Rattle.zkdump.specs.Recording.{Spells, history_of};
+ghost use Rattle.zkdump.specs.Lines.{text_of, last_line};
 ghost use Rattle.zkdump.specs.Outcome.{IsOutcome, HasGrownIn};
+ghost use Rattle.zkdump.specs.Running.{HasListed};
 ghost use Rattle.zkdump.specs.Building.{AreLines, IsBuilt, recording_of, HasBuilt, HasBegunBuilding};
 ghost use Rattle.zkdump.specs.Rebuilding.{whole_listing, one_a_piece, AreAlike, IsForeign};
 
@@ -32,6 +37,12 @@ pub fn listing_is_built()
     ensures bytes { (limits : Limits) (h : History) (v : Conversation) (messages : List Message) (n : ℕ) → Good limits h v [] [] → IsOrder limits h v messages → IsEnding limits h (whole n) → (side_bytes Client (history_of (one_a_piece messages)) ≡ side_bytes Client h) × (side_bytes Server (history_of (one_a_piece messages)) ≡ side_bytes Server h) }
     // And it comes to the same messages and to the same ending.
     ensures again { (limits : Limits) (h : History) (v : Conversation) (messages : List Message) (n : ℕ) → Good limits h v [] [] → IsOrder limits h v messages → IsEnding limits h (whole n) → IsOutcome limits (one_a_piece messages) messages (Ended (whole n)) }
+{}
+
+/// And what is built of it is listed again as it was: a run over that recording that answers has
+/// written the listing, or its last line alone, and its status is good.
+pub fn built_is_listed()
+    ensures { (limits : Limits) (h : History) (v : Conversation) (messages : List Message) (n : ℕ) → Good limits h v [] [] → IsOrder limits h v messages → IsEnding limits h (whole n) → (listing : Listing) (unread contents contents_now : Option (List ℕ)) (status : Status) → HasListed limits listing (Some (recording_of messages)) unread contents contents_now status → Appends contents contents_now (text_of listing messages ++ last_line (Ended (whole n))) × (status ≡ good_end) }
 {}
 
 /// Bytes are lines in one way, and lines come to one thing.
