@@ -26,7 +26,9 @@ use Rattle.zk_talk.proofs.Replays.{order_said}
 use Rattle.zk_talk.proofs.Spoken.{spoken}
 use Rattle.zk_lines.specs.Lines.{line, Fits}
 use Rattle.zk_lines.proofs.LawsHeld.{said_held}
-use Rattle.zk_lines.proofs.LawsShown.{line_printed, ending_printed, unbroken}
+use Rattle.zk_lines.proofs.LawsShown.{line_printed}
+use Rattle.zk_lines.proofs.LawsEndings.{ending_printed}
+use Rattle.zk_lines.proofs.LawsPrinted.{unbroken}
 use Rattle.zkdump.specs.declared.built.Built.{Built}
 use Rattle.zkdump.specs.declared.built.Built.TheVariants.{Whole, LineRefused, SayRefused}
 use Rattle.zkdump.specs.declared.summary.Summary.TheVariants.{Ended}

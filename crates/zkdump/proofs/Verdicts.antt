@@ -11,7 +11,8 @@ use Rattle.zk_talk.proofs.Exclusions.{may_or_not, refused_once}
 use Rattle.zk_items.specs.declared.fault.LineFault.{LineFault}
 use Rattle.zk_lines.specs.Lines.{line, Fits}
 use Rattle.zk_lines.proofs.Lines.{line_apart}
-use Rattle.zk_lines.proofs.LawsShown.{line_lettered, ending_dotted}
+use Rattle.zk_lines.proofs.LawsShown.{line_lettered}
+use Rattle.zk_lines.proofs.LawsEndings.{ending_dotted}
 use Rattle.zkdump.specs.declared.built.Built.{Built}
 use Rattle.zkdump.specs.declared.built.Built.TheVariants.{Whole, LineRefused, SayRefused}
 use Rattle.zkdump.specs.Building.{due_ending, ending_fault, IsDotted, AreAccepted, IsNextLine, IsBuilt, without_ending, with_ending, behind_ending, other_ending, no_message, not_said}
