@@ -1,8 +1,8 @@
 -- Numbers with names are read as they are spelled.
 use Rattle.std.proofs.Common.{◌≡◌, ℕ, List, [], ◌∷◌, ◌++◌, Option, Some, None, Bool, true, false, ◌==◌, refl, ap, sym, subst, ◌∙◌, append_assoc, cond, arith, eqb-true}
-use Rattle.std.specs.Prelude.{ℤ, pos, negsuc, codes}
+use Rattle.std.specs.Prelude.{ℤ, codes}
 use Rattle.std.specs.Fmt.{signed_decimal}
-use Rattle.zk_items.specs.Form.{Form, Read, ◌>>=◌, stops, goes_on, word_at}
+use Rattle.zk_items.specs.Form.{Read, ◌>>=◌, stops, word_at}
 use Rattle.zk_items.specs.Leaf.{num_at, in_range, in_number}
 use Rattle.zk_items.specs.Codes.{name_spell, name_at, code, other_code, is_zero, is_next}
 use Rattle.zk_items.proofs.Forms.{Lawful, bind_some, some_is, if_not, word_again, word_sound}

@@ -1,6 +1,6 @@
 -- The laws of a form, and that the forms of forms have them.
 use Rattle.std.proofs.Common.{◌≡◌, ℕ, List, [], ◌∷◌, ◌++◌, Option, Some, None, Bool, true, false, ◌==◌, refl, ap, sym, subst, ◌∙◌, append_assoc, cond, eq-eqb, eqb-true}
-use Rattle.zk_items.specs.Form.{Form, Read, ◌>>=◌, stops, word_at, read_map, led, closed, fields, ◌and◌}
+use Rattle.zk_items.specs.Form.{Form, Read, ◌>>=◌, stops, word_at, led, closed, fields, ◌and◌}
 
 -- the laws, where what stands behind the form is of a kind
 pub record LawfulBefore {X : Type 0} (behind : List ℕ → Bool) (f : Form X) : Type 0 where

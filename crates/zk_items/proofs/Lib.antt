@@ -3,6 +3,7 @@ pub mod Runs
 pub mod Numbers
 pub mod Flags
 pub mod Many
+pub mod Looks
 pub mod Texts
 pub mod Blobs
 pub mod Codes

@@ -1,17 +1,17 @@
 -- Numbers are read as they are written.
-use Rattle.std.specs.Prelude.{◌≡◌, ◌≢◌, ℕ, zero, suc, ◌+◌, ◌*◌, ◌/◌, ◌%◌, ◌^◌, ◌<◌, ◌≤◌, List, [], ◌∷◌, ◌++◌, length, take, drop, Option, Some, None, Result, Ok, Err, Bool, true, false, ◌==◌, ◌&&◌, ◌||◌, nat_le, nat_lt, if◌then◌else◌, ℤ, pos, negsuc, codes, IsUtf8, bytes_eq, refl, slice_index}
+use Rattle.std.specs.Prelude.{◌≡◌, ◌≢◌, ℕ, suc, ◌^◌, ◌<◌, ◌≤◌, List, [], ◌∷◌, ◌++◌, length, take, drop, Some, None, Result, Ok, Bool, true, false, ◌==◌, ◌&&◌, ◌||◌, nat_le, ℤ, pos, negsuc, IsUtf8, bytes_eq, refl}
 use Rattle.std.specs.List.{prefix_len, AllByRecursion}
 use Rattle.std.specs.Fmt.{signed_decimal, decimal}
 use Rattle.std.specs.Str.{IsAscii}
 use Rattle.std.specs.Str.Parse.{signed_digits_value, digits_value, AllDigits, ParsesSigned, without_leading_sign, without_leading_plus}
-use Rattle.std.proofs.Common.{ap, sym, ◌∙◌, append_assoc, cond, arith, subst, ltb-true, lt-ltb, le-leb, ne_eqb, neg_ℤ, FitsSigned, w32, w64}
+use Rattle.std.proofs.Common.{ap, sym, ◌∙◌, cond, arith, subst, ltb-true, lt-ltb, le-leb, ne_eqb, neg_ℤ, w32, w64}
 use Rattle.std.proofs.lemmas.List.{take-append-drop}
 use Rattle.std.proofs.Math.Seq.{take-append_seam, drop-append_seam}
 use Rattle.std.proofs.lemmas.Fmt.{decimal_is_IsNumeral, IsAscii-signed, parse-signed_decimal}
 use Rattle.std.proofs.lemmas.Str.{IsUtf8-from_ascii}
 use Rattle.std.proofs.lemmas.Str.Parse.{digit_from_value}
 use Rattle.std.proofs.lemmas.Slice.Eq.{bytes_eq-Decides}
-use Rattle.zk_items.specs.Form.{Form, Read, stops, goes_on}
+use Rattle.zk_items.specs.Form.{Read, goes_on}
 use Rattle.zk_items.specs.Leaf.{in_number, in_range, num_of, num_at, int, long}
 use Rattle.zk_items.proofs.Forms.{Lawful, if_some, some_is}
 use Rattle.zk_items.proofs.Runs.{run_is, ends, stops_ends}

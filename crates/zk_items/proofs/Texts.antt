@@ -1,16 +1,16 @@
 -- Texts are read as they are spelled.
-use Rattle.std.specs.Prelude.{◌≡◌, ◌≢◌, ℕ, zero, suc, ◌+◌, ◌*◌, ◌/◌, ◌%◌, ◌^◌, ◌<◌, ◌≤◌, List, [], ◌∷◌, ◌++◌, length, take, drop, Option, Some, None, Result, Ok, Err, Bool, true, false, ◌==◌, ◌&&◌, ◌||◌, nat_le, nat_lt, if◌then◌else◌, ℤ, pos, negsuc, codes, IsUtf8, bytes_eq, refl, slice_index}
-use Rattle.std.specs.List.{flat_map, AllByRecursion}
+use Rattle.std.specs.Prelude.{◌≡◌, ℕ, zero, suc, ◌+◌, ◌-◌, ◌*◌, ◌/◌, ◌%◌, ◌<◌, ◌≤◌, List, [], ◌∷◌, ◌++◌, length, take, drop, Option, Some, None, Bool, true, false, ◌==◌, IsUtf8, refl}
+use Rattle.std.specs.List.{flat_map, prefix_len, AllByRecursion}
 use Rattle.std.specs.Str.{is_utf8}
-use Rattle.std.proofs.Common.{ap, sym, ◌∙◌, append_assoc, cond, arith, subst, eqb-true}
+use Rattle.std.proofs.Common.{ap, ap₂, sym, ◌∙◌, append_assoc, cond, arith, subst, eqb-true}
 use Rattle.std.proofs.lemmas.Str.{IsUtf8-from_is_utf8, is_utf8-from_IsUtf8}
 use Rattle.zk_jute.specs.declared.value.Text.{Text}
 use Rattle.zk_jute.specs.declared.value.Text.TheVariants as texts
 use Rattle.zk_items.specs.Form.{Read, ◌>>=◌, stops}
-use Rattle.zk_items.specs.Many.{many_at}
+use Rattle.zk_items.specs.Many.{many_at, then_more, with_first}
 use Rattle.zk_items.specs.Leaf.{is_plain, hex_digit, hex_value, symbol_spell, text_spell, text_fits, symbol_at, text_at, text, checked, escape_at}
 use Rattle.zk_items.proofs.Forms.{Lawful, bind_some, some_is, if_some, if_not}
-use Rattle.zk_items.proofs.Many.{many_again, many_sound}
+use Rattle.zk_items.proofs.Many.{many_again, many_sound, with_front, no_front, step_some}
 
 hex_back : (n : ℕ) → n < 16 → hex_value (hex_digit n) ≡ Some n
 hex_back n small = grind arith
@@ -163,3 +163,64 @@ utf8_false bs h = pick (is_utf8 bs) refl where
   pick : (t : Bool) → is_utf8 bs ≡ t → t ≡ false
   pick true e = absurd (h (IsUtf8-from_is_utf8 bs e))
   pick false e = refl
+
+-- ---- the loop that reads what stands within a text, a run of plain bytes at a time
+
+pub symbol_shorter : (d rest : List ℕ) (b : ℕ) → symbol_at d ≡ Some (Some b, rest) → length rest < length d
+symbol_shorter d rest b e = pick (is_plain b) (symbol_sound d b rest e).0 where
+  pick : (t : Bool) → d ≡ cond t (b ∷ []) (92 ∷ hex_digit (b / 16) ∷ hex_digit (b % 16) ∷ []) ++ rest → length rest < length d
+  pick true is = let n = ap length is in omega arith
+  pick false is = let n = ap length is in omega arith
+
+-- as many symbols as there are bytes are enough
+enough : (n m : ℕ) (d : List ℕ) → length d ≤ n → length d ≤ m → many_at symbol_at n d ≡ many_at symbol_at m d
+unfolding symbol_at
+enough zero zero d a b = refl
+enough zero (suc m) [] a b = refl
+enough zero (suc m) (c ∷ d) a b = absurd (omega arith)
+enough (suc n) zero [] a b = refl
+enough (suc n) zero (c ∷ d) a b = absurd (omega arith)
+enough (suc n) (suc m) d a b = pick (symbol_at d) refl (λ rest x y. enough n m rest x y) where
+  pick : (r : Read (Option ℕ)) → symbol_at d ≡ r → ((rest : List ℕ) → length rest ≤ n → length rest ≤ m → many_at symbol_at n rest ≡ many_at symbol_at m rest) → (r >>= then_more (many_at symbol_at n)) ≡ (r >>= then_more (many_at symbol_at m))
+  pick None e others = refl
+  pick (Some (None, rest)) e others = refl
+  pick (Some (Some x, rest)) e others =
+      let less = symbol_shorter d rest x e in
+      ap (with_first x) (others rest (omega arith) (omega arith))
+
+plain_symbol : (b : ℕ) (d : List ℕ) → is_plain b ≡ true → symbol_at (b ∷ d) ≡ Some (Some b, d)
+unfolding symbol_at
+plain_symbol b d is = grind (arith, is)
+
+front_of_front : (a b : List ℕ) (read : Read (List ℕ)) → with_front (a ++ b) read ≡ with_front a (with_front b read)
+front_of_front a b None = refl
+front_of_front a b (Some q) = ap (λ (xs : List ℕ). Some (xs, q.1)) (append_assoc a b q.0)
+
+front_cons : (b : ℕ) (xs : List ℕ) (read : Read (List ℕ)) → with_front (b ∷ xs) read ≡ with_first b (with_front xs read)
+front_cons b xs None = refl
+front_cons b xs (Some q) = refl
+
+plain_run : (d : List ℕ) → with_front (take (prefix_len is_plain d) d) (many_at symbol_at (length (drop (prefix_len is_plain d) d)) (drop (prefix_len is_plain d) d)) ≡ many_at symbol_at (length d) d
+plain_run [] = refl
+plain_run (b ∷ d) = pick (is_plain b) refl (plain_run d) where
+  pick : (t : Bool) → is_plain b ≡ t
+      → with_front (take (prefix_len is_plain d) d) (many_at symbol_at (length (drop (prefix_len is_plain d) d)) (drop (prefix_len is_plain d) d)) ≡ many_at symbol_at (length d) d
+      → with_front (take (cond t (1 + prefix_len is_plain d) 0) (b ∷ d)) (many_at symbol_at (length (drop (cond t (1 + prefix_len is_plain d) 0) (b ∷ d))) (drop (cond t (1 + prefix_len is_plain d) 0) (b ∷ d))) ≡ many_at symbol_at (suc (length d)) (b ∷ d)
+  pick true is others =
+      let one : 1 + prefix_len is_plain d ≡ suc (prefix_len is_plain d) = omega arith in
+      ap (λ (n : ℕ). with_front (take n (b ∷ d)) (many_at symbol_at (length (drop n (b ∷ d))) (drop n (b ∷ d)))) one
+      ∙ front_cons b (take (prefix_len is_plain d) d) _ ∙ ap (with_first b) others
+      ∙ sym (ap (λ (r : Read (Option ℕ)). r >>= then_more (many_at symbol_at (length d))) (plain_symbol b d is))
+  pick false is others = no_front (many_at symbol_at (suc (length d)) (b ∷ d))
+
+pub past_plain : (front seen run d ahead : List ℕ) → seen ≡ front ++ run → run ≡ take (prefix_len is_plain d) d → ahead ≡ drop (prefix_len is_plain d) d
+    → with_front seen (many_at symbol_at (length ahead) ahead) ≡ with_front front (many_at symbol_at (length d) d)
+past_plain front seen run d ahead s r a =
+    ap₂ (λ (xs b : List ℕ). with_front xs (many_at symbol_at (length b) b)) (s ∙ ap (λ (r : List ℕ). front ++ r) r) a
+    ∙ front_of_front front (take (prefix_len is_plain d) d) _ ∙ ap (with_front front) (plain_run d)
+
+pub past_symbol : (front d rest : List ℕ) (b : ℕ) → symbol_at d ≡ Some (Some b, rest) → with_front (front ++ (b ∷ [])) (many_at symbol_at (length rest) rest) ≡ with_front front (many_at symbol_at (length d) d)
+past_symbol front d rest b e =
+    let less = symbol_shorter d rest b e in
+    let one : length d ≡ suc (length d - 1) = omega arith in
+    ap (with_front (front ++ (b ∷ []))) (enough (length rest) (length d - 1) rest (omega arith) (omega arith)) ∙ sym (step_some symbol_at front (length d) (length d - 1) d rest b one e)

@@ -1,5 +1,5 @@
 -- An item may end before any fixed word.
-use Rattle.std.proofs.Common.{◌≡◌, ℕ, List, ◌++◌, Bool, true, refl}
+use Rattle.std.proofs.Common.{◌≡◌, ℕ, List, ◌++◌, true, refl}
 use Rattle.zk_items.specs.declared.word.Word.{Word}
 use Rattle.zk_items.specs.declared.word.Word.TheVariants as words
 use Rattle.zk_items.specs.Form.{stops}

@@ -1,8 +1,8 @@
 -- Numbers with names: where a number has one, `/` and the name follow it.
-use Rattle.std.specs.Prelude.{◌≡◌, ◌≢◌, ℕ, List, [], ◌∷◌, ◌++◌, Option, Some, None, Bool, true, false, ◌==◌, ◌&&◌, if◌then◌else◌, ℤ, pos, negsuc, codes}
+use Rattle.std.specs.Prelude.{◌≡◌, ℕ, List, [], ◌∷◌, ◌++◌, Option, Some, None, Bool, true, false, ◌==◌, if◌then◌else◌, ℤ, pos, negsuc, codes}
 use Rattle.std.specs.Fmt.{signed_decimal}
 use Rattle.zk_records.specs.Names.{code_name, event_name}
-use Rattle.zk_items.specs.Form.{Form, Read, ◌>>=◌, word_at}
+use Rattle.zk_items.specs.Form.{Form, ◌>>=◌, word_at}
 use Rattle.zk_items.specs.Leaf.{num_at, in_range}
 
 abbrev pub name_spell : Option (List ℕ) → List ℕ

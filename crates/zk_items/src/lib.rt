@@ -4,6 +4,7 @@
 mod code;
 mod fault;
 mod number;
+mod plain;
 mod reader;
 mod symbol;
 mod word;

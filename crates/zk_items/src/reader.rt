@@ -2,13 +2,14 @@
 ghost use Rattle.std.specs.Prelude.{◌≡◌, ◌↔◌, IsTrue, [], length, take, drop, MatchBool, IfErr, Some, None};
 ghost use Rattle.std.specs.List.{prefix_len};
 ghost use Rattle.zk_items.specs.Form.{Gives, GivesSeen, Passes, word_at};
-ghost use Rattle.zk_items.specs.Leaf.{in_name, in_word, num_at, bit_at, ro_at, text_at, blob_at, symbol_at};
+ghost use Rattle.zk_items.specs.Leaf.{in_name, in_word, is_plain, num_at, bit_at, ro_at, text_at, blob_at, symbol_at};
 ghost use Rattle.zk_items.specs.Codes.{is_next};
 ghost use Rattle.zk_items.specs.Many.{many_at};
 ghost use Rattle.zk_items.specs.Words.{word_of};
 
 use crate::fault::{LineFault, LineReason};
 use crate::number::{hex_len, int_of, letters_len, long_of, name_len, number_len};
+use crate::plain::plain_len;
 use crate::symbol::{hex_value, is_plain, text_of};
 use crate::word::{Word, word_bytes};
 use hex::FromHexError;
@@ -247,12 +248,26 @@ impl<'a> Reader<'a> {
         Ok(Some(*first))
     }
 
+    /// Passes the longest run of bytes ahead that stand for themselves within a text.
+    fn plain(&mut self) -> &'a [u8]
+        ensures run { result.now ≡ take (prefix_len is_plain self.old) self.old }
+        ensures rest { self.new ≡ drop (prefix_len is_plain self.old) self.old }
+    {
+        let (run, rest) = self.ahead.split_at(plain_len(self.ahead));
+        self.ahead = rest;
+        run
+    }
+
     /// The bytes of the text that fails so, up to the sign behind it.
     fn inside(&mut self, fault: LineFault) -> Result<Vec<u8>, LineFault>
         ensures { GivesSeen (λ v. v.items) result self.new (many_at symbol_at (length self.old) self.old) }
     {
         let mut bytes = Vec::new(self.alloc);
-        for turn in 0..self.ahead.len() {
+        while let Some(first) = self.ahead.first() {
+            if is_plain(*first) {
+                bytes.extend_from_slice(self.plain())?;
+                continue;
+            }
             match self.symbol(fault) {
                 Ok(None) => return Ok(bytes),
                 Ok(Some(byte)) => bytes.push(byte)?,

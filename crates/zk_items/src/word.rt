@@ -35,6 +35,7 @@ pub enum Word {
 }
 
 /// The bytes of a word.
+#[inline(always)]
 #[tactic(auto, unfolding(crate::specs::Words::word_of))]
 pub fn word_bytes(word: Word) -> &'static [u8]
     ensures { result.now ≡ word_of word }

@@ -1,11 +1,12 @@
 //! The items of a line, written.
-ghost use Rattle.std.specs.Prelude.{◌≡◌, ◌++◌, OnOk};
+ghost use Rattle.std.specs.Prelude.{◌≡◌, ◌++◌, OnOk, false};
 ghost use Rattle.std.specs.Fmt.{signed_decimal};
 ghost use Rattle.std.specs.List.{flat_map};
-ghost use Rattle.zk_items.specs.Leaf.{text_spell, blob_spell, symbol_spell, bit_spell, ro_spell};
+ghost use Rattle.zk_items.specs.Leaf.{is_plain, text_spell, blob_spell, symbol_spell, bit_spell, ro_spell};
 ghost use Rattle.hex.specs.Hex.{encode_lower};
 ghost use Rattle.zk_items.specs.Words.{word_of};
 
+use crate::plain::plain_len;
 use crate::symbol::{hex_digit, is_plain};
 use crate::word::{Word, word_bytes};
 use itoa::Buffer;
@@ -13,6 +14,7 @@ use std::alloc::AllocError;
 use zk_jute::{Blob, Text};
 
 /// Appends a fixed word.
+#[inline(always)]
 pub fn put_word(out: &mut Vec<u8>, word: Word) -> Result<(), AllocError>
     ensures { OnOk result (out.new.items ≡ out.old.items ++ word_of word) }
 {
@@ -76,22 +78,28 @@ fn put_digits(out: &mut Vec<u8>, bytes: &[u8]) -> Result<(), AllocError>
     }
 }
 
-fn put_symbol(out: &mut Vec<u8>, b: u8) -> Result<(), AllocError>
+/// Appends a byte that doesn't stand for itself.
+fn put_escape(out: &mut Vec<u8>, b: u8) -> Result<(), AllocError>
+    requires { is_plain b ≡ false }
     ensures { OnOk result (out.new.items ≡ out.old.items ++ symbol_spell b) }
 {
-    if is_plain(b) {
-        out.push(b)?;
-        Ok(())
-    } else {
-        out.extend_from_slice(&[b'\\', hex_digit(b / 16), hex_digit(b % 16)])
-    }
+    out.extend_from_slice(&[b'\\', hex_digit(b / 16), hex_digit(b % 16)])
 }
 
+/// Appends a text's bytes, a run of plain ones at a time.
 fn put_symbols(out: &mut Vec<u8>, bytes: &[u8]) -> Result<(), AllocError>
     ensures { OnOk result (out.new.items ≡ out.old.items ++ flat_map symbol_spell bytes.now) }
 {
-    for b in bytes {
-        put_symbol(out, *b)?;
+    let mut ahead = bytes;
+    while let Some((first, rest)) = ahead.split_first() {
+        if is_plain(*first) {
+            let (run, rest) = ahead.split_at(plain_len(ahead));
+            out.extend_from_slice(run)?;
+            ahead = rest;
+        } else {
+            put_escape(out, *first)?;
+            ahead = rest;
+        }
     }
     Ok(())
 }

@@ -1,7 +1,6 @@
 -- The lines of what a server sends are read as they are spelled.
 use Rattle.std.proofs.Common.{◌≡◌, ℕ, ℤ, List, [], ◌∷◌, ◌++◌, Option, Some, None, Bool, true, false, refl, ap, sym, subst, ◌∙◌, append_assoc}
 use Rattle.std.specs.List.{AllByRecursion}
-use Rattle.std.proofs.lemmas.List.{append-nil}
 use Rattle.zk_records.specs.declared.op.Op.{Op}
 use Rattle.zk_records.specs.declared.op.Op.TheVariants as ops
 use Rattle.zk_answers.specs.declared.frame.PartDone.{PartDone}
@@ -11,7 +10,7 @@ use Rattle.zk_answers.specs.declared.frame.Body.TheVariants as body
 use Rattle.zk_answers.specs.declared.frame.Outcome.{Outcome}
 use Rattle.zk_answers.specs.declared.frame.Outcome.TheVariants as outcome
 use Rattle.zk_answers.specs.Frames.{op_of_body, op_of_outcome}
-use Rattle.zk_items.specs.Form.{Form, Read, ◌>>=◌, read_map, stops, word_at}
+use Rattle.zk_items.specs.Form.{Read, ◌>>=◌, read_map, stops, word_at}
 use Rattle.zk_items.specs.Leaf.{int, long, ro, text, blob, in_name}
 use Rattle.zk_items.specs.Codes.{error_code, failure_code, event_code, error_name, type_name}
 use Rattle.zk_items.specs.Words.{field, word_of}
@@ -27,10 +26,9 @@ use Rattle.zk_lines.specs.declared.answer.DoneName.{DoneName}
 use Rattle.zk_lines.specs.declared.answer.DoneName.TheVariants as names
 use Rattle.zk_lines.specs.Series.{list_of, if_passed}
 use Rattle.zk_lines.specs.Records.{acl, stat}
-use Rattle.zk_lines.specs.Named.{Bodies, named}
 use Rattle.zk_lines.specs.Answers as answers
 use Rattle.zk_lines.proofs.Records.{stat_is}
-use Rattle.zk_lines.proofs.Named.{IsNamed, IsRead, named_is, mapped, first_sound}
+use Rattle.zk_lines.proofs.Named.{IsRead, named_is, mapped, first_sound}
 use Rattle.zk_lines.proofs.Series.{series_is}
 use Rattle.zk_lines.proofs.Lists.{texts_is, acls_is}
 use Rattle.zk_lines.proofs.Asks.{op_found, op_letters, op_tells}

@@ -1,5 +1,5 @@
 -- The lines of what a client sends are read as they are spelled.
-use Rattle.std.proofs.Common.{◌≡◌, ℕ, ℤ, List, [], ◌∷◌, ◌++◌, Option, Some, None, Bool, true, refl, ap, subst}
+use Rattle.std.proofs.Common.{◌≡◌, ℕ, List, [], ◌∷◌, ◌++◌, Some, None, true, refl, ap, subst}
 use Rattle.std.specs.List.{AllByRecursion}
 use Rattle.zk_records.specs.declared.op.Op.{Op}
 use Rattle.zk_records.specs.declared.op.Op.TheVariants as ops
@@ -10,21 +10,20 @@ use Rattle.zk_asks.specs.declared.frame.Part.{Part}
 use Rattle.zk_asks.specs.declared.frame.Part.TheVariants as part
 use Rattle.zk_asks.specs.declared.frame.Ask.{Ask}
 use Rattle.zk_asks.specs.declared.frame.Ask.TheVariants as ask
-use Rattle.zk_items.specs.Form.{Form, Read, read_map, stops, word_at}
+use Rattle.zk_items.specs.Form.{read_map, stops, word_at}
 use Rattle.zk_items.specs.Leaf.{int, long, bit, ro, text, blob, in_name}
 use Rattle.zk_items.specs.Words.{field}
 use Rattle.zk_items.specs.declared.word.Word.TheVariants as words
-use Rattle.zk_items.proofs.Forms.{Lawful, LawfulBefore, IsField, record_is, and_is, some_is, ◌with◌}
+use Rattle.zk_items.proofs.Forms.{Lawful, IsField, record_is, and_is, some_is, ◌with◌}
 use Rattle.zk_items.proofs.Numbers.{int_is, long_is}
 use Rattle.zk_items.proofs.Flags.{bit_is, ro_is}
 use Rattle.zk_items.proofs.Texts.{text_is}
 use Rattle.zk_items.proofs.Blobs.{blob_is}
 use Rattle.zk_items.proofs.Words.{field_is}
-use Rattle.zk_lines.specs.Series.{list_of, series}
+use Rattle.zk_lines.specs.Series.{list_of}
 use Rattle.zk_lines.specs.Records.{acl}
-use Rattle.zk_lines.specs.Named.{Bodies, named}
 use Rattle.zk_lines.specs.Asks as asks
-use Rattle.zk_lines.proofs.Named.{IsNamed, IsRead, named_is, mapped, first_sound}
+use Rattle.zk_lines.proofs.Named.{IsRead, named_is, mapped, first_sound}
 use Rattle.zk_lines.proofs.Series.{series_is}
 use Rattle.zk_lines.proofs.Lists.{texts_is, acls_is}
 

@@ -1,5 +1,5 @@
 -- A message's line is read as the message, and what is read has the line.
-use Rattle.std.proofs.Common.{◌≡◌, ◌≢◌, ℕ, zero, suc, ℤ, List, [], ◌∷◌, ◌++◌, take, Option, Some, None, Result, Ok, Err, Bool, true, false, ◌==◌, ◌&&◌, refl, ap, sym, subst, ◌∙◌, append_assoc, cond, arith, bytes_eq, ne_eqb, ◌≤◌}
+use Rattle.std.proofs.Common.{◌≡◌, ◌≢◌, ℕ, zero, suc, ℤ, List, [], ◌∷◌, ◌++◌, take, Option, Some, None, Result, Ok, Err, Bool, true, false, ◌==◌, ◌&&◌, refl, ap, sym, subst, ◌∙◌, cond, arith, bytes_eq, ne_eqb, ◌≤◌}
 use Rattle.std.specs.Prelude.{codes}
 use Rattle.std.specs.Fmt.{signed_decimal}
 use Rattle.std.specs.List.{prefix_len, AllByRecursion}
@@ -19,9 +19,9 @@ use Rattle.zk_items.specs.Words.{word_of}
 use Rattle.zk_records.specs.declared.connect.ConnectRequest.{ConnectRequest}
 use Rattle.zk_records.specs.declared.connect.ConnectResponse.{ConnectResponse}
 use Rattle.zk_records.specs.declared.event.WatcherEvent.{WatcherEvent}
-use Rattle.zk_items.specs.Form.{Form, Read, ◌>>=◌, read_map, led, word_at, Answers}
+use Rattle.zk_items.specs.Form.{Read, ◌>>=◌, read_map, led, word_at, Answers}
 use Rattle.zk_items.specs.Leaf.{in_word, in_number, in_range}
-use Rattle.zk_items.proofs.Forms.{Lawful, LawfulBefore, IsField, led_is, bind_some, some_is, word_again, word_sound}
+use Rattle.zk_items.proofs.Forms.{led_is, bind_some, word_sound}
 use Rattle.zk_items.proofs.Numbers.{wide, written_value}
 use Rattle.zk_lines.specs.Asks as asks
 use Rattle.zk_lines.specs.Answers as answers
@@ -29,7 +29,7 @@ use Rattle.zk_lines.specs.Series.{if_passed}
 use Rattle.zk_lines.specs.Lines.{letters, client_at, server_at, client_line, server_line, ClientFits, ServerFits, line, Fits, whole, said, message_at, Reads}
 use Rattle.zk_lines.proofs.Named.{mapped}
 use Rattle.zk_lines.proofs.Asks.{connect_is, request_is}
-use Rattle.zk_lines.proofs.Answers.{connected_is, event_is, reply_is, is_end}
+use Rattle.zk_lines.proofs.Answers.{connected_is, event_is, reply_is}
 
 -- ---- what begins with a number begins with no word
 

@@ -1,14 +1,14 @@
 -- Values that begin with a name are read as they are spelled.
-use Rattle.std.proofs.Common.{◌≡◌, ℕ, List, [], ◌∷◌, ◌++◌, take, drop, Option, Some, None, Bool, true, false, length, refl, ap, sym, subst, ◌∙◌, append_assoc, cond, arith, bytes_eq}
+use Rattle.std.proofs.Common.{◌≡◌, ℕ, List, [], ◌∷◌, ◌++◌, take, drop, Option, Some, Bool, true, false, length, refl, ap, sym, ◌∙◌, append_assoc, cond, arith, bytes_eq}
 use Rattle.std.specs.List.{prefix_len, AllByRecursion}
 use Rattle.std.proofs.lemmas.List.{take-append-drop}
 use Rattle.std.proofs.lemmas.Slice.Eq.{bytes_eq-Decides}
 use Rattle.std.proofs.Math.Seq.{take-append_seam, drop-append_seam}
-use Rattle.zk_items.specs.Form.{Form, Read, ◌>>=◌, read_map, stops, goes_on}
+use Rattle.zk_items.specs.Form.{Form, ◌>>=◌, read_map, stops, goes_on}
 use Rattle.zk_items.specs.Leaf.{in_name}
-use Rattle.zk_items.proofs.Forms.{Lawful, LawfulBefore, bind_some, some_is}
+use Rattle.zk_items.proofs.Forms.{LawfulBefore, bind_some, some_is}
 use Rattle.zk_items.proofs.Runs.{run_is, stops_ends}
-use Rattle.zk_lines.specs.Named.{Bodies, named, named_at, first_named}
+use Rattle.zk_lines.specs.Named.{Bodies, named, first_named}
 
 name_goes_on : (b : ℕ) → in_name b ≡ true → goes_on b ≡ true
 name_goes_on b h = grind arith

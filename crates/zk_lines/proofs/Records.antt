@@ -1,10 +1,9 @@
 -- Access lists and stats are read as they are spelled.
-use Rattle.std.proofs.Common.{◌≡◌, ℤ, refl}
-use Rattle.zk_items.specs.Form.{Form, ◌and◌}
+use Rattle.std.proofs.Common.{refl}
+use Rattle.zk_items.specs.Form.{◌and◌}
 use Rattle.zk_items.specs.Leaf.{int, long, text}
-use Rattle.zk_items.specs.Words.{word_of, field}
+use Rattle.zk_items.specs.Words.{field}
 use Rattle.zk_lines.specs.Records.{acl, stat, times, versions, sizes}
-use Rattle.zk_items.specs.declared.word.Word.{Word}
 use Rattle.zk_items.specs.declared.word.Word.TheVariants.{Close, Colon, Comma, Open}
 use Rattle.zk_items.proofs.Forms.{Lawful, IsField, closed_is, and_is, fields_is, ◌with◌}
 use Rattle.zk_items.proofs.Numbers.{int_is, long_is}

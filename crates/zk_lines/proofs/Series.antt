@@ -1,5 +1,5 @@
 -- Series and lists are read as they are spelled.
-use Rattle.std.proofs.Common.{◌≡◌, ℕ, zero, suc, ◌+◌, ◌<◌, ◌≤◌, List, [], ◌∷◌, ◌++◌, length, Option, Some, None, Bool, true, false, ◌==◌, refl, ap, sym, subst, ◌∙◌, append_assoc, cond, arith, eq-eqb, eqb-true, ne_eqb, length-append}
+use Rattle.std.proofs.Common.{◌≡◌, ℕ, suc, ◌<◌, List, [], ◌∷◌, ◌++◌, length, Option, Some, None, Bool, true, refl, ap, sym, subst, ◌∙◌, append_assoc, cond, arith, ne_eqb, length-append}
 use Rattle.std.specs.Prelude.{codes, ◌≢◌}
 use Rattle.std.specs.List.{flat_map, AllByRecursion}
 use Rattle.zk_jute.specs.declared.value.List.{List as Vector}
@@ -7,7 +7,7 @@ use Rattle.zk_jute.specs.declared.value.List.TheVariants as list
 use Rattle.zk_items.specs.Form.{Form, Read, ◌>>=◌, read_map, stops, word_at}
 use Rattle.zk_lines.specs.Series.{series, series_at, series_spell, element_at, if_passed, list_of, list_at, list_spell, list_fits}
 use Rattle.zk_items.specs.Many.{many_at, with_first}
-use Rattle.zk_items.proofs.Forms.{Lawful, bind_some, some_is, word_again, word_sound, word_none}
+use Rattle.zk_items.proofs.Forms.{Lawful, bind_some, some_is, word_again, word_sound}
 use Rattle.zk_items.proofs.Many.{many_again, many_sound}
 
 -- no value's spelling begins with the sign

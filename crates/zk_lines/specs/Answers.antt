@@ -1,5 +1,5 @@
 -- The lines of what a server sends.
-use Rattle.std.specs.Prelude.{ℕ, ℤ, List, [], ◌∷◌, ◌++◌, Option, Some, None, Bool, codes, bytes_eq, if◌then◌else◌}
+use Rattle.std.specs.Prelude.{ℕ, ℤ, List, [], ◌∷◌, ◌++◌, Option, Some, Bool, codes}
 use Rattle.zk_jute.specs.declared.value.Text.{Text}
 use Rattle.zk_jute.specs.declared.value.Blob.{Blob}
 use Rattle.zk_jute.specs.declared.value.List.{List as Vector}
@@ -18,7 +18,7 @@ use Rattle.zk_answers.specs.declared.frame.Outcome.{Outcome}
 use Rattle.zk_answers.specs.declared.frame.Outcome.TheVariants as outcome
 use Rattle.zk_answers.specs.declared.frame.Reply.{Reply}
 use Rattle.zk_answers.specs.Frames.{op_of_outcome}
-use Rattle.zk_items.specs.Form.{Form, Read, ◌>>=◌, read_map, led, fields, ◌and◌, word_at}
+use Rattle.zk_items.specs.Form.{Form, Read, ◌>>=◌, read_map, fields, ◌and◌, word_at}
 use Rattle.zk_items.specs.Leaf.{int, long, ro, text, blob}
 use Rattle.zk_items.specs.Codes.{error_code, failure_code, event_code}
 use Rattle.zk_items.specs.Words.{word_of, field}

@@ -1,7 +1,5 @@
 -- The lines of what a client sends.
-use Rattle.std.specs.Prelude.{ℕ, ℤ, List, [], ◌∷◌, ◌++◌, Option, Some, None, Bool, codes, take, bytes_eq, if◌then◌else◌}
-use Rattle.std.specs.List.{prefix_len, AllByRecursion}
-use Rattle.std.specs.Fmt.{signed_decimal}
+use Rattle.std.specs.Prelude.{ℕ, ℤ, List, [], ◌∷◌, Option, Some, Bool}
 use Rattle.zk_records.specs.declared.connect.ConnectRequest.{ConnectRequest}
 use Rattle.zk_records.specs.declared.ask.CreateAsk.{CreateAsk}
 use Rattle.zk_records.specs.declared.ask.DeleteAsk.{DeleteAsk}
@@ -22,9 +20,9 @@ use Rattle.zk_asks.specs.declared.frame.Part.TheVariants as part
 use Rattle.zk_asks.specs.declared.frame.Ask.{Ask}
 use Rattle.zk_asks.specs.declared.frame.Ask.TheVariants as ask
 use Rattle.zk_asks.specs.Frames.{op_of_part, op_of_ask}
-use Rattle.zk_items.specs.Form.{Form, Read, ◌>>=◌, read_map, led, fields, ◌and◌}
+use Rattle.zk_items.specs.Form.{Form, Read, read_map, fields, ◌and◌}
 use Rattle.zk_items.specs.Leaf.{int, long, bit, ro, text, blob}
-use Rattle.zk_items.specs.Words.{word_of, field}
+use Rattle.zk_items.specs.Words.{field}
 use Rattle.zk_items.specs.declared.word.Word.TheVariants as words
 use Rattle.zk_lines.specs.Series.{list_of, series}
 use Rattle.zk_lines.specs.Records.{acl}

@@ -1,5 +1,5 @@
 -- Values that begin with a name, by which the rest is spelled.
-use Rattle.std.specs.Prelude.{◌≡◌, ℕ, List, [], ◌∷◌, ◌++◌, take, drop, Option, Some, None, bytes_eq, if◌then◌else◌}
+use Rattle.std.specs.Prelude.{ℕ, List, [], ◌∷◌, ◌++◌, take, drop, Option, Some, None, bytes_eq, if◌then◌else◌}
 use Rattle.std.specs.List.{prefix_len}
 use Rattle.zk_items.specs.Form.{Form, Read, ◌>>=◌}
 use Rattle.zk_items.specs.Leaf.{in_name}

@@ -1,5 +1,5 @@
 -- Items one after another, parted by a sign, up to a sign that ends them.
-use Rattle.std.specs.Prelude.{◌≡◌, ℕ, zero, suc, List, [], ◌∷◌, ◌++◌, length, Option, Some, None, codes}
+use Rattle.std.specs.Prelude.{ℕ, List, [], ◌∷◌, ◌++◌, length, Option, Some, None, codes}
 use Rattle.std.specs.List.{flat_map, AllByRecursion}
 use Rattle.zk_jute.specs.declared.value.List.{List as Vector}
 use Rattle.zk_jute.specs.declared.value.List.TheVariants as list

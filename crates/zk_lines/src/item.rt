@@ -34,6 +34,7 @@ pub fn read_field<T: Item>(line: &mut Reader<'_>, word: Word) -> Result<T, LineF
 }
 
 /// Appends the field: the word, and then the value.
+#[inline(always)]
 pub fn put_field<T: Item>(out: &mut Vec<u8>, word: Word, value: &T) -> Result<(), AllocError>
     ensures { OnOk result (out.new.items ≡ out.old.items ++ (word_of word ++ T.spell value.now)) }
 {

@@ -14,7 +14,7 @@ mod request;
 
 pub use ending::ending_line;
 pub use laws::{ending_laws, line_laws};
-pub use line::{line_of, read_line};
+pub use line::{line_of, put_line, read_line};
 pub use zk_items::{LineFault, LineReason, line_reason_name};
 
 #[cfg(test)]

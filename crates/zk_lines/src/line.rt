@@ -16,7 +16,8 @@ use zk_talk::Message;
 /// Room for most lines, so that few of them grow twice.
 const USUAL: usize = 256;
 
-fn put_message(out: &mut Vec<u8>, message: &Message) -> Result<(), AllocError>
+/// Appends the message's line, without line feed. Every message has one, also one that no conversation has.
+pub fn put_line(out: &mut Vec<u8>, message: &Message) -> Result<(), AllocError>
     ensures { OnOk result (out.new.items ≡ out.old.items ++ lines.line message.now) }
 {
     match message {
@@ -25,12 +26,12 @@ fn put_message(out: &mut Vec<u8>, message: &Message) -> Result<(), AllocError>
     }
 }
 
-/// The message's line, without line feed. Every message has one, also one that no conversation has.
+/// The message's line, without line feed.
 pub fn line_of(alloc: Global, message: &Message) -> Result<Vec<u8>, AllocError>
     ensures { IfOk result (λ line. line.items ≡ lines.line message.now) }
 {
     let mut line = Vec::with_capacity(alloc, USUAL)?;
-    put_message(&mut line, message)?;
+    put_line(&mut line, message)?;
     Ok(line)
 }
 

@@ -1,6 +1,6 @@
 use super::*;
 use crate::samples::{FAULTS, LINES};
-use std::alloc::Global;
+use std::alloc::{AllocError, Global};
 use std::process::Abort;
 use std::test::Fail;
 use zk_asks::{Ask, ClientFrame};
@@ -40,6 +40,21 @@ fn sync(path: String) -> Message {
         xid: 1,
         ask: Ask::Sync(PathAsk { path }),
     })
+}
+
+/// A listing of one line and the message's.
+fn listing(alloc: Global, message: &Message) -> Result<Vec<u8>, AllocError> {
+    let mut lines = Vec::from_slice(alloc, b"one\n")?;
+    put_line(&mut lines, message)?;
+    Ok(lines)
+}
+
+#[test]
+fn line_behind_another(rt: HostRuntime) -> Result<(), Fail> {
+    let path = String::from_str(rt.alloc(), "/a")?;
+    let lines = listing(rt.alloc(), &sync(path))?;
+    assert_eq!(rt; lines.as_slice(), b"one\nC 1 sync path=\"/a\"".as_slice());
+    Ok(())
 }
 
 #[test]

@@ -1,4 +1,4 @@
-use Rattle.std.proofs.Common.{◌≡◌, ◌≢◌, Ok, Err, ℤ, List, ℕ, sym, ◌∙◌, ap, Bool, true, false, bytes_eq, arith}
+use Rattle.std.proofs.Common.{◌≡◌, sym, ◌∙◌, Bool, true, false, bytes_eq, arith}
 use Rattle.std.proofs.lemmas.Int.{ints}
 use Rattle.std.specs.Fmt.{signed_decimal}
 use Rattle.zk_items.proofs.Numbers.{number_text, wide, parse_int, equal_bytes}

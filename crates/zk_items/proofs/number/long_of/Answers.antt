@@ -1,7 +1,7 @@
-use Rattle.std.proofs.Common.{◌≡◌, ◌≢◌, Ok, Err, ℤ, List, ℕ, sym, ◌∙◌, ap, Bool, true, false, bytes_eq, arith}
+use Rattle.std.proofs.Common.{◌≡◌, sym, ◌∙◌, Bool, true, false, bytes_eq, arith}
 use Rattle.std.proofs.lemmas.Int.{ints}
 use Rattle.std.specs.Fmt.{signed_decimal}
-use Rattle.zk_items.proofs.Numbers.{number_text, wide, parse_long, equal_bytes}
+use Rattle.zk_items.proofs.Numbers.{number_text, parse_long, equal_bytes}
 use Rattle.zk_items.proofs.number.long_of.Goals as goal
 
 no_both : (r b : Bool) → r ≡ b → b ≡ true → r ≡ false → ⊥

@@ -1,7 +1,10 @@
-use Rattle.std.proofs.Common.{◌≡◌, ◌++◌, take}
+use Rattle.std.proofs.Common.{◌≡◌, ◌++◌, length}
 use Rattle.std.specs.List.{flat_map}
 use Rattle.zk_items.specs.Leaf.{symbol_spell}
 use Rattle.zk_items.proofs.write.put_symbols.Given as goal
 
-abbrev pub invariant-loop-b : goal.invariant-loop-b
-invariant-loop-b l = l.out.items ≡ l.fn.out.items ++ flat_map symbol_spell (take l.b-index l.bytes)
+abbrev pub invariant-loop-first : goal.invariant-loop-first
+invariant-loop-first l = l.out.items ++ flat_map symbol_spell l.ahead ≡ l.fn.out.items ++ flat_map symbol_spell l.bytes
+
+abbrev pub decreases-loop-first : goal.decreases-loop-first
+decreases-loop-first l = length l.ahead

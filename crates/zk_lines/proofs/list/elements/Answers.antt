@@ -1,4 +1,4 @@
-use Rattle.std.proofs.Common.{◌≡◌, ◌≢◌, ◌+◌, ◌-◌, length, sym, ◌∙◌, arith, ap, List, ℕ, Some, None, Option}
+use Rattle.std.proofs.Common.{◌+◌, ◌-◌, sym, ◌∙◌, arith, ap, List, Some}
 use Rattle.std.proofs.lemmas.List.{append-nil}
 use Rattle.zk_lines.specs.Series.{element_at}
 use Rattle.zk_items.specs.Many.{many_at}

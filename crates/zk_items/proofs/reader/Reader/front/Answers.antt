@@ -1,4 +1,4 @@
-use Rattle.std.proofs.Common.{rules, ◌≡◌, ◌≢◌, ◌++◌, List, ℕ, nat_eq, Some, None, Option, Decides, refl, sym, ◌∙◌}
+use Rattle.std.proofs.Common.{rules, ◌≡◌, ℕ, nat_eq, Some, None, Decides, refl, sym, ◌∙◌}
 use Rattle.std.proofs.lemmas.Slice.Eq.{strip_prefix_is}
 use Rattle.zk_items.proofs.Forms.{word_none, word_some}
 use Rattle.zk_items.proofs.reader.Reader.front.Goals as goal

@@ -1,0 +1,15 @@
+use Rattle.std.proofs.Common.{◌≡◌, ◌++◌, ℕ, List, take, drop, ap, ap₂, ◌∙◌, append_assoc}
+use Rattle.std.specs.List.{flat_map}
+use Rattle.zk_items.specs.Leaf.{symbol_spell}
+use Rattle.zk_items.proofs.Looks.{plain_front}
+use Rattle.zk_items.proofs.write.put_symbols.Goals as goal
+
+pub loop-first-preserved-then-is_plain : goal.loop-first-preserved-then-is_plain
+loop-first-preserved-then-is_plain c =
+    let ahead = c.loop-first.ahead.now in
+    let parts : c.split_at.result.0.now ++ flat_map symbol_spell c.split_at.result.1.now ≡ flat_map symbol_spell ahead =
+    ap₂ (λ (run rest : List ℕ). run ++ flat_map symbol_spell rest) c.split_at.ensures.front c.split_at.ensures.back
+    ∙ ap (λ (n : ℕ). take n ahead ++ flat_map symbol_spell (drop n ahead)) c.plain_len.ensures.value ∙ plain_front ahead in
+    ap (λ (o : List ℕ). o ++ flat_map symbol_spell c.split_at.result.1.now) c.in_ok-extend_from_slice.ensures.items
+    ∙ append_assoc c.loop-first.out.items c.split_at.result.0.now (flat_map symbol_spell c.split_at.result.1.now)
+    ∙ ap (λ (r : List ℕ). c.loop-first.out.items ++ r) parts ∙ c.loop-first.invariant
