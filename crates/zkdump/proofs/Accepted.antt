@@ -1,5 +1,5 @@
 -- One line more.
-use Rattle.std.proofs.Common.{◌≡◌, ◌≢◌, ℕ, ◌+◌, ◌<◌, List, [], ◌∷◌, ◌++◌, length, map, Option, ◌⊎◌, inl, inr, refl, sym, ap, ◌∙◌, subst, append_assoc, append-nil, arith, length-append, true, false, Bool, Err}
+use Rattle.std.proofs.Common.{◌≡◌, ◌≢◌, ℕ, ◌+◌, ◌<◌, List, [], ◌∷◌, ◌++◌, length, map, Option, ◌⊎◌, inl, inr, refl, sym, ap, ◌∙◌, subst, append_assoc, append-nil, arith, length-append, true, false, Bool}
 use Rattle.std.specs.Io.KnownBytes.{Appends}
 use Rattle.std.specs.List.{AllByRecursion, flat_map}
 use Rattle.std.specs.Int.{w32, to_be_bytes}
@@ -14,7 +14,7 @@ use Rattle.zk_talk.specs.Said.{SpeakerState, Says, AreSaid, MaySay, IsSayFault, 
 use Rattle.zk_items.specs.declared.fault.LineFault.{LineFault}
 use Rattle.zk_items.specs.declared.fault.LineReason.{LineReason}
 use Rattle.zk_items.specs.declared.fault.LineReason.TheVariants.{Word, Number, Text, Blob, Name, Rest, NoMemory, Ending}
-use Rattle.zk_lines.specs.Lines.{line, Fits, Reads}
+use Rattle.zk_lines.specs.Lines.{line, Fits}
 use Rattle.zk_lines.specs.Endings.{ending_text}
 use Rattle.zk_talk.specs.declared.message.Side.{Side}
 use Rattle.zk_talk.specs.declared.message.Message.TheVariants.{Client, Server}
@@ -22,14 +22,13 @@ use Rattle.zk_talk.specs.Payloads.{client_payload, server_payload}
 use Rattle.zk_talk.specs.Said.{payload_of, side_of}
 use Rattle.zk_frames.specs.Framing.{frame}
 use Rattle.zk_frames.proofs.Cuts.{length-frame}
-use Rattle.zkdump.specs.declared.built.Built.{Built}
 use Rattle.zkdump.specs.declared.built.Built.TheVariants.{Whole, LineRefused, SayRefused}
-use Rattle.zkdump.specs.declared.builder.Halt.TheVariants.{Refused, Fails}
+use Rattle.zkdump.specs.declared.builder.Halt.TheVariants.{Fails}
 use Rattle.zkdump.specs.declared.listing.RunFault.{RunFault}
 use Rattle.zkdump.specs.Recording.{head, piece_bytes}
 use Rattle.zkdump.specs.Outcome.{HasGrownIn}
-use Rattle.zkdump.specs.Building.{IsDotted, AreAccepted, AreEnded, IsNextLine, IsBehindEnding, IsBuilt, without_ending, with_ending, behind_ending, other_ending, no_message, not_said, ending_fault, due_ending, piece_of, recording_of}
-use Rattle.zkdump.specs.Accepting.{AreGood, Knows, Took, Refuses, Begins, HaltsAt, IsRefused, line_halt, line_halt_by, say_halt}
+use Rattle.zkdump.specs.Building.{IsDotted, AreAccepted, AreEnded, IsNextLine, IsBuilt, without_ending, with_ending, behind_ending, other_ending, no_message, not_said, ending_fault, due_ending, piece_of, recording_of}
+use Rattle.zkdump.specs.Accepting.{AreGood, Took, Refuses, Begins, HaltsAt, line_halt, line_halt_by, say_halt}
 use Rattle.zkdump.proofs.Bytes.{Appends-then}
 use Rattle.zkdump.proofs.Feeding.{grown-whole}
 use Rattle.zkdump.proofs.Found.{grown-further}
@@ -62,11 +61,13 @@ short-frame : (limits : Limits) (before : List Message) (m : Message) → MaySay
 short-frame limits before (Client f) may = omega (arith, length-frame (client_payload f), may.1, limits.in_range.1)
 short-frame limits before (Server s) may = omega (arith, length-frame (server_payload s), may.1, limits.in_range.3)
 
--- the piece of a message
-pub piece-is : (limits : Limits) (before : List Message) (m : Message) (side : Side) (piece content : List ℕ) → MaySay limits before m → side ≡ side_of m → content ≡ frame (payload_of m) →
-    (length content < 4294967296 → piece ≡ piece_bytes (record { side = side; size = to_be_bytes w32 (length content); content = content })) → piece ≡ piece_bytes (piece_of m)
-piece-is limits before m side piece content may side_is content_is is =
-    is (omega (arith, ap length content_is, short-frame limits before m may)) ∙ rw (side_is, content_is) refl
+-- the piece of a message: what was written, from the frame that was appended to nothing
+pub piece-is : (limits : Limits) (before : List Message) (m : Message) (side : Side) (written piece content out none : List ℕ) → MaySay limits before m →
+    written ≡ piece → side ≡ side_of m → content ≡ out → out ≡ none ++ frame (payload_of m) → none ≡ [] →
+    (length content < 4294967296 → piece ≡ piece_bytes (record { side = side; size = to_be_bytes w32 (length content); content = content })) → written ≡ piece_bytes (piece_of m)
+piece-is limits before m side written piece content out none may written_is side_is content_is out_is none_is is =
+    let frame_is : content ≡ frame (payload_of m) = content_is ∙ out_is ∙ ap (λ l. l ++ frame (payload_of m)) none_is in
+    written_is ∙ is (omega (arith, ap length frame_is, short-frame limits before m may)) ∙ rw (side_is, frame_is) refl
 
 -- before the first message
 pub nothing-accepted : (limits : Limits) → AreAccepted limits [] []

@@ -1,6 +1,6 @@
 -- What a run that builds has read and written when it answers.
 use Rattle.std.proofs.Common.{◌≡◌, ℕ, List, [], ◌++◌, Option, Result, Ok, Err, IfOk, OnErr, refl, ap, ◌∙◌, sym, subst, append-nil, Bool}
-use Rattle.std.specs.Io.KnownBytes.{Consumes, IsAtEnd, Appends}
+use Rattle.std.specs.Io.KnownBytes.{Consumes, IsAtEnd}
 use Rattle.zk_talk.specs.declared.limits.Limits.{Limits}
 use Rattle.zk_talk.specs.Said.{SpeakerState}
 use Rattle.zkdump.specs.declared.built.Built.{Built}
@@ -10,8 +10,8 @@ use Rattle.zkdump.specs.declared.builder.Halt.TheVariants.{Refused, Fails}
 use Rattle.zkdump.specs.declared.listing.RunFault.TheVariants.{Memory}
 use Rattle.zkdump.specs.Recording.{head}
 use Rattle.zkdump.specs.Outcome.{HasGrownIn}
-use Rattle.zkdump.specs.Building.{fed, AreLines, StandFirst, fed_in, all_of, Covers, HasBuilt, HasBuiltSoFar, HasBegunBuilding}
-use Rattle.zkdump.specs.Accepting.{HasTaken, IsRefused, HaltsIn, RefusesIn, BeginsIn, BuildsAll, BeginsAll, StandIn, some, all, answer_of}
+use Rattle.zkdump.specs.Building.{AreLines, StandFirst, fed_in, all_of, Covers, HasBuilt, HasBuiltSoFar, HasBegunBuilding}
+use Rattle.zkdump.specs.Accepting.{HasTaken, IsRefused, HaltsIn, BeginsIn, BuildsAll, BeginsAll, StandIn, some, all, answer_of}
 use Rattle.zkdump.proofs.Bytes.{Consumes-none, Consumes-then}
 use Rattle.zkdump.proofs.Accepted.{built-good, nothing-accepted}
 use Rattle.zkdump.proofs.Taken.{halts-here}

@@ -1,20 +1,17 @@
 -- Lines in the bytes that were read.
-use Rattle.std.proofs.Common.{◌≡◌, ◌≢◌, ℕ, ◌+◌, ◌<◌, ◌⊎◌, List, [], ◌∷◌, ◌++◌, length, take, drop, get_or, map, Option, Result, Ok, Err, inl, inr, refl, sym, ap, ◌∙◌, subst, append_assoc, append-nil, arith, true, false, Bool, IfOk, OnErr}
-use Rattle.std.specs.Io.KnownBytes.{Appends}
-use Rattle.std.specs.List.{All, AllByRecursion, flat_map}
+use Rattle.std.proofs.Common.{◌≡◌, ◌≢◌, ℕ, ◌+◌, ◌<◌, ◌⊎◌, List, [], ◌∷◌, ◌++◌, length, take, drop, get_or, Option, inl, inr, refl, sym, ap, ◌∙◌, subst, append_assoc, append-nil, true, false, Bool, IfOk, OnErr}
+use Rattle.std.specs.List.{All, AllByRecursion}
 use Rattle.std.proofs.lemmas.List.{take_more, take-append-drop}
 use Rattle.std.proofs.Math.Seq.{take-add}
 use Rattle.std.proofs.lemmas.List.Elements.{recursion_from_All}
 use Rattle.zk_talk.specs.declared.limits.Limits.{Limits}
-use Rattle.zk_talk.specs.declared.message.Message.{Message}
 use Rattle.zk_talk.specs.Said.{SpeakerState}
-use Rattle.zkdump.specs.declared.built.Built.{Built}
-use Rattle.zkdump.specs.declared.built.Built.TheVariants.{Whole, LineRefused, SayRefused}
+use Rattle.zkdump.specs.declared.built.Built.TheVariants.{Whole}
 use Rattle.zkdump.specs.declared.builder.Halt.{Halt}
 use Rattle.zkdump.specs.declared.builder.Halt.TheVariants.{Refused, Fails}
 use Rattle.zkdump.specs.declared.listing.RunFault.{RunFault}
-use Rattle.zkdump.specs.Building.{IsLine, with_feed, fed, AreLines, all_fed, last_unfed, AreAccepted, AreEnded, due_ending, recording_of}
-use Rattle.zkdump.specs.Accepting.{AreGood, Took, HasTaken, Refuses, Begins, HaltsAt, RefusesIn, BeginsIn, HaltsIn, BuildsAll, BeginsAll, StandIn, some, all, answer_of}
+use Rattle.zkdump.specs.Building.{IsLine, with_feed, fed, AreLines, all_fed, last_unfed, AreEnded, due_ending, recording_of}
+use Rattle.zkdump.specs.Accepting.{AreGood, Took, HasTaken, Begins, HaltsAt, BeginsIn, HaltsIn, BuildsAll, BeginsAll, some, all, answer_of}
 use Rattle.zkdump.proofs.Feeding.{grown-whole}
 use Rattle.zkdump.proofs.Accepted.{all-snoc, built-good}
 use Rattle.zkdump.proofs.Stages.{flat_map-snoc}

@@ -60,11 +60,7 @@ fn expect_behind(
 
 #[test]
 fn whole_listings(rt: HostRuntime) -> Result<(), Fail> {
-    let table = [
-        "",
-        ". whole unanswered=0",
-        ". whole unanswered=0\n",
-    ];
+    let table = ["", ". whole unanswered=0", ". whole unanswered=0\n"];
     for more in table {
         expect_behind(&rt, "zkdump build", more, (0, ""))?;
     }
@@ -93,10 +89,7 @@ fn refused_after_messages(rt: HostRuntime) -> Result<(), Fail> {
             "C 2 exists path=\"/a\" watch=1\r\n",
             "line 5: column 29: Rest\n",
         ),
-        (
-            "S 1 exists zxid=5 err=-101/NONODE\n",
-            "line 5: Unasked\n",
-        ),
+        ("S 1 exists zxid=5 err=-101/NONODE\n", "line 5: Unasked\n"),
         ("C 2 ping\n", "line 5: Misfit\n"),
     ];
     for (more, says) in table {
@@ -108,7 +101,10 @@ fn refused_after_messages(rt: HostRuntime) -> Result<(), Fail> {
 #[test]
 fn refused_at_the_first_line(rt: HostRuntime) -> Result<(), Fail> {
     let table = [
-        ("C 1 exists path=\"/a\" watch=2", "line 1: column 28: Word\n"),
+        (
+            "C 1 exists path=\"/a\" watch=2",
+            "line 1: column 28: Word\n",
+        ),
         ("C 1 exists path=\"/a\" watch=1", "line 1: NotFirst\n"),
         ("\n", "line 1: column 1: Word\n"),
         (". whole unanswered=1", "line 1: column 1: Ending\n"),
@@ -128,16 +124,15 @@ fn options_count(rt: HostRuntime) -> Result<(), Fail> {
         (b'S', &CONNECTED),
         (b'C', &EXISTS),
         (b'S', &NO_NODE),
-        (
-            b'C',
-            b"\0\0\0\x0f\0\0\0\x02\0\0\0\x03\0\0\0\x02/a\x01",
-        ),
+        (b'C', b"\0\0\0\x0f\0\0\0\x02\0\0\0\x03\0\0\0\x02/a\x01"),
     ];
     let input = format!(in rt.alloc(); "{MESSAGES}{asks}")?;
     let want: (u8, &[(u8, &[u8])], &str) = (1, &pieces, "line 6: QueueFull\n");
     expect(&rt, "zkdump build --waiting 1", (input.as_str(), 9), want)?;
     let order = "S 2 exists zxid=5 err=-101/NONODE\n";
-    let input = format!(in rt.alloc(); "{MESSAGES}C 2 exists path=\"/a\" watch=1\nS 3 exists zxid=5 err=-101/NONODE\n{order}")?;
+    let input = format!(in rt.alloc();
+        "{MESSAGES}C 2 exists path=\"/a\" watch=1\nS 3 exists zxid=5 err=-101/NONODE\n{order}"
+    )?;
     let want: (u8, &[(u8, &[u8])], &str) = (1, &pieces, "line 6: XidOrder expected=2 got=3\n");
     expect(&rt, "zkdump build", (input.as_str(), 9), want)
 }
@@ -165,7 +160,11 @@ fn each_read_fails(rt: HostRuntime) -> Result<(), Fail> {
         let lines = front.filter(|byte| **byte == b'\n').count();
         let recording = recorded(rt.alloc(), PIECES.get(..lines).ok_or("lines")?)?;
         assert_eq!(rt; writer.bytes(), recording.as_slice(), "at {read}");
-        assert_eq!(rt; (status, says.as_str()), (3, "zkdump: read failed\n"), "at {read}");
+        assert_eq!(rt;
+            (status, says.as_str()),
+            (3, "zkdump: read failed\n"),
+            "at {read}"
+        );
     }
     Ok(())
 }
@@ -180,7 +179,11 @@ fn each_write_fails(rt: HostRuntime) -> Result<(), Fail> {
             whole.as_slice().starts_with(out) && out.len() as u64 == write - 1,
             "at {write}"
         );
-        assert_eq!(rt; (status, says.as_str()), (3, "zkdump: write failed\n"), "at {write}");
+        assert_eq!(rt;
+            (status, says.as_str()),
+            (3, "zkdump: write failed\n"),
+            "at {write}"
+        );
     }
     Ok(())
 }

@@ -279,12 +279,7 @@ impl Builder {
     }
 
     /// Takes a whole block.
-    pub fn feed<W: Sink>(
-        &mut self,
-        alloc: Global,
-        block: &[u8],
-        writer: &mut W,
-    ) -> Result<(), Halt>
+    pub fn feed<W: Sink>(&mut self, alloc: Global, block: &[u8], writer: &mut W) -> Result<(), Halt>
         requires room { self.old.lines + length block.now < 2 ^ 64 }
         requires live { W.has_failed writer.old ≡ false }
         ensures count { OnOk result (self.new.lines ≤ self.old.lines + length block.now) }

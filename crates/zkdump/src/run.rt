@@ -94,10 +94,7 @@ fn obey<R: Source, W: Sink, F: Sink>(
     match chosen.command {
         Command::Show => Ok(exit_code(show_run(alloc, chosen.limits, reader, writer)?)),
         Command::Check => Ok(exit_code(check_run(alloc, chosen.limits, reader, writer)?)),
-        Command::Build => Ok(report(
-            build_run(alloc, chosen.limits, reader, writer)?,
-            faults,
-        )),
+        Command::Build => Ok(report(build_run(alloc, chosen.limits, reader, writer)?, faults)),
     }
 }
 

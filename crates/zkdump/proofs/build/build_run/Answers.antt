@@ -1,4 +1,4 @@
-use Rattle.std.proofs.Common.{arith, ◌∙◌, ◌++◌, [], false, true, refl, length-take, ap, ◌||◌, inl, inr, take}
+use Rattle.std.proofs.Common.{arith, ◌∙◌, [], false, true, refl, length-take, ap, ◌||◌, inl, inr}
 use Rattle.std.proofs.lemmas.Result.{err_from_is_err_and}
 use Rattle.zkdump.proofs.Bytes.{Consumes-none, Consumes-then, Consumes-kept}
 use Rattle.zkdump.proofs.Answered.{if-ok-map, on-err-map, begun-head, built-so_far, begun-so_far, built-at_end, begun-at_end, built-answer, begun-answer}

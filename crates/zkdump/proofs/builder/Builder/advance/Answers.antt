@@ -1,4 +1,4 @@
-use Rattle.std.proofs.Common.{◌<◌, arith, length, subst}
+use Rattle.std.proofs.Common.{◌<◌, arith, length}
 use Rattle.std.proofs.lemmas.Result.{err_from_is_err_and}
 use Rattle.zkdump.specs.declared.listing.RunFault.TheVariants.{Memory}
 use Rattle.zkdump.proofs.Taken.{halts-here, taken-front, halts-block, taken-block}

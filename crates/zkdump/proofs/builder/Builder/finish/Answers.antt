@@ -1,4 +1,4 @@
-use Rattle.std.proofs.Common.{◌≡◌, ◌≢◌, [], ◌∙◌, sym, ap, length, arith, eq-eqb}
+use Rattle.std.proofs.Common.{◌≢◌, [], ◌∙◌, sym, ap, length, arith, eq-eqb}
 use Rattle.std.proofs.lemmas.Bool.{false≢true}
 use Rattle.zkdump.proofs.Taken.{builds-last, answers-last, begins-last}
 use Rattle.zkdump.proofs.builder.Builder.finish.Goals as goal

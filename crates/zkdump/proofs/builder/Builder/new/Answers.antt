@@ -1,4 +1,3 @@
-use Rattle.std.proofs.Common.{refl, sym, subst, []}
 use Rattle.zkdump.proofs.Accepted.{took-nothing}
 use Rattle.zkdump.proofs.Taken.{taken-nothing}
 use Rattle.zkdump.proofs.builder.Builder.new.Goals as goal
