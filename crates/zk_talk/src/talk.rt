@@ -170,13 +170,8 @@ impl Talk {
                 })
             }
             Advance::Whole(used) => {
-                match server_frame(
-                    self.alloc,
-                    self.client.count,
-                    &mut self.server,
-                    &mut self.waiting,
-                    used,
-                ) {
+                let asked = self.client.count;
+                match server_frame(self.alloc, asked, &mut self.server, &mut self.waiting, used) {
                     Ok(frame) => Ok(Taken {
                         used,
                         message: Some(Message::Server(frame)),

@@ -17,7 +17,7 @@ use Rattle.zkdump.specs.Following.{Follows, Finishes}
 use Rattle.std.proofs.Math.Seq.{take-append-add, take-append_seam}
 use Rattle.zkdump.proofs.Bytes.{Consumes-then, Appends-then}
 use Rattle.zkdump.proofs.Feeding.{good-here, grown-then, told-then}
-use Rattle.zkdump.proofs.Outcomes.{outcome-once}
+use Rattle.zkdump.proofs.Outcomes.{outcome-once, outcome-good}
 use Rattle.zkdump.proofs.Stops.{read-at}
 use Rattle.zkdump.proofs.Once.{spells-once}
 
@@ -40,11 +40,13 @@ pub running : (limits : Limits) (before after : Option (List ℕ)) (x : List ℕ
     Consumes before after x → Follows limits x messages s t → IsRunning limits before after messages
 running limits before after x messages s t p i =
     let r = read-at s x i.history i.sound i.at in
+    let good = subst (λ k. IsGoodWith limits k messages) r.1.content (good-here t limits i.history messages i.limits_are i.stands) in
     record {
       bytes = x;
       recording = r.1.recording;
       reads = reads before after x r.1.recording p r.1.spells;
-      good = subst (λ k. IsGoodWith limits k messages) r.1.content (good-here t limits i.history messages i.limits_are i.stands);
+      good = good;
+      only = λ others summary o. outcome-good limits r.1.recording messages others summary good o;
     }
 
 pub running-begun : (limits : Limits) (before after : Option (List ℕ)) (messages : List Message) → IsRunning limits before after messages → HasBegun limits before after messages

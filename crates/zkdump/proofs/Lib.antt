@@ -5,4 +5,5 @@ pub mod Any
 pub mod Outcomes
 pub mod Stops
 pub mod Found
+pub mod Stopped
 pub mod Once

@@ -1,5 +1,5 @@
 -- A recording comes to one thing, with one list of messages.
-use Rattle.std.proofs.Common.{◌≡◌, ℕ, List, [], Option, Some, None, refl, sym, ap, ◌∙◌, subst}
+use Rattle.std.proofs.Common.{◌≡◌, ℕ, List, [], ◌++◌, Option, Some, None, refl, sym, ap, ◌∙◌, subst}
 use Rattle.zk_talk.specs.declared.message.Side.{Side}
 use Rattle.zk_talk.specs.declared.message.Side.TheVariants.{Client, Server}
 use Rattle.zk_talk.specs.declared.limits.Limits.{Limits}
@@ -13,12 +13,13 @@ use Rattle.zk_talk.specs.Answer.{AreMessages}
 use Rattle.zk_talk.specs.Ending.{IsEnding, IsCutAt, unanswered}
 use Rattle.zk_talk.proofs.Small.{small_limits}
 use Rattle.zk_talk.proofs.FaultOnce.{same_before, answer_fault}
-use Rattle.zk_talk.proofs.Headline.{same_good}
+use Rattle.zk_talk.proofs.Headline.{same_good, fault_is_bad}
+use Rattle.zk_talk.proofs.FirstMessages.{first_of_good, first_of_any}
 use Rattle.zk_talk.proofs.OrderOnce.{order_once}
 use Rattle.zkdump.specs.declared.recording.Damage.{Damage}
 use Rattle.zkdump.specs.declared.summary.Summary.{Summary}
 use Rattle.zkdump.specs.declared.summary.Summary.TheVariants.{Ended, Broken}
-use Rattle.zkdump.specs.Outcome.{ComesTo, HasMessages, IsOutcome}
+use Rattle.zkdump.specs.Outcome.{ComesTo, HasMessages, IsGoodWith, IsOutcome}
 use Rattle.zkdump.specs.Recording.{Recording, history_of, damage_of}
 
 -- one conversation ends in one place
@@ -93,3 +94,22 @@ pub outcome-once : (limits : Limits) (r : Recording) (M N : List Message) (s t :
 outcome-once limits r M N s t p q =
     let e = comes_to-once limits (history_of r) (damage_of r) t s q.comes_to p.comes_to in
     (messages-once limits (history_of r) N M s (subst (HasMessages limits (history_of r) N) e q.messages_are) p.messages_are, e)
+
+-- a recording whose history is good has no messages but those of the history
+good-once : (limits : Limits) (h : History) (M N : List Message) (s : Summary) → IsGoodWith limits h M → HasMessages limits h N s → N ≡ M
+good-once limits h M N (Ended (Refused f)) g m = absurd (fault_is_bad limits h f m.0 (g.conversation, g.client_rest, g.server_rest, g.good))
+good-once limits h M N (Ended (Cut side n k)) g m = order-once limits h m.0 g.conversation m.1 m.2 g.client_rest g.server_rest N M m.3 m.4 g.good g.order
+good-once limits h M N (Ended (Whole n)) g m = order-once limits h m.0 g.conversation m.1 m.2 g.client_rest g.server_rest N M m.3 m.4 g.good g.order
+good-once limits h M N (Broken d) g m = order-once limits h m.conversation g.conversation m.client_rest m.server_rest g.client_rest g.server_rest N M m.good m.order g.good g.order
+
+pub outcome-good : (limits : Limits) (r : Recording) (M N : List Message) (s : Summary) → IsGoodWith limits (history_of r) M → IsOutcome limits r N s → N ≡ M
+outcome-good limits r M N s g o = good-once limits (history_of r) M N s g o.messages_are
+
+-- the messages of a good front stand first in all that a recording comes to
+has-first : (limits : Limits) (h front rest : History) (M N : List Message) (s : Summary) → h ≡ front ++ rest → IsGoodWith limits front M → HasMessages limits h N s → (more : List Message) × (N ≡ M ++ more)
+has-first limits h front rest M N (Ended e) i g m = first_of_any limits h front rest g.conversation g.client_rest g.server_rest M N i g.good g.order e m
+has-first limits h front rest M N (Broken d) i g m =
+    first_of_good limits h front rest g.conversation g.client_rest g.server_rest M N i g.good g.order m.conversation m.client_rest m.server_rest m.good m.order
+
+pub outcome-first : (limits : Limits) (r : Recording) (front rest : History) (M N : List Message) (s : Summary) → history_of r ≡ front ++ rest → IsGoodWith limits front M → IsOutcome limits r N s → (more : List Message) × (N ≡ M ++ more)
+outcome-first limits r front rest M N s i g o = has-first limits (history_of r) front rest M N s i g o.messages_are

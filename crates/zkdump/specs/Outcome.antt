@@ -74,12 +74,13 @@ pub record IsFound (limits : Limits) (before after : Option (List ℕ)) (message
   pub only : (others : List Message) (other : Summary) → IsOutcome limits recording others other → (others ≡ messages) × (other ≡ summary)
   pub enough : IsAtEnd after ⊎ IsDecided limits bytes recording
 
--- what was read has these messages and no fault
+-- what was read has these messages and no others, and no fault
 pub record IsRunning (limits : Limits) (before after : Option (List ℕ)) (messages : List Message) : Type 0 where
   pub bytes : List ℕ
   pub recording : Recording
   pub reads : Reads before after bytes recording
   pub good : IsGoodWith limits (history_of recording) messages
+  pub only : (others : List Message) (summary : Summary) → IsOutcome limits recording others summary → others ≡ messages
 
 -- what was read begins with these messages
 pub record HasBegun (limits : Limits) (before after : Option (List ℕ)) (messages : List Message) : Type 0 where

@@ -103,7 +103,7 @@ pub fn check_run<R: Source, W: Sink>(
         × HasReached limits Last (R.remaining reader.old) (R.remaining reader.new) (W.contents writer.old) (W.contents writer.new) }
     ensures write { IsErrOf result RunFault.Write → W.has_failed writer.new ≡ true }
 
-    // A run that stops early has written a front of the line.
+    // A run that stops early has written a front of the last line of every listing of what it read.
     ensures begun { OnErr result (HasStopped limits Last (R.remaining reader.old) (R.remaining reader.new) (W.contents writer.old) (W.contents writer.new)) }
 {
     run(alloc, limits, Listing::Last, reader, writer)
@@ -132,7 +132,7 @@ pub fn show_run<R: Source, W: Sink>(
         × HasReached limits All (R.remaining reader.old) (R.remaining reader.new) (W.contents writer.old) (W.contents writer.new) }
     ensures write { IsErrOf result RunFault.Write → W.has_failed writer.new ≡ true }
 
-    // A run that stops early has written a front of the listing.
+    // A run that stops early has written a front of every listing of what it read.
     ensures begun { OnErr result (HasStopped limits All (R.remaining reader.old) (R.remaining reader.new) (W.contents writer.old) (W.contents writer.new)) }
 {
     run(alloc, limits, Listing::All, reader, writer)

@@ -3,29 +3,29 @@ use Rattle.std.specs.Io.KnownBytes.{Appends}
 use Rattle.std.proofs.lemmas.Result.{err_from_is_err_and}
 use Rattle.zkdump.specs.Lines.{last_line}
 use Rattle.zkdump.specs.Outcome.{HasGrownIn}
-use Rattle.zkdump.specs.Running.{in_messages, in_last_line}
 use Rattle.zkdump.proofs.Bytes.{Appends-then}
 use Rattle.zkdump.proofs.Found.{grown-front, grown-further}
+use Rattle.zkdump.proofs.Stopped.{stopped-in_messages, stopped-in_last_line}
 use Rattle.zkdump.proofs.engines.run.Goals as goal
 
 pub returns-in_err-summary-clause-begun : goal.returns-in_err-summary-clause-begun
 returns-in_err-summary-clause-begun g c =
     let p = err_from_is_err_and c.from_residual.result c.from_residual.ensures.1 in
     let b = c.in_err-summary.ensures.begun in
-    rw p.1 (in_messages b.0 b.1 b.2)
+    rw p.1 (stopped-in_messages c.args.limits c.args.listing _ _ _ _ b.0 b.1 b.2)
 
 pub returns-in_err-line-clause-begun : goal.returns-in_err-line-clause-begun
 returns-in_err-line-clause-begun g c =
     let p = err_from_is_err_and c.from_residual-in_err-line.result c.from_residual-in_err-line.ensures.1 in
     let f = c.in_ok-summary.ensures.ok in
-    rw p.1 (in_last_line f.0 _ f.1 (grown-front _ _ _ _ f.2))
+    rw p.1 (stopped-in_last_line c.args.limits c.args.listing _ _ _ _ f.0 _ f.1 (grown-front _ _ _ _ f.2))
 
 pub returns-in_err-write_whole-clause-begun : goal.returns-in_err-write_whole-clause-begun
 returns-in_err-write_whole-clause-begun g c =
     let p = err_from_is_err_and c.from_residual-in_err-write_whole.result c.from_residual-in_err-write_whole.ensures.1 in
     let f = c.in_ok-summary.ensures.ok in
     let line : c.deref.result.now ≡ last_line c.in_ok-summary.summary = c.deref.ensures.value ∙ c.in_ok-line.ensures in
-    rw p.1 (in_last_line f.0 _ f.1 (grown-further _ _ _ _ _ f.2
+    rw p.1 (stopped-in_last_line c.args.limits c.args.listing _ _ _ _ f.0 _ f.1 (grown-further _ _ _ _ _ f.2
     (subst (HasGrownIn (g.W.Sink.contents c.read_on.new.writer) (g.W.Sink.contents c.write_whole.new.writer)) line c.in_err-write_whole.ensures.err)))
 
 pub returns-clause-ok : goal.returns-clause-ok
