@@ -1,3 +1,7 @@
+pub mod Splits
+pub mod Verdicts
+pub mod Builds
+pub mod Rebuilds
 pub mod Bytes
 pub mod Stages
 pub mod Feeding
@@ -7,3 +11,6 @@ pub mod Stops
 pub mod Found
 pub mod Stopped
 pub mod Once
+pub mod Accepted
+pub mod Taken
+pub mod Answered
