@@ -18,7 +18,8 @@ A case NAME is the files
 
 A recording is NAME.zkr, and NAME.show is its listing. For check the last line of the listing is
 expected; for show the whole of it; for build, where the conversation is whole, that the recording made
-of the listing has that listing again. The status is 0 where the listing ends in ". whole", else 1.
+of the listing has one piece for each message, the bytes of each side, and that listing again. The status
+is 0 where the listing ends in ". whole", else 1.
 """
 
 import argparse
@@ -59,6 +60,13 @@ class Runner:
         print(f"{name}: {difference(wanted, found)}")
         return False
 
+    def hold(self, name, same):
+        """Counts a comparison."""
+        self.total += 1
+        if not same:
+            self.differing += 1
+            print(f"{name}: differs")
+
 
 def difference(wanted, found):
     """The first of the three results that is another one, in words."""
@@ -87,25 +95,42 @@ def run_cases(runner, folder):
         runner.expect(f"{folder.name}/{args.stem}", words, stored(args.with_suffix(".in"), b""), wanted)
 
 
+def sides(recording):
+    """The bytes of each side of an undamaged recording, and how many pieces it has."""
+    joined = {b"C": b"", b"S": b""}
+    at, pieces = 4, 0
+    while at < len(recording):
+        size = int.from_bytes(recording[at + 1:at + 5], "big")
+        joined[recording[at:at + 1]] += recording[at + 5:at + 5 + size]
+        at, pieces = at + 5 + size, pieces + 1
+    return joined, pieces
+
+
+def build_again(runner, name, recording, listing):
+    """Builds a whole recording from its listing: one piece for each message, with the bytes that each side
+    sent; and the listing of what was built is that listing again."""
+    made = runner.run(["build"], listing)
+    if made is None:
+        runner.expect(name, ["build"], listing, (b"", b"", 0))
+        return
+    built, messages = made[0], listing.count(b"\n") - 1
+    if runner.expect(name, ["build"], listing, (built, b"", 0)):
+        runner.hold(f"{name}, side by side", sides(built) == (sides(recording)[0], messages))
+        runner.expect(f"{name}, shown again", ["show"], built, (listing, b"", 0))
+
+
 def run_captures(runner, folder, word):
-    for recording in sorted(folder.glob("*.zkr")):
-        listing = recording.with_suffix(".show").read_bytes()
+    for path in sorted(folder.glob("*.zkr")):
+        recording, listing = path.read_bytes(), path.with_suffix(".show").read_bytes()
         last = listing.rstrip(b"\n").rsplit(b"\n", 1)[-1] + b"\n"
         whole = last.startswith(b". whole ")
-        status = 0 if whole else 1
-        name = f"captures/{recording.stem} ({word})"
-        if word == "check":
-            runner.expect(name, [word], recording.read_bytes(), (last, b"", status))
-        elif word == "show":
-            runner.expect(name, [word], recording.read_bytes(), (listing, b"", status))
-        elif whole:
-            made = runner.run([word], listing)
-            if made is None or made[1:] != (b"", 0):
-                runner.total += 1
-                runner.differing += 1
-                print(f"{name}: {'the program did not end in time' if made is None else made[1:]}")
-                continue
-            runner.expect(name, ["show"], made[0], (listing, b"", 0))
+        name = f"captures/{path.stem} ({word})"
+        if word == "build":
+            if whole:
+                build_again(runner, name, recording, listing)
+            continue
+        wanted = last if word == "check" else listing
+        runner.expect(name, [word], recording, (wanted, b"", 0 if whole else 1))
 
 
 def main():
@@ -118,7 +143,7 @@ def main():
     for word in options.words:
         run_cases(runner, HERE / "cases" / word)
         run_captures(runner, TOP / "captures", word)
-    print(f"{runner.total} cases, {runner.differing} differ")
+    print(f"{runner.total - runner.differing} passed, {runner.differing} failed")
     return 1 if runner.differing else 0
 
 
