@@ -17,9 +17,10 @@ A case NAME is the files
     NAME.status  its exit status            (no file: 0)
 
 A recording is NAME.zkr, and NAME.show is its listing. For check the last line of the listing is
-expected; for show the whole of it; for build, where the conversation is whole, that the recording made
-of the listing has one piece for each message, the bytes of each side, and that listing again. The status
-is 0 where the listing ends in ". whole", else 1.
+expected; for show the whole of it; for build that the recording made of the listing's messages shows these
+lines again and, where the conversation is whole, that it has one piece for each message and the bytes of each
+side. The status is 0 where the listing ends in ". whole", else 1. With build, the listings of the cases of
+show are built and shown again, too.
 """
 
 import argparse
@@ -106,17 +107,33 @@ def sides(recording):
     return joined, pieces
 
 
-def build_again(runner, name, recording, listing):
-    """Builds a whole recording from its listing: one piece for each message, with the bytes that each side
-    sent; and the listing of what was built is that listing again."""
-    made = runner.run(["build"], listing)
-    if made is None:
-        runner.expect(name, ["build"], listing, (b"", b"", 0))
-        return
-    built, messages = made[0], listing.count(b"\n") - 1
-    if runner.expect(name, ["build"], listing, (built, b"", 0)):
-        runner.hold(f"{name}, side by side", sides(built) == (sides(recording)[0], messages))
-        runner.expect(f"{name}, shown again", ["show"], built, (listing, b"", 0))
+def build_again(runner, name, options, listing):
+    """Builds a recording of the lines of a listing's messages, and expects that it shows them again; gives it."""
+    ending = listing.rstrip(b"\n").rfind(b"\n") + 1
+    lines = listing[:ending]
+    made = runner.run(["build", *options], lines)
+    built = made[0] if made else b""
+    if runner.expect(f"{name}, built", ["build", *options], lines, (built, b"", 0)):
+        shown = runner.run(["show", *options], built)
+        runner.hold(f"{name}, shown again", shown is not None and shown[0].startswith(lines + b". whole ")
+                    and shown[1:] == (b"", 0))
+    return built
+
+
+def build_whole(runner, name, recording, listing):
+    """Builds a whole recording from its listing: one piece for each message, and the bytes of each side."""
+    built = build_again(runner, name, [], listing)
+    runner.expect(f"{name}, with its ending", ["build"], listing, (built, b"", 0))
+    wanted = (sides(recording)[0], listing.count(b"\n") - 1)
+    runner.hold(f"{name}, side by side", sides(built) == wanted)
+
+
+def run_listings(runner, folder):
+    """The listings of the cases of show, built and shown again."""
+    for args in sorted(folder.glob("*.args")):
+        listing = stored(args.with_suffix(".out"), b"")
+        if listing:
+            build_again(runner, f"{folder.name}/{args.stem}", args.read_text().splitlines()[1:], listing)
 
 
 def run_captures(runner, folder, word):
@@ -127,7 +144,9 @@ def run_captures(runner, folder, word):
         name = f"captures/{path.stem} ({word})"
         if word == "build":
             if whole:
-                build_again(runner, name, recording, listing)
+                build_whole(runner, name, recording, listing)
+            else:
+                build_again(runner, name, [], listing)
             continue
         wanted = last if word == "check" else listing
         runner.expect(name, [word], recording, (wanted, b"", 0 if whole else 1))
@@ -143,6 +162,8 @@ def main():
     for word in options.words:
         run_cases(runner, HERE / "cases" / word)
         run_captures(runner, TOP / "captures", word)
+        if word == "build":
+            run_listings(runner, HERE / "cases" / "show")
     print(f"{runner.total - runner.differing} passed, {runner.differing} failed")
     return 1 if runner.differing else 0
 
