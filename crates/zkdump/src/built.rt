@@ -24,6 +24,7 @@ fn write_order<W: fmt::Write>(fault: SayFault, f: &mut fmt::Formatter<W>) -> fmt
     }
 }
 
+/// Which line is refused and why, in one line; nothing where none is.
 impl Display for Built {
     fn fmt<W: fmt::Write>(&self, f: &mut fmt::Formatter<W>) -> fmt::Result {
         match self {
