@@ -10,6 +10,7 @@ pub mod Any
 pub mod Outcomes
 pub mod Stops
 pub mod Found
+pub mod Kept
 pub mod Stopped
 pub mod Once
 pub mod Accepted

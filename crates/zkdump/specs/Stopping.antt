@@ -51,3 +51,9 @@ IsStop limits x messages listing before (Fails fault) after =
 abbrev pub IfFound : Stop → Type 0 → Type 0
 IfFound (Found summary) P = P
 IfFound (Fails fault) P = Unit {0}
+
+-- what a write to memory fails by
+abbrev pub kept : Result (Unit {0}) Stop → Result (Unit {0}) Stop
+kept (Ok done) = Ok done
+kept (Err (Found summary)) = Err (Found summary)
+kept (Err (Fails fault)) = Err (Fails Memory)

@@ -10,6 +10,7 @@ pub mod builder;
 pub mod built;
 pub mod engines;
 pub mod laws;
+mod lines;
 pub mod listing;
 #[cfg(test)]
 mod memory;

@@ -8,11 +8,12 @@ ghost use Rattle.zkdump.specs.declared.listing.RunFault.TheVariants.{Read, Write
 ghost use Rattle.zkdump.specs.Lines.{text_of};
 ghost use Rattle.zkdump.specs.Reading.{place_of, content_of};
 ghost use Rattle.zkdump.specs.Following.{Follows, Finishes, Takes};
-ghost use Rattle.zkdump.specs.Stopping.{Halts, IsStop, IfFound};
+ghost use Rattle.zkdump.specs.Stopping.{Halts, IsStop, IfFound, kept};
 
+use crate::lines::Lines;
 use crate::listing::{Listing, RunFault};
 use crate::recording::Recorder;
-use crate::streams::Sink;
+use crate::streams::{Sink, write_whole};
 use crate::summary::Summary;
 use std::alloc::Global;
 use zk_jute::Reason;
@@ -45,6 +46,16 @@ impl Stop {
             Stop::Found(summary) => Ok(summary),
             Stop::Fails(fault) => Err(fault),
         }
+    }
+}
+
+/// What stands where lines were kept in memory: there a write fails by want of memory alone.
+fn told(taken: Result<(), Stop>) -> Result<(), Stop>
+    ensures { result ≡ kept taken }
+{
+    match taken {
+        Err(Stop::Fails(_)) => Err(Stop::Fails(RunFault::Memory)),
+        other => other,
     }
 }
 
@@ -170,8 +181,8 @@ impl Progress {
         }
     }
 
-    /// Takes a whole block.
-    pub fn feed<W: Sink>(
+    /// Takes a whole block, and writes each line as it comes.
+    fn take<W: Sink>(
         &mut self,
         alloc: Global,
         block: &[u8],
@@ -196,6 +207,35 @@ impl Progress {
             at += self.advance(alloc, rest(block, at), listing, writer)?;
         }
         Ok(())
+    }
+
+    /// Takes a whole block, and writes the lines of its messages at once.
+    pub fn feed<W: Sink>(
+        &mut self,
+        alloc: Global,
+        block: &[u8],
+        listing: Listing,
+        writer: &mut W,
+    ) -> Result<(), Stop>
+        requires room { place_of self.old.recorder + length block.now < 2 ^ 64 }
+        requires live { W.has_failed writer.old ≡ false }
+        ensures place { OnOk result (place_of self.new.recorder ≤ place_of self.old.recorder + length block.now) }
+        ensures goes_on { OnOk result ((limits : Limits) (x : List ℕ) (messages : List Message) → Follows limits x messages self.old.recorder self.old.talk →
+            (more : List Message) × Follows limits (x ++ block.now) (messages ++ more) self.new.recorder self.new.talk
+            × Appends (W.contents writer.old) (W.contents writer.new) (text_of listing more)) }
+        ensures stops { IfErr result (λ stop. (limits : Limits) (x : List ℕ) (messages : List Message) → Follows limits x messages self.old.recorder self.old.talk →
+            IsStop limits (x ++ block.now) messages listing (W.contents writer.old) stop (W.contents writer.new)) }
+        ensures live { OnOk result (W.has_failed writer.new ≡ false) }
+        ensures found { IfErr result (λ stop. IfFound stop (W.has_failed writer.new ≡ false)) }
+        ensures failed { IsErrOf result (Fails Write) → W.has_failed writer.new ≡ true }
+        ensures no_read { result ≢ Err (Fails Read) }
+    {
+        let mut lines = Lines::new(alloc);
+        let taken = self.take(alloc, block, listing, &mut lines);
+        match write_whole(writer, lines.bytes()) {
+            Ok(()) => told(taken),
+            Err(_) => Err(Stop::Fails(RunFault::Write)),
+        }
     }
 
     /// What a recording comes to that ends here.

@@ -5,7 +5,7 @@ use Rattle.zk_talk.specs.declared.message.Message.{Message}
 use Rattle.zkdump.specs.Lines.{text_of}
 use Rattle.zkdump.specs.Reading.{place_of}
 use Rattle.zkdump.specs.Following.{Follows}
-use Rattle.zkdump.proofs.progress.Progress.feed.Given as goal
+use Rattle.zkdump.proofs.progress.Progress.take.Given as goal
 
 abbrev pub invariant-loop-at : goal.invariant-loop-at
 invariant-loop-at g l = record {
