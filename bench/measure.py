@@ -5,8 +5,8 @@
 
 Each command reads the recording from a file as its standard input and writes to nothing (/dev/null). It is run
 N times (3 unless told), one at a time, and its fastest run counts. Printed are megabytes (1,000,000
-bytes) of recording a second, seconds, and the greatest memory that the process had (its resident set,
-looked at a hundred times a second).
+bytes) read and written a second, seconds, and the greatest memory that the process had (its resident set,
+looked at a hundred times a second). How much a command writes is counted in a run of its own.
 The first run of cat brings the file into the system's cache, and isn't counted. With --beside, another
 command that reads a recording is timed too.
 """
@@ -65,13 +65,23 @@ def run(command, path):
     return seconds, watch.greatest, status
 
 
+def written(command, path):
+    """How many bytes the command writes, in a run that isn't timed."""
+    total = 0
+    with open(path, "rb") as recording, subprocess.Popen(command, stdin=recording, stdout=subprocess.PIPE,
+                                                          stderr=subprocess.DEVNULL) as process:
+        while block := process.stdout.read(1 << 20):
+            total += len(block)
+    return total
+
+
 def measure(name, command, path, times):
+    size, output = path.stat().st_size, written(command, path)
     runs = [run(command, path) for _ in range(times)]
     seconds = min(run[0] for run in runs)
     memory = max(run[1] for run in runs)
-    size = path.stat().st_size
-    print(f"{path.name:32} {name:8} {size / seconds / 1e6:9.1f} MB/s {seconds:8.3f} s "
-          f"{memory / 1e6:8.1f} MB status {runs[-1][2]}")
+    print(f"{path.name:32} {name:8} {size / seconds / 1e6:9.1f} MB/s read {output / seconds / 1e6:9.1f} MB/s written "
+          f"{seconds:8.3f} s {memory / 1e6:8.1f} MB status {runs[-1][2]}")
 
 
 def main():

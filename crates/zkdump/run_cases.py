@@ -17,8 +17,10 @@ A case NAME is the files
     NAME.status  its exit status            (no file: 0)
 
 A recording is NAME.zkr, and NAME.show is its listing. For check the last line of the listing is
-expected; for show the whole of it; for build, where the conversation is whole, that the recording made
-of the listing has that listing again. The status is 0 where the listing ends in ". whole", else 1.
+expected; for show the whole of it; for build that the recording made of the listing's messages shows these
+lines again and, where the conversation is whole, that it has one piece for each message and the bytes of each
+side. The status is 0 where the listing ends in ". whole", else 1. With build, the listings of the cases of
+show are built and shown again, too.
 """
 
 import argparse
@@ -59,6 +61,13 @@ class Runner:
         print(f"{name}: {difference(wanted, found)}")
         return False
 
+    def hold(self, name, same):
+        """Counts a comparison."""
+        self.total += 1
+        if not same:
+            self.differing += 1
+            print(f"{name}: differs")
+
 
 def difference(wanted, found):
     """The first of the three results that is another one, in words."""
@@ -87,25 +96,60 @@ def run_cases(runner, folder):
         runner.expect(f"{folder.name}/{args.stem}", words, stored(args.with_suffix(".in"), b""), wanted)
 
 
+def sides(recording):
+    """The bytes of each side of an undamaged recording, and how many pieces it has."""
+    joined = {b"C": b"", b"S": b""}
+    at, pieces = 4, 0
+    while at < len(recording):
+        size = int.from_bytes(recording[at + 1:at + 5], "big")
+        joined[recording[at:at + 1]] += recording[at + 5:at + 5 + size]
+        at, pieces = at + 5 + size, pieces + 1
+    return joined, pieces
+
+
+def build_again(runner, name, options, listing):
+    """Builds a recording of the lines of a listing's messages, and expects that it shows them again; gives it."""
+    ending = listing.rstrip(b"\n").rfind(b"\n") + 1
+    lines = listing[:ending]
+    made = runner.run(["build", *options], lines)
+    built = made[0] if made else b""
+    if runner.expect(f"{name}, built", ["build", *options], lines, (built, b"", 0)):
+        shown = runner.run(["show", *options], built)
+        runner.hold(f"{name}, shown again", shown is not None and shown[0].startswith(lines + b". whole ")
+                    and shown[1:] == (b"", 0))
+    return built
+
+
+def build_whole(runner, name, recording, listing):
+    """Builds a whole recording from its listing: one piece for each message, and the bytes of each side."""
+    built = build_again(runner, name, [], listing)
+    runner.expect(f"{name}, with its ending", ["build"], listing, (built, b"", 0))
+    wanted = (sides(recording)[0], listing.count(b"\n") - 1)
+    runner.hold(f"{name}, side by side", sides(built) == wanted)
+
+
+def run_listings(runner, folder):
+    """The listings of the cases of show, built and shown again."""
+    for args in sorted(folder.glob("*.args")):
+        listing = stored(args.with_suffix(".out"), b"")
+        if listing:
+            build_again(runner, f"{folder.name}/{args.stem}", args.read_text().splitlines()[1:], listing)
+
+
 def run_captures(runner, folder, word):
-    for recording in sorted(folder.glob("*.zkr")):
-        listing = recording.with_suffix(".show").read_bytes()
+    for path in sorted(folder.glob("*.zkr")):
+        recording, listing = path.read_bytes(), path.with_suffix(".show").read_bytes()
         last = listing.rstrip(b"\n").rsplit(b"\n", 1)[-1] + b"\n"
         whole = last.startswith(b". whole ")
-        status = 0 if whole else 1
-        name = f"captures/{recording.stem} ({word})"
-        if word == "check":
-            runner.expect(name, [word], recording.read_bytes(), (last, b"", status))
-        elif word == "show":
-            runner.expect(name, [word], recording.read_bytes(), (listing, b"", status))
-        elif whole:
-            made = runner.run([word], listing)
-            if made is None or made[1:] != (b"", 0):
-                runner.total += 1
-                runner.differing += 1
-                print(f"{name}: {'the program did not end in time' if made is None else made[1:]}")
-                continue
-            runner.expect(name, ["show"], made[0], (listing, b"", 0))
+        name = f"captures/{path.stem} ({word})"
+        if word == "build":
+            if whole:
+                build_whole(runner, name, recording, listing)
+            else:
+                build_again(runner, name, [], listing)
+            continue
+        wanted = last if word == "check" else listing
+        runner.expect(name, [word], recording, (wanted, b"", 0 if whole else 1))
 
 
 def main():
@@ -118,7 +162,9 @@ def main():
     for word in options.words:
         run_cases(runner, HERE / "cases" / word)
         run_captures(runner, TOP / "captures", word)
-    print(f"{runner.total} cases, {runner.differing} differ")
+        if word == "build":
+            run_listings(runner, HERE / "cases" / "show")
+    print(f"{runner.total - runner.differing} passed, {runner.differing} failed")
     return 1 if runner.differing else 0
 
 

@@ -1,9 +1,9 @@
 -- Bodies: each has the items of its operation's shape, and they tell it apart.
-use Rattle.std.proofs.Common.{◌≡◌, ℕ, List, [], ◌++◌, refl, sym, ap, subst, ◌∙◌}
+use Rattle.std.proofs.Common.{◌≡◌, List, [], refl, sym, ap, subst, ◌∙◌}
 use Rattle.std.proofs.lemmas.List.{append-nil}
 use Rattle.zk_jute.specs.declared.value.Text.{Text}
 use Rattle.zk_jute.specs.declared.value.List.{List as Vector}
-use Rattle.zk_jute.specs.Item.{Item, bytes_of, HaveBytes}
+use Rattle.zk_jute.specs.Item.{bytes_of, HaveBytes}
 use Rattle.zk_jute.specs.Wired.{Wired, ustring, vector}
 use Rattle.zk_jute.proofs.Layouts.{bytes_only}
 use Rattle.zk_records.specs.declared.body.DataBody.{DataBody}

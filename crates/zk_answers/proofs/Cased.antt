@@ -1,11 +1,11 @@
 -- What can't come next in a multi's results is one of the reader's cases.
-use Rattle.std.proofs.Common.{◌≡◌, ℕ, ◌+◌, ◌⊎◌, inl, inr, List, [], ◌∷◌, ◌++◌, length, map, refl, sym, ap, subst, ◌∙◌, append_assoc, arith}
+use Rattle.std.proofs.Common.{◌≡◌, ℕ, ◌+◌, inl, inr, List, [], ◌∷◌, ◌++◌, length, map, refl, sym, ap, subst, ◌∙◌, append_assoc, arith}
 use Rattle.std.specs.Prelude.{ℤ}
 use Rattle.std.proofs.lemmas.List.{append-nil, length-append, append_cancel_left, map-append}
 use Rattle.zk_jute.specs.declared.fault.Reason.{Reason}
 use Rattle.zk_jute.specs.declared.fault.Reason.TheVariants.{BadPart}
 use Rattle.zk_jute.specs.Item.{Kind, Int, Item, kind_of, bytes_of, HaveBytes}
-use Rattle.zk_jute.specs.Layout.{End, One, IsValueOf}
+use Rattle.zk_jute.specs.Layout.{IsValueOf}
 use Rattle.zk_jute.specs.Apart.{cons_is}
 use Rattle.zk_jute.specs.Faults.{IsNext, IsBad, IsFault, Opens}
 use Rattle.zk_jute.proofs.Layouts.{bytes_both, have_parts}
@@ -13,7 +13,7 @@ use Rattle.zk_records.specs.declared.header.MultiHeader.{MultiHeader}
 use Rattle.zk_records.specs.declared.op.PartOp.{PartOp}
 use Rattle.zk_records.specs.Records.{multi_header}
 use Rattle.zk_asks.specs.Forms.{marked, end_header}
-use Rattle.zk_asks.proofs.Openings.{cut, NextIs, goes_on}
+use Rattle.zk_asks.proofs.Openings.{cut, goes_on}
 use Rattle.zk_asks.proofs.Opened.{mark_shape, kinds_same, first_kind}
 use Rattle.zk_answers.specs.Results.{result_header, error_header, result_layout, IsDoneFault, in_mark, bad_mark, in_result, in_error, other_error, behind_result, behind_error}
 use Rattle.zk_answers.specs.Openings.{number_items, AreResults, no_result, a_result, an_error, Ends, AreMarked, last, result_before, error_before, IsBadMark, no_mark, no_number, IsBadPart, bad_part}

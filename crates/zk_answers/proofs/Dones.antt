@@ -1,5 +1,5 @@
 -- A result of a part: what its header and its items are.
-use Rattle.std.proofs.Common.{◌≡◌, ℕ, ◌⊎◌, inl, inr, true, false, Bool, List, [], ◌∷◌, ◌++◌, refl, sym, ap, subst, ◌∙◌, append_assoc, arith}
+use Rattle.std.proofs.Common.{◌≡◌, ℕ, ◌⊎◌, inl, inr, List, [], ◌∷◌, ◌++◌, refl, sym, ap, subst, ◌∙◌, append_assoc, arith}
 use Rattle.std.specs.Prelude.{ℤ, pos, negsuc}
 use Rattle.std.specs.List.{flat_map}
 use Rattle.std.proofs.lemmas.Int.{ints}
@@ -10,7 +10,7 @@ use Rattle.zk_jute.specs.Layout.{IsValueOf, Unfolds, One, End}
 use Rattle.zk_jute.specs.Item.{Int}
 use Rattle.zk_jute.specs.Values.{text_items, text_unfolds, text_apart}
 use Rattle.zk_jute.specs.Wired.{int}
-use Rattle.zk_jute.proofs.Layouts.{bytes_only, bytes_both, have_parts, have_both}
+use Rattle.zk_jute.proofs.Layouts.{bytes_both}
 use Rattle.zk_records.specs.declared.header.MultiHeader.{MultiHeader}
 use Rattle.zk_records.specs.declared.stat.Stat.{Stat}
 use Rattle.zk_records.specs.declared.op.PartOp.{PartOp}

@@ -1,24 +1,24 @@
 -- The fault of a multi's results over their openings is the one of the reader's cases.
-use Rattle.std.proofs.Common.{◌≡◌, ℕ, zero, suc, ◌+◌, ◌⊎◌, inl, inr, Bool, true, false, List, [], ◌∷◌, ◌++◌, length, map, refl, sym, ap, subst, ◌∙◌, append_assoc, arith}
+use Rattle.std.proofs.Common.{◌≡◌, ℕ, zero, suc, ◌+◌, ◌⊎◌, inl, inr, Bool, true, false, List, [], ◌∷◌, ◌++◌, length, refl, sym, ap, subst, ◌∙◌, append_assoc, arith}
 use Rattle.std.specs.Prelude.{ℤ, pos, negsuc, ◌≢◌}
 use Rattle.std.proofs.lemmas.Int.{ints}
-use Rattle.std.proofs.lemmas.List.{append-nil, length-append, append_cancel_left, map-append}
+use Rattle.std.proofs.lemmas.List.{append-nil, length-append, append_cancel_left}
 use Rattle.zk_jute.specs.declared.fault.Reason.{Reason}
 use Rattle.zk_jute.specs.declared.fault.Reason.TheVariants.{BadPart}
 use Rattle.zk_jute.specs.Item.{Kind, Int, Item, AnInt, ABoolean, kind_of, bytes_of, HaveBytes}
-use Rattle.zk_jute.specs.Layout.{Layout, End, One, IsValueOf}
+use Rattle.zk_jute.specs.Layout.{End, One, IsValueOf}
 use Rattle.zk_jute.specs.Apart.{cons_is, unfolds_only}
-use Rattle.zk_jute.specs.Faults.{Begins, IsNext, IsBad, IsFault, Opens}
+use Rattle.zk_jute.specs.Faults.{Begins, IsNext, IsFault, Opens}
 use Rattle.zk_jute.proofs.Layouts.{bytes_both, have_parts, have_both}
 use Rattle.zk_records.specs.declared.header.MultiHeader.{MultiHeader}
 use Rattle.zk_records.specs.declared.op.PartOp.{PartOp}
 use Rattle.zk_records.specs.Records.{multi_header}
 use Rattle.zk_asks.specs.Forms.{marked, end_header}
-use Rattle.zk_asks.proofs.Openings.{cut, NextIs, next_follows, goes_on, behind_front}
-use Rattle.zk_asks.proofs.Opened.{mark_shape, kinds_same, first_kind}
-use Rattle.zk_answers.specs.Results.{result_header, error_header, result_layout, MayAnswer, IsDoneFault, in_mark, bad_mark, in_result, in_error, other_error, behind_result, behind_error}
-use Rattle.zk_answers.specs.Openings.{number_items, AreResults, no_result, a_result, an_error, Ends, AreMarked, last, result_before, error_before, IsBadMark, no_mark, no_number, IsBadPart, bad_part}
-use Rattle.zk_answers.proofs.Dones.{mark_is, mark_same, result_mark, result_bytes, end_bytes, not_error, error_same, an_int}
+use Rattle.zk_asks.proofs.Openings.{NextIs, next_follows, behind_front}
+use Rattle.zk_asks.proofs.Opened.{mark_shape}
+use Rattle.zk_answers.specs.Results.{result_header, error_header, result_layout, IsDoneFault, in_mark, bad_mark, in_result, in_error, other_error, behind_result, behind_error}
+use Rattle.zk_answers.specs.Openings.{number_items, AreResults, no_result, a_result, an_error, Ends, AreMarked, last, result_before, error_before, no_mark, no_number, IsBadPart, bad_part}
+use Rattle.zk_answers.proofs.Dones.{mark_is, mark_same, result_mark, end_bytes, not_error, error_same}
 
 -- ---- headers
 

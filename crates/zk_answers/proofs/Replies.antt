@@ -1,5 +1,5 @@
 -- Replies: given the request, a fault is unique and excludes each frame, and frames tell their payloads apart.
-use Rattle.std.proofs.Common.{◌≡◌, ℕ, zero, suc, ◌+◌, inl, inr, List, ◌++◌, refl, sym, ap, subst, ◌∙◌, arith}
+use Rattle.std.proofs.Common.{◌≡◌, ℕ, zero, suc, ◌+◌, inl, inr, List, refl, sym, ap, subst, ◌∙◌, arith}
 use Rattle.std.specs.Prelude.{◌≢◌, ℤ, pos, negsuc}
 use Rattle.zk_jute.specs.declared.fault.Reason.{Reason}
 use Rattle.zk_jute.specs.Item.{bytes_of, HaveBytes}
@@ -10,7 +10,6 @@ use Rattle.zk_records.specs.declared.header.ReplyHeader.{ReplyHeader}
 use Rattle.zk_records.specs.declared.op.Op.{Op}
 use Rattle.zk_records.specs.declared.op.PartOp.{PartOp}
 use Rattle.zk_records.specs.Records.{reply_header}
-use Rattle.zk_answers.specs.declared.frame.Body.{Body}
 use Rattle.zk_answers.specs.declared.frame.Outcome.{Outcome}
 use Rattle.zk_answers.specs.declared.frame.Outcome.TheVariants as outcome
 use Rattle.zk_answers.specs.declared.frame.Reply.{Reply}

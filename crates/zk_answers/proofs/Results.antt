@@ -1,7 +1,6 @@
 -- Results of a multi: a fault is unique and excludes each form, and results tell their bytes apart.
-use Rattle.std.proofs.Common.{◌≡◌, ℕ, ◌+◌, ◌⊎◌, inl, inr, List, [], ◌∷◌, ◌++◌, length, refl, sym, ap, subst, ◌∙◌, append_assoc, arith}
+use Rattle.std.proofs.Common.{◌≡◌, ℕ, ◌+◌, ◌⊎◌, inl, inr, List, [], ◌∷◌, ◌++◌, length, refl, sym, ap, subst, ◌∙◌, arith}
 use Rattle.std.specs.Prelude.{◌≢◌, ℤ}
-use Rattle.std.specs.List.{flat_map}
 use Rattle.std.proofs.lemmas.List.{length-append}
 use Rattle.zk_jute.specs.declared.fault.Reason.{Reason}
 use Rattle.zk_jute.specs.declared.fault.Reason.TheVariants.{BadPart}
@@ -18,7 +17,7 @@ use Rattle.zk_answers.specs.declared.frame.PartDone.TheVariants as done
 use Rattle.zk_asks.specs.Forms.{end_header, marked}
 use Rattle.zk_answers.specs.Results.{result_header, error_header, done_items, multi_items, result_layout, Answers, AnswerAll, MayAnswer, IsDoneFault, in_mark, bad_mark, in_result, in_error, other_error, behind_result, behind_error}
 use Rattle.zk_answers.proofs.Placed.{Placed, placed_same, placed_not}
-use Rattle.zk_answers.proofs.Dones.{mark_is, mark_same, result_mark, end_mark, not_error, error_same, Result, done_of, result_items, result_is, result_apart, items_of, done_is, multi_more, split_items, an_int}
+use Rattle.zk_answers.proofs.Dones.{mark_is, mark_same, result_mark, end_mark, not_error, error_same, done_of, result_items, result_is, result_apart, items_of, done_is, multi_more, split_items, an_int}
 
 -- ---- a fault by its header
 

@@ -10,7 +10,6 @@ use Rattle.zk_jute.proofs.Steps.{IsBytes}
 use Rattle.zk_jute.proofs.Fields.{int_gives, long_gives, int_plain, long_plain}
 use Rattle.zk_jute.proofs.Chains.{then_read_one, then_fails, then_fails_later}
 use Rattle.zk_jute.proofs.Theorems.{found, plain_fault}
-use Rattle.zk_records.specs.declared.header.ReplyHeader.{ReplyHeader}
 use Rattle.zk_records.specs.Records.{reply_header}
 use Rattle.zk_answers.specs.Faults.{IsHead, IsHeadFault}
 

@@ -1,5 +1,5 @@
 -- The items of server frames, which frames have a payload, and which replies fit a request.
-use Rattle.std.specs.Prelude.{◌≡◌, ◌≢◌, ℕ, ℤ, pos, negsuc, List, [], ◌∷◌, ◌++◌}
+use Rattle.std.specs.Prelude.{◌≡◌, ◌≢◌, ℕ, ℤ, pos, negsuc, List, [], ◌++◌}
 use Rattle.zk_jute.specs.Item.{Item, bytes_of, HaveBytes}
 use Rattle.zk_jute.specs.Flagged.{flag_items}
 use Rattle.zk_jute.specs.Wired.{ustring, vector}

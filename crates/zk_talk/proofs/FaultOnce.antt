@@ -27,7 +27,7 @@ use Rattle.zk_talk.proofs.GoodFronts.{good_front}
 use Rattle.std.proofs.lemmas.Bool.{cases_order}
 use Rattle.std.proofs.lemmas.List.{append_cancel_left}
 use Rattle.zk_frames.proofs.Cuts.{same_fronts}
-use Rattle.std.proofs.Common.{ℤ, negsuc}
+use Rattle.std.proofs.Common.{ℤ}
 use Rattle.zk_records.specs.declared.header.ReplyHeader.{ReplyHeader}
 use Rattle.zk_asks.specs.declared.frame.Ask.{Ask as Asked}
 use Rattle.zk_asks.specs.Codes.{event_xid}

@@ -1,5 +1,5 @@
 -- The frame of a payload, as it is written.
-use Rattle.std.proofs.Common.{◌≡◌, ℕ, List, ◌++◌, length, pos, sym, ap, ◌∙◌, append_assoc}
+use Rattle.std.proofs.Common.{◌≡◌, ℕ, List, ◌++◌, length, pos, ap, ◌∙◌, append_assoc}
 use Rattle.zk_jute.specs.Item as jute
 use Rattle.zk_asks.specs.declared.frame.ClientFrame.{ClientFrame}
 use Rattle.zk_asks.specs.Frames as asks

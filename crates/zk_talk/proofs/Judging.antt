@@ -1,5 +1,5 @@
 -- What is judged, over plain values.
-use Rattle.std.proofs.Common.{◌≡◌, ◌≢◌, ℕ, ◌+◌, ◌<◌, ◌≤◌, ◌⊎◌, inl, inr, List, [], ◌∷◌, ◌++◌, length, drop, filter, refl, sym, ap, ◌∙◌, subst, arith, Some, None, ℤ, length-drop}
+use Rattle.std.proofs.Common.{◌≡◌, ◌≢◌, ℕ, ◌+◌, ◌<◌, ◌≤◌, ◌⊎◌, inl, inr, List, [], ◌∷◌, ◌++◌, length, drop, filter, refl, sym, ap, ◌∙◌, subst, arith, Some, None, length-drop}
 use Rattle.std.specs.Prelude.{slice_get, true}
 use Rattle.zk_jute.specs.declared.fault.Reason.{Reason}
 use Rattle.zk_jute.specs.declared.fault.Reason.TheVariants.{QueueFull, Unasked, XidOrder}
@@ -13,7 +13,6 @@ use Rattle.zk_asks.specs.Frames as asks
 use Rattle.zk_asks.specs.Faults.{IsFirstFault, IsAskFault}
 use Rattle.zk_answers.specs.declared.frame.ServerFrame.{ServerFrame}
 use Rattle.zk_answers.specs.declared.frame.ServerFrame.TheVariants.{Connected, Answered, Event}
-use Rattle.zk_answers.specs.declared.frame.Reply.{Reply}
 use Rattle.zk_answers.specs.Frames.{IsConnected, IsEvent, IsReplyTo, Fits}
 use Rattle.zk_answers.specs.Frames as answers
 use Rattle.zk_answers.specs.Faults.{IsHead, IsConnectedFault, IsHeadFault, IsReplyFault, IsEventFault}

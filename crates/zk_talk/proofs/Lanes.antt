@@ -10,8 +10,8 @@ use Rattle.zk_waiting.specs.declared.lane.Lane.{Lane}
 use Rattle.zk_waiting.specs.declared.lane.Lane.TheVariants.{Ping, Auth, Watches, Plain}
 use Rattle.zk_waiting.specs.Lane.{lane_of, same_lane}
 use Rattle.zk_waiting.specs.Waiting.{Request, Lanes, queue_on, IsPut, IsDropped}
-use Rattle.zk_talk.specs.Conversation.{Conversation, with_client, with_server, is_ask_on, is_reply_on}
-use Rattle.zk_talk.specs.Queues.{IsRequest, IsQueue}
+use Rattle.zk_talk.specs.Conversation.{Conversation, with_client, with_server}
+use Rattle.zk_talk.specs.Queues.{IsQueue}
 use Rattle.zk_talk.specs.Describes.{Describes}
 use Rattle.zk_talk.specs.Judged.{IsRemembered, HasAsk, IsForgotten}
 use Rattle.zk_talk.proofs.Loads.{lanes_same}

@@ -4,16 +4,14 @@ use Rattle.std.proofs.lemmas.List.{append-nil, length_push}
 use Rattle.zk_asks.specs.declared.frame.ClientFrame.{ClientFrame}
 use Rattle.zk_answers.specs.declared.frame.ServerFrame.{ServerFrame}
 use Rattle.zk_talk.specs.Payloads.{client_payload, server_payload}
-use Rattle.zk_talk.specs.declared.message.Side.{Side}
 use Rattle.zk_talk.specs.declared.message.Side.TheVariants.{Client, Server}
 use Rattle.zk_talk.specs.History.{History}
 use Rattle.zk_frames.specs.Framing.{frame, IsBeginning, IsBadLength}
 use Rattle.zk_talk.specs.Conversation.{with_client, with_server, ClientMay, ServerMay, Conversation, load}
-use Rattle.zk_talk.proofs.Lists.{front_and_rest, by_last, IsPushed}
-use Rattle.std.proofs.Common.{Some, take, get_or, ℤ}
+use Rattle.zk_talk.proofs.Lists.{by_last, IsPushed}
+use Rattle.std.proofs.Common.{Some, take, get_or}
 use Rattle.std.proofs.lemmas.List.{take-append-drop, drop_more, length-take-le}
 use Rattle.zk_jute.specs.declared.fault.Reason.{Reason}
-use Rattle.zk_talk.specs.declared.message.Fault.{Fault}
 use Rattle.zk_waiting.specs.declared.lane.Lane.{Lane}
 use Rattle.zk_talk.specs.declared.message.Message.{Message}
 use Rattle.zk_talk.specs.declared.message.Message.TheVariants.{Client as FromClient, Server as FromServer}
@@ -27,7 +25,7 @@ use Rattle.zk_talk.proofs.GoodSteps.{load_here}
 use Rattle.zk_jute.specs.declared.fault.Reason.TheVariants.{StreamEnd, LengthRange}
 use Rattle.zk_talk.specs.Fault.{IsClientFault, IsServerFault, fault_of}
 use Rattle.zk_talk.specs.Describes.{Describes}
-use Rattle.zk_talk.specs.Taking.{GoesOn, Fails}
+use Rattle.zk_talk.specs.Taking.{GoesOn}
 use Rattle.zk_talk.proofs.Standing.{frame_front}
 use Rattle.zk_talk.proofs.Talks.{more_client, whole_client, fault_client, more_server, whole_server, fault_server}
 

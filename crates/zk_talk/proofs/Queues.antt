@@ -1,10 +1,9 @@
 -- The lanes hold the asks that wait.
-use Rattle.std.proofs.Common.{◌≡◌, ℕ, zero, suc, ◌+◌, ◌-◌, ◌<◌, ◌≤◌, List, [], ◌∷◌, ◌++◌, length, drop, refl, sym, ap, ◌∙◌, subst, arith, append_assoc, length-append, Bool, true, false, filter, cond, leb, ℤ}
+use Rattle.std.proofs.Common.{◌≡◌, ℕ, zero, suc, ◌+◌, ◌-◌, List, [], ◌∷◌, ◌++◌, length, drop, refl, sym, ap, ◌∙◌, subst, arith, length-append, Bool, true, false, filter, cond, leb}
 use Rattle.std.proofs.lemmas.List.{append-nil, drop-append-le, drop-drop}
 use Rattle.std.proofs.lemmas.List.Elements.{filter-append}
 use Rattle.std.proofs.lemmas.List.Sums.{sum_by-cons}
 use Rattle.std.proofs.lemmas.Bool.{leb-true, leb-false}
-use Rattle.zk_asks.specs.declared.frame.Ask.{Ask as Asked}
 use Rattle.zk_asks.specs.declared.frame.ClientFrame.{ClientFrame}
 use Rattle.zk_asks.specs.declared.frame.ClientFrame.TheVariants.{Connect, Ask}
 use Rattle.zk_answers.specs.declared.frame.ServerFrame.{ServerFrame}
@@ -13,7 +12,7 @@ use Rattle.zk_waiting.specs.declared.lane.Lane.TheVariants.{Ping, Auth, Watches,
 use Rattle.zk_waiting.specs.Lane.{lane_of, same_lane}
 use Rattle.zk_waiting.specs.Waiting.{Request, Lanes, queue_on, request_weight, queue_weight, weight_of, count_of}
 use Rattle.zk_talk.specs.Splits.{EachAfter}
-use Rattle.zk_talk.specs.Conversation.{is_ask_on, is_reply_on, asks_on, replies_on, ServerMay, Conversation, with_client, with_server, load, sum_waiting, is_unanswered, weight}
+use Rattle.zk_talk.specs.Conversation.{is_ask_on, is_reply_on, asks_on, replies_on, ServerMay, Conversation, with_client, with_server, load, sum_waiting, weight}
 use Rattle.zk_talk.specs.Queues.{IsRequest, AreRequests, IsQueue}
 use Rattle.zk_talk.proofs.Turns.{count_cons}
 use Rattle.zk_talk.proofs.Loads.{replies_in_asks}

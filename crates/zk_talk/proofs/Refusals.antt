@@ -1,7 +1,7 @@
 -- Why a history is not good with one more frame.
 use Rattle.std.proofs.Common.{◌≡◌, ◌≢◌, ℕ, ◌≤◌, List, [], ◌∷◌, ◌++◌, length, refl, sym, ap, ◌∙◌, subst, arith}
 use Rattle.zk_asks.specs.declared.frame.ClientFrame.{ClientFrame}
-use Rattle.zk_asks.specs.declared.frame.ClientFrame.TheVariants.{Connect, Ask}
+use Rattle.zk_asks.specs.declared.frame.ClientFrame.TheVariants.{Ask}
 use Rattle.zk_answers.specs.declared.frame.ServerFrame.{ServerFrame}
 use Rattle.zk_answers.specs.declared.frame.ServerFrame.TheVariants.{Connected, Answered, Event}
 use Rattle.zk_answers.specs.declared.frame.Reply.{Reply}
@@ -15,7 +15,7 @@ use Rattle.zk_waiting.specs.Lane.{lane_of}
 use Rattle.zk_talk.specs.Conversation.{asks_on, replies_on, ClientMay, ServerMay, IsAnswered, Conversation, load}
 use Rattle.zk_talk.specs.Good.{Good, IsGood}
 use Rattle.zk_talk.proofs.Small.{AreSmall}
-use Rattle.std.proofs.Common.{ℤ, pos, negsuc}
+use Rattle.std.proofs.Common.{ℤ}
 use Rattle.zk_jute.specs.declared.fault.Reason.{Reason}
 use Rattle.zk_records.specs.declared.header.ReplyHeader.{ReplyHeader}
 use Rattle.zk_asks.specs.declared.frame.Ask.{Ask as Asked}

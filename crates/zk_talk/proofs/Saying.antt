@@ -1,5 +1,5 @@
 -- What one message more does to what is known of those before it.
-use Rattle.std.proofs.Common.{◌≡◌, ◌≢◌, ℕ, ◌+◌, ◌<◌, ◌≤◌, ◌⊎◌, inl, inr, List, [], ◌∷◌, ◌++◌, length, filter, drop, refl, sym, ap, ◌∙◌, subst, arith, Some, None, ℤ, Bool, true, false, MatchBool, IsTrue, length-drop}
+use Rattle.std.proofs.Common.{◌≡◌, ◌≢◌, ◌+◌, ◌<◌, ◌≤◌, ◌⊎◌, inl, inr, List, [], ◌∷◌, ◌++◌, length, filter, refl, sym, ap, ◌∙◌, subst, arith, Some, None, ℤ, Bool, true, false, MatchBool, IsTrue, length-drop}
 use Rattle.std.specs.Prelude.{slice_get, negsuc}
 use Rattle.zk_jute.specs.Item.{Fit}
 use Rattle.zk_asks.specs.declared.frame.ClientFrame.{ClientFrame}
@@ -18,13 +18,13 @@ use Rattle.zk_talk.specs.declared.limits.Limits.{Limits}
 use Rattle.zk_talk.specs.declared.say.SayFault.{SayFault}
 use Rattle.zk_talk.specs.declared.say.SayFault.TheVariants.{NotFirst, Unasked, XidOrder, Misfit, TooLong, QueueFull, NoMemory}
 use Rattle.zk_talk.specs.Payloads.{client_payload, server_payload}
-use Rattle.zk_talk.specs.Conversation.{Conversation, with_client, with_server, is_ask_on, asks_on, replies_on, ClientMay, ServerMay, IsAnswered, load, weight}
+use Rattle.zk_talk.specs.Conversation.{Conversation, with_client, with_server, is_ask_on, replies_on, ClientMay, ServerMay, IsAnswered, load, weight}
 use Rattle.zk_talk.specs.Describes.{Describes}
 use Rattle.zk_talk.specs.Judged.{IsRemembered, IsForgotten, HasAsk}
 use Rattle.zk_talk.specs.Fault.{IsNext}
-use Rattle.zk_talk.specs.Said.{Heard, HasSpoken, IsSaidClient, IsSaidServer, IsClientRefusal, IsServerRefusal, IsUnwritten, IsUnput, FitsNext, IsUnfit, MayAnswer, CannotAnswer}
-use Rattle.zk_talk.specs.Said.IsClientRefusal.{not_allowed, too_long, queue_full, second_connect, before_connect}
-use Rattle.zk_talk.specs.Said.IsServerRefusal.{no_connect, long_connected, long_event, event_xid, unasked, xid_order, misfit, long_reply, second_connected, before_connected}
+use Rattle.zk_talk.specs.Said.{Heard, HasSpoken, IsSaidClient, IsSaidServer, IsClientRefusal, IsServerRefusal, IsUnwritten, IsUnput, IsUnfit, MayAnswer, CannotAnswer}
+use Rattle.zk_talk.specs.Said.IsClientRefusal.{not_allowed, too_long, queue_full}
+use Rattle.zk_talk.specs.Said.IsServerRefusal.{no_connect, long_connected, long_event, event_xid, unasked, xid_order, misfit, long_reply}
 use Rattle.zk_talk.specs.Said.IsUnfit.{not_a_reply, none_waits, other_waits, unlike}
 use Rattle.zk_talk.proofs.Lists.{not_empty}
 use Rattle.zk_talk.proofs.Steps.{conversation_client, conversation_server}

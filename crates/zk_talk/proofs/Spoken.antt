@@ -20,10 +20,10 @@ use Rattle.zk_talk.specs.Good.{Good, IsGood, IsOrder, clients, servers}
 use Rattle.zk_talk.specs.Ending.{IsEnding, unanswered}
 use Rattle.zk_talk.specs.Answer.{AreMessages}
 use Rattle.zk_talk.specs.Said.{AreSaid, AreSized, AreFrames, IsWithin, MaySay, IsSaidClient, IsSaidServer, said, side_of, payload_of, conversation_of}
-use Rattle.zk_talk.proofs.Small.{AreSmall, small_limits}
+use Rattle.zk_talk.proofs.Small.{small_limits}
 use Rattle.zk_talk.proofs.Lists.{by_last, IsPushed}
 use Rattle.zk_talk.proofs.Histories.{front-length}
-use Rattle.zk_talk.proofs.GoodSteps.{good_client, good_server, FoundClient, FoundServer, found_client, found_server}
+use Rattle.zk_talk.proofs.GoodSteps.{good_client, good_server, found_client, found_server}
 use Rattle.zk_talk.proofs.GoodFronts.{good_front}
 use Rattle.zk_talk.proofs.Lists.{EachAfter-push, EachAfter-nil}
 use Rattle.std.specs.List.{flat_map, AllByRecursion}

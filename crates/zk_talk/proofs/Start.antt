@@ -6,7 +6,6 @@ use Rattle.zk_talk.specs.declared.limits.Limits.{Limits}
 use Rattle.zk_talk.specs.History.{side_bytes}
 use Rattle.zk_talk.specs.Conversation.{ClientMay, ServerMay, Conversation, load}
 use Rattle.zk_talk.specs.Good.{IsWhole}
-use Rattle.zk_talk.proofs.Small.{AreSmall}
 use Rattle.zk_talk.proofs.Lists.{not_empty}
 use Rattle.std.proofs.Common.{None}
 use Rattle.zk_waiting.specs.declared.lane.Lane.{Lane}

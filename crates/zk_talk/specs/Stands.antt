@@ -1,5 +1,5 @@
 -- Which history a talk stands for.
-use Rattle.std.specs.Prelude.{◌≡◌, ℕ, ◌<◌, ◌^◌, List, length, Option, Some, None}
+use Rattle.std.specs.Prelude.{◌≡◌, ℕ, List, length, Option, Some, None}
 use Rattle.zk_waiting.specs.declared.lane.Lane.{Lane}
 use Rattle.zk_waiting.specs.Waiting.{Lanes, queue_on, weight_of}
 use Rattle.zk_talk.specs.declared.message.Side.{Side}

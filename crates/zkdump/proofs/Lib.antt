@@ -1,3 +1,8 @@
+pub mod Shown
+pub mod Splits
+pub mod Verdicts
+pub mod Builds
+pub mod Rebuilds
 pub mod Bytes
 pub mod Stages
 pub mod Feeding
@@ -8,3 +13,6 @@ pub mod Found
 pub mod Kept
 pub mod Stopped
 pub mod Once
+pub mod Accepted
+pub mod Taken
+pub mod Answered

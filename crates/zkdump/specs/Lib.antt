@@ -2,8 +2,12 @@ pub mod Streams
 pub mod Recording
 pub mod Reading
 pub mod Lines
+pub mod Rebuilding
 pub mod Outcome
 pub mod Following
 pub mod Stopping
 pub mod Running
 pub mod Exits
+pub mod Building
+pub mod Accepting
+pub mod Commands

@@ -15,10 +15,10 @@ use std::alloc::Global;
 use zk_talk::Limits;
 
 /// How often a run reads at most.
-const MOST_READS: u64 = 4_294_967_296;
+pub const MOST_READS: u64 = 4_294_967_296;
 
 /// How many bytes a run reads at once, at most.
-const BLOCK: usize = 4096;
+pub const BLOCK: usize = 4096;
 
 /// Reads until what the recording comes to stands, or to the end, and writes the lines of its messages.
 fn read_on<R: Source, W: Sink>(

@@ -1,8 +1,15 @@
-//! `zkdump` reads a recorded conversation from standard input. `zkdump show` writes a line for each message, and
-//! how the recording ends; `zkdump check` writes how it ends alone.
+//! `zkdump show` reads a recorded conversation from standard input, and writes a line for each message and how the
+//! recording ends; `zkdump check` writes how it ends alone. `zkdump build` reads such lines, and writes the recording
+//! of their messages, one piece a message, up to the first line that is refused.
 #![tactic(auto)]
 
+pub mod build;
+#[cfg(test)]
+mod build_tests;
+pub mod builder;
+pub mod built;
 pub mod engines;
+pub mod laws;
 mod lines;
 pub mod listing;
 #[cfg(test)]

@@ -16,6 +16,8 @@ pub enum Command {
     Show,
     /// To write its last line.
     Check,
+    /// To write the recording that a listing shows.
+    Build,
 }
 
 /// A command line that is in order.

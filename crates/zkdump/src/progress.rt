@@ -60,7 +60,7 @@ fn told(taken: Result<(), Stop>) -> Result<(), Stop>
 }
 
 /// The bytes from a place on.
-fn rest(bytes: &[u8], at: usize) -> &[u8]
+pub fn rest(bytes: &[u8], at: usize) -> &[u8]
     requires { at ≤ length bytes.now }
     ensures { result.now ≡ drop at bytes.now }
 {

@@ -1,11 +1,12 @@
 //! The whole program, over a reader and two writers.
 ghost use Rattle.std.specs.Prelude.{◌≡◌, ◌^◌, ◌<◌, ◌≤◌, ◌⊎◌, false, IfOk, OnErr};
 ghost use Rattle.zk_talk.specs.declared.limits.Limits.{Limits};
-ghost use Rattle.zkdump.specs.declared.listing.Listing.{Listing};
-ghost use Rattle.zkdump.specs.declared.summary.Status.{Status};
-ghost use Rattle.zkdump.specs.Running.{HasListed, HasStopped};
-ghost use Rattle.zkdump.specs.Exits.{exit_of, refusal_of, listing_of};
+ghost use Rattle.zkdump.specs.declared.options.Command.{Command};
+ghost use Rattle.zkdump.specs.Commands.{HasDone, HasFailed};
+ghost use Rattle.zkdump.specs.Exits.{exit_of, exit_of_built, refusal_of};
 
+use crate::build::build_run;
+use crate::built::Built;
 use crate::engines::{check_run, show_run};
 use crate::listing::RunFault;
 use crate::options::{Command, Settings, UsageFault};
@@ -52,7 +53,8 @@ pub fn refuse<F: Sink>(fault: UsageFault, faults: &mut F) -> u8
 }
 
 fn exit_code(status: Status) -> u8
-    ensures { result ≡ exit_of status }
+    ensures exit { result ≡ exit_of status }
+    ensures small { result < 2 }
 {
     match status {
         Status::Good => 0,
@@ -60,22 +62,39 @@ fn exit_code(status: Status) -> u8
     }
 }
 
-/// Runs the engine that the words ask for.
-fn obey<R: Source, W: Sink>(
+/// Tells which line is refused, if one is, and gives the status for it.
+fn report<F: Sink>(built: Built, faults: &mut F) -> u8
+    ensures exit { result ≡ exit_of_built built }
+    ensures small { result < 2 }
+{
+    match built {
+        Built::Whole => 0,
+        Built::LineRefused { .. } | Built::SayRefused { .. } => {
+            tell(faults, &built);
+            1
+        }
+    }
+}
+
+/// Runs the engine that the words ask for, and gives the status for what it answers.
+fn obey<R: Source, W: Sink, F: Sink>(
     alloc: Global,
     chosen: Settings,
     reader: &mut R,
     writer: &mut W,
-) -> Result<Status, RunFault>
+    faults: &mut F,
+) -> Result<u8, RunFault>
     requires reader { R.has_failed reader.old ≡ false }
     requires reads { R.read_count reader.old < 2 ^ 62 }
     requires writer { W.has_failed writer.old ≡ false }
-    ensures ok { IfOk result (λ status. HasListed chosen.limits (listing_of chosen.command) (R.remaining reader.old) (R.remaining reader.new) (W.contents writer.old) (W.contents writer.new) status) }
-    ensures err { OnErr result (HasStopped chosen.limits (listing_of chosen.command) (R.remaining reader.old) (R.remaining reader.new) (W.contents writer.old) (W.contents writer.new)) }
+    ensures ok { IfOk result (λ exit. HasDone chosen.command chosen.limits (R.remaining reader.old) (R.remaining reader.new) (W.contents writer.old) (W.contents writer.new) exit) }
+    ensures small { IfOk result (λ exit. exit < 2) }
+    ensures err { OnErr result (HasFailed chosen.command chosen.limits (R.remaining reader.old) (R.remaining reader.new) (W.contents writer.old) (W.contents writer.new)) }
 {
     match chosen.command {
-        Command::Show => show_run(alloc, chosen.limits, reader, writer),
-        Command::Check => check_run(alloc, chosen.limits, reader, writer),
+        Command::Show => Ok(exit_code(show_run(alloc, chosen.limits, reader, writer)?)),
+        Command::Check => Ok(exit_code(check_run(alloc, chosen.limits, reader, writer)?)),
+        Command::Build => Ok(report(build_run(alloc, chosen.limits, reader, writer)?, faults)),
     }
 }
 
@@ -93,24 +112,23 @@ pub fn run_words<R: Source, W: Sink, F: Sink>(
     requires faults { F.has_failed faults.old ≡ false }
     ensures known { result ≤ 3 }
 
-    // The listing, or its last line, is written of what was read.
-    ensures listed { result < 2 → (limits : Limits) × (listing : Listing) × (status : Status)
-        × HasListed limits listing (R.remaining reader.old) (R.remaining reader.new) (W.contents writer.old) (W.contents writer.new) status
-        × (result ≡ exit_of status) }
+    // What was read is listed, or made a recording, as far as one of the commands does it.
+    ensures done { result < 2 → (command : Command) × (limits : Limits)
+        × HasDone command limits (R.remaining reader.old) (R.remaining reader.new) (W.contents writer.old) (W.contents writer.new) result }
 
     // Words that are refused leave everything unread and unwritten.
     ensures words { result ≡ 2 → (reader.new ≡ reader.old) × (writer.new ≡ writer.old) }
 
-    // A failure comes before all of it, or after a front of a listing.
+    // A failure comes before all of it, or after a front of what a command writes.
     ensures stopped { result ≡ 3 → ((reader.new ≡ reader.old) × (writer.new ≡ writer.old))
-        ⊎ ((limits : Limits) × (listing : Listing) × HasStopped limits listing (R.remaining reader.old) (R.remaining reader.new) (W.contents writer.old) (W.contents writer.new)) }
+        ⊎ ((command : Command) × (limits : Limits) × HasFailed command limits (R.remaining reader.old) (R.remaining reader.new) (W.contents writer.old) (W.contents writer.new)) }
 {
     let chosen = match settings(alloc, words) {
         Ok(chosen) => chosen,
         Err(fault) => return refuse(fault, faults),
     };
-    match obey(alloc, chosen, reader, writer) {
-        Ok(status) => exit_code(status),
+    match obey(alloc, chosen, reader, writer, faults) {
+        Ok(exit) => exit,
         Err(fault) => {
             tell(faults, &fault);
             3

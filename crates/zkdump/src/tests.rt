@@ -15,18 +15,18 @@ use std::test::Fail;
 use zk_talk::Limits;
 
 /// A connect request and its response, and an exists request of `/a` and its reply, which is NONODE.
-const CONNECT: [u8; 49] =
+pub const CONNECT: [u8; 49] =
     *b"\0\0\0\x2d\0\0\0\0\0\0\0\0\0\0\0\0\0\0\x75\x30\0\0\0\0\0\0\0\0\0\0\0\x10\0\0\0\0\0\0\0\0\0\0\0\0\0\0\0\0\0";
 
-const CONNECTED: [u8; 41] =
+pub const CONNECTED: [u8; 41] =
     *b"\0\0\0\x25\0\0\0\0\0\0\x75\x30\x01\0\0\0\0\0\0\x01\0\0\0\x10\0\x01\x02\x03\x04\x05\x06\x07\x08\x09\x0a\x0b\x0c\x0d\x0e\x0f\0";
 
-const EXISTS: [u8; 19] = *b"\0\0\0\x0f\0\0\0\x01\0\0\0\x03\0\0\0\x02/a\x01";
+pub const EXISTS: [u8; 19] = *b"\0\0\0\x0f\0\0\0\x01\0\0\0\x03\0\0\0\x02/a\x01";
 
-const NO_NODE: [u8; 20] = *b"\0\0\0\x10\0\0\0\x01\0\0\0\0\0\0\0\x05\xff\xff\xff\x9b";
+pub const NO_NODE: [u8; 20] = *b"\0\0\0\x10\0\0\0\x01\0\0\0\0\0\0\0\x05\xff\xff\xff\x9b";
 
 /// The listing of those four.
-const MESSAGES: &str =
+pub const MESSAGES: &str =
     "C connect version=0 zxid=0 timeout=30000 session=0 passwd=#00000000000000000000000000000000 ro=0
 S connect version=0 timeout=30000 session=72057594037927937 passwd=#000102030405060708090a0b0c0d0e0f ro=0
 C 1 exists path=\"/a\" watch=1
@@ -46,7 +46,7 @@ fn put_pieces(recording: &mut Vec<u8>, pieces: &[(u8, &[u8])]) -> Result<(), All
 }
 
 /// A recording of these pieces.
-fn recorded(alloc: Global, pieces: &[(u8, &[u8])]) -> Result<Vec<u8>, AllocError> {
+pub fn recorded(alloc: Global, pieces: &[(u8, &[u8])]) -> Result<Vec<u8>, AllocError> {
     let mut recording = Vec::from_slice(alloc, b"ZKR1")?;
     put_pieces(&mut recording, pieces)?;
     Ok(recording)
@@ -60,7 +60,7 @@ fn connected(alloc: Global, pieces: &[(u8, &[u8])]) -> Result<Vec<u8>, AllocErro
     Ok(recording)
 }
 
-fn words(rt: &impl AllocGlobal, line: &str) -> Result<Vec<String>, Fail> {
+pub fn words(rt: &impl AllocGlobal, line: &str) -> Result<Vec<String>, Fail> {
     let mut words = Vec::new(rt.alloc());
     for word in line.split(' ') {
         words.push(String::from_str(rt.alloc(), word)?)?;
@@ -68,7 +68,7 @@ fn words(rt: &impl AllocGlobal, line: &str) -> Result<Vec<String>, Fail> {
     Ok(words)
 }
 
-fn text(rt: &impl AllocGlobal, sink: &MemorySink) -> Result<String, Fail> {
+pub fn text(rt: &impl AllocGlobal, sink: &MemorySink) -> Result<String, Fail> {
     Ok(String::from_utf8_lossy(rt.alloc(), sink.bytes())?)
 }
 

@@ -1,5 +1,5 @@
 use Rattle.std.specs.Int.{w32}
-use Rattle.std.proofs.Common.{of_z, ◌≡◌, ◌∷◌, refl, sym, subst, inl, inr, ◌∙◌, ap}
+use Rattle.std.proofs.Common.{of_z, ◌∷◌, inl, inr, ap}
 use Rattle.std.proofs.lemmas.Result.{err_from_is_err_and}
 use Rattle.zk_answers.proofs.Outcomes.{result_mark, result_bad, result_inside, error_inside, error_differs}
 use Rattle.zk_answers.proofs.multi.done_at.Goals as goal

@@ -1,4 +1,4 @@
-use Rattle.std.proofs.Common.{◌≡◌, ◌≤◌, length, take}
+use Rattle.std.proofs.Common.{◌≤◌, length, take}
 use Rattle.zk_jute.specs.Item.{HaveBytes}
 use Rattle.zk_jute.specs.Told.{StandsAt}
 use Rattle.zk_answers.specs.Results.{AnswerAll}

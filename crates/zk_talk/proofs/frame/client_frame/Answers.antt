@@ -1,11 +1,7 @@
-use Rattle.std.proofs.Common.{length, drop, ap, subst, arith, inl, inr, ◌≡◌}
+use Rattle.std.proofs.Common.{length, ap, subst, arith, inl, inr}
 use Rattle.zk_frames.proofs.Cuts.{length-frame}
 use Rattle.zk_talk.proofs.Sides.{carried}
-use Rattle.zk_talk.specs.Conversation.{Conversation, ServerMay}
-use Rattle.zk_talk.specs.declared.limits.Limits.{Limits}
-use Rattle.zk_talk.specs.Fault.{IsClientFault, IsServerFault}
-use Rattle.zk_talk.specs.Payloads.{server_payload}
-use Rattle.zk_talk.specs.Describes.{Describes}
+use Rattle.zk_talk.specs.Fault.{IsClientFault}
 use Rattle.zk_talk.specs.Judged.{Tells, IsNextOf}
 use Rattle.zk_talk.proofs.frame.client_frame.Goals as goal
 

@@ -1,12 +1,10 @@
-use Rattle.std.proofs.Common.{length, drop, ap, subst, arith, inl, inr, ◌≡◌}
+use Rattle.std.proofs.Common.{length, ap, subst, arith, inl, inr, ◌≡◌}
 use Rattle.zk_frames.proofs.Cuts.{length-frame}
 use Rattle.zk_talk.proofs.Sides.{carried}
-use Rattle.zk_talk.specs.Conversation.{Conversation, ServerMay}
-use Rattle.zk_talk.specs.declared.limits.Limits.{Limits}
-use Rattle.zk_talk.specs.Fault.{IsClientFault, IsServerFault}
+use Rattle.zk_talk.specs.Conversation.{ServerMay}
+use Rattle.zk_talk.specs.Fault.{IsServerFault}
 use Rattle.zk_talk.specs.Payloads.{server_payload}
-use Rattle.zk_talk.specs.Describes.{Describes}
-use Rattle.zk_talk.specs.Judged.{Tells, IsNextOf}
+use Rattle.zk_talk.specs.Judged.{Tells}
 use Rattle.zk_talk.proofs.frame.server_frame.Goals as goal
 
 pub take_back-requires-clause-fits : goal.take_back-requires-clause-fits

@@ -1,4 +1,4 @@
-use Rattle.std.proofs.Common.{rules, w32, FitsSigned, arith, ◌≡◌, negsuc}
+use Rattle.std.proofs.Common.{w32, FitsSigned, arith, ◌≡◌, negsuc}
 use Rattle.std.proofs.lemmas.Int.{ints}
 use Rattle.std.proofs.lemmas.Result.{IfErr-weaker, IfOk-weaker}
 use Rattle.zk_talk.specs.Describes.{Describes}

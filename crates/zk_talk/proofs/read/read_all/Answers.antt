@@ -3,7 +3,7 @@ use Rattle.std.specs.Borrow.{Bor}
 use Rattle.zk_talk.specs.declared.message.Side.{Side}
 use Rattle.zk_talk.specs.declared.message.Side.TheVariants.{Client}
 use Rattle.zk_talk.specs.declared.message.Ending.TheVariants.{Refused}
-use Rattle.std.proofs.Common.{[], refl}
+use Rattle.std.proofs.Common.{[]}
 use Rattle.zk_talk.proofs.Small.{small_limits}
 use Rattle.std.proofs.Common.{◌∙◌, arith}
 use Rattle.zk_talk.specs.Answer.{history_of}

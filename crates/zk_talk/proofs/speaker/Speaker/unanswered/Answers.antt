@@ -1,4 +1,4 @@
-use Rattle.std.proofs.Common.{◌≡◌, ◌+◌, ℕ, true, false, cond, ap, sym, subst, arith, ◌∙◌, List, Bool}
+use Rattle.std.proofs.Common.{◌≡◌, ◌+◌, ℕ, true, false, cond, sym, subst, arith, Bool}
 use Rattle.zk_talk.specs.Said.{SpeakerState, Says}
 use Rattle.zk_talk.proofs.Speaking.{unanswered_is}
 use Rattle.zk_talk.proofs.speaker.Speaker.unanswered.Goals.{else-self-via-then-self+else-not-self, else-self-via-else-self}

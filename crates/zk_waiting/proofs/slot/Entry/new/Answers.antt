@@ -1,4 +1,4 @@
-use Rattle.std.proofs.Common.{◌≡◌, ◌<◌, ◌∙◌, ap, sym, length, arith}
+use Rattle.std.proofs.Common.{◌<◌, ◌∙◌, ap, sym, length, arith}
 use Rattle.zk_waiting.proofs.Fits.{copied_next, has_next}
 use Rattle.zk_waiting.proofs.slot.Entry.new.Goals.{in-Some+in_ok-push, in_default}
 use Rattle.zk_waiting.proofs.slot.Entry.new.Goals as goal
