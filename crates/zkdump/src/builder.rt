@@ -192,6 +192,7 @@ impl Builder {
         self.lines += 1;
         Ok(())
     }
+
     /// Takes the begun line, which begins with a dot, as the ending line.
     fn end(&mut self, alloc: Global) -> Result<(), Halt>
         requires room { self.old.lines + 1 < 2 ^ 64 }
