@@ -3,7 +3,7 @@ use Rattle.std.proofs.Common.{◌≡◌, ℕ, ◌+◌, ◌<◌, inl, inr, List, 
 use Rattle.std.specs.Prelude.{ℤ, ◌≢◌}
 use Rattle.zk_jute.specs.declared.fault.ItemFault.{ItemFault}
 use Rattle.zk_jute.specs.declared.fault.Reason.TheVariants.{Trailing, UnknownOp, XidOp}
-use Rattle.zk_jute.specs.Item.{bytes_of, HaveBytes}
+use Rattle.zk_jute.specs.Item.{Item, bytes_of, HaveBytes}
 use Rattle.zk_jute.specs.Layout.{Layout, IsValueOf}
 use Rattle.zk_jute.specs.Faults.{IsFault}
 use Rattle.zk_jute.specs.Reading.{told_place}
@@ -14,30 +14,25 @@ use Rattle.zk_asks.specs.declared.frame.Ask.{Ask}
 use Rattle.zk_asks.specs.declared.frame.Ask.TheVariants as ask
 use Rattle.zk_records.specs.Codes.{op_number}
 use Rattle.zk_asks.specs.Codes.{IsAllowed}
-use Rattle.zk_asks.specs.Forms.{header_items, IsBody, asks}
+use Rattle.zk_asks.specs.Forms.{header_items, IsOf, IsBody, asks}
 use Rattle.zk_asks.specs.Faults.{IsBodyFault, IsAskFault, in_header, unknown_op, bad_xid, in_body, behind_body}
-use Rattle.zk_asks.specs.Frames.{op_of_ask, body_items}
+use Rattle.zk_asks.specs.Rows.{Row, holds, bare, multi, row_of, Content, items_in, body_in, op_of_ask, body_items}
+use Rattle.zk_asks.proofs.Made.{IsMade, is_made}
 use Rattle.zk_jute.specs.Told.{IsTold, IsToldAt}
 use Rattle.zk_jute.proofs.Sequels.{stands_then, is_left}
 use Rattle.zk_asks.proofs.Parts.{multi_is}
 
+row_is : (r : Row) (x : Content r) → HaveBytes (items_in r x) → IsOf (body_in r) (items_in r x)
+row_is (holds make w) x have = (w.unfolds x, have)
+row_is (bare a) x have = (refl, tt)
+row_is (multi make) x have = multi_is x have
+
 -- the items of an ask are those of its form
 pub body_is : (a : Ask) → HaveBytes (body_items a) → IsBody (op_of_ask a) (body_items a)
-body_is (ask.Create body) have = (create_ask.unfolds body, have)
-body_is (ask.Delete body) have = (delete_ask.unfolds body, have)
-body_is (ask.Exists body) have = (watch_ask.unfolds body, have)
-body_is (ask.GetData body) have = (watch_ask.unfolds body, have)
-body_is (ask.SetData body) have = (set_data_ask.unfolds body, have)
-body_is (ask.GetAcl body) have = (path_ask.unfolds body, have)
-body_is (ask.SetAcl body) have = (set_acl_ask.unfolds body, have)
-body_is (ask.GetChildren body) have = (watch_ask.unfolds body, have)
-body_is (ask.Sync body) have = (path_ask.unfolds body, have)
-body_is ask.Ping have = (refl, tt)
-body_is (ask.GetChildren2 body) have = (watch_ask.unfolds body, have)
-body_is (ask.Multi ps) have = multi_is ps have
-body_is (ask.Auth body) have = (auth_ask.unfolds body, have)
-body_is (ask.SetWatches body) have = (set_watches_ask.unfolds body, have)
-body_is ask.CloseSession have = (refl, tt)
+unfolding IsMade
+body_is a have =
+    let m = is_made a in
+    subst (λ (items : List Item). IsBody (op_of_ask a) items) m.2 (row_is (row_of (op_of_ask a)) m.0 (subst HaveBytes (sym m.2) have))
 
 -- ---- what the reader refuses
 

@@ -15,20 +15,22 @@ use Rattle.zk_records.specs.declared.op.Op.{Op}
 use Rattle.zk_records.specs.declared.op.Op.TheVariants as ops
 use Rattle.zk_asks.specs.declared.frame.Part.{Part}
 use Rattle.zk_asks.specs.declared.frame.Ask.{Ask}
-use Rattle.zk_asks.specs.declared.frame.Ask.TheVariants as ask
 use Rattle.zk_asks.specs.declared.frame.ClientFrame.{ClientFrame}
 use Rattle.zk_asks.specs.declared.frame.ClientFrame.TheVariants as frame
 use Rattle.zk_records.specs.Codes.{op_number}
 use Rattle.zk_asks.specs.Codes.{IsAllowed}
-use Rattle.zk_asks.specs.Forms.{header_items, Body, Fields, Parts, body_of, IsOf, IsBody, IsAsk, asks}
+use Rattle.zk_asks.specs.Forms.{header_items, IsOf, IsBody, IsAsk, asks}
+use Rattle.zk_asks.specs.Rows.{Row, holds, bare, multi, row_of, Content, remake, items_in, Body, Fields, Parts, body_of, op_of_ask, body_items}
 use Rattle.zk_asks.specs.Faults.{IsFaultOf, IsBodyFault, IsAskFault, in_header, unknown_op, bad_xid, in_body, behind_body}
-use Rattle.zk_asks.specs.Frames.{op_of_ask, body_items, multi_items, frame_items, IsSent, IsLater, payload}
+use Rattle.zk_asks.specs.Parts.{multi_items}
+use Rattle.zk_asks.specs.Frames.{frame_items, IsSent, IsLater, payload}
 use Rattle.zk_jute.specs.Told.{IsReadAs}
 use Rattle.zk_jute.specs.Told.{IsTold}
 use Rattle.zk_jute.specs.Wired.{Wired}
 use Rattle.zk_records.proofs.Numbers.{op_number_apart}
 use Rattle.zk_jute.proofs.Sequels.{Same, Sequel, excluded, sequel_same, sequel_not}
 use Rattle.zk_asks.proofs.Parted.{multi_unique, multi_excludes, multi_only, multi_apart}
+use Rattle.zk_asks.proofs.Made.{IsMade, is_made}
 use Rattle.zk_asks.proofs.Asks.{body_is}
 
 -- ---- bodies
@@ -183,65 +185,18 @@ ask_excludes f p r later sent fault = form_not (is_ask f later sent) (payload f)
 
 -- ---- frames tell their payloads apart
 
--- what an operation's asks are made of
-record Row : Type 1 where
-  Content : Type 0
-  ask : Content → Ask
-  items : Content → List Item
-  apart : (x y : Content) → items x ≡ items y → x ≡ y
-
-row : {X : Type 0} → (X → Ask) → Wired X → Row
-row {X} make w = record { Content = X; ask = make; items = w.items; apart = w.tells_apart }
-
-bare : Ask → Row
-bare a = record { Content = Unit {0}; ask = λ _. a; items = λ _. []; apart = λ x y e. refl }
-
-row_of : Op → Row
-row_of ops.Create = row ask.Create create_ask
-row_of ops.Delete = row ask.Delete delete_ask
-row_of ops.Exists = row ask.Exists watch_ask
-row_of ops.GetData = row ask.GetData watch_ask
-row_of ops.SetData = row ask.SetData set_data_ask
-row_of ops.GetAcl = row ask.GetAcl path_ask
-row_of ops.SetAcl = row ask.SetAcl set_acl_ask
-row_of ops.GetChildren = row ask.GetChildren watch_ask
-row_of ops.Sync = row ask.Sync path_ask
-row_of ops.Ping = bare ask.Ping
-row_of ops.GetChildren2 = row ask.GetChildren2 watch_ask
-row_of ops.Multi = record { Content = List Part; ask = ask.Multi; items = multi_items; apart = multi_apart }
-row_of ops.Auth = row ask.Auth auth_ask
-row_of ops.SetWatches = row ask.SetWatches set_watches_ask
-row_of ops.CloseSession = bare ask.CloseSession
-
--- an ask is its operation and its content
-IsMade : Op → Ask → Type 0
-IsMade op a = (x : (row_of op).Content) × ((row_of op).ask x ≡ a) × ((row_of op).items x ≡ body_items a)
-
-made : (a : Ask) → IsMade (op_of_ask a) a
-unfolding IsMade row_of row bare
-made (ask.Create x) = (x, refl, refl)
-made (ask.Delete x) = (x, refl, refl)
-made (ask.Exists x) = (x, refl, refl)
-made (ask.GetData x) = (x, refl, refl)
-made (ask.SetData x) = (x, refl, refl)
-made (ask.GetAcl x) = (x, refl, refl)
-made (ask.SetAcl x) = (x, refl, refl)
-made (ask.GetChildren x) = (x, refl, refl)
-made (ask.Sync x) = (x, refl, refl)
-made ask.Ping = (tt, refl, refl)
-made (ask.GetChildren2 x) = (x, refl, refl)
-made (ask.Multi x) = (x, refl, refl)
-made (ask.Auth x) = (x, refl, refl)
-made (ask.SetWatches x) = (x, refl, refl)
-made ask.CloseSession = (tt, refl, refl)
+row_apart : (r : Row) (x y : Content r) → items_in r x ≡ items_in r y → x ≡ y
+row_apart (holds make w) x y e = w.tells_apart x y e
+row_apart (bare a) x y e = refl
+row_apart (multi make) x y e = multi_apart x y e
 
 body_apart : (a b : Ask) → op_of_ask b ≡ op_of_ask a → body_items a ≡ body_items b → a ≡ b
 unfolding IsMade
 body_apart a b same e =
     let r = row_of (op_of_ask a) in
-    let x = made a in
-    let y : IsMade (op_of_ask a) b = subst (λ (op : Op). IsMade op b) same (made b) in
-    sym x.1 ∙ ap r.ask (r.apart x.0 y.0 (x.2 ∙ e ∙ sym y.2)) ∙ y.1
+    let x = is_made a in
+    let y : IsMade (op_of_ask a) b = subst (λ (op : Op). IsMade op b) same (is_made b) in
+    sym x.1 ∙ ap (remake r) (row_apart r x.0 y.0 (x.2 ∙ e ∙ sym y.2)) ∙ y.1
 
 pub ask_injective : (f g : ClientFrame) → IsLater f → IsLater g → IsSent f → IsSent g → payload f ≡ payload g → f ≡ g
 ask_injective (frame.Connect hello flag) g l m s t e = absurd l

@@ -1,3 +1,4 @@
+pub mod Made
 pub mod First
 pub mod Parts
 pub mod Parted

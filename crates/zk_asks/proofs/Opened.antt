@@ -16,7 +16,9 @@ use Rattle.zk_records.specs.declared.op.Op.{Op}
 use Rattle.zk_records.specs.declared.op.Op.TheVariants as ops
 use Rattle.zk_records.specs.declared.op.PartOp.{PartOp}
 use Rattle.zk_records.specs.Codes.{op_number}
-use Rattle.zk_asks.specs.Forms.{part_layout, part_header, end_header, MayStand, marked, header_items, Body, Fields, Parts, body_of}
+use Rattle.zk_asks.specs.Parts.{part_layout, part_header, end_header, MayStand, marked}
+use Rattle.zk_asks.specs.Rows.{Body, Fields, Parts, body_of}
+use Rattle.zk_asks.specs.Forms.{header_items}
 use Rattle.zk_asks.specs.Faults.{IsMultiFault, in_mark, bad_mark, in_part, behind_part, IsFaultOf, IsAskFault, in_header, unknown_op, bad_xid, in_body, behind_body}
 use Rattle.zk_asks.specs.Openings.{AreParts, no_part, one_more, AreHeaded, last, a_part_before, IsHeaded, IsRequest, IsRequested, IsOpeningFault, of_header, of_type, of_xid, of_item, of_part, of_rest}
 use Rattle.zk_asks.proofs.Openings.{cut, NextIs, next_follows, goes_on, behind_front, drop_front}

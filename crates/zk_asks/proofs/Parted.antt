@@ -17,9 +17,9 @@ use Rattle.zk_asks.specs.declared.frame.Part.{Part}
 use Rattle.zk_asks.specs.declared.frame.Part.TheVariants as part
 use Rattle.zk_records.proofs.Numbers.{part_number_apart}
 use Rattle.zk_jute.specs.Wired.{Wired}
-use Rattle.zk_asks.specs.Forms.{part_layout, part_header, end_header, marked, MayStand, IsMulti, no_more, a_part}
+use Rattle.zk_asks.specs.Parts.{part_layout, part_header, end_header, marked, MayStand, IsMulti, no_more, a_part}
 use Rattle.zk_asks.specs.Faults.{IsMultiFault, in_mark, bad_mark, in_part, behind_part}
-use Rattle.zk_asks.specs.Frames.{record_of, op_of_part, part_items, multi_items}
+use Rattle.zk_asks.specs.Parts.{record_of, op_of_part, part_items, multi_items}
 use Rattle.zk_jute.proofs.Sequels.{Same, Sequel, sequel_same, sequel_not}
 use Rattle.zk_asks.proofs.Parts.{record_is, mark_is}
 

@@ -1,6 +1,8 @@
 //! What a client sends: a connect request, then requests.
 ghost use Rattle.std.specs.Prelude.{◌≡◌};
-ghost use Rattle.zk_asks.specs.Frames.{op_of_part, op_of_ask, parts_of_ask};
+ghost use Rattle.zk_asks.specs.Parts.{op_of_part};
+ghost use Rattle.zk_asks.specs.Rows.{op_of_ask};
+ghost use Rattle.zk_asks.specs.Frames.{parts_of_ask};
 
 use zk_jute::Items;
 use zk_records::{

@@ -3,8 +3,8 @@ ghost use Rattle.std.specs.Prelude.{◌≡◌, ◌≤◌, length, IfOk, IfErr, �
 ghost use Rattle.zk_jute.specs.Item.{bytes_of, HaveBytes};
 ghost use Rattle.zk_jute.specs.Layout.{IsValueOf};
 ghost use Rattle.zk_jute.specs.Told.{StandsAt, IsToldFault, IsToldAt};
-ghost use Rattle.zk_asks.specs.Forms.{part_header, end_header, part_layout, MayStand};
-ghost use Rattle.zk_asks.specs.Frames.{record_of, op_of_part, multi_items};
+ghost use Rattle.zk_asks.specs.Parts.{part_header, end_header, part_layout, MayStand};
+ghost use Rattle.zk_asks.specs.Parts.{record_of, op_of_part, multi_items};
 ghost use Rattle.zk_asks.specs.Faults.{IsMultiFault};
 ghost use Rattle.zk_asks.specs.Multi.{Marks};
 

@@ -2,8 +2,10 @@
 ghost use Rattle.std.specs.Prelude.{◌≡◌, ◌++◌, OnOk, OnErr};
 ghost use Rattle.zk_jute.specs.Item.{Fit, IsSizeWithin};
 ghost use Rattle.zk_records.specs.Codes as codes;
-ghost use Rattle.zk_asks.specs.Forms as forms;
-ghost use Rattle.zk_asks.specs.Frames.{part_items, body_items, frame_items, MaySend, payload};
+ghost use Rattle.zk_asks.specs.Parts as parted;
+ghost use Rattle.zk_asks.specs.Parts.{part_items};
+ghost use Rattle.zk_asks.specs.Rows.{body_items};
+ghost use Rattle.zk_asks.specs.Frames.{frame_items, MaySend, payload};
 
 use crate::frame::{Ask, ClientFrame, Part};
 use std::alloc::AllocError;
@@ -12,7 +14,7 @@ use zk_records::{MultiHeader, Op, PartOp, RequestHeader, op_number, part_number}
 
 /// The header that stands before a part (`MultiTransactionRecord.serialize`).
 fn part_header(op: PartOp) -> MultiHeader
-    ensures { result ≡ forms.part_header op }
+    ensures { result ≡ parted.part_header op }
 {
     MultiHeader {
         kind: part_number(op),
@@ -23,7 +25,7 @@ fn part_header(op: PartOp) -> MultiHeader
 
 /// The header behind the last part.
 fn end_header() -> MultiHeader
-    ensures { result ≡ forms.end_header }
+    ensures { result ≡ parted.end_header }
 {
     MultiHeader {
         kind: -1,
@@ -41,27 +43,57 @@ fn request_header(xid: i32, op: Op) -> RequestHeader
     }
 }
 
+/// The variants of a part: `$body` is its record.
+macro_rules! match_part {
+    ($part:expr, $body:ident => $each:expr) => {
+        match $part {
+            Part::Create($body) => $each,
+            Part::Delete($body) => $each,
+            Part::SetData($body) => $each,
+            Part::Check($body) => $each,
+        }
+    };
+}
+
+/// The variants of an ask: `$body` is what follows its header.
+macro_rules! match_ask {
+    ($ask:expr, $body:ident => $each:expr) => {
+        match $ask {
+            Ask::Create($body) => $each,
+            Ask::Delete($body) => $each,
+            Ask::Exists($body) => $each,
+            Ask::GetData($body) => $each,
+            Ask::SetData($body) => $each,
+            Ask::GetAcl($body) => $each,
+            Ask::SetAcl($body) => $each,
+            Ask::GetChildren($body) => $each,
+            Ask::Sync($body) => $each,
+            Ask::GetChildren2($body) => $each,
+            Ask::Multi(parts) => {
+                let $body = (parts, &end_header());
+                $each
+            }
+            Ask::Auth($body) => $each,
+            Ask::SetWatches($body) => $each,
+            Ask::Ping | Ask::CloseSession => {
+                let $body = None::<bool>;
+                $each
+            }
+        }
+    };
+}
+
 impl Spell for Part {
     ghost items = { part_items };
 
     fn put(&self, out: &mut Vec<u8>) -> Result<(), AllocError> {
         let header = part_header(self.op());
-        match self {
-            Part::Create(body) => (&header, body).put(out),
-            Part::Delete(body) => (&header, body).put(out),
-            Part::SetData(body) => (&header, body).put(out),
-            Part::Check(body) => (&header, body).put(out),
-        }
+        match_part!(self, body => (&header, body).put(out))
     }
 
     fn size_within(&self, limit: u32) -> Option<u32> {
         let header = part_header(self.op());
-        match self {
-            Part::Create(body) => (&header, body).size_within(limit),
-            Part::Delete(body) => (&header, body).size_within(limit),
-            Part::SetData(body) => (&header, body).size_within(limit),
-            Part::Check(body) => (&header, body).size_within(limit),
-        }
+        match_part!(self, body => (&header, body).size_within(limit))
     }
 }
 
@@ -69,41 +101,11 @@ impl Spell for Ask {
     ghost items = { body_items };
 
     fn put(&self, out: &mut Vec<u8>) -> Result<(), AllocError> {
-        match self {
-            Ask::Create(body) => body.put(out),
-            Ask::Delete(body) => body.put(out),
-            Ask::Exists(body) => body.put(out),
-            Ask::GetData(body) => body.put(out),
-            Ask::SetData(body) => body.put(out),
-            Ask::GetAcl(body) => body.put(out),
-            Ask::SetAcl(body) => body.put(out),
-            Ask::GetChildren(body) => body.put(out),
-            Ask::Sync(body) => body.put(out),
-            Ask::GetChildren2(body) => body.put(out),
-            Ask::Multi(parts) => (parts, &end_header()).put(out),
-            Ask::Auth(body) => body.put(out),
-            Ask::SetWatches(body) => body.put(out),
-            Ask::Ping | Ask::CloseSession => Ok(()),
-        }
+        match_ask!(self, body => body.put(out))
     }
 
     fn size_within(&self, limit: u32) -> Option<u32> {
-        match self {
-            Ask::Create(body) => body.size_within(limit),
-            Ask::Delete(body) => body.size_within(limit),
-            Ask::Exists(body) => body.size_within(limit),
-            Ask::GetData(body) => body.size_within(limit),
-            Ask::SetData(body) => body.size_within(limit),
-            Ask::GetAcl(body) => body.size_within(limit),
-            Ask::SetAcl(body) => body.size_within(limit),
-            Ask::GetChildren(body) => body.size_within(limit),
-            Ask::Sync(body) => body.size_within(limit),
-            Ask::GetChildren2(body) => body.size_within(limit),
-            Ask::Multi(parts) => (parts, &end_header()).size_within(limit),
-            Ask::Auth(body) => body.size_within(limit),
-            Ask::SetWatches(body) => body.size_within(limit),
-            Ask::Ping | Ask::CloseSession => Some(0),
-        }
+        match_ask!(self, body => body.size_within(limit))
     }
 }
 

@@ -1,12 +1,13 @@
 //! The frame that one direction is at.
 ghost use Rattle.std.specs.Prelude.{◌≡◌, ◌≤◌, ◌+◌, ◌-◌, ℕ, List, [], ◌++◌, length, take, drop, IfOk, IfErr, OnOk, Err};
+ghost use Rattle.std.specs.Prelude.{vec_capacity};
 ghost use Rattle.zk_frames.specs.declared.frames.FrameFault.TheVariants.{LengthRange};
 ghost use Rattle.zk_frames.specs.Framing.{frame, IsCut};
 ghost use Rattle.zk_frames.specs.Held.{IsWhole, IsRefused, IsHeld, IsNow, IsLeft, IsTaken, IsRefusal, GoesOn};
 ghost use Rattle.zk_frames.specs.Advance.{left_of, IsAnswer};
 
 use crate::cutter::{Standing, cut};
-use std::alloc::Global;
+use std::alloc::{AllocError, Global};
 use std::marker::Model;
 
 /// What a piece gave.
@@ -23,11 +24,9 @@ pub struct Took {
 pub enum FrameFault {
     /// A frame's length is below 0 or above the limit (ZooKeeper's `jute.maxbuffer`).
     LengthRange,
-    /// A growth of the buffer was refused.
-    NoMemory,
 }
 
-/// The bytes of one direction's newest frame, those of its length included.
+/// The bytes of one direction's newest frame, those of its length included: one block of memory, which `new` takes.
 #[derive(Drop)]
 pub struct Frames {
     limit: u32,
@@ -37,26 +36,31 @@ pub struct Frames {
 
 impl Model for Frames {
     ghost use Rattle.zk_frames.specs.Held.{Held};
-    ghost use Rattle.zk_frames.specs.Advance.{IsSound};
+    ghost use Rattle.zk_frames.specs.Advance.{IsSound, HasRoom};
 
     ghost Value = { Held };
 
     ghost view = { λ f. record { limit = f.limit; bytes = f.bytes.items } };
 
-    ghost invariant = { λ f. IsSound f.limit f.standing f.bytes.items };
+    ghost invariant = { λ f. IsSound f.limit f.standing f.bytes.items × HasRoom f.limit f.bytes };
 }
 
 impl Frames {
-    /// No bytes so far, and no payload above `limit` bytes.
-    pub fn new(alloc: Global, limit: u32) -> Self
+    /// No bytes so far, no payload above `limit` bytes, and room for a frame of that size with its length.
+    ///
+    /// # Errors
+    ///
+    /// `AllocError` where that room is refused; no later call takes memory.
+    pub fn new(alloc: Global, limit: u32) -> Result<Self, AllocError>
         requires { limit ≤ 16777216 }
-        ensures { result ≡ record { limit = limit; bytes = [] } }
+        ensures { IfOk result (λ f. f ≡ record { limit = limit; bytes = [] }) }
     {
-        Frames {
+        let bytes = Vec::with_capacity(alloc, 4 + limit as usize)?;
+        Ok(Frames {
             limit,
-            bytes: Vec::new(alloc),
+            bytes,
             standing: Standing::Open,
-        }
+        })
     }
 
     /// Takes the piece up to the end of the first frame that becomes whole, or all of it.
@@ -65,7 +69,6 @@ impl Frames {
     /// # Errors
     ///
     /// `LengthRange` at the fourth byte of a length out of range: these four bytes are then held, and each later call answers so and takes nothing.
-    /// `NoMemory` where a growth was refused: no byte of the piece was taken.
     pub fn take(&mut self, piece: &[u8]) -> Result<Took, FrameFault>
         ensures limit { self.new.limit ≡ self.old.limit }
         ensures now { IfOk result (λ t. IsNow t.whole self.new) }
@@ -83,13 +86,7 @@ impl Frames {
         }
         give_up(self.standing, &mut self.bytes);
         let advance = cut(self.limit, &self.bytes, piece);
-        match self.bytes.extend_from_slice(&piece[..advance.used]) {
-            Ok(()) => {}
-            Err(_) => {
-                self.standing = Standing::Open;
-                return Err(FrameFault::NoMemory);
-            }
-        }
+        append(&mut self.bytes, &piece[..advance.used]);
         self.standing = advance.standing;
         answer(advance.standing, advance.used)
     }
@@ -135,9 +132,22 @@ impl Frames {
     }
 }
 
+/// Appends what there is room for.
+fn append(bytes: &mut Vec<u8>, more: &[u8])
+    requires { length bytes.old.items + length more.now ≤ vec_capacity bytes.old }
+    ensures items { bytes.new.items ≡ bytes.old.items ++ more.now }
+    ensures room { vec_capacity bytes.old ≤ vec_capacity bytes.new }
+{
+    match bytes.extend_from_slice(more) {
+        Ok(()) => {}
+        Err(_) => unreachable!(),
+    }
+}
+
 /// Gives up a frame that is whole.
 fn give_up(standing: Standing, bytes: &mut Vec<u8>)
-    ensures { bytes.new.items ≡ left_of standing bytes.old.items }
+    ensures left { bytes.new.items ≡ left_of standing bytes.old.items }
+    ensures room { vec_capacity bytes.new ≡ vec_capacity bytes.old }
 {
     if let Standing::Whole = standing {
         bytes.clear();

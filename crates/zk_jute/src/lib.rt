@@ -1,6 +1,7 @@
 //! Jute: the primitives and lists of ZooKeeper's records, as bytes.
 #![tactic(auto)]
 
+mod ascii;
 mod fault;
 mod list;
 mod number;

@@ -1,3 +1,4 @@
+pub mod Listed
 pub mod Codes
 pub mod Names
 pub mod Records

@@ -3,6 +3,7 @@ use Rattle.std.proofs.Common.{◌≡◌, ℕ, ◌+◌, ◌-◌, ◌<◌, ◌≤�
 use Rattle.std.proofs.lemmas.List.{append-nil, take_all, length-take-le}
 use Rattle.zk_jute.specs.declared.fault.Reason.TheVariants.{StreamEnd, LengthRange as OutOfRange}
 use Rattle.zk_frames.specs.declared.frames.Took.{Took}
+use Rattle.zk_frames.specs.declared.frames.FrameFault.{FrameFault}
 use Rattle.zk_frames.specs.declared.frames.FrameFault.TheVariants.{LengthRange}
 use Rattle.zk_frames.specs.Framing.{frame, IsBeginning, IsFrame, IsBadLength}
 use Rattle.zk_frames.specs.Held.{IsTaken, EndsWell, IsRefusal}
@@ -10,6 +11,10 @@ use Rattle.zk_frames.proofs.Cuts.{take-frame}
 use Rattle.zk_talk.specs.Advance.{IsStop}
 use Rattle.zk_talk.specs.Advance.IsStop.{too_many, out_of_range}
 use Rattle.zk_talk.proofs.Lists.{front_again}
+
+-- a frame is refused for its length alone
+pub only_fault : (e : FrameFault) → e ≡ LengthRange
+only_fault LengthRange = refl
 
 -- a whole frame's length is in range
 pub never_both : (limit : ℕ) (w p : List ℕ) → length p ≤ limit → w ≡ frame p → IsBadLength limit w → ⊥

@@ -4,7 +4,7 @@ use Rattle.zk_jute.specs.declared.fault.Reason.{Reason}
 use Rattle.zk_jute.specs.declared.fault.Reason.TheVariants.{StreamEnd, LengthRange}
 use Rattle.zk_frames.specs.Framing.{IsBeginning, IsFrame, IsBadLength}
 use Rattle.zk_talk.specs.declared.stream.Advance.{Advance}
-use Rattle.zk_talk.specs.declared.stream.Advance.TheVariants.{Within, Whole, Refused, Wanting}
+use Rattle.zk_talk.specs.declared.stream.Advance.TheVariants.{Within, Whole, Refused}
 
 -- why nothing goes on behind so many bytes of the piece
 pub data IsStop (limit size : ℕ) (held piece : List ℕ) (used : ℕ) (reason : Reason) : Type 0 where
@@ -16,4 +16,3 @@ abbrev pub IsAdvance : ℕ → ℕ → List ℕ → List ℕ → Advance → Lis
 IsAdvance limit size held piece Within after = (after ≡ held ++ piece) × IsBeginning limit (held ++ piece) × (size + length piece < 2 ^ 62)
 IsAdvance limit size held piece (Whole used) after = (0 < used) × (used ≤ length piece) × (size + used < 2 ^ 62) × (after ≡ held ++ take used piece) × IsFrame limit after
 IsAdvance limit size held piece (Refused used reason) after = IsStop limit size held piece used reason × (used ≤ length piece)
-IsAdvance limit size held piece Wanting after = after ≡ held

@@ -48,7 +48,6 @@ pub fn remember(alloc: Global, waiting: &mut Waiting, frame: &ClientFrame) -> Re
     match waiting.put(*xid, &form) {
         Ok(()) => Ok(()),
         Err(PutFault::QueueFull) => Err(ItemFault::at(0, Reason::QueueFull)),
-        Err(PutFault::NoMemory) => Err(ItemFault::at(0, Reason::NoMemory)),
     }
 }
 

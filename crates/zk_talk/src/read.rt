@@ -89,7 +89,7 @@ pub fn read_all(
     ensures messages { IfOk result (λ e. AreMessages limits (history_of pieces.now) e.messages.items e.ending) }
     ensures ending { IfOk result (λ e. IsEnding limits (history_of pieces.now) e.ending) }
 {
-    let mut talk = Talk::new(alloc, limits);
+    let mut talk = Talk::new(alloc, limits)?;
     let mut messages = Vec::new(alloc);
     for piece in pieces {
         if let Some(fault) = feed(&mut talk, piece.0, piece.1, &mut messages)? {

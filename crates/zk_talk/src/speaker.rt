@@ -1,5 +1,5 @@
 //! Messages to bytes.
-ghost use Rattle.std.specs.Prelude.{◌≡◌, ◌≢◌, ◌++◌, ◌⊎◌, ◌∷◌, [], List, false, OnOk, OnErr, IfErr};
+ghost use Rattle.std.specs.Prelude.{◌≡◌, ◌≢◌, ◌++◌, ◌⊎◌, ◌∷◌, [], List, false, OnOk, OnErr, IfOk, IfErr};
 ghost use Rattle.zk_frames.specs.Framing.{frame};
 ghost use Rattle.zk_talk.specs.declared.message.Message.{Message};
 ghost use Rattle.zk_talk.specs.declared.say.SayFault.TheVariants.{NoMemory};
@@ -9,7 +9,7 @@ ghost use Rattle.zk_talk.specs.Said.{Says, MaySay, IsSayFault, payload_of, conve
 use crate::limits::Limits;
 use crate::message::Message;
 use crate::say::{SayFault, say_client, say_server};
-use std::alloc::Global;
+use std::alloc::{AllocError, Global};
 use std::marker::Model;
 use zk_waiting::Waiting;
 
@@ -36,17 +36,18 @@ impl Model for Speaker {
 
 impl Speaker {
     /// Nothing was said yet.
-    pub fn new(alloc: Global, limits: Limits) -> Self
-        ensures limits { result.limits ≡ limits }
-        ensures says { Says result [] }
+    pub fn new(alloc: Global, limits: Limits) -> Result<Self, AllocError>
+        ensures limits { IfOk result (λ s. s.limits ≡ limits) }
+        ensures says { IfOk result (λ s. Says s []) }
     {
-        Speaker {
+        let waiting = Waiting::new(alloc, limits.waiting())?;
+        Ok(Speaker {
             alloc,
             limits,
             asked: false,
             welcomed: false,
-            waiting: Waiting::new(alloc, limits.waiting()),
-        }
+            waiting,
+        })
     }
 
     /// Appends the message's frame to `out`, where the messages said so far and it, frame after

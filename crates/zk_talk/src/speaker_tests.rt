@@ -71,7 +71,7 @@ fn no_node(xid: i32, op: Op) -> Result<Message, Fail> {
 /// A speaker that said both connect messages.
 fn begun(alloc: Global, client: u32, waiting: u32) -> Result<Speaker, Fail> {
     let limits = Limits::new(client, 4_194_304, waiting).ok_or("no limits")?;
-    let mut speaker = Speaker::new(alloc, limits);
+    let mut speaker = Speaker::new(alloc, limits)?;
     begin(alloc, &mut speaker)?;
     Ok(speaker)
 }
@@ -99,7 +99,7 @@ fn refusal(alloc: Global, speaker: &mut Speaker, message: Message) -> Option<Say
 #[test]
 fn connect_comes_first(rt: HostRuntime) -> Result<(), Fail> {
     let limits = Limits::new(4_194_304, 4_194_304, 65_536).ok_or("no limits")?;
-    let mut speaker = Speaker::new(rt.alloc(), limits);
+    let mut speaker = Speaker::new(rt.alloc(), limits)?;
     let early = refusal(rt.alloc(), &mut speaker, ping(-2));
     assert_eq!(rt; early, Some(SayFault::NotFirst));
     let unasked = refusal(rt.alloc(), &mut speaker, connected());
@@ -111,7 +111,7 @@ fn connect_comes_first(rt: HostRuntime) -> Result<(), Fail> {
 #[test]
 fn connect_comes_once(rt: HostRuntime) -> Result<(), Fail> {
     let limits = Limits::new(4_194_304, 4_194_304, 65_536).ok_or("no limits")?;
-    let mut speaker = Speaker::new(rt.alloc(), limits);
+    let mut speaker = Speaker::new(rt.alloc(), limits)?;
     let mut out = Vec::new(rt.alloc());
     said(&mut speaker, connect(), &mut out)?;
     assert_eq!(rt; speaker.unanswered(), 1);
@@ -127,7 +127,7 @@ fn connect_comes_once(rt: HostRuntime) -> Result<(), Fail> {
 #[test]
 fn requests_come_later(rt: HostRuntime) -> Result<(), Fail> {
     let limits = Limits::new(4_194_304, 4_194_304, 65_536).ok_or("no limits")?;
-    let mut speaker = Speaker::new(rt.alloc(), limits);
+    let mut speaker = Speaker::new(rt.alloc(), limits)?;
     let request = exists(rt.alloc(), 1, "/a")?;
     let early = refusal(rt.alloc(), &mut speaker, request);
     assert_eq!(rt; early, Some(SayFault::NotFirst));

@@ -1,10 +1,10 @@
 //! One side's bytes, and what a piece does to its frame.
-ghost use Rattle.std.specs.Prelude.{◌≡◌, ◌≤◌, ◌<◌, ◌+◌, ◌^◌, ◌++◌, ℕ, List, [], length, take};
+ghost use Rattle.std.specs.Prelude.{◌≡◌, ◌≤◌, ◌<◌, ◌+◌, ◌^◌, ◌++◌, ℕ, List, [], length, take, IfOk};
 ghost use Rattle.zk_frames.specs.Framing.{frame, IsBeginning, IsFrame};
 ghost use Rattle.zk_talk.specs.Advance.{IsAdvance};
 ghost use Rattle.zk_talk.specs.declared.stream.Advance.TheVariants.{Within};
 
-use std::alloc::Global;
+use std::alloc::{AllocError, Global};
 use zk_frames::{FrameFault, Frames};
 use zk_jute::Reason;
 
@@ -16,8 +16,6 @@ pub enum Advance {
     Whole(usize),
     /// With so many of its bytes the side is refused.
     Refused(usize, Reason),
-    /// Memory was wanted, and nothing was taken.
-    Wanting,
 }
 
 /// One side of a conversation.
@@ -53,15 +51,16 @@ fn front(piece: &[u8], used: usize) -> &[u8]
 }
 
 impl Stream {
-    pub fn new(alloc: Global, limit: u32) -> Self
+    pub fn new(alloc: Global, limit: u32) -> Result<Self, AllocError>
         requires { limit ≤ 16777216 }
-        ensures { result ≡ record { frames = record { limit = limit; bytes = [] }; count = 0; size = 0 } }
+        ensures { IfOk result (λ s. s ≡ record { frames = record { limit = limit; bytes = [] }; count = 0; size = 0 }) }
     {
-        Stream {
-            frames: Frames::new(alloc, limit),
+        let frames = Frames::new(alloc, limit)?;
+        Ok(Stream {
+            frames,
             count: 0,
             size: 0,
-        }
+        })
     }
 
     /// Takes the piece up to the end of the first frame that becomes whole, or all of it.
@@ -88,7 +87,6 @@ impl Stream {
             Err(FrameFault::LengthRange) => {
                 Advance::Refused(4 - held as usize, Reason::LengthRange)
             }
-            Err(FrameFault::NoMemory) => Advance::Wanting,
         }
     }
 

@@ -19,7 +19,7 @@ use crate::frame::{client_frame, is_no_memory, server_frame};
 use crate::limits::Limits;
 use crate::message::{Ending, Fault, Message, Side};
 use crate::stream::{Advance, Stream};
-use std::alloc::Global;
+use std::alloc::{AllocError, Global};
 use std::marker::Model;
 use zk_jute::{ItemFault, Reason};
 use zk_waiting::Waiting;
@@ -103,18 +103,21 @@ fn refuse(
 
 impl Talk {
     /// A conversation of which nothing has come.
-    pub fn new(alloc: Global, limits: Limits) -> Self
-        ensures limits { result.limits ≡ limits }
-        ensures stands { Stands result [] [] }
+    pub fn new(alloc: Global, limits: Limits) -> Result<Self, AllocError>
+        ensures limits { IfOk result (λ t. t.limits ≡ limits) }
+        ensures stands { IfOk result (λ t. Stands t [] []) }
     {
-        Talk {
+        let client = Stream::new(alloc, limits.client())?;
+        let server = Stream::new(alloc, limits.server())?;
+        let waiting = Waiting::new(alloc, limits.waiting())?;
+        Ok(Talk {
             alloc,
             limits,
-            client: Stream::new(alloc, limits.client()),
-            server: Stream::new(alloc, limits.server()),
-            waiting: Waiting::new(alloc, limits.waiting()),
+            client,
+            server,
+            waiting,
             fault: None,
-        }
+        })
     }
 
     fn client_piece(&mut self, piece: &[u8]) -> Result<Taken, Fault>
@@ -147,9 +150,6 @@ impl Talk {
             Advance::Refused(used, reason) => {
                 let item = ItemFault { place: 0, reason };
                 Err(refuse(&mut self.fault, Side::Client, &self.client, used, item))
-            }
-            Advance::Wanting => {
-                Err(refuse(&mut self.fault, Side::Client, &self.client, 0, wanting()))
             }
         }
     }
@@ -185,9 +185,6 @@ impl Talk {
             Advance::Refused(used, reason) => {
                 let item = ItemFault { place: 0, reason };
                 Err(refuse(&mut self.fault, Side::Server, &self.server, used, item))
-            }
-            Advance::Wanting => {
-                Err(refuse(&mut self.fault, Side::Server, &self.server, 0, wanting()))
             }
         }
     }

@@ -316,7 +316,7 @@ fn holds(talk: &Talk) -> (u32, u32, u32) {
 /// What is held, and what waits, within a request and behind it.
 #[test]
 fn held_and_waiting(rt: HostRuntime) -> Result<(), Fail> {
-    let mut talk = Talk::new(rt.alloc(), usual()?);
+    let mut talk = Talk::new(rt.alloc(), usual()?)?;
     let connected = takes(&mut talk, Side::Client, CONNECT);
     assert_eq!(&rt; connected, Some((CONNECT.len(), true)));
     let within = takes(&mut talk, Side::Client, &EXISTS[..18]);
@@ -338,7 +338,7 @@ fn fault_of(talk: &mut Talk, side: Side, piece: &[u8]) -> Option<Fault> {
 
 /// A talk that has read both connect messages and a request.
 fn asked(alloc: Global) -> Result<Talk, Fail> {
-    let mut talk = Talk::new(alloc, usual()?);
+    let mut talk = Talk::new(alloc, usual()?)?;
     takes(&mut talk, Side::Client, CONNECT);
     takes(&mut talk, Side::Server, CONNECTED);
     takes(&mut talk, Side::Client, EXISTS);

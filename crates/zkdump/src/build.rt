@@ -39,8 +39,8 @@ pub fn build_run<R: Source, W: Sink>(
     // A run that stops early has written a front of the recording.
     ensures begun { OnErr result (HasBegunBuilding limits (R.remaining reader.old) (R.remaining reader.new) (W.contents writer.old) (W.contents writer.new)) }
 {
+    let mut builder = Builder::new(alloc, limits)?;
     write_whole(writer, &HEAD)?;
-    let mut builder = Builder::new(alloc, limits);
     let mut buf = [0; BLOCK];
     for _turn in 0..MOST_READS {
         let Ok(count) = reader.read(&mut buf) else {

@@ -149,16 +149,17 @@ pub struct Builder {
 
 impl Builder {
     /// Nothing was read.
-    pub fn new(alloc: Global, limits: Limits) -> Builder
-        ensures start { (before now : Option (List ℕ)) → Appends before now head → HasTaken limits [] before now result.begun.items result.lines result.ended result.speaker }
-        ensures count { result.lines ≡ 0 }
+    pub fn new(alloc: Global, limits: Limits) -> Result<Builder, AllocError>
+        ensures start { IfOk result (λ b. (before now : Option (List ℕ)) → Appends before now head → HasTaken limits [] before now b.begun.items b.lines b.ended b.speaker) }
+        ensures count { IfOk result (λ b. b.lines ≡ 0) }
     {
-        Builder {
-            speaker: Speaker::new(alloc, limits),
+        let speaker = Speaker::new(alloc, limits)?;
+        Ok(Builder {
+            speaker,
             begun: Vec::new(alloc),
             lines: 0,
             ended: false,
-        }
+        })
     }
 
     /// Says a message, and writes its piece.

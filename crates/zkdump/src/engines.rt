@@ -18,7 +18,7 @@ use zk_talk::Limits;
 pub const MOST_READS: u64 = 4_294_967_296;
 
 /// How many bytes a run reads at once, at most.
-pub const BLOCK: usize = 4096;
+pub const BLOCK: usize = 65_536;
 
 /// Reads until what the recording comes to stands, or to the end, and writes the lines of its messages.
 fn read_on<R: Source, W: Sink>(
@@ -41,7 +41,7 @@ fn read_on<R: Source, W: Sink>(
     ensures live { IfOk result (λ _. W.has_failed writer.new ≡ false) }
     ensures failed { IsErrOf result RunFault.Write → W.has_failed writer.new ≡ true }
 {
-    let mut progress = Progress::new(alloc, limits);
+    let mut progress = Progress::new(alloc, limits)?;
     let mut buf = [0; BLOCK];
     for _turn in 0..MOST_READS {
         let Ok(count) = reader.read(&mut buf) else {

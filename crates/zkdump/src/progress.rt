@@ -15,7 +15,7 @@ use crate::listing::{Listing, RunFault};
 use crate::recording::Recorder;
 use crate::streams::{Sink, write_whole};
 use crate::summary::Summary;
-use std::alloc::Global;
+use std::alloc::{AllocError, Global};
 use zk_jute::Reason;
 use zk_talk::{Ending, Fault, Limits, Side, Talk};
 
@@ -132,14 +132,15 @@ pub struct Progress {
 
 impl Progress {
     /// Nothing was read.
-    pub fn new(alloc: Global, limits: Limits) -> Progress
-        ensures start { Follows limits [] [] result.recorder result.talk }
-        ensures place { place_of result.recorder ≡ 0 }
+    pub fn new(alloc: Global, limits: Limits) -> Result<Progress, AllocError>
+        ensures start { IfOk result (λ p. Follows limits [] [] p.recorder p.talk) }
+        ensures place { IfOk result (λ p. place_of p.recorder ≡ 0) }
     {
-        Progress {
+        let talk = Talk::new(alloc, limits)?;
+        Ok(Progress {
             recorder: Recorder::new(),
-            talk: Talk::new(alloc, limits),
-        }
+            talk,
+        })
     }
 
     /// Takes the first bytes of a block, and says how many.

@@ -2,7 +2,7 @@ use Rattle.std.proofs.Common.{◌≤◌, length, ◌-◌}
 use Rattle.std.specs.List.{flat_map}
 use Rattle.zk_jute.specs.Item.{HaveBytes}
 use Rattle.zk_jute.specs.Told.{StandsAt}
-use Rattle.zk_asks.specs.Frames.{part_items}
+use Rattle.zk_asks.specs.Parts.{part_items}
 use Rattle.zk_asks.proofs.multi.multi_at.Given as goal
 
 abbrev pub invariant-loop-parts : goal.invariant-loop-parts

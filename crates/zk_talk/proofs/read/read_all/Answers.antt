@@ -18,8 +18,8 @@ no_piece = (Client, record { ref_ptr = (0, 0); now = [] })
 
 pub loop-piece-init : goal.loop-piece-init
 loop-piece-init c = record {
-  limits = c.new-talk.ensures.limits;
-  stands = rw c.new-messages.ensures.items c.new-talk.ensures.stands;
+  limits = c.in_ok-talk.ensures.limits;
+  stands = rw c.new-messages.ensures.items c.in_ok-talk.ensures.stands;
 }
 
 pub loop-piece-preserved : goal.loop-piece-preserved

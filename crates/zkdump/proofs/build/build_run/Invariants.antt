@@ -6,11 +6,11 @@ use Rattle.zkdump.proofs.build.build_run.Given as goal
 
 abbrev pub invariant-loop-turn : goal.invariant-loop-turn
 invariant-loop-turn g l = record {
-  block : length l.buf ≡ 4096;
+  block : length l.buf ≡ 65536;
   live : g.R.Source.has_failed l.reader ≡ false;
   writer_live : g.W.Sink.has_failed l.writer ≡ false;
   count : g.R.Source.read_count l.reader ≡ g.R.Source.read_count l.initial.reader + l._turn;
-  lines : l.builder.lines ≤ 4096 * l._turn;
+  lines : l.builder.lines ≤ 65536 * l._turn;
   taken : (x : List ℕ) × Consumes (g.R.Source.remaining l.initial.reader) (g.R.Source.remaining l.reader) x
       × ((before : Option (List ℕ)) → Appends before (g.W.Sink.contents l.initial.writer) head →
       HasTaken l.fn.limits x before (g.W.Sink.contents l.writer) l.builder.begun.items l.builder.lines l.builder.ended l.builder.speaker);

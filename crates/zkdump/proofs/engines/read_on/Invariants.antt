@@ -8,11 +8,11 @@ use Rattle.zkdump.proofs.engines.read_on.Given as goal
 
 abbrev pub invariant-loop-turn : goal.invariant-loop-turn
 invariant-loop-turn g l = record {
-  block : length l.buf ≡ 4096;
+  block : length l.buf ≡ 65536;
   live : g.R.Source.has_failed l.reader ≡ false;
   writer_live : g.W.Sink.has_failed l.writer ≡ false;
   count : g.R.Source.read_count l.reader ≡ g.R.Source.read_count l.initial.reader + l._turn;
-  place : place_of l.progress.recorder ≤ 4096 * l._turn;
+  place : place_of l.progress.recorder ≤ 65536 * l._turn;
   read : (x : List ℕ) × (messages : List Message) × Consumes (g.R.Source.remaining l.initial.reader) (g.R.Source.remaining l.reader) x
       × Follows l.fn.limits x messages l.progress.recorder l.progress.talk
       × Appends (g.W.Sink.contents l.initial.writer) (g.W.Sink.contents l.writer) (text_of l.fn.listing messages);

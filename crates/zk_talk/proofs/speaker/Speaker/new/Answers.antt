@@ -4,4 +4,4 @@ use Rattle.zk_talk.proofs.Speaking.{starts}
 use Rattle.zk_talk.proofs.speaker.Speaker.new.Goals as goal
 
 pub returns-clause-says : goal.returns-clause-says
-returns-clause-says c = starts c.args.limits c.new.result (c.new.ensures ∙ ap no_lanes c.waiting.ensures)
+returns-clause-says c = starts c.args.limits c.in_ok-waiting.waiting (c.in_ok-waiting.ensures ∙ ap no_lanes c.waiting.ensures)

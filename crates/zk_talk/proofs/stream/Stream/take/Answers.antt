@@ -1,12 +1,12 @@
 use Rattle.std.proofs.Common.{inl, refl, arith, subst}
 use Rattle.zk_frames.specs.Held.{IsRefusal}
-use Rattle.zk_talk.proofs.Advancing.{whole_taken, end_taken, within_taken, range_taken}
+use Rattle.zk_talk.proofs.Advancing.{only_fault, whole_taken, end_taken, within_taken, range_taken}
 use Rattle.zk_talk.proofs.stream.Stream.take.Goals as goal
 
 pub overflow_sub-result : goal.overflow_sub-result
 overflow_sub-result c =
     let s = c.args.self.now in
-    let r = subst (λ z. IsRefusal s.frames.limit s.frames.bytes c.front.result.now z c.take.new.self.bytes) c.in-Err-LengthRange.field-0-is ((c.in-Err-LengthRange.ensures).err s.frames.bytes (inl (c.requires.begins, refl))) in
+    let r = subst (λ z. IsRefusal s.frames.limit s.frames.bytes c.front.result.now z c.take.new.self.bytes) (only_fault c.in-Err-LengthRange.field-0) ((c.in-Err-LengthRange.ensures).err s.frames.bytes (inl (c.requires.begins, refl))) in
     omega (arith, c.held-held.ensures.count, r.3)
 
 pub returns-then-took-clause-advance : goal.returns-then-took-clause-advance
@@ -31,9 +31,4 @@ pub returns-in-Err-LengthRange-clause-advance : goal.returns-in-Err-LengthRange-
 returns-in-Err-LengthRange-clause-advance c =
     let s = c.args.self.now in
     range_taken s.frames.limit s.size s.frames.bytes c.args.piece.now c.front.result.now c.take.new.self.bytes c.within-room.result c.front.ensures c.within-room.ensures.part c.within-room.ensures.fits c.held-held.result c.held-held.ensures.count
-    (subst (λ z. IsRefusal s.frames.limit s.frames.bytes c.front.result.now z c.take.new.self.bytes) c.in-Err-LengthRange.field-0-is ((c.in-Err-LengthRange.ensures).err s.frames.bytes (inl (c.requires.begins, refl))))
-
-pub returns-in-Err-NoMemory-clause-advance : goal.returns-in-Err-NoMemory-clause-advance
-returns-in-Err-NoMemory-clause-advance c =
-    let s = c.args.self.now in
-    subst (λ z. IsRefusal s.frames.limit s.frames.bytes c.front.result.now z c.take.new.self.bytes) c.in-Err-NoMemory.field-0-is ((c.in-Err-NoMemory.ensures).err s.frames.bytes (inl (c.requires.begins, refl)))
+    (subst (λ z. IsRefusal s.frames.limit s.frames.bytes c.front.result.now z c.take.new.self.bytes) (only_fault c.in-Err-LengthRange.field-0) ((c.in-Err-LengthRange.ensures).err s.frames.bytes (inl (c.requires.begins, refl))))

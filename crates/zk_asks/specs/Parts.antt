@@ -1,0 +1,68 @@
+-- The parts of a multi (MultiTransactionRecord).
+use Rattle.std.specs.Prelude.{◌≡◌, negsuc, true, false, List, ◌++◌, ◌⊎◌}
+use Rattle.std.specs.List.{flat_map}
+use Rattle.zk_jute.specs.Item.{Item}
+use Rattle.zk_jute.specs.Layout.{Layout, IsValueOf}
+use Rattle.zk_jute.specs.Wired.{Wired}
+use Rattle.zk_records.specs.Records.{multi_header, create_ask, delete_ask, set_data_ask, check_ask}
+use Rattle.zk_records.specs.declared.header.MultiHeader.{MultiHeader}
+use Rattle.zk_records.specs.declared.op.PartOp.{PartOp}
+use Rattle.zk_records.specs.declared.op.PartOp.TheVariants as parts
+use Rattle.zk_records.specs.Codes.{part_number}
+use Rattle.zk_asks.specs.declared.frame.Part.{Part}
+use Rattle.zk_asks.specs.declared.frame.Part.TheVariants as part
+
+-- what a part's record is, and the part that it makes
+pub record PartRow : Type 1 where
+  pub Content : Type 0
+  pub make : Content → Part
+  pub wired : Wired Content
+
+abbrev row : {X : Type 0} → (X → Part) → Wired X → PartRow
+row {X} make w = record { Content = X; make = make; wired = w }
+
+abbrev pub part_row : PartOp → PartRow
+part_row parts.Create = row part.Create create_ask
+part_row parts.Delete = row part.Delete delete_ask
+part_row parts.SetData = row part.SetData set_data_ask
+part_row parts.Check = row part.Check check_ask
+
+-- a part's operation, and its record's items
+abbrev pub seen_part : Part → PartOp × List Item
+seen_part (part.Create body) = (parts.Create, create_ask.items body)
+seen_part (part.Delete body) = (parts.Delete, delete_ask.items body)
+seen_part (part.SetData body) = (parts.SetData, set_data_ask.items body)
+seen_part (part.Check body) = (parts.Check, check_ask.items body)
+
+abbrev pub op_of_part : Part → PartOp
+op_of_part p = (seen_part p).0
+
+abbrev pub record_of : Part → List Item
+record_of p = (seen_part p).1
+
+abbrev pub part_layout : PartOp → Layout
+part_layout op = (part_row op).wired.layout
+
+-- the header that stands before a part, and the one behind the last part
+abbrev pub part_header : PartOp → MultiHeader
+part_header op = record { kind = part_number op; done = false; err = negsuc 0 }
+
+abbrev pub end_header : MultiHeader
+end_header = record { kind = negsuc 0; done = true; err = negsuc 0 }
+
+-- the headers that may stand in a request
+abbrev pub MayStand : MultiHeader → Type 0
+MayStand header = ((op : PartOp) × (header ≡ part_header op)) ⊎ (header ≡ end_header)
+
+abbrev pub marked : MultiHeader → List Item
+marked header = multi_header.items header
+
+pub data IsMulti : List Item → Type 0 where
+  no_more : IsMulti (marked end_header)
+  a_part : (op : PartOp) (part others : List Item) → IsValueOf (part_layout op) part → IsMulti others → IsMulti (marked (part_header op) ++ (part ++ others))
+
+abbrev pub part_items : Part → List Item
+part_items p = marked (part_header (op_of_part p)) ++ record_of p
+
+abbrev pub multi_items : List Part → List Item
+multi_items ps = flat_map part_items ps ++ marked end_header
