@@ -33,7 +33,8 @@ use Rattle.zk_asks.specs.declared.frame.Ask.{Ask}
 use Rattle.zk_asks.specs.declared.frame.Ask.TheVariants as ask
 use Rattle.zk_asks.specs.declared.frame.ClientFrame.{ClientFrame}
 use Rattle.zk_asks.specs.declared.frame.ClientFrame.TheVariants as client
-use Rattle.zk_asks.specs.Parts.{part_header, end_header, marked}
+use Rattle.zk_asks.specs.Parts.{part_header, end_header, marked, op_of_part, record_of, part_items}
+use Rattle.zk_asks.specs.Rows.{body_items}
 use Rattle.zk_asks.specs.Frames as sent
 use Rattle.zk_answers.specs.declared.frame.PartDone.{PartDone}
 use Rattle.zk_answers.specs.declared.frame.PartDone.TheVariants as done
@@ -218,20 +219,20 @@ check_held a h = (text_held with int_held).held (a.path, a.version) h
 
 -- ---- what a client sends
 
-part_held : (p : Part) → HaveBytes (sent.record_of p) → asks.part_fits p
+part_held : (p : Part) → HaveBytes (record_of p) → asks.part_fits p
 part_held (part.Create a) h = create_held a h
 part_held (part.Delete a) h = delete_held a h
 part_held (part.SetData a) h = set_data_held a h
 part_held (part.Check a) h = check_held a h
 
-parts_held : (ps : List Part) → HaveBytes (flat_map sent.part_items ps) → AllByRecursion asks.part_fits ps
+parts_held : (ps : List Part) → HaveBytes (flat_map part_items ps) → AllByRecursion asks.part_fits ps
 parts_held [] h = tt
 parts_held (p ∷ ps) h =
-    let r = parted (sent.part_items p) (flat_map sent.part_items ps) h in
-    let s = parted (marked (part_header (sent.op_of_part p))) (sent.record_of p) r.0 in
+    let r = parted (part_items p) (flat_map part_items ps) h in
+    let s = parted (marked (part_header (op_of_part p))) (record_of p) r.0 in
     (part_held p s.1, parts_held ps r.1)
 
-ask_held : (a : Ask) → HaveBytes (sent.body_items a) → asks.ask_fits a
+ask_held : (a : Ask) → HaveBytes (body_items a) → asks.ask_fits a
 ask_held (ask.Create a) h = create_held a h
 ask_held (ask.Delete a) h = delete_held a h
 ask_held (ask.Exists a) h = watch_held a h
@@ -243,7 +244,7 @@ ask_held (ask.GetChildren a) h = watch_held a h
 ask_held (ask.Sync a) h = path_held a h
 ask_held ask.Ping h = tt
 ask_held (ask.GetChildren2 a) h = watch_held a h
-ask_held (ask.Multi ps) h = parts_held ps (parted (flat_map sent.part_items ps) (marked end_header) h).0
+ask_held (ask.Multi ps) h = parts_held ps (parted (flat_map part_items ps) (marked end_header) h).0
 ask_held (ask.Auth a) h = auth_held a h
 ask_held (ask.SetWatches a) h = set_watches_held a h
 ask_held ask.CloseSession h = tt
