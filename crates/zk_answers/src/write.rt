@@ -1,7 +1,7 @@
 //! Server payloads are written.
 ghost use Rattle.std.specs.Prelude.{◌≡◌, ◌++◌, OnOk, OnErr, pos, negsuc};
 ghost use Rattle.zk_jute.specs.Item.{Fit, IsSizeWithin};
-ghost use Rattle.zk_asks.specs.Forms as forms;
+ghost use Rattle.zk_asks.specs.Parts as parts;
 ghost use Rattle.zk_answers.specs.Results as results;
 ghost use Rattle.zk_answers.specs.Frames as frames;
 
@@ -34,7 +34,7 @@ fn error_header(err: i32) -> MultiHeader
 
 /// The header behind the last result.
 fn end_header() -> MultiHeader
-    ensures { result ≡ forms.end_header }
+    ensures { result ≡ parts.end_header }
 {
     MultiHeader {
         kind: -1,
@@ -82,6 +82,7 @@ impl Spell for Body {
             Body::Sync { path } => path.put(out),
             Body::GetChildren2 { names, stat } => (names, stat).put(out),
             Body::Multi(dones) => (dones, &end_header()).put(out),
+            Body::Create2 { path, stat } => (path, stat).put(out),
             Body::Delete | Body::Ping | Body::Auth | Body::SetWatches | Body::CloseSession => {
                 Ok(())
             }
@@ -100,6 +101,7 @@ impl Spell for Body {
             Body::Sync { path } => path.size_within(limit),
             Body::GetChildren2 { names, stat } => (names, stat).size_within(limit),
             Body::Multi(dones) => (dones, &end_header()).size_within(limit),
+            Body::Create2 { path, stat } => (path, stat).size_within(limit),
             Body::Delete | Body::Ping | Body::Auth | Body::SetWatches | Body::CloseSession => {
                 Some(0)
             }
