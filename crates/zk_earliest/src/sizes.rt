@@ -1,7 +1,7 @@
 //! Sets of lengths.
 ghost use Rattle.std.specs.Prelude.{◌≡◌, ℕ, ◌↔◌, ◌<◌, ◌≤◌, ◌+◌, ◌*◌, ◌^◌, IsTrue, Some, MatchOption};
 ghost use Rattle.zk_earliest.specs.Runs.{repeated};
-ghost use Rattle.zk_earliest.specs.Sizes.{IsAmong, IsBehind, plus, min_gap};
+ghost use Rattle.zk_earliest.specs.Sizes.{IsAmong, IsPast, plus, min_gap};
 
 /// The lengths that a value may have: `least`, and, where there is a gap, every number from
 /// `least + gap` on.
@@ -51,7 +51,7 @@ impl Sizes {
     /// How far it lies behind the gap, where it does.
     pub(crate) fn past(self, length: usize) -> Option<usize>
         requires { self.least ≤ length }
-        ensures { MatchOption result (IsBehind self.least self.gap length → ⊥) (λ n. (gap : ℕ) × (self.gap ≡ Some gap) × (length ≡ self.least + gap + n)) }
+        ensures { IsPast self length result }
     {
         match self.gap {
             None => None,

@@ -29,3 +29,6 @@ returns-in-Sync c = subst (λ op. IsEarliestOf (layouts.Answered op) c.args.byte
 
 pub returns-in-GetChildren2 : goal.returns-in-GetChildren2
 returns-in-GetChildren2 c = subst (λ op. IsEarliestOf (layouts.Answered op) c.args.bytes.now c.longest-in-GetChildren2.result) (sym c.in-GetChildren2.is) c.longest-in-GetChildren2.ensures
+
+pub returns-in-Create2 : goal.returns-in-Create2
+returns-in-Create2 c = subst (λ op. IsEarliestOf (layouts.Answered op) c.args.bytes.now c.longest-in-Create2.result) (sym c.in-Create2.is) c.longest-in-Create2.ensures

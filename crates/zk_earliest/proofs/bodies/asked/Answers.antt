@@ -41,3 +41,6 @@ returns-in-SetWatches c = subst (λ op. IsEarliestOf (layouts.Asked op) c.args.b
 
 pub returns-in-Multi : goal.returns-in-Multi
 returns-in-Multi c = subst (λ op. IsEarliestOf (layouts.Asked op) c.args.bytes.now c.longest_multi.result) (sym c.in-Multi.is) c.longest_multi.ensures
+
+pub returns-in-Create2 : goal.returns-in-Create2
+returns-in-Create2 c = subst (λ op. IsEarliestOf (layouts.Asked op) c.args.bytes.now c.longest-in-Create2.result) (sym c.in-Create2.is) c.longest-in-Create2.ensures
