@@ -1,0 +1,8 @@
+pub mod Sizes
+pub mod Earliest
+pub mod Stops
+pub mod Numbers
+pub mod Runs
+pub mod Utf8
+pub mod Repeats
+pub mod Marks

@@ -1,0 +1,147 @@
+//! The parts of a multi request.
+ghost use Rattle.std.specs.Prelude.{◌≡◌, ◌≢◌, ℕ, ◌+◌, ◌-◌, ◌<◌, ◌≤◌, ◌^◌, length, take, drop, slice_index, MatchResult, MatchOption, pos};
+ghost use Rattle.zk_jute.specs.Layout.{IsValueOf};
+ghost use Rattle.zk_records.specs.Codes as codes;
+ghost use Rattle.zk_records.specs.declared.op.PartOp.{PartOp};
+ghost use Rattle.zk_asks.specs.Parts.{IsMulti, part_layout};
+ghost use Rattle.zk_earliest.specs.Earliest.{Spells, IsEarliest};
+ghost use Rattle.zk_earliest.specs.Marks.{part_mark, end_mark, part_sizes, multi_sizes, IsDifference, IsMarkAt};
+ghost use Rattle.zk_earliest.specs.Sizes.{IsAmong, nothing, plus};
+ghost use Rattle.zk_earliest.specs.Stops.{Reaches, then_among};
+
+use crate::bodies::{CheckBody, CreateBody, DeleteBody, SetDataBody};
+use crate::sizes::Sizes;
+use crate::stretch::Stretch;
+use zk_records::{PartOp, part_of};
+
+/// The header of a part.
+fn part_mark(op: PartOp) -> [u8; 9]
+    ensures { result ≡ part_mark op }
+{
+    let number = match op {
+        PartOp::Create => 1,
+        PartOp::Delete => 2,
+        PartOp::SetData => 5,
+        PartOp::Check => 13,
+    };
+    [0, 0, 0, number, 0, 255, 255, 255, 255]
+}
+
+/// How many bytes of a part's record there are at least.
+fn least_of(op: PartOp) -> usize
+    ensures { result ≡ (part_sizes op).least }
+{
+    match op {
+        PartOp::Create => 16,
+        PartOp::Delete => 8,
+        PartOp::SetData => 12,
+        PartOp::Check => 8,
+    }
+}
+
+/// The part of this number, where it has room; else one that has, whose header is as long alike.
+fn part_for(number: u8, room: usize) -> PartOp
+    requires { 17 ≤ room }
+    ensures fits { (part_sizes result).least + 9 ≤ room }
+    ensures only { (op : PartOp) → (part_sizes op).least + 9 ≤ room → codes.part_number op ≡ pos number → op ≡ result }
+{
+    match part_of(i32::from(number)) {
+        Some(op) => {
+            if least_of(op) + 9 <= room {
+                op
+            } else {
+                PartOp::Delete
+            }
+        }
+        None => PartOp::Delete,
+    }
+}
+
+/// None where the mark stands there; else how many of its bytes do.
+fn differs(rest: &[u8], mark: &[u8; 9]) -> Option<usize>
+    requires { 9 ≤ length rest.now }
+    ensures { IsDifference rest.now mark.now result }
+{
+    for i in 0..9 {
+        if rest[i] != mark[i] {
+            return Some(i);
+        }
+    }
+    None
+}
+
+/// What the header at a place is: a part's, or that behind the last.
+fn mark_at(src: &[u8], place: usize) -> Result<Option<PartOp>, usize>
+    requires place { place ≤ length src.now }
+    requires room { IsAmong multi_sizes (length src.now - place) }
+    ensures { IsMarkAt src.now place result }
+{
+    let rest = &src[place..];
+    if rest.len() == 9 {
+        return match differs(rest, &[255, 255, 255, 255, 1, 255, 255, 255, 255]) {
+            None => Ok(None),
+            Some(known) => Err(place + known),
+        };
+    }
+    let op = part_for(rest[3], rest.len() - 9);
+    match differs(rest, &part_mark(op)) {
+        None => Ok(Some(op)),
+        Some(known) => Err(place + known),
+    }
+}
+
+/// The place after a part's record.
+fn part_reach(op: PartOp, src: &[u8], place: usize) -> Result<usize, usize>
+    requires place { place ≤ length src.now }
+    requires frame { length src.now < 2 ^ 31 }
+    requires room { IsAmong (plus (part_sizes op) multi_sizes) (length src.now - place) }
+    ensures { Reaches (Spells (IsValueOf (part_layout op))) (then_among multi_sizes) src.now place result }
+{
+    let behind = Sizes {
+        least: 9,
+        gap: Some(17),
+    };
+    match op {
+        PartOp::Create => CreateBody::reach(src, place, behind),
+        PartOp::Delete => DeleteBody::reach(src, place, behind),
+        PartOp::SetData => SetDataBody::reach(src, place, behind),
+        PartOp::Check => CheckBody::reach(src, place, behind),
+    }
+}
+
+fn parts(src: &[u8]) -> Result<usize, usize>
+    requires frame { length src.now < 2 ^ 31 }
+    requires room { IsAmong multi_sizes (length src.now) }
+    ensures { Reaches (Spells IsMulti) (then_among nothing) src.now 0 result }
+{
+    let mut at = 0;
+    loop {
+        let op = match mark_at(src, at) {
+            Ok(Some(op)) => op,
+            Ok(None) => return Ok(at + 9),
+            Err(stuck) => return Err(stuck),
+        };
+        at = match part_reach(op, src, at + 9) {
+            Ok(end) => end,
+            Err(stuck) => return Err(stuck),
+        };
+    }
+}
+
+/// The longest front of the bytes that begins the body of a multi request of just as many bytes.
+pub(crate) fn longest_multi(bytes: &[u8]) -> Option<usize>
+    requires frame { length bytes.now < 2 ^ 31 }
+    ensures { IsEarliest (Spells IsMulti) bytes.now result }
+{
+    let sizes = Sizes {
+        least: 9,
+        gap: Some(17),
+    };
+    if !sizes.has(bytes.len()) {
+        return None;
+    }
+    match parts(bytes) {
+        Ok(end) => Some(end),
+        Err(stuck) => Some(stuck),
+    }
+}

@@ -1,0 +1,73 @@
+//! The lengths and counts that may stand in just so many bytes.
+ghost use Rattle.std.specs.Prelude.{◌≡◌, ℕ, ◌+◌, ◌-◌, ◌<◌, ◌≤◌, ◌^◌, ◌↔◌, length};
+ghost use Rattle.zk_earliest.specs.declared.sizes.Sizes.{Sizes};
+ghost use Rattle.zk_earliest.specs.Numbers.{IsOne, IsNumberAt};
+ghost use Rattle.zk_earliest.specs.Runs.{MayRun, MayCount, list_sizes, of_free};
+ghost use Rattle.zk_earliest.specs.Sizes.{IsAmong, plus};
+
+use crate::front::{Numbers, front};
+use crate::sizes::Sizes;
+
+/// The lengths of a run before which so many bytes are left, when so many may follow it.
+pub(crate) fn lengths(room: usize, behind: Sizes) -> Numbers
+    requires frame { room < 2 ^ 31 }
+    requires least { behind.least ≤ room }
+    ensures some { result.from ≤ result.to }
+    ensures value { (n : ℕ) → IsOne result n ↔ MayRun behind room n }
+{
+    let spare = room - behind.least;
+    match behind.past(room) {
+        Some(most) => Numbers {
+            null: true,
+            from: 0,
+            to: most as u32,
+            also: spare as u32,
+        },
+        None => Numbers {
+            null: spare == 0,
+            from: spare as u32,
+            to: spare as u32,
+            also: spare as u32,
+        },
+    }
+}
+
+/// The number of four bytes at a place, where it is one that may stand there; else the first byte
+/// that none of them has.
+pub(crate) fn number_at(src: &[u8], place: usize, numbers: Numbers) -> Result<u32, usize>
+    requires within { place + 4 ≤ length src.now }
+    requires some { numbers.from ≤ numbers.to }
+    ensures { IsNumberAt numbers src.now place result }
+{
+    let number = u32::from_be_bytes([src[place], src[place + 1], src[place + 2], src[place + 3]]);
+    match front(number, numbers) {
+        None => Ok(number),
+        Some(known) => Err(place + known),
+    }
+}
+
+/// No elements, where what follows may be all.
+fn least_count(free: bool) -> u32
+    ensures { result ≡ of_free free }
+{
+    if free { 0 } else { 1 }
+}
+
+/// The counts of a list before whose elements so many bytes are left, when each element has any
+/// number of bytes from `least` on and so many may follow the list.
+pub(crate) fn counts(room: usize, least: usize, behind: Sizes) -> Numbers
+    requires frame { room < 2 ^ 31 }
+    requires some { 0 < least }
+    requires among { IsAmong (plus (list_sizes least) behind) (room + 4) }
+    ensures some { result.from ≤ result.to }
+    ensures value { (n : ℕ) → IsOne result n ↔ MayCount least behind room n }
+{
+    let free = behind.has(room);
+    let most = ((room - behind.least) / least) as u32;
+    Numbers {
+        null: free,
+        from: least_count(free),
+        to: most,
+        also: most,
+    }
+}

@@ -1,0 +1,78 @@
+//! Sets of lengths.
+ghost use Rattle.std.specs.Prelude.{◌≡◌, ℕ, ◌↔◌, ◌<◌, ◌≤◌, ◌+◌, ◌*◌, ◌^◌, IsTrue, Some, MatchOption};
+ghost use Rattle.zk_earliest.specs.Runs.{repeated};
+ghost use Rattle.zk_earliest.specs.Sizes.{IsAmong, IsPast, plus, min_gap};
+
+/// The lengths that a value may have: `least`, and, where there is a gap, every number from
+/// `least + gap` on.
+#[derive(Clone, Copy)]
+pub(crate) struct Sizes {
+    pub(crate) least: usize,
+    pub(crate) gap: Option<usize>,
+}
+
+fn less(a: Option<usize>, b: Option<usize>) -> Option<usize>
+    ensures { result ≡ min_gap a b }
+{
+    match a {
+        None => b,
+        Some(g) => match b {
+            None => Some(g),
+            Some(h) => Some(g.min(h)),
+        },
+    }
+}
+
+impl Sizes {
+    /// The lengths of a value of the one kind and then one of the other.
+    pub(crate) fn plus(self, other: Sizes) -> Sizes
+        requires { self.least + other.least < 2 ^ 32 }
+        ensures { result ≡ plus self other }
+    {
+        Sizes {
+            least: self.least + other.least,
+            gap: less(self.gap, other.gap),
+        }
+    }
+
+    /// Whether it is one of the lengths.
+    pub(crate) fn has(self, length: usize) -> bool
+        ensures { IsTrue result ↔ IsAmong self length }
+    {
+        if length == self.least {
+            return true;
+        }
+        match self.gap {
+            None => false,
+            Some(gap) => length >= self.least && length - self.least >= gap,
+        }
+    }
+
+    /// How far it lies behind the gap, where it does.
+    pub(crate) fn past(self, length: usize) -> Option<usize>
+        requires { self.least ≤ length }
+        ensures { IsPast self length result }
+    {
+        match self.gap {
+            None => None,
+            Some(gap) => (length - self.least).checked_sub(gap),
+        }
+    }
+
+    /// The lengths of so many values of which each has any length from `least` on.
+    pub(crate) fn repeated(least: usize, count: usize) -> Sizes
+        requires { count * least < 2 ^ 32 }
+        ensures { result ≡ repeated least count }
+    {
+        if count == 0 {
+            return Sizes {
+                least: 0,
+                gap: None,
+            };
+        }
+        Sizes {
+            least: count * least,
+            gap: Some(0),
+        }
+    }
+}

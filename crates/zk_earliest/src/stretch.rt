@@ -1,0 +1,57 @@
+//! Values that stand in just so many bytes.
+ghost use Rattle.std.specs.Prelude.{◌≡◌, ◌≤◌, ◌<◌, ◌-◌, ◌^◌, length, Some, IsTrue, nat_lt};
+ghost use Rattle.zk_jute.specs.Layout.{IsValueOf};
+ghost use Rattle.zk_earliest.specs.declared.sizes.Sizes.{Sizes};
+ghost use Rattle.zk_earliest.specs.Sizes.{IsAmong, AreSizes, plus};
+ghost use Rattle.zk_earliest.specs.Earliest.{Spells, IsEarliest};
+ghost use Rattle.zk_earliest.specs.Stops.{Reaches, then_among};
+
+use crate::sizes::Sizes;
+use zk_jute::Wire;
+
+/// A kind of value of which the first impossible byte can be told.
+pub(crate) trait Stretch: Wire {
+    /// The lengths of its values.
+    ghost sizes: { Sizes };
+
+    fn sizes() -> Sizes
+        requires { sizes.least < 2 ^ 32 }
+        ensures value { result ≡ sizes }
+        ensures are_sizes { AreSizes (Spells (IsValueOf Self.layout)) sizes };
+
+    /// The place after the value at `place`, where one stands there that leaves just such a number of
+    /// bytes as may follow; else the first byte that no such value has there.
+    fn reach(src: &[u8], place: usize, behind: Sizes) -> Result<usize, usize>
+        requires place { place ≤ length src.now }
+        requires frame { length src.now < 2 ^ 31 }
+        requires room { IsAmong (plus sizes behind) (length src.now - place) }
+        ensures { Reaches (Spells (IsValueOf Self.layout)) (then_among behind) src.now place result };
+}
+
+/// A kind of value that may have any number of bytes from its least on, which is not 0.
+pub(crate) trait Elastic: Stretch {
+    ghost stretches: { Self.sizes.gap ≡ Some 0 };
+
+    ghost some: { IsTrue (nat_lt 0 Self.sizes.least) };
+
+    ghost small: { IsTrue (nat_lt Self.sizes.least 65536) };
+}
+
+/// The longest front of the bytes that begins a value of just as many bytes, where there is one.
+pub(crate) fn longest<T: Stretch>(bytes: &[u8]) -> Option<usize>
+    requires frame { length bytes.now < 2 ^ 31 }
+    requires least { T.sizes.least < 2 ^ 32 }
+    ensures { IsEarliest (Spells (IsValueOf T.layout)) bytes.now result }
+{
+    let nothing = Sizes {
+        least: 0,
+        gap: None,
+    };
+    if !T::sizes().has(bytes.len()) {
+        return None;
+    }
+    match T::reach(bytes, 0, nothing) {
+        Ok(end) => Some(end),
+        Err(stuck) => Some(stuck),
+    }
+}
