@@ -22,10 +22,10 @@ BEGIN, END = "<!-- The lines from here on are written by docs/proved.py. -->", "
 
 # The headline statements: a title, and the public calls whose contracts they are.
 HEADLINES = (
-    ("read_all", (("zk_talk", "read", "read_all"),)),
-    ("Speaker::say", (("zk_talk", "speaker", "say"),)),
-    ("show_run and check_run", (("zkdump", "engines", "show_run"), ("zkdump", "engines", "check_run"))),
-    ("build_run", (("zkdump", "build", "build_run"),)),
+    ("read_all", (("zk_talk", "read_all"),)),
+    ("Speaker::say", (("zk_talk", "say"),)),
+    ("show_run and check_run", (("zkdump", "show_run"), ("zkdump", "check_run"))),
+    ("build_run", (("zkdump", "build_run"),)),
 )
 
 WORD = re.compile(r"[^\s(){}\[\],;:`]+")
@@ -173,14 +173,14 @@ class Library:
                     open_now.append((definition.text, definition.scope, definition.module.names))
         return found
 
-    def contract(self, crate, stem, name):
+    def contract(self, crate, name):
         """The definitions that the contract of a public call rests on."""
-        module = self.sources[(crate, stem)]
-        text = re.sub(r"//.*", "", module.path.read_text())
-        start = text.index(f"pub fn {name}")
-        lines = text[start:].splitlines()
-        end = next(k for k, line in enumerate(lines) if line.strip() == "{")
-        return self.closure("\n".join(lines[:end]), module.scope, module.names)
+        for (of, _), module in self.sources.items():
+            text = re.sub(r"//.*", "", module.path.read_text())
+            call = re.search(rf"pub fn {name}[<(].*?^ *\{{$", text, re.M | re.S)
+            if of == crate and call:
+                return self.closure(call[0], module.scope, module.names)
+        sys.exit(f"proved.py: the crate {crate} has no public call {name}\n0 passed, 1 failed")
 
 
 def table(definitions):
