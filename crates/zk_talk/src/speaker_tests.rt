@@ -7,7 +7,7 @@ use zk_asks::{Ask, ClientFrame};
 use zk_jute::{Blob, Chars, Text};
 use zk_records::{ConnectRequest, ConnectResponse, Op, WatchAsk, WatcherEvent};
 
-fn connect() -> Message {
+pub fn connect() -> Message {
     Message::Client(ClientFrame::Connect {
         hello: ConnectRequest {
             protocol_version: 0,
@@ -43,7 +43,7 @@ fn event() -> Message {
     })
 }
 
-fn ping(xid: i32) -> Message {
+pub fn ping(xid: i32) -> Message {
     Message::Client(ClientFrame::Ask {
         xid,
         ask: Ask::Ping,

@@ -1,0 +1,43 @@
+//! The library as README shows it: a conversation that is read, and one that is said.
+use super::*;
+use crate::speaker_tests::{connect, ping};
+use crate::tests::{CONNECT, CONNECTED, EXISTS};
+use std::process::Abort;
+use std::test::Fail;
+
+#[test]
+fn a_conversation_is_read(rt: HostRuntime) -> Result<(), Fail> {
+    let mut messages = 0;
+    let limits = Limits::new(4_194_304, 4_194_304, 65_536).ok_or("out of range")?;
+    let mut talk = Talk::new(rt.alloc(), limits)?;
+    for (side, piece) in [
+        (Side::Client, CONNECT),
+        (Side::Server, CONNECTED),
+        (Side::Client, EXISTS),
+    ] {
+        let mut rest = piece;
+        while !rest.is_empty() {
+            let taken = talk.take(side, rest)?;
+            rest = &rest[taken.used..];
+            if let Some(_message) = taken.message {
+                messages += 1;
+            }
+        }
+    }
+    assert_eq!(rt; talk.finish(), Ending::Whole { unanswered: 1 });
+    assert_eq!(rt; messages, 3);
+    Ok(())
+}
+
+#[test]
+fn a_conversation_is_said(rt: HostRuntime) -> Result<(), Fail> {
+    let limits = Limits::new(4_194_304, 4_194_304, 65_536).ok_or("out of range")?;
+    let mut speaker = Speaker::new(rt.alloc(), limits)?;
+    let mut bytes = Vec::new(rt.alloc());
+    assert_eq!(rt; speaker.say(&connect(), &mut bytes), Ok(()));
+    assert_eq!(rt; speaker.say(&ping(1), &mut bytes), Err(SayFault::Misfit));
+    assert_eq!(rt; speaker.say(&ping(-2), &mut bytes), Ok(()));
+    assert_eq!(rt; bytes.len(), 44);
+    assert_eq!(rt; speaker.unanswered(), 2);
+    Ok(())
+}
