@@ -1,9 +1,11 @@
--- The numbers of operations (ZooKeeper 3.4, ZooDefs.OpCode), as tables.
-use Rattle.std.specs.Prelude.{ℕ, zero, suc, ℤ, pos, negsuc}
+-- The numbers of operations (ZooKeeper 3.4, ZooDefs.OpCode, and create2 of 3.5), as tables.
+use Rattle.std.specs.Prelude.{◌≢◌, ℕ, zero, suc, ℤ, pos, negsuc}
 use Rattle.zk_records.specs.declared.op.Op.{Op}
 use Rattle.zk_records.specs.declared.op.Op.TheVariants as ops
 use Rattle.zk_records.specs.declared.op.PartOp.{PartOp}
 use Rattle.zk_records.specs.declared.op.PartOp.TheVariants as parts
+use Rattle.zk_records.specs.declared.profile.Profile.{Profile}
+use Rattle.zk_records.specs.declared.profile.Profile.TheVariants as profiles
 
 -- so many below zero
 abbrev pub minus : ℕ → ℤ
@@ -23,9 +25,19 @@ op_number ops.Sync = pos 9
 op_number ops.Ping = pos 11
 op_number ops.GetChildren2 = pos 12
 op_number ops.Multi = pos 14
+op_number ops.Create2 = pos 15
 op_number ops.Auth = pos 100
 op_number ops.SetWatches = pos 101
 op_number ops.CloseSession = minus 11
+
+-- the operations of a profile: of 3.4 all but create2, of 3.5 all
+abbrev pub HasOp : Profile → Op → Type 0
+HasOp profiles.V34 op = op ≢ ops.Create2
+HasOp profiles.V35 op = Unit {0}
+
+-- no operation of the profile has the number
+abbrev pub IsNoOp : Profile → ℤ → Type 0
+IsNoOp profile number = (op : Op) → HasOp profile op → number ≢ op_number op
 
 abbrev pub part_number : PartOp → ℤ
 part_number parts.Create = pos 1

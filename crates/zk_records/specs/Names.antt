@@ -1,4 +1,4 @@
--- The names of operations, errors and events (ZooKeeper 3.4: ZooDefs.OpCode, KeeperException.Code, Watcher.Event.EventType), as tables.
+-- The names of operations, errors and events (ZooKeeper 3.4, and create2 of 3.5: ZooDefs.OpCode, KeeperException.Code, Watcher.Event.EventType), as tables.
 use Rattle.std.specs.Prelude.{ℕ, List, [], ◌∷◌, Option, ℤ, pos, codes}
 use Rattle.std.specs.Map.{lookup}
 use Rattle.std.specs.Ordering.{int_eq}
@@ -21,6 +21,7 @@ op_name ops.Sync = codes "sync"
 op_name ops.Ping = codes "ping"
 op_name ops.GetChildren2 = codes "getChildren2"
 op_name ops.Multi = codes "multi"
+op_name ops.Create2 = codes "create2"
 op_name ops.Auth = codes "auth"
 op_name ops.SetWatches = codes "setWatches"
 op_name ops.CloseSession = codes "closeSession"

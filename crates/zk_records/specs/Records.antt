@@ -22,6 +22,7 @@ use Rattle.zk_records.specs.declared.ask.CheckAsk.{CheckAsk}
 use Rattle.zk_records.specs.declared.body.DataBody.{DataBody}
 use Rattle.zk_records.specs.declared.body.AclBody.{AclBody}
 use Rattle.zk_records.specs.declared.body.ChildrenBody.{ChildrenBody}
+use Rattle.zk_records.specs.declared.body.CreateBody.{CreateBody}
 use Rattle.zk_records.specs.Listed.{Listed, ◌of◌, ◌and◌, by}
 use Rattle.zk_jute.specs.Wired.{Wired, int, long, boolean, ustring, buffer, vector}
 
@@ -278,3 +279,14 @@ children_body_same x y s = search (rules, s)
 
 abbrev pub children_body : Wired ChildrenBody
 children_body = by children_body_fields children_body_same
+
+abbrev create_body_fields : Listed CreateBody
+create_body_fields =
+    ustring of (λ r. r.path) and
+    stat of (λ r. r.stat)
+
+pub create_body_same : (x y : CreateBody) → create_body_fields.Same x y → x ≡ y
+create_body_same x y s = search (rules, s)
+
+abbrev pub create_body : Wired CreateBody
+create_body = by create_body_fields create_body_same

@@ -1,6 +1,6 @@
-//! The bodies of replies of more than one field: `GetDataResponse`, `GetACLResponse` and
-//! `GetChildren2Response` of zookeeper.jute.
-ghost use Rattle.zk_records.specs.Records.{data_body, acl_body, children_body};
+//! The bodies of replies of more than one field: `GetDataResponse`, `GetACLResponse`,
+//! `GetChildren2Response` and `Create2Response` of zookeeper.jute.
+ghost use Rattle.zk_records.specs.Records.{data_body, acl_body, children_body, create_body};
 
 use crate::acl::Acl;
 use crate::fields::{decode, fields};
@@ -107,4 +107,41 @@ impl Wire for ChildrenBody {
     ghost tells_apart = { children_body.tells_apart };
 
     ghost has_fields = { children_body.has_fields };
+}
+
+/// A new node's name, and its `Stat`: `Create2Response`.
+#[derive(Debug, Drop)]
+pub struct CreateBody {
+    pub path: Text,
+    pub stat: Stat,
+}
+
+impl Spell for CreateBody {
+    ghost items = { create_body.items };
+
+    fn put(&self, out: &mut Vec<u8>) -> Result<(), AllocError> {
+        fields!(self: path, stat).put(out)
+    }
+
+    fn size_within(&self, limit: u32) -> Option<u32> {
+        fields!(self: path, stat).size_within(limit)
+    }
+}
+
+impl Wire for CreateBody {
+    ghost layout = { create_body.layout };
+
+    fn decode(alloc: Global, src: &[u8], place: usize) -> Result<(Self, usize), ItemFault> {
+        decode!(alloc, src, place => CreateBody { path, stat })
+    }
+
+    fn scan(src: &[u8], place: usize) -> Result<usize, ItemFault> {
+        <fields!(Text, Stat)>::scan(src, place)
+    }
+
+    ghost unfolds = { create_body.unfolds };
+
+    ghost tells_apart = { create_body.tells_apart };
+
+    ghost has_fields = { create_body.has_fields };
 }

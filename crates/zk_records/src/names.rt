@@ -1,5 +1,5 @@
 //! The names of operations, errors and events: `ZooDefs.OpCode`, `KeeperException.Code` and
-//! `Watcher.Event.EventType` of ZooKeeper 3.4.
+//! `Watcher.Event.EventType` of ZooKeeper 3.4, and `create2` of 3.5.
 ghost use Rattle.std.specs.Prelude.{◌≡◌, option_copied};
 ghost use Rattle.zk_records.specs.Names as names;
 
@@ -22,6 +22,7 @@ pub fn op_name(op: Op) -> &'static str
         Op::Ping => "ping",
         Op::GetChildren2 => "getChildren2",
         Op::Multi => "multi",
+        Op::Create2 => "create2",
         Op::Auth => "auth",
         Op::SetWatches => "setWatches",
         Op::CloseSession => "closeSession",

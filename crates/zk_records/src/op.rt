@@ -1,8 +1,11 @@
-//! The numbers of operations: `ZooDefs.OpCode` of ZooKeeper 3.4.
-ghost use Rattle.std.specs.Prelude.{◌≡◌, ◌≢◌, MatchOption};
+//! The numbers of operations: `ZooDefs.OpCode` of ZooKeeper 3.4, and `create2` of 3.5.
+ghost use Rattle.std.specs.Prelude.{◌≡◌, ◌≢◌, ◌↔◌, pos, MatchOption};
 ghost use Rattle.zk_records.specs.Codes as codes;
 ghost use Rattle.zk_records.specs.declared.op.Op.{Op};
 ghost use Rattle.zk_records.specs.declared.op.PartOp.{PartOp};
+ghost use Rattle.zk_records.specs.declared.profile.Profile.TheVariants as profiles;
+
+use crate::profile::Profile;
 
 /// An operation outside a multi.
 #[derive(Clone, Copy, Debug, PartialEq, Eq)]
@@ -19,6 +22,7 @@ pub enum Op {
     Ping,
     GetChildren2,
     Multi,
+    Create2,
     Auth,
     SetWatches,
     CloseSession,
@@ -33,11 +37,11 @@ pub enum PartOp {
     Check,
 }
 
-/// The operation of a request header's type; None where it has none.
-pub fn op_of(kind: i32) -> Option<Op>
-    ensures { MatchOption result ((op : Op) → kind ≢ codes.op_number op) (λ op. kind ≡ codes.op_number op) }
+/// The operation of a request header's type; None where the profile has none of that number.
+pub fn op_of(profile: Profile, number: i32) -> Option<Op>
+    ensures { MatchOption result (codes.IsNoOp profile number) (λ op. codes.HasOp profile op × (number ≡ codes.op_number op)) }
 {
-    match kind {
+    match number {
         1 => Some(Op::Create),
         2 => Some(Op::Delete),
         3 => Some(Op::Exists),
@@ -50,6 +54,7 @@ pub fn op_of(kind: i32) -> Option<Op>
         11 => Some(Op::Ping),
         12 => Some(Op::GetChildren2),
         14 => Some(Op::Multi),
+        15 if profile == Profile::V35 => Some(Op::Create2),
         100 => Some(Op::Auth),
         101 => Some(Op::SetWatches),
         -11 => Some(Op::CloseSession),
@@ -74,6 +79,7 @@ pub fn op_number(op: Op) -> i32
         Op::Ping => 11,
         Op::GetChildren2 => 12,
         Op::Multi => 14,
+        Op::Create2 => 15,
         Op::Auth => 100,
         Op::SetWatches => 101,
         Op::CloseSession => -11,
@@ -105,8 +111,11 @@ pub fn part_number(op: PartOp) -> i32
     }
 }
 
-/// Each operation and each part has a number of its own, so its number is read back as it.
+/// Each operation and each part has a number of its own, so its number is read back as it: under
+/// 3.5 each operation's, under 3.4 each but 15.
 pub fn number_laws()
     ensures op { (a b : Op) → codes.op_number a ≡ codes.op_number b → a ≡ b }
+    ensures older { (op : Op) → codes.HasOp profiles.V34 op ↔ (codes.op_number op ≢ pos 15) }
+    ensures newer { (op : Op) → codes.HasOp profiles.V35 op }
     ensures part { (a b : PartOp) → codes.part_number a ≡ codes.part_number b → a ≡ b }
 {}

@@ -1,6 +1,6 @@
 use super::*;
 use std::test::Fail;
-use zk_jute::{ItemFault, Reason, Spell, Wire, read_flagged};
+use zk_jute::{ItemFault, Reason, Spell, Text, Wire, read_flagged};
 
 mod vectors;
 
@@ -43,16 +43,20 @@ fn operations(rt: HostRuntime) {
         (11, Op::Ping, "ping"),
         (12, Op::GetChildren2, "getChildren2"),
         (14, Op::Multi, "multi"),
+        (15, Op::Create2, "create2"),
         (100, Op::Auth, "auth"),
         (101, Op::SetWatches, "setWatches"),
         (-11, Op::CloseSession, "closeSession"),
     ] {
-        assert_eq!(rt; op_of(number), Some(op));
+        assert_eq!(rt; op_of(Profile::V35, number), Some(op));
+        let older = (number != 15).then_some(op);
+        assert_eq!(rt; op_of(Profile::V34, number), older);
         assert_eq!(rt; op_number(op), number);
         assert_eq!(rt; op_name(op), name);
     }
-    for number in [13, 10, 15, 0, -1, -10, 102] {
-        assert_eq!(rt; op_of(number), None);
+    for number in [13, 10, 16, 0, -1, -10, 102] {
+        assert_eq!(rt; op_of(Profile::V34, number), None);
+        assert_eq!(rt; op_of(Profile::V35, number), None);
     }
     for (number, op, name) in [
         (1, PartOp::Create, "create"),
@@ -124,5 +128,19 @@ fn read_only(rt: HostRuntime) -> Result<(), Fail> {
         (&hello, &flag).write(&mut out)?;
         assert_eq!(rt; out.as_slice(), bytes);
     }
+    Ok(())
+}
+
+/// A created node's name and its `Stat`.
+#[test]
+fn created(rt: HostRuntime) -> Result<(), Fail> {
+    let bytes =
+        b"\0\0\0\x02/a\0\0\0\0\0\0\0\x04\0\0\0\0\0\0\0\x04\0\0\0\0\0\0\x03\xe8\0\0\0\0\0\0\x03\xe8\0\0\0\0\0\0\0\0\0\0\0\0\0\0\0\0\0\0\0\0\0\0\0\x03\0\0\0\0\0\0\0\0\0\0\0\x04";
+    let (body, end) = CreateBody::read(rt.alloc(), bytes, 0)?;
+    assert_eq!(rt; (end, CreateBody::scan(bytes, 0)?), (74, 74));
+    let Text::Full(path) = &body.path else {
+        return Err("null")?;
+    };
+    assert_eq!(rt; (path.as_str(), body.stat.data_length), ("/a", 3));
     Ok(())
 }
