@@ -119,12 +119,8 @@ pub struct CreateBody {
 impl Spell for CreateBody {
     ghost items = { create_body.items };
 
-    fn put(&self, out: &mut Vec<u8>) -> Result<(), AllocError> {
+    fn put<O: Output>(&self, out: &mut O) -> Result<(), O::Error> {
         fields!(self: path, stat).put(out)
-    }
-
-    fn size_within(&self, limit: u32) -> Option<u32> {
-        fields!(self: path, stat).size_within(limit)
     }
 }
 
