@@ -72,6 +72,7 @@ impl Spell for Body {
             Body::Sync { path } => path.put(out),
             Body::GetChildren2 { names, stat } => (names, stat).put(out),
             Body::Multi(dones) => (dones, &end_header()).put(out),
+            Body::Create2 { path, stat } => (path, stat).put(out),
             Body::Delete | Body::Ping | Body::Auth | Body::SetWatches | Body::CloseSession => {
                 Ok(())
             }
