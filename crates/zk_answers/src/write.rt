@@ -7,7 +7,7 @@ ghost use Rattle.zk_answers.specs.Frames as frames;
 
 use crate::frame::{Body, Outcome, PartDone, Reply, ServerFrame};
 use std::alloc::AllocError;
-use zk_jute::Spell;
+use zk_jute::{Output, Spell};
 use zk_records::{MultiHeader, PartOp, ReplyHeader, part_number};
 
 /// The header that stands before a part's result.
@@ -46,7 +46,7 @@ fn end_header() -> MultiHeader
 impl Spell for PartDone {
     ghost items = { results.done_items };
 
-    fn put(&self, out: &mut Vec<u8>) -> Result<(), AllocError> {
+    fn put<O: Output>(&self, out: &mut O) -> Result<(), O::Error> {
         match self {
             PartDone::Created(path) => (&result_header(PartOp::Create), path).put(out),
             PartDone::Deleted => result_header(PartOp::Delete).put(out),
@@ -55,22 +55,12 @@ impl Spell for PartDone {
             PartDone::PartFailed(err) => (&error_header(*err), err).put(out),
         }
     }
-
-    fn size_within(&self, limit: u32) -> Option<u32> {
-        match self {
-            PartDone::Created(path) => (&result_header(PartOp::Create), path).size_within(limit),
-            PartDone::Deleted => result_header(PartOp::Delete).size_within(limit),
-            PartDone::DataSet(stat) => (&result_header(PartOp::SetData), stat).size_within(limit),
-            PartDone::Checked => result_header(PartOp::Check).size_within(limit),
-            PartDone::PartFailed(err) => (&error_header(*err), err).size_within(limit),
-        }
-    }
 }
 
 impl Spell for Body {
     ghost items = { frames.body_items };
 
-    fn put(&self, out: &mut Vec<u8>) -> Result<(), AllocError> {
+    fn put<O: Output>(&self, out: &mut O) -> Result<(), O::Error> {
         match self {
             Body::Create { path } => path.put(out),
             Body::Exists { stat } => stat.put(out),
@@ -88,41 +78,15 @@ impl Spell for Body {
             }
         }
     }
-
-    fn size_within(&self, limit: u32) -> Option<u32> {
-        match self {
-            Body::Create { path } => path.size_within(limit),
-            Body::Exists { stat } => stat.size_within(limit),
-            Body::GetData { blob, stat } => (blob, stat).size_within(limit),
-            Body::SetData { stat } => stat.size_within(limit),
-            Body::GetAcl { acl, stat } => (acl, stat).size_within(limit),
-            Body::SetAcl { stat } => stat.size_within(limit),
-            Body::GetChildren { names } => names.size_within(limit),
-            Body::Sync { path } => path.size_within(limit),
-            Body::GetChildren2 { names, stat } => (names, stat).size_within(limit),
-            Body::Multi(dones) => (dones, &end_header()).size_within(limit),
-            Body::Create2 { path, stat } => (path, stat).size_within(limit),
-            Body::Delete | Body::Ping | Body::Auth | Body::SetWatches | Body::CloseSession => {
-                Some(0)
-            }
-        }
-    }
 }
 
 impl Spell for Outcome {
     ghost items = { frames.rest_items };
 
-    fn put(&self, out: &mut Vec<u8>) -> Result<(), AllocError> {
+    fn put<O: Output>(&self, out: &mut O) -> Result<(), O::Error> {
         match self {
             Outcome::Done(body) => body.put(out),
             Outcome::Failed(_, _) => Ok(()),
-        }
-    }
-
-    fn size_within(&self, limit: u32) -> Option<u32> {
-        match self {
-            Outcome::Done(body) => body.size_within(limit),
-            Outcome::Failed(_, _) => Some(0),
         }
     }
 }

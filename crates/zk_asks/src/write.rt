@@ -9,7 +9,7 @@ ghost use Rattle.zk_asks.specs.Frames.{frame_items, MaySend, payload};
 
 use crate::frame::{Ask, ClientFrame, Part};
 use std::alloc::AllocError;
-use zk_jute::Spell;
+use zk_jute::{Output, Spell};
 use zk_records::{MultiHeader, Op, PartOp, RequestHeader, op_number, part_number};
 
 /// The header that stands before a part (`MultiTransactionRecord.serialize`).
@@ -87,26 +87,17 @@ macro_rules! match_ask {
 impl Spell for Part {
     ghost items = { part_items };
 
-    fn put(&self, out: &mut Vec<u8>) -> Result<(), AllocError> {
+    fn put<O: Output>(&self, out: &mut O) -> Result<(), O::Error> {
         let header = part_header(self.op());
         match_part!(self, body => (&header, body).put(out))
-    }
-
-    fn size_within(&self, limit: u32) -> Option<u32> {
-        let header = part_header(self.op());
-        match_part!(self, body => (&header, body).size_within(limit))
     }
 }
 
 impl Spell for Ask {
     ghost items = { body_items };
 
-    fn put(&self, out: &mut Vec<u8>) -> Result<(), AllocError> {
+    fn put<O: Output>(&self, out: &mut O) -> Result<(), O::Error> {
         match_ask!(self, body => body.put(out))
-    }
-
-    fn size_within(&self, limit: u32) -> Option<u32> {
-        match_ask!(self, body => body.size_within(limit))
     }
 }
 

@@ -7,5 +7,6 @@ pub mod Laws
 pub mod Values
 pub mod Apart
 pub mod Wired
+pub mod Outputs
 pub mod Told
 pub mod Flagged

@@ -5,6 +5,7 @@ mod ascii;
 mod fault;
 mod list;
 mod number;
+mod output;
 mod pair;
 mod payload;
 mod run;
@@ -14,6 +15,7 @@ mod wire;
 
 pub use fault::{ItemFault, Reason, reason_name};
 pub use number::{bool_at, int_at, long_at};
+pub use output::Output;
 pub use payload::read_flagged;
 pub use value::{Blob, Bytes, Chars, Items, List, Text};
 pub use wire::{Spell, Wire, laws};

@@ -6,23 +6,17 @@ ghost use Rattle.zk_jute.specs.Told.{IsReadAs, IsTold};
 ghost use Rattle.zk_jute.specs.Flagged.{flag_items, IsFlaggedFault};
 
 use crate::fault::{ItemFault, Reason};
+use crate::output::Output;
 use crate::wire::{Spell, Wire};
-use std::alloc::{AllocError, Global};
+use std::alloc::Global;
 
 impl Spell for Option<bool> {
     ghost items = { flag_items };
 
-    fn put(&self, out: &mut Vec<u8>) -> Result<(), AllocError> {
+    fn put<O: Output>(&self, out: &mut O) -> Result<(), O::Error> {
         match self {
             None => Ok(()),
             Some(flag) => flag.put(out),
-        }
-    }
-
-    fn size_within(&self, limit: u32) -> Option<u32> {
-        match self {
-            None => Some(0),
-            Some(flag) => flag.size_within(limit),
         }
     }
 }

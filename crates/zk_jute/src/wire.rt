@@ -10,6 +10,7 @@ ghost use Rattle.zk_jute.specs.Told.{StandsAt, IsReadAs, HasToldFault, IsToldFau
 ghost use Rattle.zk_jute.specs.Reading.{Fails, Gives, Scans, items_at};
 
 use crate::fault::ItemFault;
+use crate::output::{Full, Output, Room};
 use std::alloc::{AllocError, Global};
 
 /// What is written as bytes: a value of jute, references to values, and pairs of these.
@@ -17,12 +18,10 @@ pub trait Spell {
     /// The items that it unfolds into.
     ghost items: { Self → List Item };
 
-    /// Appends the value's bytes, field by field; where memory is refused, what stood in `out` still
-    /// begins it. Callers that write a value whole call `write`.
-    fn put(&self, out: &mut Vec<u8>) -> Result<(), AllocError>
-        requires { Fit 2147483647 (items self.now) }
-        ensures ok { OnOk result (out.new.items ≡ out.old.items ++ bytes_of (items self.now)) }
-        ensures err { OnErr result (Keeps out.old.items out.new.items) };
+    /// Gives the value's bytes to `out`, field by field.
+    fn put<O: Output>(&self, out: &mut O) -> Result<(), O::Error>
+        ensures ok { OnOk result (HaveBytes (items self.now) × O.takes out.old (bytes_of (items self.now)) out.new) }
+        ensures err { OnErr result (HaveBytes (items self.now) → O.stops out.old (bytes_of (items self.now)) out.new) };
 
     /// Appends the value's bytes; where memory is refused, `out` is unchanged.
     final fn write(&self, out: &mut Vec<u8>) -> Result<(), AllocError>
@@ -39,8 +38,15 @@ pub trait Spell {
     }
 
     /// The number of the value's bytes, where it has bytes and at most `limit` of them.
-    fn size_within(&self, limit: u32) -> Option<u32>
-        ensures { IsSizeWithin limit (items self.now) result };
+    final fn size_within(&self, limit: u32) -> Option<u32>
+        ensures { IsSizeWithin limit (items self.now) result }
+    {
+        let mut room = Room { left: limit };
+        match self.put(&mut room) {
+            Ok(()) => Some(limit - room.left),
+            Err(Full) => None,
+        }
+    }
 }
 
 /// A value of jute: a primitive, a list or a record.

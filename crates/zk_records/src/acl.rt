@@ -2,8 +2,8 @@
 ghost use Rattle.zk_records.specs.Records.{id, acl};
 
 use crate::fields::{decode, fields};
-use std::alloc::{AllocError, Global};
-use zk_jute::{ItemFault, Spell, Text, Wire};
+use std::alloc::Global;
+use zk_jute::{ItemFault, Output, Spell, Text, Wire};
 
 /// Who someone is under a scheme: `Id`.
 #[derive(Debug, Drop)]
@@ -17,12 +17,8 @@ pub struct Id {
 impl Spell for Id {
     ghost items = { id.items };
 
-    fn put(&self, out: &mut Vec<u8>) -> Result<(), AllocError> {
+    fn put<O: Output>(&self, out: &mut O) -> Result<(), O::Error> {
         fields!(self: scheme, ident).put(out)
-    }
-
-    fn size_within(&self, limit: u32) -> Option<u32> {
-        fields!(self: scheme, ident).size_within(limit)
     }
 }
 
@@ -56,12 +52,8 @@ pub struct Acl {
 impl Spell for Acl {
     ghost items = { acl.items };
 
-    fn put(&self, out: &mut Vec<u8>) -> Result<(), AllocError> {
+    fn put<O: Output>(&self, out: &mut O) -> Result<(), O::Error> {
         fields!(self: perms, who).put(out)
-    }
-
-    fn size_within(&self, limit: u32) -> Option<u32> {
-        fields!(self: perms, who).size_within(limit)
     }
 }
 

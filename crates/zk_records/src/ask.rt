@@ -4,8 +4,8 @@ ghost use Rattle.zk_records.specs.Records.{create_ask, delete_ask, set_data_ask,
 
 use crate::acl::Acl;
 use crate::fields::{decode, fields};
-use std::alloc::{AllocError, Global};
-use zk_jute::{Blob, ItemFault, List, Spell, Text, Wire};
+use std::alloc::Global;
+use zk_jute::{Blob, ItemFault, List, Output, Spell, Text, Wire};
 
 /// A node is to be made: `CreateRequest`.
 #[derive(Debug, Drop)]
@@ -21,12 +21,8 @@ pub struct CreateAsk {
 impl Spell for CreateAsk {
     ghost items = { create_ask.items };
 
-    fn put(&self, out: &mut Vec<u8>) -> Result<(), AllocError> {
+    fn put<O: Output>(&self, out: &mut O) -> Result<(), O::Error> {
         fields!(self: path, blob, acl, flags).put(out)
-    }
-
-    fn size_within(&self, limit: u32) -> Option<u32> {
-        fields!(self: path, blob, acl, flags).size_within(limit)
     }
 }
 
@@ -59,12 +55,8 @@ pub struct DeleteAsk {
 impl Spell for DeleteAsk {
     ghost items = { delete_ask.items };
 
-    fn put(&self, out: &mut Vec<u8>) -> Result<(), AllocError> {
+    fn put<O: Output>(&self, out: &mut O) -> Result<(), O::Error> {
         fields!(self: path, version).put(out)
-    }
-
-    fn size_within(&self, limit: u32) -> Option<u32> {
-        fields!(self: path, version).size_within(limit)
     }
 }
 
@@ -99,12 +91,8 @@ pub struct SetDataAsk {
 impl Spell for SetDataAsk {
     ghost items = { set_data_ask.items };
 
-    fn put(&self, out: &mut Vec<u8>) -> Result<(), AllocError> {
+    fn put<O: Output>(&self, out: &mut O) -> Result<(), O::Error> {
         fields!(self: path, blob, version).put(out)
-    }
-
-    fn size_within(&self, limit: u32) -> Option<u32> {
-        fields!(self: path, blob, version).size_within(limit)
     }
 }
 
@@ -138,12 +126,8 @@ pub struct SetAclAsk {
 impl Spell for SetAclAsk {
     ghost items = { set_acl_ask.items };
 
-    fn put(&self, out: &mut Vec<u8>) -> Result<(), AllocError> {
+    fn put<O: Output>(&self, out: &mut O) -> Result<(), O::Error> {
         fields!(self: path, acl, version).put(out)
-    }
-
-    fn size_within(&self, limit: u32) -> Option<u32> {
-        fields!(self: path, acl, version).size_within(limit)
     }
 }
 
@@ -176,12 +160,8 @@ pub struct CheckAsk {
 impl Spell for CheckAsk {
     ghost items = { check_ask.items };
 
-    fn put(&self, out: &mut Vec<u8>) -> Result<(), AllocError> {
+    fn put<O: Output>(&self, out: &mut O) -> Result<(), O::Error> {
         fields!(self: path, version).put(out)
-    }
-
-    fn size_within(&self, limit: u32) -> Option<u32> {
-        fields!(self: path, version).size_within(limit)
     }
 }
 

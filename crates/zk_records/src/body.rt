@@ -5,8 +5,8 @@ ghost use Rattle.zk_records.specs.Records.{data_body, acl_body, children_body, c
 use crate::acl::Acl;
 use crate::fields::{decode, fields};
 use crate::stat::Stat;
-use std::alloc::{AllocError, Global};
-use zk_jute::{Blob, ItemFault, List, Spell, Text, Wire};
+use std::alloc::Global;
+use zk_jute::{Blob, ItemFault, List, Output, Spell, Text, Wire};
 
 /// What a node holds: `GetDataResponse`.
 #[derive(Debug, Drop)]
@@ -19,12 +19,8 @@ pub struct DataBody {
 impl Spell for DataBody {
     ghost items = { data_body.items };
 
-    fn put(&self, out: &mut Vec<u8>) -> Result<(), AllocError> {
+    fn put<O: Output>(&self, out: &mut O) -> Result<(), O::Error> {
         fields!(self: blob, stat).put(out)
-    }
-
-    fn size_within(&self, limit: u32) -> Option<u32> {
-        fields!(self: blob, stat).size_within(limit)
     }
 }
 
@@ -56,12 +52,8 @@ pub struct AclBody {
 impl Spell for AclBody {
     ghost items = { acl_body.items };
 
-    fn put(&self, out: &mut Vec<u8>) -> Result<(), AllocError> {
+    fn put<O: Output>(&self, out: &mut O) -> Result<(), O::Error> {
         fields!(self: acl, stat).put(out)
-    }
-
-    fn size_within(&self, limit: u32) -> Option<u32> {
-        fields!(self: acl, stat).size_within(limit)
     }
 }
 
@@ -94,12 +86,8 @@ pub struct ChildrenBody {
 impl Spell for ChildrenBody {
     ghost items = { children_body.items };
 
-    fn put(&self, out: &mut Vec<u8>) -> Result<(), AllocError> {
+    fn put<O: Output>(&self, out: &mut O) -> Result<(), O::Error> {
         fields!(self: names, stat).put(out)
-    }
-
-    fn size_within(&self, limit: u32) -> Option<u32> {
-        fields!(self: names, stat).size_within(limit)
     }
 }
 
@@ -131,12 +119,8 @@ pub struct CreateBody {
 impl Spell for CreateBody {
     ghost items = { create_body.items };
 
-    fn put(&self, out: &mut Vec<u8>) -> Result<(), AllocError> {
+    fn put<O: Output>(&self, out: &mut O) -> Result<(), O::Error> {
         fields!(self: path, stat).put(out)
-    }
-
-    fn size_within(&self, limit: u32) -> Option<u32> {
-        fields!(self: path, stat).size_within(limit)
     }
 }
 

@@ -2,8 +2,8 @@
 ghost use Rattle.zk_records.specs.Records.{connect_request, connect_response};
 
 use crate::fields::{decode, fields};
-use std::alloc::{AllocError, Global};
-use zk_jute::{Blob, ItemFault, Spell, Wire};
+use std::alloc::Global;
+use zk_jute::{Blob, ItemFault, Output, Spell, Wire};
 
 /// A client asks for a session: `ConnectRequest`.
 #[derive(Debug, Drop)]
@@ -23,14 +23,8 @@ pub struct ConnectRequest {
 impl Spell for ConnectRequest {
     ghost items = { connect_request.items };
 
-    fn put(&self, out: &mut Vec<u8>) -> Result<(), AllocError> {
+    fn put<O: Output>(&self, out: &mut O) -> Result<(), O::Error> {
         fields!(self: protocol_version, last_zxid_seen, time_out, session_id, passwd).put(out)
-    }
-
-    fn size_within(&self, limit: u32) -> Option<u32> {
-        fields!(self: protocol_version, last_zxid_seen, time_out, session_id, passwd).size_within(
-            limit,
-        )
     }
 }
 
@@ -67,12 +61,8 @@ pub struct ConnectResponse {
 impl Spell for ConnectResponse {
     ghost items = { connect_response.items };
 
-    fn put(&self, out: &mut Vec<u8>) -> Result<(), AllocError> {
+    fn put<O: Output>(&self, out: &mut O) -> Result<(), O::Error> {
         fields!(self: protocol_version, time_out, session_id, passwd).put(out)
-    }
-
-    fn size_within(&self, limit: u32) -> Option<u32> {
-        fields!(self: protocol_version, time_out, session_id, passwd).size_within(limit)
     }
 }
 

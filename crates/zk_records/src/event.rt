@@ -2,8 +2,8 @@
 ghost use Rattle.zk_records.specs.Records.{watcher_event};
 
 use crate::fields::{decode, fields};
-use std::alloc::{AllocError, Global};
-use zk_jute::{ItemFault, Spell, Text, Wire};
+use std::alloc::Global;
+use zk_jute::{ItemFault, Output, Spell, Text, Wire};
 
 /// What a watch saw: `WatcherEvent`.
 #[derive(Debug, Drop)]
@@ -18,12 +18,8 @@ pub struct WatcherEvent {
 impl Spell for WatcherEvent {
     ghost items = { watcher_event.items };
 
-    fn put(&self, out: &mut Vec<u8>) -> Result<(), AllocError> {
+    fn put<O: Output>(&self, out: &mut O) -> Result<(), O::Error> {
         fields!(self: kind, state, path).put(out)
-    }
-
-    fn size_within(&self, limit: u32) -> Option<u32> {
-        fields!(self: kind, state, path).size_within(limit)
     }
 }
 

@@ -3,8 +3,8 @@
 ghost use Rattle.zk_records.specs.Records.{request_header, reply_header, multi_header};
 
 use crate::fields::{decode, fields};
-use std::alloc::{AllocError, Global};
-use zk_jute::{ItemFault, Spell, Wire};
+use std::alloc::Global;
+use zk_jute::{ItemFault, Output, Spell, Wire};
 
 /// What stands before each request: `RequestHeader`, 8 bytes.
 #[derive(Debug, Drop)]
@@ -18,12 +18,8 @@ pub struct RequestHeader {
 impl Spell for RequestHeader {
     ghost items = { request_header.items };
 
-    fn put(&self, out: &mut Vec<u8>) -> Result<(), AllocError> {
+    fn put<O: Output>(&self, out: &mut O) -> Result<(), O::Error> {
         fields!(self: xid, kind).put(out)
-    }
-
-    fn size_within(&self, limit: u32) -> Option<u32> {
-        fields!(self: xid, kind).size_within(limit)
     }
 }
 
@@ -59,12 +55,8 @@ pub struct ReplyHeader {
 impl Spell for ReplyHeader {
     ghost items = { reply_header.items };
 
-    fn put(&self, out: &mut Vec<u8>) -> Result<(), AllocError> {
+    fn put<O: Output>(&self, out: &mut O) -> Result<(), O::Error> {
         fields!(self: xid, zxid, err).put(out)
-    }
-
-    fn size_within(&self, limit: u32) -> Option<u32> {
-        fields!(self: xid, zxid, err).size_within(limit)
     }
 }
 
@@ -100,12 +92,8 @@ pub struct MultiHeader {
 impl Spell for MultiHeader {
     ghost items = { multi_header.items };
 
-    fn put(&self, out: &mut Vec<u8>) -> Result<(), AllocError> {
+    fn put<O: Output>(&self, out: &mut O) -> Result<(), O::Error> {
         fields!(self: kind, done, err).put(out)
-    }
-
-    fn size_within(&self, limit: u32) -> Option<u32> {
-        fields!(self: kind, done, err).size_within(limit)
     }
 }
 

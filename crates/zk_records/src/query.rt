@@ -3,8 +3,8 @@
 ghost use Rattle.zk_records.specs.Records.{watch_ask, path_ask};
 
 use crate::fields::{decode, fields};
-use std::alloc::{AllocError, Global};
-use zk_jute::{ItemFault, Spell, Text, Wire};
+use std::alloc::Global;
+use zk_jute::{ItemFault, Output, Spell, Text, Wire};
 
 /// A node is looked at, and may be watched: `ExistsRequest`, `GetDataRequest`, `GetChildrenRequest`
 /// and `GetChildren2Request`.
@@ -18,12 +18,8 @@ pub struct WatchAsk {
 impl Spell for WatchAsk {
     ghost items = { watch_ask.items };
 
-    fn put(&self, out: &mut Vec<u8>) -> Result<(), AllocError> {
+    fn put<O: Output>(&self, out: &mut O) -> Result<(), O::Error> {
         fields!(self: path, watch).put(out)
-    }
-
-    fn size_within(&self, limit: u32) -> Option<u32> {
-        fields!(self: path, watch).size_within(limit)
     }
 }
 
@@ -54,12 +50,8 @@ pub struct PathAsk {
 impl Spell for PathAsk {
     ghost items = { path_ask.items };
 
-    fn put(&self, out: &mut Vec<u8>) -> Result<(), AllocError> {
+    fn put<O: Output>(&self, out: &mut O) -> Result<(), O::Error> {
         self.path.put(out)
-    }
-
-    fn size_within(&self, limit: u32) -> Option<u32> {
-        self.path.size_within(limit)
     }
 }
 

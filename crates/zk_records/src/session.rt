@@ -2,8 +2,8 @@
 ghost use Rattle.zk_records.specs.Records.{auth_ask, set_watches_ask};
 
 use crate::fields::{decode, fields};
-use std::alloc::{AllocError, Global};
-use zk_jute::{Blob, ItemFault, List, Spell, Text, Wire};
+use std::alloc::Global;
+use zk_jute::{Blob, ItemFault, List, Output, Spell, Text, Wire};
 
 /// Who the client is: `AuthPacket`.
 #[derive(Debug, Drop)]
@@ -19,12 +19,8 @@ pub struct AuthAsk {
 impl Spell for AuthAsk {
     ghost items = { auth_ask.items };
 
-    fn put(&self, out: &mut Vec<u8>) -> Result<(), AllocError> {
+    fn put<O: Output>(&self, out: &mut O) -> Result<(), O::Error> {
         fields!(self: kind, scheme, auth).put(out)
-    }
-
-    fn size_within(&self, limit: u32) -> Option<u32> {
-        fields!(self: kind, scheme, auth).size_within(limit)
     }
 }
 
@@ -62,12 +58,8 @@ pub struct SetWatchesAsk {
 impl Spell for SetWatchesAsk {
     ghost items = { set_watches_ask.items };
 
-    fn put(&self, out: &mut Vec<u8>) -> Result<(), AllocError> {
+    fn put<O: Output>(&self, out: &mut O) -> Result<(), O::Error> {
         fields!(self: zxid, data_watches, exist_watches, child_watches).put(out)
-    }
-
-    fn size_within(&self, limit: u32) -> Option<u32> {
-        fields!(self: zxid, data_watches, exist_watches, child_watches).size_within(limit)
     }
 }
 

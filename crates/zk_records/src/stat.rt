@@ -2,8 +2,8 @@
 ghost use Rattle.zk_records.specs.Records.{stat};
 
 use crate::fields::{decode, fields};
-use std::alloc::{AllocError, Global};
-use zk_jute::{ItemFault, Spell, Wire};
+use std::alloc::Global;
+use zk_jute::{ItemFault, Output, Spell, Wire};
 
 /// What is known of a node: `Stat`, 68 bytes.
 #[derive(Debug, Drop)]
@@ -34,16 +34,10 @@ pub struct Stat {
 impl Spell for Stat {
     ghost items = { stat.items };
 
-    fn put(&self, out: &mut Vec<u8>) -> Result<(), AllocError> {
+    fn put<O: Output>(&self, out: &mut O) -> Result<(), O::Error> {
         let fields = fields!(self: czxid, mzxid, ctime, mtime, version, cversion, aversion,
             ephemeral_owner, data_length, num_children, pzxid);
         fields.put(out)
-    }
-
-    fn size_within(&self, limit: u32) -> Option<u32> {
-        let fields = fields!(self: czxid, mzxid, ctime, mtime, version, cversion, aversion,
-            ephemeral_owner, data_length, num_children, pzxid);
-        fields.size_within(limit)
     }
 }
 

@@ -1,11 +1,25 @@
-use Rattle.std.proofs.Common.{subst}
-use Rattle.zk_jute.specs.Item.{Fit}
-use Rattle.zk_answers.specs.declared.frame.Body.{Body}
-use Rattle.zk_answers.specs.Frames.{body_items}
 use Rattle.zk_answers.proofs.write.BodySpell.put.Goals as goal
 
-pub put-requires-in-GetAcl : goal.put-requires-in-GetAcl
-put-requires-in-GetAcl c = subst (λ (b : Body). Fit 2147483647 (body_items b)) c.in-GetAcl.is c.requires
+pub returns-in-GetData-clause-ok : goal.returns-in-GetData-clause-ok
+returns-in-GetData-clause-ok g c = rw c.in-GetData.is c.put-in-GetData.ensures.ok
 
-pub put-requires-in-GetChildren2 : goal.put-requires-in-GetChildren2
-put-requires-in-GetChildren2 c = subst (λ (b : Body). Fit 2147483647 (body_items b)) c.in-GetChildren2.is c.requires
+pub returns-in-SetData-clause-ok : goal.returns-in-SetData-clause-ok
+returns-in-SetData-clause-ok g c = rw c.in-SetData.is c.put-in-SetData.ensures.ok
+
+pub returns-in-GetAcl-clause-ok : goal.returns-in-GetAcl-clause-ok
+returns-in-GetAcl-clause-ok g c = rw c.in-GetAcl.is c.put-in-GetAcl.ensures.ok
+
+pub returns-in-GetAcl-clause-err : goal.returns-in-GetAcl-clause-err
+returns-in-GetAcl-clause-err g c = rw c.in-GetAcl.is c.put-in-GetAcl.ensures.err
+
+pub returns-in-SetAcl-clause-ok : goal.returns-in-SetAcl-clause-ok
+returns-in-SetAcl-clause-ok g c = rw c.in-SetAcl.is c.put-in-SetAcl.ensures.ok
+
+pub returns-in-GetChildren2-clause-ok : goal.returns-in-GetChildren2-clause-ok
+returns-in-GetChildren2-clause-ok g c = rw c.in-GetChildren2.is c.put-in-GetChildren2.ensures.ok
+
+pub returns-in-GetChildren2-clause-err : goal.returns-in-GetChildren2-clause-err
+returns-in-GetChildren2-clause-err g c = rw c.in-GetChildren2.is c.put-in-GetChildren2.ensures.err
+
+pub returns-in-Create2-clause-ok : goal.returns-in-Create2-clause-ok
+returns-in-Create2-clause-ok g c = rw c.in-Create2.is c.put-in-Create2.ensures.ok
