@@ -6,14 +6,13 @@ use Rattle.zk_jute.specs.Item.{Item, bytes_of, HaveBytes}
 use Rattle.zk_jute.specs.Layout.{Layout, End, IsValueOf}
 use Rattle.zk_jute.specs.Faults.{IsFault, Opens}
 use Rattle.zk_jute.specs.Flagged.{IsFlaggedFault}
-use Rattle.zk_jute.specs.Wired.{ustring, vector}
 use Rattle.zk_records.specs.declared.header.ReplyHeader.{ReplyHeader}
 use Rattle.zk_records.specs.declared.op.Op.{Op}
-use Rattle.zk_records.specs.declared.op.Op.TheVariants as ops
 use Rattle.zk_records.specs.declared.op.PartOp.{PartOp}
-use Rattle.zk_records.specs.Records.{connect_response, reply_header, watcher_event, stat, data_body, acl_body, children_body, create_body}
+use Rattle.zk_records.specs.Records.{connect_response, reply_header, watcher_event}
 use Rattle.zk_answers.specs.declared.frame.PartDone.{PartDone}
 use Rattle.zk_answers.specs.Results.{multi_items, AnswerAll, IsDoneFault}
+use Rattle.zk_answers.specs.Rows.{Row, holds, bare, multi, row_of}
 
 abbrev pub IsConnectedFault : List ℕ → ℕ → Reason → Type 0
 IsConnectedFault bytes place reason = IsFlaggedFault connect_response.layout bytes place reason
@@ -50,24 +49,14 @@ pub data IsRestFault (shape : Shape) : List ℕ → ℕ → Reason → Type 0 wh
 
 -- ---- a reply
 
+abbrev pub shape_in : Row → List PartOp → Shape
+shape_in (holds make w) parts = Fields w.layout
+shape_in (bare b) parts = Fields End
+shape_in multi parts = Results parts
+
 -- the body of a reply to a request of the operation and of these parts
 abbrev pub body_shape : Op → List PartOp → Shape
-body_shape ops.Create parts = Fields ustring.layout
-body_shape ops.Delete parts = Fields End
-body_shape ops.Exists parts = Fields stat.layout
-body_shape ops.GetData parts = Fields data_body.layout
-body_shape ops.SetData parts = Fields stat.layout
-body_shape ops.GetAcl parts = Fields acl_body.layout
-body_shape ops.SetAcl parts = Fields stat.layout
-body_shape ops.GetChildren parts = Fields (vector ustring).layout
-body_shape ops.Sync parts = Fields ustring.layout
-body_shape ops.Ping parts = Fields End
-body_shape ops.GetChildren2 parts = Fields children_body.layout
-body_shape ops.Multi parts = Results parts
-body_shape ops.Create2 parts = Fields create_body.layout
-body_shape ops.Auth parts = Fields End
-body_shape ops.SetWatches parts = Fields End
-body_shape ops.CloseSession parts = Fields End
+body_shape op parts = shape_in (row_of op) parts
 
 -- behind a header with this err: nothing where the request has failed
 abbrev pub rest_shape : Op → List PartOp → ℤ → Shape

@@ -2,12 +2,10 @@
 use Rattle.std.specs.Prelude.{◌≡◌, ◌≢◌, ℕ, ℤ, pos, negsuc, List, [], ◌++◌}
 use Rattle.zk_jute.specs.Item.{Item, bytes_of, HaveBytes}
 use Rattle.zk_jute.specs.Flagged.{flag_items}
-use Rattle.zk_jute.specs.Wired.{ustring, vector}
 use Rattle.zk_records.specs.declared.header.ReplyHeader.{ReplyHeader}
 use Rattle.zk_records.specs.declared.op.Op.{Op}
-use Rattle.zk_records.specs.declared.op.Op.TheVariants as ops
 use Rattle.zk_records.specs.declared.op.PartOp.{PartOp}
-use Rattle.zk_records.specs.Records.{connect_response, reply_header, watcher_event, stat, data_body, acl_body, children_body, create_body}
+use Rattle.zk_records.specs.Records.{connect_response, reply_header, watcher_event}
 use Rattle.zk_answers.specs.declared.frame.Body.{Body}
 use Rattle.zk_answers.specs.declared.frame.Body.TheVariants as body
 use Rattle.zk_answers.specs.declared.frame.Outcome.{Outcome}
@@ -15,45 +13,16 @@ use Rattle.zk_answers.specs.declared.frame.Outcome.TheVariants as outcome
 use Rattle.zk_answers.specs.declared.frame.Reply.{Reply}
 use Rattle.zk_answers.specs.declared.frame.ServerFrame.{ServerFrame}
 use Rattle.zk_answers.specs.declared.frame.ServerFrame.TheVariants as frame
-use Rattle.zk_answers.specs.Results.{multi_items, AnswerAll}
+use Rattle.zk_answers.specs.Results.{AnswerAll}
+use Rattle.zk_answers.specs.Rows.{seen}
 
 -- ---- a reply
 
 abbrev pub op_of_body : Body → Op
-op_of_body (body.Create path) = ops.Create
-op_of_body body.Delete = ops.Delete
-op_of_body (body.Exists s) = ops.Exists
-op_of_body (body.GetData blob s) = ops.GetData
-op_of_body (body.SetData s) = ops.SetData
-op_of_body (body.GetAcl acl s) = ops.GetAcl
-op_of_body (body.SetAcl s) = ops.SetAcl
-op_of_body (body.GetChildren names) = ops.GetChildren
-op_of_body (body.Sync path) = ops.Sync
-op_of_body body.Ping = ops.Ping
-op_of_body (body.GetChildren2 names s) = ops.GetChildren2
-op_of_body (body.Multi dones) = ops.Multi
-op_of_body (body.Create2 path s) = ops.Create2
-op_of_body body.Auth = ops.Auth
-op_of_body body.SetWatches = ops.SetWatches
-op_of_body body.CloseSession = ops.CloseSession
+op_of_body b = (seen b).0
 
 abbrev pub body_items : Body → List Item
-body_items (body.Create path) = ustring.items path
-body_items body.Delete = []
-body_items (body.Exists s) = stat.items s
-body_items (body.GetData blob s) = data_body.items (record { blob = blob; stat = s })
-body_items (body.SetData s) = stat.items s
-body_items (body.GetAcl acl s) = acl_body.items (record { acl = acl; stat = s })
-body_items (body.SetAcl s) = stat.items s
-body_items (body.GetChildren names) = (vector ustring).items names
-body_items (body.Sync path) = ustring.items path
-body_items body.Ping = []
-body_items (body.GetChildren2 names s) = children_body.items (record { names = names; stat = s })
-body_items (body.Multi dones) = multi_items dones
-body_items (body.Create2 path s) = create_body.items (record { path = path; stat = s })
-body_items body.Auth = []
-body_items body.SetWatches = []
-body_items body.CloseSession = []
+body_items b = (seen b).1
 
 abbrev pub op_of_outcome : Outcome → Op
 op_of_outcome (outcome.Done b) = op_of_body b

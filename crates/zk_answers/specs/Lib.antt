@@ -1,4 +1,5 @@
 pub mod Results
+pub mod Rows
 pub mod Frames
 pub mod Faults
 pub mod Openings

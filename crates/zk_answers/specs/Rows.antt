@@ -1,0 +1,72 @@
+-- What each operation's reply is made of: the one table.
+use Rattle.std.specs.Prelude.{List, []}
+use Rattle.zk_jute.specs.Item.{Item}
+use Rattle.zk_jute.specs.Wired.{Wired, ustring, vector}
+use Rattle.zk_records.specs.declared.op.Op.{Op}
+use Rattle.zk_records.specs.declared.op.Op.TheVariants as ops
+use Rattle.zk_records.specs.Records.{stat, data_body, acl_body, children_body, create_body}
+use Rattle.zk_answers.specs.declared.frame.Body.{Body}
+use Rattle.zk_answers.specs.declared.frame.Body.TheVariants as body
+use Rattle.zk_answers.specs.declared.frame.PartDone.{PartDone}
+use Rattle.zk_answers.specs.Results.{multi_items}
+
+-- a record of its own, nothing, or the results of a multi's parts; each with the body that it makes
+pub data Row : Type 1 where
+  holds : {X : Type 0} → (X → Body) → Wired X → Row
+  bare : Body → Row
+  multi : Row
+
+abbrev pub row_of : Op → Row
+row_of ops.Create = holds body.Create ustring
+row_of ops.Delete = bare body.Delete
+row_of ops.Exists = holds body.Exists stat
+row_of ops.GetData = holds (λ x. body.GetData x.blob x.stat) data_body
+row_of ops.SetData = holds body.SetData stat
+row_of ops.GetAcl = holds (λ x. body.GetAcl x.acl x.stat) acl_body
+row_of ops.SetAcl = holds body.SetAcl stat
+row_of ops.GetChildren = holds body.GetChildren (vector ustring)
+row_of ops.Sync = holds body.Sync ustring
+row_of ops.Ping = bare body.Ping
+row_of ops.GetChildren2 = holds (λ x. body.GetChildren2 x.names x.stat) children_body
+row_of ops.Multi = multi
+row_of ops.Create2 = holds (λ x. body.Create2 x.path x.stat) create_body
+row_of ops.Auth = bare body.Auth
+row_of ops.SetWatches = bare body.SetWatches
+row_of ops.CloseSession = bare body.CloseSession
+
+-- ---- what follows from a row
+
+abbrev pub Content : Row → Type 0
+Content (holds {X} make w) = X
+Content (bare b) = Unit {0}
+Content multi = List PartDone
+
+abbrev pub remake : (r : Row) → Content r → Body
+remake (holds make w) x = make x
+remake (bare b) x = b
+remake multi x = body.Multi x
+
+abbrev pub items_in : (r : Row) → Content r → List Item
+items_in (holds make w) x = w.items x
+items_in (bare b) x = []
+items_in multi x = multi_items x
+
+-- ---- a body's operation, and its items
+
+abbrev pub seen : Body → Op × List Item
+seen (body.Create path) = (ops.Create, ustring.items path)
+seen body.Delete = (ops.Delete, [])
+seen (body.Exists s) = (ops.Exists, stat.items s)
+seen (body.GetData blob s) = (ops.GetData, data_body.items (record { blob = blob; stat = s }))
+seen (body.SetData s) = (ops.SetData, stat.items s)
+seen (body.GetAcl acl s) = (ops.GetAcl, acl_body.items (record { acl = acl; stat = s }))
+seen (body.SetAcl s) = (ops.SetAcl, stat.items s)
+seen (body.GetChildren names) = (ops.GetChildren, (vector ustring).items names)
+seen (body.Sync path) = (ops.Sync, ustring.items path)
+seen body.Ping = (ops.Ping, [])
+seen (body.GetChildren2 names s) = (ops.GetChildren2, children_body.items (record { names = names; stat = s }))
+seen (body.Multi dones) = (ops.Multi, multi_items dones)
+seen (body.Create2 path s) = (ops.Create2, create_body.items (record { path = path; stat = s }))
+seen body.Auth = (ops.Auth, [])
+seen body.SetWatches = (ops.SetWatches, [])
+seen body.CloseSession = (ops.CloseSession, [])
