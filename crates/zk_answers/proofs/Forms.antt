@@ -9,7 +9,8 @@ use Rattle.zk_records.specs.declared.op.PartOp.{PartOp}
 use Rattle.zk_records.specs.declared.op.PartOp.TheVariants as parts
 use Rattle.zk_asks.specs.declared.frame.Ask.{Ask}
 use Rattle.zk_asks.specs.declared.frame.Ask.TheVariants as ask
-use Rattle.zk_asks.specs.Frames.{op_of_ask, ops_of_ask}
+use Rattle.zk_asks.specs.Frames.{ops_of_ask}
+use Rattle.zk_asks.specs.Rows.{op_of_ask}
 use Rattle.zk_answers.specs.declared.frame.PartDone.{PartDone}
 use Rattle.zk_answers.specs.Results.{Answers, AnswerAll}
 

@@ -13,7 +13,7 @@ use Rattle.zk_jute.proofs.Layouts.{bytes_both, have_parts, have_both}
 use Rattle.zk_records.specs.declared.header.MultiHeader.{MultiHeader}
 use Rattle.zk_records.specs.declared.op.PartOp.{PartOp}
 use Rattle.zk_records.specs.Records.{multi_header}
-use Rattle.zk_asks.specs.Forms.{marked, end_header}
+use Rattle.zk_asks.specs.Parts.{marked, end_header}
 use Rattle.zk_asks.proofs.Openings.{NextIs, next_follows, behind_front}
 use Rattle.zk_asks.proofs.Opened.{mark_shape}
 use Rattle.zk_answers.specs.Results.{result_header, error_header, result_layout, IsDoneFault, in_mark, bad_mark, in_result, in_error, other_error, behind_result, behind_error}

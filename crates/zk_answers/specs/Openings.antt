@@ -10,7 +10,7 @@ use Rattle.zk_records.specs.declared.header.ReplyHeader.{ReplyHeader}
 use Rattle.zk_records.specs.declared.op.Op.{Op}
 use Rattle.zk_records.specs.declared.op.PartOp.{PartOp}
 use Rattle.zk_records.specs.Records.{reply_header, watcher_event}
-use Rattle.zk_asks.specs.Forms.{marked}
+use Rattle.zk_asks.specs.Parts.{marked}
 use Rattle.zk_answers.specs.Results.{result_header, error_header, result_layout, MayAnswer}
 use Rattle.zk_answers.specs.Faults.{Shape, Fields, Results, IsOfShape, rest_shape, IsHead, IsHeadFault}
 

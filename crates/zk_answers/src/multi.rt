@@ -3,7 +3,7 @@ ghost use Rattle.std.specs.Prelude.{List, ◌≡◌, ◌≤◌, length, IfOk, If
 ghost use Rattle.zk_jute.specs.Item.{HaveBytes};
 ghost use Rattle.zk_jute.specs.Told.{StandsAt, IsToldAt};
 ghost use Rattle.zk_records.specs.declared.op.PartOp as codes;
-ghost use Rattle.zk_asks.specs.Forms.{end_header};
+ghost use Rattle.zk_asks.specs.Parts.{end_header};
 ghost use Rattle.zk_answers.specs.Results.{done_items, multi_items, Answers, AnswerAll, IsDoneFault, ItsPlace};
 
 use crate::frame::PartDone;

@@ -1,7 +1,7 @@
 //! Server payloads are written.
 ghost use Rattle.std.specs.Prelude.{◌≡◌, ◌++◌, OnOk, OnErr, pos, negsuc};
 ghost use Rattle.zk_jute.specs.Item.{Fit, IsSizeWithin};
-ghost use Rattle.zk_asks.specs.Forms as forms;
+ghost use Rattle.zk_asks.specs.Parts as parts;
 ghost use Rattle.zk_answers.specs.Results as results;
 ghost use Rattle.zk_answers.specs.Frames as frames;
 
@@ -34,7 +34,7 @@ fn error_header(err: i32) -> MultiHeader
 
 /// The header behind the last result.
 fn end_header() -> MultiHeader
-    ensures { result ≡ forms.end_header }
+    ensures { result ≡ parts.end_header }
 {
     MultiHeader {
         kind: -1,

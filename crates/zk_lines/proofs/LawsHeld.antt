@@ -33,7 +33,7 @@ use Rattle.zk_asks.specs.declared.frame.Ask.{Ask}
 use Rattle.zk_asks.specs.declared.frame.Ask.TheVariants as ask
 use Rattle.zk_asks.specs.declared.frame.ClientFrame.{ClientFrame}
 use Rattle.zk_asks.specs.declared.frame.ClientFrame.TheVariants as client
-use Rattle.zk_asks.specs.Forms.{part_header, end_header, marked}
+use Rattle.zk_asks.specs.Parts.{part_header, end_header, marked}
 use Rattle.zk_asks.specs.Frames as sent
 use Rattle.zk_answers.specs.declared.frame.PartDone.{PartDone}
 use Rattle.zk_answers.specs.declared.frame.PartDone.TheVariants as done

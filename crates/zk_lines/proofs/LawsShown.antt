@@ -12,7 +12,8 @@ use Rattle.zk_asks.specs.declared.frame.Part.TheVariants as part
 use Rattle.zk_asks.specs.declared.frame.Ask.{Ask}
 use Rattle.zk_asks.specs.declared.frame.Ask.TheVariants as ask
 use Rattle.zk_asks.specs.declared.frame.ClientFrame.TheVariants as client
-use Rattle.zk_asks.specs.Frames.{op_of_part, op_of_ask}
+use Rattle.zk_asks.specs.Parts.{op_of_part}
+use Rattle.zk_asks.specs.Rows.{op_of_ask}
 use Rattle.zk_answers.specs.declared.frame.PartDone.{PartDone}
 use Rattle.zk_answers.specs.declared.frame.PartDone.TheVariants as done
 use Rattle.zk_answers.specs.declared.frame.Body.{Body}

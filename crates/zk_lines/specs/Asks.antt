@@ -19,7 +19,8 @@ use Rattle.zk_asks.specs.declared.frame.Part.{Part}
 use Rattle.zk_asks.specs.declared.frame.Part.TheVariants as part
 use Rattle.zk_asks.specs.declared.frame.Ask.{Ask}
 use Rattle.zk_asks.specs.declared.frame.Ask.TheVariants as ask
-use Rattle.zk_asks.specs.Frames.{op_of_part, op_of_ask}
+use Rattle.zk_asks.specs.Parts.{op_of_part}
+use Rattle.zk_asks.specs.Rows.{op_of_ask}
 use Rattle.zk_items.specs.Form.{Form, Read, read_map, fields, ◌and◌}
 use Rattle.zk_items.specs.Leaf.{int, long, bit, ro, text, blob}
 use Rattle.zk_items.specs.Words.{field}

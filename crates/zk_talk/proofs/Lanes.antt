@@ -3,7 +3,8 @@ use Rattle.std.proofs.Common.{◌≡◌, ℕ, List, [], ◌∷◌, ◌++◌, dro
 use Rattle.std.specs.Prelude.{slice_get}
 use Rattle.zk_asks.specs.declared.frame.ClientFrame.{ClientFrame}
 use Rattle.zk_asks.specs.declared.frame.ClientFrame.TheVariants.{Connect, Ask}
-use Rattle.zk_asks.specs.Frames.{op_of_ask, ops_of_ask}
+use Rattle.zk_asks.specs.Rows.{op_of_ask}
+use Rattle.zk_asks.specs.Frames.{ops_of_ask}
 use Rattle.zk_answers.specs.declared.frame.ServerFrame.{ServerFrame}
 use Rattle.zk_answers.specs.declared.frame.ServerFrame.TheVariants.{Connected, Answered, Event}
 use Rattle.zk_waiting.specs.declared.lane.Lane.{Lane}

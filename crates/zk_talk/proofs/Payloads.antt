@@ -10,8 +10,11 @@ use Rattle.zk_records.specs.Codes.{op_number}
 use Rattle.zk_records.specs.Records.{reply_header, watcher_event}
 use Rattle.zk_asks.specs.declared.frame.Part.{Part}
 use Rattle.zk_asks.specs.declared.frame.Ask.TheVariants as asked
-use Rattle.zk_asks.specs.Forms.{marked, part_header, end_header, header_items}
-use Rattle.zk_asks.specs.Frames.{op_of_part, record_of, part_items, body_items, parts_of_ask, op_of_ask}
+use Rattle.zk_asks.specs.Parts.{marked, part_header, end_header}
+use Rattle.zk_asks.specs.Forms.{header_items}
+use Rattle.zk_asks.specs.Parts.{op_of_part, record_of, part_items}
+use Rattle.zk_asks.specs.Rows.{body_items, op_of_ask}
+use Rattle.zk_asks.specs.Frames.{parts_of_ask}
 use Rattle.zk_asks.proofs.First.{first_unique, first_excludes, first_injective}
 use Rattle.zk_asks.proofs.Later.{ask_unique, ask_excludes, ask_injective}
 use Rattle.zk_answers.specs.Frames.{header_of, rest_items, event_header}

@@ -20,7 +20,8 @@ use Rattle.zk_jute.specs.declared.fault.Reason.{Reason}
 use Rattle.zk_records.specs.declared.header.ReplyHeader.{ReplyHeader}
 use Rattle.zk_asks.specs.declared.frame.Ask.{Ask as Asked}
 use Rattle.zk_asks.specs.Codes.{event_xid}
-use Rattle.zk_asks.specs.Frames.{IsFirst, IsLater, op_of_ask, ops_of_ask}
+use Rattle.zk_asks.specs.Frames.{IsFirst, IsLater, ops_of_ask}
+use Rattle.zk_asks.specs.Rows.{op_of_ask}
 use Rattle.zk_asks.specs.Frames as asks
 use Rattle.zk_answers.specs.Frames.{IsConnected, IsEvent, Fits}
 use Rattle.zk_answers.specs.Frames as answers

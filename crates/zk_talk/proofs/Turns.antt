@@ -7,7 +7,8 @@ use Rattle.zk_answers.specs.declared.frame.ServerFrame.{ServerFrame}
 use Rattle.zk_answers.specs.declared.frame.ServerFrame.TheVariants.{Connected, Answered, Event}
 use Rattle.zk_answers.specs.declared.frame.Reply.{Reply}
 use Rattle.zk_talk.specs.Payloads.{client_payload, server_payload}
-use Rattle.zk_asks.specs.Frames.{op_of_ask, ops_of_ask}
+use Rattle.zk_asks.specs.Rows.{op_of_ask}
+use Rattle.zk_asks.specs.Frames.{ops_of_ask}
 use Rattle.zk_answers.specs.Frames.{Fits, IsEvent}
 use Rattle.zk_answers.specs.Frames as answers
 use Rattle.zk_talk.proofs.Payloads.{first_inj, connected_inj, ask_inj, event_inj, reply_inj, reply_head_is, reply_no_event, event_head_is, same_head}

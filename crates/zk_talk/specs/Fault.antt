@@ -8,7 +8,8 @@ use Rattle.zk_asks.specs.declared.frame.Ask.{Ask as Asked}
 use Rattle.zk_asks.specs.declared.frame.ClientFrame.{ClientFrame}
 use Rattle.zk_asks.specs.declared.frame.ClientFrame.TheVariants.{Ask}
 use Rattle.zk_asks.specs.Codes.{event_xid}
-use Rattle.zk_asks.specs.Frames.{IsLater, IsSent, op_of_ask, ops_of_ask}
+use Rattle.zk_asks.specs.Frames.{IsLater, IsSent, ops_of_ask}
+use Rattle.zk_asks.specs.Rows.{op_of_ask}
 use Rattle.zk_asks.specs.Faults.{IsFirstFault, IsAskFault}
 use Rattle.zk_answers.specs.Faults.{IsConnectedFault, IsHead, IsHeadFault, IsReplyFault, IsEventFault}
 use Rattle.zk_frames.specs.Framing.{frame, IsBadLength}

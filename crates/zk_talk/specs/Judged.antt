@@ -6,7 +6,8 @@ use Rattle.zk_jute.specs.declared.fault.Reason.TheVariants.{QueueFull}
 use Rattle.zk_jute.specs.Reading.{told_place, no_memory}
 use Rattle.zk_asks.specs.declared.frame.ClientFrame.{ClientFrame}
 use Rattle.zk_asks.specs.declared.frame.ClientFrame.TheVariants.{Connect, Ask}
-use Rattle.zk_asks.specs.Frames.{IsFirst, IsLater, op_of_ask, ops_of_ask}
+use Rattle.zk_asks.specs.Frames.{IsFirst, IsLater, ops_of_ask}
+use Rattle.zk_asks.specs.Rows.{op_of_ask}
 use Rattle.zk_asks.specs.Faults.{IsFirstFault, IsAskFault}
 use Rattle.zk_answers.specs.declared.frame.ServerFrame.{ServerFrame}
 use Rattle.zk_answers.specs.declared.frame.ServerFrame.TheVariants.{Connected, Answered, Event}

@@ -2,7 +2,8 @@
 use Rattle.std.specs.Prelude.{◌≡◌, List, [], ◌∷◌, filter, drop}
 use Rattle.zk_asks.specs.declared.frame.ClientFrame.{ClientFrame}
 use Rattle.zk_asks.specs.declared.frame.ClientFrame.TheVariants.{Connect, Ask}
-use Rattle.zk_asks.specs.Frames.{op_of_ask, ops_of_ask}
+use Rattle.zk_asks.specs.Rows.{op_of_ask}
+use Rattle.zk_asks.specs.Frames.{ops_of_ask}
 use Rattle.zk_waiting.specs.declared.lane.Lane.{Lane}
 use Rattle.zk_waiting.specs.Waiting.{Request}
 use Rattle.zk_talk.specs.Conversation.{Conversation, is_ask_on, replies_on}

@@ -4,7 +4,8 @@ use Rattle.std.specs.List.{flat_map, AllByRecursion}
 use Rattle.zk_jute.specs.Item.{Item, Fit}
 use Rattle.zk_asks.specs.declared.frame.Ask.{Ask as Asked}
 use Rattle.zk_asks.specs.declared.frame.ClientFrame.{ClientFrame}
-use Rattle.zk_asks.specs.Frames.{IsFirst, IsLater, MaySend, op_of_ask, ops_of_ask}
+use Rattle.zk_asks.specs.Frames.{IsFirst, IsLater, MaySend, ops_of_ask}
+use Rattle.zk_asks.specs.Rows.{op_of_ask}
 use Rattle.zk_asks.specs.Frames as asks
 use Rattle.zk_answers.specs.declared.frame.Reply.{Reply}
 use Rattle.zk_answers.specs.declared.frame.ServerFrame.{ServerFrame}

@@ -4,7 +4,7 @@ use Rattle.zk_jute.specs.Reading.{told_place}
 use Rattle.zk_jute.specs.Told.{IsToldAt}
 use Rattle.zk_jute.specs.declared.fault.Reason.TheVariants.{BadPart}
 use Rattle.zk_records.specs.declared.op.PartOp.{PartOp}
-use Rattle.zk_asks.specs.Forms.{end_header}
+use Rattle.zk_asks.specs.Parts.{end_header}
 use Rattle.zk_answers.specs.Results.{AnswerAll, MayAnswer, IsDoneFault}
 use Rattle.zk_answers.proofs.Outcomes.{result_mark, result_bad, result_memory, loop_fault, drop_all, drop_some, take_some, answers_push, step_have, step_stands}
 use Rattle.zk_answers.proofs.multi.results_at.Goals as goal

@@ -4,7 +4,7 @@ use Rattle.std.specs.Int.{w32}
 use Rattle.std.proofs.lemmas.Int.{to_z-of_z}
 use Rattle.zk_jute.specs.Item.{AnInt, bytes_of, HaveBytes}
 use Rattle.zk_records.specs.declared.header.MultiHeader.{MultiHeader}
-use Rattle.zk_asks.specs.Forms.{marked}
+use Rattle.zk_asks.specs.Parts.{marked}
 use Rattle.zk_answers.specs.declared.frame.PartDone.{PartDone}
 use Rattle.zk_answers.specs.Results.{done_items, error_header}
 use Rattle.zk_answers.proofs.write.PartDoneSpell.put.Goals as goal
