@@ -12,7 +12,8 @@ use Rattle.zk_records.specs.Records.{request_header, create_ask, delete_ask, wat
 use Rattle.zk_records.specs.declared.op.Op.{Op}
 use Rattle.zk_asks.specs.declared.frame.Ask.{Ask}
 use Rattle.zk_asks.specs.declared.frame.Ask.TheVariants as ask
-use Rattle.zk_records.specs.Codes.{op_number}
+use Rattle.zk_records.specs.declared.profile.Profile.{Profile}
+use Rattle.zk_records.specs.Codes.{op_number, HasOp, IsNoOp}
 use Rattle.zk_asks.specs.Codes.{IsAllowed}
 use Rattle.zk_asks.specs.Forms.{header_items, IsOf, IsBody, asks}
 use Rattle.zk_asks.specs.Faults.{IsBodyFault, IsAskFault, in_header, unknown_op, bad_xid, in_body, behind_body}
@@ -41,25 +42,25 @@ pub fields_told : (l : Layout) (src : List ℕ) (place : ℕ) (e : ItemFault) �
 unfolding IsToldAt
 fields_told l src place e h = h
 
-pub refused_header : (src : List ℕ) (e : ItemFault) → IsToldFault (IsValueOf request_header.layout) src 0 e → IsTold (IsAskFault src) e
+pub refused_header : (profile : Profile) (src : List ℕ) (e : ItemFault) → IsToldFault (IsValueOf request_header.layout) src 0 e → IsTold (IsAskFault profile src) e
 unfolding IsTold
-refused_header src e h = elim h [ inl m ↦ inl m | inr f ↦ let same : 0 + f.0 ≡ f.0 = omega arith in inr (f.0, in_header src f.0 e.reason f.1, f.2 ∙ ap told_place same) ]
+refused_header profile src e h = elim h [ inl m ↦ inl m | inr f ↦ let same : 0 + f.0 ≡ f.0 = omega arith in inr (f.0, in_header src f.0 e.reason f.1, f.2 ∙ ap told_place same) ]
 
-module _ (src : List ℕ) (xid kind : ℤ) (after : ℕ) (v : IsValueOf request_header.layout (header_items xid kind)) (s : StandsAt (header_items xid kind) src 0 after) where
-  pub refused_op : ((op : Op) → kind ≢ op_number op) → IsTold (IsAskFault src) (record { place = 4; reason = UnknownOp })
+module _ (profile : Profile) (src : List ℕ) (xid kind : ℤ) (after : ℕ) (v : IsValueOf request_header.layout (header_items xid kind)) (s : StandsAt (header_items xid kind) src 0 after) where
+  pub refused_op : IsNoOp profile kind → IsTold (IsAskFault profile src) (record { place = 4; reason = UnknownOp })
   unfolding IsTold
   refused_op unknown = inr (4, unknown_op src (drop after src) xid kind v.1 s.0 unknown, refl)
 
-  pub refused_xid : (op : Op) → kind ≡ op_number op → (IsAllowed xid op → ⊥) → IsTold (IsAskFault src) (record { place = 4; reason = XidOp })
+  pub refused_xid : (op : Op) → HasOp profile op → kind ≡ op_number op → (IsAllowed xid op → ⊥) → IsTold (IsAskFault profile src) (record { place = 4; reason = XidOp })
   unfolding IsTold
-  refused_xid op is not =
+  refused_xid op has is not =
       let have : HaveBytes (header_items xid (op_number op)) = subst (λ (k : ℤ). HaveBytes (header_items xid k)) is v.1 in
       let opens : src ≡ bytes_of (header_items xid (op_number op)) ++ drop after src = subst (λ (k : ℤ). src ≡ bytes_of (header_items xid k) ++ drop after src) is s.0 in
-      inr (4, bad_xid src (drop after src) xid op have opens not, refl)
+      inr (4, bad_xid src (drop after src) xid op have opens has not, refl)
 
-  pub refused_body : (op : Op) (e : ItemFault) → kind ≡ op_number op → IsAllowed xid op → IsToldAt (IsBodyFault op) src after e → IsTold (IsAskFault src) e
+  pub refused_body : (op : Op) (e : ItemFault) → HasOp profile op → kind ≡ op_number op → IsAllowed xid op → IsToldAt (IsBodyFault op) src after e → IsTold (IsAskFault profile src) e
   unfolding IsTold IsToldAt
-  refused_body op e is may h =
+  refused_body op e has is may h =
       let have : HaveBytes (header_items xid (op_number op)) = subst (λ (k : ℤ). HaveBytes (header_items xid k)) is v.1 in
       let opens : src ≡ bytes_of (header_items xid (op_number op)) ++ drop after src = subst (λ (k : ℤ). src ≡ bytes_of (header_items xid k) ++ drop after src) is s.0 in
       let eight : after ≡ 8 = s.1 in
@@ -67,13 +68,13 @@ module _ (src : List ℕ) (xid kind : ℤ) (after : ℕ) (v : IsValueOf request_
         | inl m ↦ inl m
         | inr f ↦
             let told : after + f.0 ≡ 8 + f.0 = omega arith in
-            inr (8 + f.0, in_body src (drop after src) xid op f.0 e.reason have opens may f.1, f.2 ∙ ap told_place told)
+            inr (8 + f.0, in_body src (drop after src) xid op f.0 e.reason have opens has may f.1, f.2 ∙ ap told_place told)
       ]
 
-  pub refused_rest : (a : Ask) (end : ℕ) → kind ≡ op_number (op_of_ask a) → IsAllowed xid (op_of_ask a) → HaveBytes (body_items a) → StandsAt (body_items a) src after end → end < length src
-      → IsTold (IsAskFault src) (record { place = told_place end; reason = Trailing })
+  pub refused_rest : (a : Ask) (end : ℕ) → HasOp profile (op_of_ask a) → kind ≡ op_number (op_of_ask a) → IsAllowed xid (op_of_ask a) → HaveBytes (body_items a) → StandsAt (body_items a) src after end → end < length src
+      → IsTold (IsAskFault profile src) (record { place = told_place end; reason = Trailing })
   unfolding IsTold
-  refused_rest a end is may have t left =
+  refused_rest a end has is may have t left =
       let op = op_of_ask a in
       let head : HaveBytes (header_items xid (op_number op)) = subst (λ (k : ℤ). HaveBytes (header_items xid k)) is v.1 in
       let opens : StandsAt (header_items xid (op_number op)) src 0 after = subst (λ (k : ℤ). StandsAt (header_items xid k) src 0 after) is s in
@@ -85,7 +86,7 @@ module _ (src : List ℕ) (xid kind : ℤ) (after : ℕ) (v : IsValueOf request_
         behind_body src end (record {
           whole = header_items xid (op_number op) ++ body_items a;
           rest = drop end src;
-          value = asks xid op (body_items a) head may (body_is a have);
+          value = asks xid op (body_items a) head has may (body_is a have);
           splits = both.0;
           some = is_left src end left;
           at = place;

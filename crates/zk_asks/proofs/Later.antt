@@ -17,13 +17,14 @@ use Rattle.zk_asks.specs.declared.frame.Part.{Part}
 use Rattle.zk_asks.specs.declared.frame.Ask.{Ask}
 use Rattle.zk_asks.specs.declared.frame.ClientFrame.{ClientFrame}
 use Rattle.zk_asks.specs.declared.frame.ClientFrame.TheVariants as frame
-use Rattle.zk_records.specs.Codes.{op_number}
+use Rattle.zk_records.specs.declared.profile.Profile.{Profile}
+use Rattle.zk_records.specs.Codes.{op_number, HasOp, IsNoOp}
 use Rattle.zk_asks.specs.Codes.{IsAllowed}
 use Rattle.zk_asks.specs.Forms.{header_items, IsOf, IsBody, IsAsk, asks}
 use Rattle.zk_asks.specs.Rows.{Row, holds, bare, multi, row_of, Content, remake, items_in, Body, Fields, Parts, body_of, op_of_ask, body_items}
 use Rattle.zk_asks.specs.Faults.{IsFaultOf, IsBodyFault, IsAskFault, in_header, unknown_op, bad_xid, in_body, behind_body}
 use Rattle.zk_asks.specs.Parts.{multi_items}
-use Rattle.zk_asks.specs.Frames.{frame_items, IsSent, IsLater, payload}
+use Rattle.zk_asks.specs.Frames.{frame_items, IsSent, IsLater, IsOfProfile, payload}
 use Rattle.zk_jute.specs.Told.{IsReadAs}
 use Rattle.zk_jute.specs.Told.{IsTold}
 use Rattle.zk_jute.specs.Wired.{Wired}
@@ -65,11 +66,11 @@ AfterOp op rest p r = ((behind : ℕ) × (p ≡ 8 + behind) × IsBodyFault op re
 abbrev OfOp : ℤ → Op → List ℕ → ℕ → Reason → Type 0
 OfOp xid op rest p r = ((IsAllowed xid op → ⊥) × (p ≡ 4) × (r ≡ XidOp)) ⊎ (IsAllowed xid op × AfterOp op rest p r)
 
-abbrev AfterKind : ℤ → ℤ → List ℕ → ℕ → Reason → Type 0
-AfterKind xid kind rest p r = (((op : Op) → kind ≢ op_number op) × (p ≡ 4) × (r ≡ UnknownOp)) ⊎ ((op : Op) × (kind ≡ op_number op) × OfOp xid op rest p r)
+abbrev AfterKind : Profile → ℤ → ℤ → List ℕ → ℕ → Reason → Type 0
+AfterKind profile xid kind rest p r = (IsNoOp profile kind × (p ≡ 4) × (r ≡ UnknownOp)) ⊎ ((op : Op) × HasOp profile op × (kind ≡ op_number op) × OfOp xid op rest p r)
 
-abbrev AfterHeader : List Item → List ℕ → ℕ → Reason → Type 0
-AfterHeader header rest p r = (xid : ℤ) × (kind : ℤ) × (header ≡ header_items xid kind) × AfterKind xid kind rest p r
+abbrev AfterHeader : Profile → List Item → List ℕ → ℕ → Reason → Type 0
+AfterHeader profile header rest p r = (xid : ℤ) × (kind : ℤ) × (header ≡ header_items xid kind) × AfterKind profile xid kind rest p r
 
 header_is : (xid kind : ℤ) → HaveBytes (header_items xid kind) → IsValueOf request_header.layout (header_items xid kind)
 header_is xid kind have = (request_header.unfolds (record { xid = xid; kind = kind }), have)
@@ -82,18 +83,18 @@ header_same xid kind id number e =
 header_split : (header body : List Item) (bytes rest : List ℕ) → bytes ≡ bytes_of (header ++ body) ++ rest → bytes ≡ bytes_of header ++ (bytes_of body ++ rest)
 header_split header body bytes rest e = e ∙ ap (λ (b : List ℕ). b ++ rest) (bytes_both header body) ∙ append_assoc (bytes_of header) (bytes_of body) rest
 
-trailing : {items : List Item} → IsAsk items → (bytes rest : List ℕ) (p : ℕ) → bytes ≡ bytes_of items ++ rest → rest ≢ [] → p ≡ length (bytes_of items) → Sequel request_header.layout AfterHeader bytes p Trailing
-trailing (asks xid op body have may v) bytes rest p e some at =
+trailing : (profile : Profile) {items : List Item} → IsAsk profile items → (bytes rest : List ℕ) (p : ℕ) → bytes ≡ bytes_of items ++ rest → rest ≢ [] → p ≡ length (bytes_of items) → Sequel request_header.layout (AfterHeader profile) bytes p Trailing
+trailing profile (asks xid op body have has may v) bytes rest p e some at =
     let header = header_items xid (op_number op) in
     let place : p ≡ 8 + length (bytes_of body) = at ∙ omega (arith, ap length (bytes_both header body), length-append (bytes_of header) (bytes_of body)) in
-    inr (header, bytes_of body ++ rest, header_is xid (op_number op) have, header_split header body bytes rest e, (xid, op_number op, refl, inr (op, refl, inr (may, inr (body, rest, v, refl, some, place, refl)))))
+    inr (header, bytes_of body ++ rest, header_is xid (op_number op) have, header_split header body bytes rest e, (xid, op_number op, refl, inr (op, has, refl, inr (may, inr (body, rest, v, refl, some, place, refl)))))
 
-sequel : {bytes : List ℕ} {p : ℕ} {r : Reason} → IsAskFault bytes p r → Sequel request_header.layout AfterHeader bytes p r
-sequel (in_header bytes place reason f) = inl f
-sequel (unknown_op bytes rest xid kind have e unknown) = inr (header_items xid kind, rest, header_is xid kind have, e, (xid, kind, refl, inl (unknown, refl, refl)))
-sequel (bad_xid bytes rest xid op have e not) = inr (header_items xid (op_number op), rest, header_is xid (op_number op) have, e, (xid, op_number op, refl, inr (op, refl, inl (not, refl, refl))))
-sequel (in_body bytes rest xid op behind reason have e may f) = inr (header_items xid (op_number op), rest, header_is xid (op_number op) have, e, (xid, op_number op, refl, inr (op, refl, inr (may, inl (behind, refl, f)))))
-sequel (behind_body bytes place t) = trailing t.value bytes t.rest place t.splits t.some t.at
+sequel : (profile : Profile) {bytes : List ℕ} {p : ℕ} {r : Reason} → IsAskFault profile bytes p r → Sequel request_header.layout (AfterHeader profile) bytes p r
+sequel profile (in_header bytes place reason f) = inl f
+sequel profile (unknown_op bytes rest xid kind have e unknown) = inr (header_items xid kind, rest, header_is xid kind have, e, (xid, kind, refl, inl (unknown, refl, refl)))
+sequel profile (bad_xid bytes rest xid op have e has not) = inr (header_items xid (op_number op), rest, header_is xid (op_number op) have, e, (xid, op_number op, refl, inr (op, has, refl, inl (not, refl, refl))))
+sequel profile (in_body bytes rest xid op behind reason have e has may f) = inr (header_items xid (op_number op), rest, header_is xid (op_number op) have, e, (xid, op_number op, refl, inr (op, has, refl, inr (may, inl (behind, refl, f)))))
+sequel profile (behind_body bytes place t) = trailing profile t.value bytes t.rest place t.splits t.some t.at
 
 -- ---- one fault
 
@@ -122,37 +123,37 @@ of_same xid op rest p q r s a b =
       | inr f ↦ elim b [ inl g ↦ absurd (g.0 f.0) | inr g ↦ after_same op rest p q r s f.1 g.1 ]
     ]
 
-kind_same : (xid kind : ℤ) (rest : List ℕ) (p q : ℕ) (r s : Reason) → AfterKind xid kind rest p r → AfterKind xid kind rest q s → Same p r q s
-kind_same xid kind rest p q r s a b =
+kind_same : (profile : Profile) (xid kind : ℤ) (rest : List ℕ) (p q : ℕ) (r s : Reason) → AfterKind profile xid kind rest p r → AfterKind profile xid kind rest q s → Same p r q s
+kind_same profile xid kind rest p q r s a b =
     elim a [
-      | inl f ↦ elim b [ inl g ↦ (f.1 ∙ sym g.1, f.2 ∙ sym g.2) | inr g ↦ absurd (f.0 g.0 g.1) ]
+      | inl f ↦ elim b [ inl g ↦ (f.1 ∙ sym g.1, f.2 ∙ sym g.2) | inr g ↦ absurd (f.0 g.0 g.1 g.2) ]
       | inr f ↦ elim b [
-        | inl g ↦ absurd (g.0 f.0 f.1)
+        | inl g ↦ absurd (g.0 f.0 f.1 f.2)
         | inr g ↦
-            let one : g.0 ≡ f.0 = op_number_apart g.0 f.0 (sym g.1 ∙ f.1) in
-            of_same xid f.0 rest p q r s f.2 (subst (λ (op : Op). OfOp xid op rest q s) one g.2)
+            let one : g.0 ≡ f.0 = op_number_apart g.0 f.0 (sym g.2 ∙ f.2) in
+            of_same xid f.0 rest p q r s f.3 (subst (λ (op : Op). OfOp xid op rest q s) one g.3)
       ]
     ]
 
-pub ask_unique : (bytes : List ℕ) (p q : ℕ) (r s : Reason) → IsAskFault bytes p r → IsAskFault bytes q s → Same p r q s
-ask_unique bytes p q r s f g =
-    sequel_same request_header.layout AfterHeader bytes
+pub ask_unique : (profile : Profile) (bytes : List ℕ) (p q : ℕ) (r s : Reason) → IsAskFault profile bytes p r → IsAskFault profile bytes q s → Same p r q s
+ask_unique profile bytes p q r s f g =
+    sequel_same request_header.layout (AfterHeader profile) bytes
     (λ header rest p q r s v e a b.
     let same = header_same b.0 b.1 a.0 a.1 (sym b.2 ∙ a.2) in
-    let one : AfterKind a.0 b.1 rest q s = subst (λ (z : ℤ). AfterKind z b.1 rest q s) same.0 b.3 in
-    let two : AfterKind a.0 a.1 rest q s = subst (λ (z : ℤ). AfterKind a.0 z rest q s) same.1 one in
-    kind_same a.0 a.1 rest p q r s a.3 two)
-    p q r s (sequel f) (sequel g)
+    let one : AfterKind profile a.0 b.1 rest q s = subst (λ (z : ℤ). AfterKind profile z b.1 rest q s) same.0 b.3 in
+    let two : AfterKind profile a.0 a.1 rest q s = subst (λ (z : ℤ). AfterKind profile a.0 z rest q s) same.1 one in
+    kind_same profile a.0 a.1 rest p q r s a.3 two)
+    p q r s (sequel profile f) (sequel profile g)
 
 -- ---- a fault excludes each form
 
-ask_not : (xid : ℤ) (op : Op) (body : List Item) (p : ℕ) (r : Reason) → IsAllowed xid op → IsBody op body → AfterKind xid (op_number op) (bytes_of body) p r → ⊥
-ask_not xid op body p r may v a =
+ask_not : (profile : Profile) (xid : ℤ) (op : Op) (body : List Item) (p : ℕ) (r : Reason) → HasOp profile op → IsAllowed xid op → IsBody op body → AfterKind profile xid (op_number op) (bytes_of body) p r → ⊥
+ask_not profile xid op body p r has may v a =
     elim a [
-      | inl f ↦ f.0 op refl
+      | inl f ↦ f.0 op has refl
       | inr f ↦
-          let one : f.0 ≡ op = sym (op_number_apart op f.0 f.1) in
-          let g : OfOp xid op (bytes_of body) p r = subst (λ (op : Op). OfOp xid op (bytes_of body) p r) one f.2 in
+          let one : f.0 ≡ op = sym (op_number_apart op f.0 f.2) in
+          let g : OfOp xid op (bytes_of body) p r = subst (λ (op : Op). OfOp xid op (bytes_of body) p r) one f.3 in
           elim g [
             | inl h ↦ h.0 may
             | inr h ↦ elim h.1 [
@@ -162,26 +163,26 @@ ask_not xid op body p r may v a =
           ]
     ]
 
-pub form_not : {items : List Item} → IsAsk items → (bytes : List ℕ) → bytes ≡ bytes_of items → (p : ℕ) (r : Reason) → IsAskFault bytes p r → ⊥
-form_not (asks xid op body have may v) bytes e p r fault =
+pub form_not : (profile : Profile) {items : List Item} → IsAsk profile items → (bytes : List ℕ) → bytes ≡ bytes_of items → (p : ℕ) (r : Reason) → IsAskFault profile bytes p r → ⊥
+form_not profile (asks xid op body have has may v) bytes e p r fault =
     let header = header_items xid (op_number op) in
-    sequel_not request_header.layout AfterHeader bytes header (bytes_of body) (header_is xid (op_number op) have) (e ∙ bytes_both header body) p r
+    sequel_not request_header.layout (AfterHeader profile) bytes header (bytes_of body) (header_is xid (op_number op) have) (e ∙ bytes_both header body) p r
     (λ k.
     let same = header_same k.0 k.1 xid (op_number op) (sym k.2) in
-    let one : AfterKind xid k.1 (bytes_of body) p r = subst (λ (z : ℤ). AfterKind z k.1 (bytes_of body) p r) same.0 k.3 in
-    let two : AfterKind xid (op_number op) (bytes_of body) p r = subst (λ (z : ℤ). AfterKind xid z (bytes_of body) p r) same.1 one in
-    ask_not xid op body p r may v two)
-    (sequel fault)
+    let one : AfterKind profile xid k.1 (bytes_of body) p r = subst (λ (z : ℤ). AfterKind profile z k.1 (bytes_of body) p r) same.0 k.3 in
+    let two : AfterKind profile xid (op_number op) (bytes_of body) p r = subst (λ (z : ℤ). AfterKind profile xid z (bytes_of body) p r) same.1 one in
+    ask_not profile xid op body p r has may v two)
+    (sequel profile fault)
 
 -- a request's items are of the form
-pub is_ask : (f : ClientFrame) → IsLater f → IsSent f → IsAsk (frame_items f)
-is_ask (frame.Connect hello flag) later sent = absurd later
-is_ask (frame.Ask xid a) later sent =
+pub is_ask : (profile : Profile) (f : ClientFrame) → IsLater f → IsOfProfile profile f → IsSent f → IsAsk profile (frame_items f)
+is_ask profile (frame.Connect hello flag) later has sent = absurd later
+is_ask profile (frame.Ask xid a) later has sent =
     let h = have_parts (header_items xid (op_number (op_of_ask a))) (body_items a) sent.1 in
-    asks xid (op_of_ask a) (body_items a) h.0 sent.0 (body_is a h.1)
+    asks xid (op_of_ask a) (body_items a) h.0 has sent.0 (body_is a h.1)
 
-pub ask_excludes : (f : ClientFrame) (p : ℕ) (r : Reason) → IsLater f → IsSent f → IsAskFault (payload f) p r → ⊥
-ask_excludes f p r later sent fault = form_not (is_ask f later sent) (payload f) refl p r fault
+pub ask_excludes : (profile : Profile) (f : ClientFrame) (p : ℕ) (r : Reason) → IsLater f → IsOfProfile profile f → IsSent f → IsAskFault profile (payload f) p r → ⊥
+ask_excludes profile f p r later has sent fault = form_not profile (is_ask profile f later has sent) (payload f) refl p r fault
 
 -- ---- frames tell their payloads apart
 
@@ -214,8 +215,8 @@ ask_injective (frame.Ask xid a) (frame.Ask id b) l m s t e =
     ap (λ (z : ℤ). frame.Ask z a) head.0 ∙ ap (λ (c : Ask). frame.Ask id c) (body_apart a b op body.0)
 
 -- what is sent is read
-pub ask_only : (src : List ℕ) (answer : Result ClientFrame ItemFault) → IfOk answer (λ f. IsLater f × IsSent f × (src ≡ payload f)) → IfErr answer (λ e. IsTold (IsAskFault src) e)
-    → (f : ClientFrame) → IsLater f → IsSent f → src ≡ payload f → IsReadAs f answer
+pub ask_only : (profile : Profile) (src : List ℕ) (answer : Result ClientFrame ItemFault) → IfOk answer (λ f. IsLater f × IsOfProfile profile f × IsSent f × (src ≡ payload f)) → IfErr answer (λ e. IsTold (IsAskFault profile src) e)
+    → (f : ClientFrame) → IsLater f → IsOfProfile profile f → IsSent f → src ≡ payload f → IsReadAs f answer
 unfolding IsTold
-ask_only src (Ok g) found fault f first sent e = ask_injective g f found.0 first found.1 sent (sym found.2 ∙ e)
-ask_only src (Err x) found fault f first sent e = elim fault [ inl m ↦ m | inr k ↦ absurd (ask_excludes f k.0 x.reason first sent (subst (λ (b : List ℕ). IsAskFault b k.0 x.reason) e k.1)) ]
+ask_only profile src (Ok g) found fault f later has sent e = ask_injective g f found.0 later found.2 sent (sym found.3 ∙ e)
+ask_only profile src (Err x) found fault f later has sent e = elim fault [ inl m ↦ m | inr k ↦ absurd (ask_excludes profile f k.0 x.reason later has sent (subst (λ (b : List ℕ). IsAskFault profile b k.0 x.reason) e k.1)) ]

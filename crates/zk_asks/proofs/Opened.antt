@@ -15,6 +15,7 @@ use Rattle.zk_records.specs.declared.header.MultiHeader.{MultiHeader}
 use Rattle.zk_records.specs.declared.op.Op.{Op}
 use Rattle.zk_records.specs.declared.op.Op.TheVariants as ops
 use Rattle.zk_records.specs.declared.op.PartOp.{PartOp}
+use Rattle.zk_records.specs.declared.profile.Profile.{Profile}
 use Rattle.zk_records.specs.Codes.{op_number}
 use Rattle.zk_asks.specs.Parts.{part_layout, part_header, end_header, MayStand, marked}
 use Rattle.zk_asks.specs.Rows.{Body, Fields, Parts, body_of}
@@ -278,6 +279,7 @@ of_multi ops.Sync e = absurd cc
 of_multi ops.Ping e = absurd cc
 of_multi ops.GetChildren2 e = absurd cc
 of_multi ops.Multi e = refl
+of_multi ops.Create2 e = absurd cc
 of_multi ops.Auth e = absurd cc
 of_multi ops.SetWatches e = absurd cc
 of_multi ops.CloseSession e = absurd cc
@@ -302,8 +304,8 @@ request_opened xid op bytes rest q r e f =
     ))
     f
 
-part_opened : (xid : ℤ) (bytes rest : List ℕ) (q : ℕ) (r : Reason) → IsRequested xid ops.Multi bytes → Opens bytes (header_items xid (op_number ops.Multi)) rest → BadAt rest q r → IsOpeningFault bytes (8 + q) r
-part_opened xid bytes rest q r requested e b =
+part_opened : (profile : Profile) (xid : ℤ) (bytes rest : List ℕ) (q : ℕ) (r : Reason) → IsRequested profile xid ops.Multi bytes → Opens bytes (header_items xid (op_number ops.Multi)) rest → BadAt rest q r → IsOpeningFault profile bytes (8 + q) r
+part_opened profile xid bytes rest q r requested e b =
     let front = header_items xid (op_number ops.Multi) in
     let parts = b.0 in
     let h = b.1 in
@@ -311,36 +313,36 @@ part_opened xid bytes rest q r requested e b =
     let place : length (bytes_of (front ++ parts)) ≡ 8 + q = omega (arith, ap length (bytes_both front parts), length-append (bytes_of front) (bytes_of parts)) in
     let split : bytes ≡ bytes_of (front ++ (parts ++ marked h)) ++ b.2 = e ∙ ap (λ (x : List ℕ). bytes_of front ++ x) b.6 ∙ sym (append_assoc (bytes_of front) (bytes_of (parts ++ marked h)) b.2) ∙ ap (λ (x : List ℕ). x ++ b.2) (sym (bytes_both front (parts ++ marked h))) in
     let one = of_part bytes b.2 xid parts h requested b.3 b.4 b.5 split in
-    let two : IsOpeningFault bytes (8 + q) BadPart = subst (λ (p : ℕ). IsOpeningFault bytes p BadPart) place one in
-    subst (λ (x : Reason). IsOpeningFault bytes (8 + q) x) (sym b.8) two
+    let two : IsOpeningFault profile bytes (8 + q) BadPart = subst (λ (p : ℕ). IsOpeningFault profile bytes p BadPart) place one in
+    subst (λ (x : Reason). IsOpeningFault profile bytes (8 + q) x) (sym b.8) two
 
-pub opened : {bytes : List ℕ} {p : ℕ} {r : Reason} → IsAskFault bytes p r → IsOpeningFault bytes p r
-opened (in_header bytes p r f) = of_header bytes p r f
-opened (unknown_op bytes rest xid kind have e unknown) = of_type bytes rest xid kind have e unknown
-opened (bad_xid bytes rest xid op have e not) = of_xid bytes rest xid op have e not
-opened (in_body bytes rest xid op q r have e may f) =
+pub opened : (profile : Profile) {bytes : List ℕ} {p : ℕ} {r : Reason} → IsAskFault profile bytes p r → IsOpeningFault profile bytes p r
+opened profile (in_header bytes p r f) = of_header bytes p r f
+opened profile (unknown_op bytes rest xid kind have e unknown) = of_type bytes rest xid kind have e unknown
+opened profile (bad_xid bytes rest xid op have e has not) = of_xid bytes rest xid op have e has not
+opened profile (in_body bytes rest xid op q r have e has may f) =
     elim (body_opened (body_of op) rest q r f) [
-      | inl g ↦ of_item bytes xid op (8 + q) r (rest, have, e, may) (request_opened xid op bytes rest q r e g)
+      | inl g ↦ of_item bytes xid op (8 + q) r (rest, have, e, has, may) (request_opened xid op bytes rest q r e g)
       | inr g ↦
           let multi = of_multi op g.0 in
-          let requested : IsRequested xid ops.Multi bytes = subst (λ (o : Op). IsRequested xid o bytes) multi (rest, have, e, may) in
-          part_opened xid bytes rest q r requested (subst (λ (o : Op). Opens bytes (header_items xid (op_number o)) rest) multi e) g.1
+          let requested : IsRequested profile xid ops.Multi bytes = subst (λ (o : Op). IsRequested profile xid o bytes) multi (rest, have, e, has, may) in
+          part_opened profile xid bytes rest q r requested (subst (λ (o : Op). Opens bytes (header_items xid (op_number o)) rest) multi e) g.1
     ]
-opened (behind_body bytes p t) = of_rest bytes p t
+opened profile (behind_body bytes p t) = of_rest bytes p t
 
-pub cased : {bytes : List ℕ} {p : ℕ} {r : Reason} → IsOpeningFault bytes p r → IsAskFault bytes p r
-cased (of_header bytes p r f) = in_header bytes p r f
-cased (of_type bytes rest xid kind have e unknown) = unknown_op bytes rest xid kind have e unknown
-cased (of_xid bytes rest xid op have e not) = bad_xid bytes rest xid op have e not
-cased (of_item bytes xid op p r q f) =
+pub cased : (profile : Profile) {bytes : List ℕ} {p : ℕ} {r : Reason} → IsOpeningFault profile bytes p r → IsAskFault profile bytes p r
+cased profile (of_header bytes p r f) = in_header bytes p r f
+cased profile (of_type bytes rest xid kind have e unknown) = unknown_op bytes rest xid kind have e unknown
+cased profile (of_xid bytes rest xid op have e has not) = bad_xid bytes rest xid op have e has not
+cased profile (of_item bytes xid op p r q f) =
     let front = header_items xid (op_number op) in
     let d = drop_front (IsHeaded (body_of op)) front q.1 bytes q.0 p r q.2 f in
-    subst (λ (x : ℕ). IsAskFault bytes x r) (sym d.1) (in_body bytes q.0 xid op d.0 r q.1 q.2 q.3 (body_cased (body_of op) q.0 d.0 r d.2))
-cased (of_part bytes rest xid parts h q are have not e) =
+    subst (λ (x : ℕ). IsAskFault profile bytes x r) (sym d.1) (in_body bytes q.0 xid op d.0 r q.1 q.2 q.3 q.4 (body_cased (body_of op) q.0 d.0 r d.2))
+cased profile (of_part bytes rest xid parts h q are have not e) =
     let front = header_items xid (op_number ops.Multi) in
     let split : bytes_of (front ++ (parts ++ marked h)) ++ rest ≡ bytes_of front ++ (bytes_of (parts ++ marked h) ++ rest) = ap (λ (x : List ℕ). x ++ rest) (bytes_both front (parts ++ marked h)) ∙ append_assoc (bytes_of front) (bytes_of (parts ++ marked h)) rest in
     let left : q.0 ≡ bytes_of (parts ++ marked h) ++ rest = append_cancel_left (bytes_of front) q.0 (bytes_of (parts ++ marked h) ++ rest) (sym q.2 ∙ e ∙ split) in
     let inner = bad_cased are h have not q.0 rest left in
     let place : 8 + length (bytes_of parts) ≡ length (bytes_of (front ++ parts)) = omega (arith, ap length (bytes_both front parts), length-append (bytes_of front) (bytes_of parts)) in
-    subst (λ (x : ℕ). IsAskFault bytes x BadPart) place (in_body bytes q.0 xid ops.Multi (length (bytes_of parts)) BadPart q.1 q.2 q.3 inner)
-cased (of_rest bytes p t) = behind_body bytes p t
+    subst (λ (x : ℕ). IsAskFault profile bytes x BadPart) place (in_body bytes q.0 xid ops.Multi (length (bytes_of parts)) BadPart q.1 q.2 q.3 q.4 inner)
+cased profile (of_rest bytes p t) = behind_body bytes p t

@@ -1,4 +1,4 @@
-//! Client payloads of ZooKeeper 3.4.
+//! Client payloads of ZooKeeper 3.4, and `create2` of 3.5.
 #![tactic(auto)]
 
 mod asked;

@@ -4,7 +4,7 @@ ghost use Rattle.zk_jute.specs.Item.{HaveBytes};
 ghost use Rattle.zk_jute.specs.Told.{StandsAt, IsTold, IsToldAt};
 ghost use Rattle.zk_jute.specs.Told.{IsReadAs};
 ghost use Rattle.zk_asks.specs.Rows.{op_of_ask, body_items};
-ghost use Rattle.zk_asks.specs.Frames.{IsSent, IsFirst, IsLater};
+ghost use Rattle.zk_asks.specs.Frames.{IsSent, IsFirst, IsLater, IsOfProfile};
 ghost use Rattle.zk_asks.specs.Frames as frames;
 ghost use Rattle.zk_asks.specs.declared.frame.ClientFrame.{ClientFrame};
 ghost use Rattle.zk_asks.specs.Faults.{IsFirstFault, IsAskFault, IsBodyFault};
@@ -15,7 +15,7 @@ use crate::multi::multi_at;
 use std::alloc::Global;
 use zk_jute::{ItemFault, Reason, Wire, read_flagged};
 use zk_records::{
-    AuthAsk, ConnectRequest, CreateAsk, DeleteAsk, Op, PathAsk, RequestHeader, SetAclAsk,
+    AuthAsk, ConnectRequest, CreateAsk, DeleteAsk, Op, PathAsk, Profile, RequestHeader, SetAclAsk,
     SetDataAsk, SetWatchesAsk, WatchAsk, op_of,
 };
 
@@ -57,18 +57,19 @@ fn body_at(alloc: Global, src: &[u8], place: usize, op: Op) -> Result<(Ask, usiz
             let (parts, end) = multi_at(alloc, src, place)?;
             Ok((Ask::Multi(parts), end))
         }
+        Op::Create2 => read!(CreateAsk, Ask::Create2),
         Op::Auth => read!(AuthAsk, Ask::Auth),
         Op::SetWatches => read!(SetWatchesAsk, Ask::SetWatches),
         Op::CloseSession => Ok((Ask::CloseSession, place)),
     }
 }
 
-fn ask_of(alloc: Global, src: &[u8]) -> Result<ClientFrame, ItemFault>
-    ensures found { IfOk result (λ f. IsLater f × IsSent f × (src.now ≡ frames.payload f)) }
-    ensures fault { IfErr result (λ e. IsTold (IsAskFault src.now) e) }
+fn ask_of(alloc: Global, profile: Profile, src: &[u8]) -> Result<ClientFrame, ItemFault>
+    ensures found { IfOk result (λ f. IsLater f × IsOfProfile profile f × IsSent f × (src.now ≡ frames.payload f)) }
+    ensures fault { IfErr result (λ e. IsTold (IsAskFault profile src.now) e) }
 {
     let (header, place) = RequestHeader::read(alloc, src, 0)?;
-    let Some(op) = op_of(header.kind) else {
+    let Some(op) = op_of(profile, header.kind) else {
         return Err(ItemFault::at(4, Reason::UnknownOp));
     };
     if !allowed(header.xid, op) {
@@ -101,16 +102,16 @@ pub fn read_first(alloc: Global, payload: &[u8]) -> Result<ClientFrame, ItemFaul
 
 /// A later payload of a client: a `RequestHeader`, and the record of its operation
 /// (`FinalRequestProcessor.processRequest`). Refused by the first that applies of: the header's
-/// items; `UnknownOp` at 4, a type that is no operation; `XidOp` at 4, an xid that the operation
+/// items; `UnknownOp` at 4, a type that is no operation of the profile; `XidOp` at 4, an xid that the operation
 /// may not have; the record's items in order, in a multi also `BadPart` at a header that may not
 /// stand there; `Trailing` behind the record. `NoMemory`, at place 0, where memory is refused.
-pub fn read_ask(alloc: Global, payload: &[u8]) -> Result<ClientFrame, ItemFault>
+pub fn read_ask(alloc: Global, profile: Profile, payload: &[u8]) -> Result<ClientFrame, ItemFault>
     // What is read has the form, and is the payload's one value.
-    ensures found { IfOk result (λ f. IsLater f × IsSent f × (payload.now ≡ frames.payload f)) }
+    ensures found { IfOk result (λ f. IsLater f × IsOfProfile profile f × IsSent f × (payload.now ≡ frames.payload f)) }
     // What has the form is read, unless memory is wanted.
-    ensures only { (f : ClientFrame) → IsLater f → IsSent f → payload.now ≡ frames.payload f → IsReadAs f result }
+    ensures only { (f : ClientFrame) → IsLater f → IsOfProfile profile f → IsSent f → payload.now ≡ frames.payload f → IsReadAs f result }
     // Else the first case that applies is told, unless memory is wanted.
-    ensures fault { IfErr result (λ e. IsTold (IsAskFault payload.now) e) }
+    ensures fault { IfErr result (λ e. IsTold (IsAskFault profile payload.now) e) }
 {
-    ask_of(alloc, payload)
+    ask_of(alloc, profile, payload)
 }

@@ -4,8 +4,8 @@ use super::*;
 use std::alloc::Global;
 use std::process::Abort;
 use std::test::Fail;
-use zk_jute::{ItemFault, List, Reason};
-use zk_records::{Op, PartOp};
+use zk_jute::{Blob, ItemFault, List, Reason};
+use zk_records::{Op, PartOp, Profile};
 
 /// A connect request of time-out 30,000 and a password of sixteen zeros, 45 bytes with its boolean.
 const HELLO: &[u8] =
@@ -40,7 +40,7 @@ fn again(
 
 /// What a later payload asks, and its xid.
 fn asked(rt: &impl Abort, alloc: Global, payload: &[u8]) -> Result<(i32, Ask), Fail> {
-    let frame = read_ask(alloc, payload)?;
+    let frame = read_ask(alloc, Profile::V34, payload)?;
     match again(rt, alloc, frame, payload)? {
         ClientFrame::Ask { xid, ask } => Ok((xid, ask)),
         ClientFrame::Connect { .. } => Err("a connect request")?,
@@ -179,7 +179,7 @@ fn refusals(rt: HostRuntime) -> Result<(), Fail> {
         (b"\xff\xff\xff\xff\0\0", 4, Reason::Short),
     ];
     for (payload, place, reason) in rows {
-        refused(&rt, read_ask(alloc, payload), place, reason)?;
+        refused(&rt, read_ask(alloc, Profile::V34, payload), place, reason)?;
     }
     Ok(())
 }
@@ -211,14 +211,50 @@ fn multi_refusals(rt: HostRuntime) -> Result<(), Fail> {
     // A multi within a multi.
     let nested =
         b"\0\0\0\x01\0\0\0\x0e\0\0\0\x0e\0\xff\xff\xff\xff\xff\xff\xff\xff\x01\xff\xff\xff\xff";
-    refused(&rt, read_ask(alloc, nested), 8, Reason::BadPart)?;
+    refused(
+        &rt,
+        read_ask(alloc, Profile::V34, nested),
+        8,
+        Reason::BadPart,
+    )?;
     // A header that can't be one of a part is still read to its end.
     let flag = b"\0\0\0\x01\0\0\0\x0e\0\0\0\x0e\x02";
-    refused(&rt, read_ask(alloc, flag), 12, Reason::BadBool)?;
+    refused(
+        &rt,
+        read_ask(alloc, Profile::V34, flag),
+        12,
+        Reason::BadBool,
+    )?;
     let cut = b"\0\0\0\x01\0\0\0\x0e\0\0\0\x0e\0\xff";
-    refused(&rt, read_ask(alloc, cut), 13, Reason::Short)?;
+    refused(&rt, read_ask(alloc, Profile::V34, cut), 13, Reason::Short)?;
     let record = b"\0\0\0\x01\0\0\0\x0e\0\0\0\x0d\0\xff\xff\xff\xff\0\0\0\x02/a\0\0";
-    refused(&rt, read_ask(alloc, record), 23, Reason::Short)
+    refused(
+        &rt,
+        read_ask(alloc, Profile::V34, record),
+        23,
+        Reason::Short,
+    )
+}
+
+/// A create2 is read under 3.5 alone, and never as a part.
+#[test]
+fn create2(rt: HostRuntime) -> Result<(), Fail> {
+    let alloc = rt.alloc();
+    let payload =
+        b"\0\0\0\x01\0\0\0\x0f\0\0\0\x02/a\xff\xff\xff\xff\0\0\0\x01\0\0\0\x1f\0\0\0\x05world\0\0\0\x06anyone\0\0\0\0";
+    let frame = read_ask(alloc, Profile::V35, payload)?;
+    let ClientFrame::Ask { xid, ask } = again(&rt, alloc, frame, payload)? else {
+        return Err("a connect request")?;
+    };
+    assert_eq!(rt; (xid, ask.op()), (1, Op::Create2));
+    let Ask::Create2(body) = ask else {
+        return Err("no create2")?;
+    };
+    assert!(rt; matches!(&body.blob, Blob::Null));
+    let older = read_ask(alloc, Profile::V34, payload);
+    refused(&rt, older, 4, Reason::UnknownOp)?;
+    let part = b"\0\0\0\x01\0\0\0\x0e\0\0\0\x0f\0\xff\xff\xff\xff";
+    refused(&rt, read_ask(alloc, Profile::V35, part), 8, Reason::BadPart)
 }
 
 /// A request for an operation, and for the parts of its multi.

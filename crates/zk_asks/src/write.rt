@@ -73,6 +73,7 @@ macro_rules! match_ask {
                 let $body = (parts, &end_header());
                 $each
             }
+            Ask::Create2($body) => $each,
             Ask::Auth($body) => $each,
             Ask::SetWatches($body) => $each,
             Ask::Ping | Ask::CloseSession => {

@@ -14,4 +14,4 @@ pub returns-clause-first_read : goal.returns-clause-first_read
 returns-clause-first_read c = hello_not
 
 pub returns-clause-ask_read : goal.returns-clause-ask_read
-returns-clause-ask_read c = λ items place reason form. form_not form (bytes_of items) refl place reason
+returns-clause-ask_read c = λ profile items place reason form. form_not profile form (bytes_of items) refl place reason

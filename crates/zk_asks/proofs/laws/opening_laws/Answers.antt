@@ -7,4 +7,4 @@ pub returns-clause-first : goal.returns-clause-first
 returns-clause-first c = λ bytes place reason. (flagged_opened connect_request.layout, flagged_cased connect_request.layout)
 
 pub returns-clause-ask : goal.returns-clause-ask
-returns-clause-ask c = λ bytes place reason. (opened, cased)
+returns-clause-ask c = λ profile bytes place reason. (opened profile, cased profile)

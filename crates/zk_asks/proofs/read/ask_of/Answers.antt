@@ -4,7 +4,7 @@ use Rattle.std.specs.Int.{w32}
 use Rattle.std.proofs.lemmas.Int.{to_z-of_z}
 use Rattle.std.proofs.lemmas.Result.{err_from_is_err_and}
 use Rattle.zk_records.specs.declared.op.Op.{Op}
-use Rattle.zk_records.specs.Codes.{op_number}
+use Rattle.zk_records.specs.Codes.{op_number, HasOp}
 use Rattle.zk_asks.specs.Codes.{IsAllowed}
 use Rattle.zk_asks.proofs.Asks.{refused_header, refused_op, refused_xid, refused_body, refused_rest}
 use Rattle.zk_asks.proofs.read.ask_of.Goals as goal
@@ -12,7 +12,7 @@ use Rattle.zk_asks.proofs.read.ask_of.Goals as goal
 pub returns-in_err-header-clause-fault : goal.returns-in_err-header-clause-fault
 returns-in_err-header-clause-fault c =
     let p = err_from_is_err_and c.from_residual.result c.from_residual.ensures.1 in
-    rw (p.1, p.2) (refused_header c.args.src.now c.in_err-header.field-0.0 c.in_err-header.ensures.fault)
+    rw (p.1, p.2) (refused_header c.args.profile c.args.src.now c.in_err-header.field-0.0 c.in_err-header.ensures.fault)
 
 pub returns-in_default-clause-fault : goal.returns-in_default-clause-fault
 returns-in_default-clause-fault c =
@@ -20,7 +20,7 @@ returns-in_default-clause-fault c =
     let g = c.in_default.ensures in
     let h = c.in_ok-header.header in
     let k = to_z-of_z w32 h.kind f.0.1.1.0 in
-    rw c.at.ensures (refused_op c.args.src.now h.xid h.kind c.in_ok-header.place f.0 f.1 (λ op e. g op (k ∙ e)))
+    rw c.at.ensures (refused_op c.args.profile c.args.src.now h.xid h.kind c.in_ok-header.place f.0 f.1 (λ op has e. g op has (k ∙ e)))
 
 pub returns-then-not-allowed-clause-fault : goal.returns-then-not-allowed-clause-fault
 returns-then-not-allowed-clause-fault c =
@@ -30,7 +30,7 @@ returns-then-not-allowed-clause-fault c =
     let x = to_z-of_z w32 h.xid f.0.1.0 in
     let t = c.if-not-allowed.true in
     let a = c.allowed.ensures in
-    rw c.at-then-not-allowed.ensures (refused_xid c.args.src.now h.xid h.kind c.in_ok-header.place f.0 f.1 c.in-Some.op (sym k ∙ c.in-Some.ensures)
+    rw c.at-then-not-allowed.ensures (refused_xid c.args.profile c.args.src.now h.xid h.kind c.in_ok-header.place f.0 f.1 c.in-Some.op c.in-Some.ensures.0 (sym k ∙ c.in-Some.ensures.1)
     (λ may. let b = a.1 (subst (λ (z : ℤ). IsAllowed z c.in-Some.op) (sym x) may) in let e : ◌≡◌ {A = Bool} true false = sym b ∙ t in absurd cc))
 
 pub returns-in_err-ask-clause-fault : goal.returns-in_err-ask-clause-fault
@@ -43,7 +43,7 @@ returns-in_err-ask-clause-fault c =
     let t = c.if-not-allowed.false in
     let a = c.allowed.ensures in
     let may = subst (λ (z : ℤ). IsAllowed z c.in-Some.op) x (a.0 t) in
-    rw (p.1, p.2) (refused_body c.args.src.now h.xid h.kind c.in_ok-header.place f.0 f.1 c.in-Some.op c.in_err-ask.field-0.0 (sym k ∙ c.in-Some.ensures) may c.in_err-ask.ensures.fault)
+    rw (p.1, p.2) (refused_body c.args.profile c.args.src.now h.xid h.kind c.in_ok-header.place f.0 f.1 c.in-Some.op c.in_err-ask.field-0.0 c.in-Some.ensures.0 (sym k ∙ c.in-Some.ensures.1) may c.in_err-ask.ensures.fault)
 
 pub returns-then-place-src-clause-fault : goal.returns-then-place-src-clause-fault
 returns-then-place-src-clause-fault c =
@@ -55,5 +55,5 @@ returns-then-place-src-clause-fault c =
     let t = c.if-not-allowed.false in
     let a = c.allowed.ensures in
     let may = subst (λ (z : ℤ). IsAllowed z c.in-Some.op) x (a.0 t) in
-    let is = sym k ∙ c.in-Some.ensures ∙ ap op_number (sym g.0) in
-    rw c.at-then-place-src.ensures (refused_rest c.args.src.now h.xid h.kind c.in_ok-header.place f.0 f.1 c.in_ok-ask.ask c.in_ok-ask.place is (subst (λ (op : Op). IsAllowed h.xid op) (sym g.0) may) g.1 g.2 c.if-place-src.true)
+    let is = sym k ∙ c.in-Some.ensures.1 ∙ ap op_number (sym g.0) in
+    rw c.at-then-place-src.ensures (refused_rest c.args.profile c.args.src.now h.xid h.kind c.in_ok-header.place f.0 f.1 c.in_ok-ask.ask c.in_ok-ask.place (subst (λ (op : Op). HasOp c.args.profile op) (sym g.0) c.in-Some.ensures.0) is (subst (λ (op : Op). IsAllowed h.xid op) (sym g.0) may) g.1 g.2 c.if-place-src.true)
