@@ -9,11 +9,12 @@ use Rattle.zk_jute.proofs.Layouts.{bytes_only}
 use Rattle.zk_records.specs.declared.body.DataBody.{DataBody}
 use Rattle.zk_records.specs.declared.body.AclBody.{AclBody}
 use Rattle.zk_records.specs.declared.body.ChildrenBody.{ChildrenBody}
+use Rattle.zk_records.specs.declared.body.CreateBody.{CreateBody}
 use Rattle.zk_records.specs.declared.op.Op.{Op}
 use Rattle.zk_records.specs.declared.op.Op.TheVariants as ops
 use Rattle.zk_records.specs.declared.op.PartOp.{PartOp}
 use Rattle.zk_records.specs.declared.stat.Stat.{Stat}
-use Rattle.zk_records.specs.Records.{stat, data_body, acl_body, children_body}
+use Rattle.zk_records.specs.Records.{stat, data_body, acl_body, children_body, create_body}
 use Rattle.zk_answers.specs.declared.frame.Body.{Body}
 use Rattle.zk_answers.specs.declared.frame.Body.TheVariants as body
 use Rattle.zk_answers.specs.declared.frame.PartDone.{PartDone}
@@ -34,6 +35,7 @@ body_is (body.Sync path) parts fits have = (ustring.unfolds path, have)
 body_is body.Ping parts fits have = (refl, tt)
 body_is (body.GetChildren2 names s) parts fits have = (children_body.unfolds (record { names = names; stat = s }), have)
 body_is (body.Multi dones) parts fits have = (dones, fits, have, refl)
+body_is (body.Create2 path s) parts fits have = (create_body.unfolds (record { path = path; stat = s }), have)
 body_is body.Auth parts fits have = (refl, tt)
 body_is body.SetWatches parts fits have = (refl, tt)
 body_is body.CloseSession parts fits have = (refl, tt)
@@ -53,6 +55,7 @@ Content ops.Sync = Text
 Content ops.Ping = Unit {0}
 Content ops.GetChildren2 = ChildrenBody
 Content ops.Multi = List PartDone
+Content ops.Create2 = CreateBody
 Content ops.Auth = Unit {0}
 Content ops.SetWatches = Unit {0}
 Content ops.CloseSession = Unit {0}
@@ -70,6 +73,7 @@ build ops.Sync path = body.Sync path
 build ops.Ping _ = body.Ping
 build ops.GetChildren2 b = body.GetChildren2 b.names b.stat
 build ops.Multi dones = body.Multi dones
+build ops.Create2 b = body.Create2 b.path b.stat
 build ops.Auth _ = body.Auth
 build ops.SetWatches _ = body.SetWatches
 build ops.CloseSession _ = body.CloseSession
@@ -90,6 +94,7 @@ built (body.Sync path) = (path, refl)
 built body.Ping = (tt, refl)
 built (body.GetChildren2 names s) = (record { names = names; stat = s }, refl)
 built (body.Multi dones) = (dones, refl)
+built (body.Create2 path s) = (record { path = path; stat = s }, refl)
 built body.Auth = (tt, refl)
 built body.SetWatches = (tt, refl)
 built body.CloseSession = (tt, refl)
@@ -120,6 +125,7 @@ content_same parts ops.Sync x y a = wired_same ustring x y a.2 a.3 a.4
 content_same parts ops.Ping x y a = refl
 content_same parts ops.GetChildren2 x y a = wired_same children_body x y a.2 a.3 a.4
 content_same parts ops.Multi x y a = dones_same parts x y a.0 a.1 a.2 a.3 a.4
+content_same parts ops.Create2 x y a = wired_same create_body x y a.2 a.3 a.4
 content_same parts ops.Auth x y a = refl
 content_same parts ops.SetWatches x y a = refl
 content_same parts ops.CloseSession x y a = refl

@@ -30,6 +30,7 @@ no_parts (ask.Sync body) not = refl
 no_parts ask.Ping not = refl
 no_parts (ask.GetChildren2 body) not = refl
 no_parts (ask.Multi ps) not = absurd (not refl)
+no_parts (ask.Create2 body) not = refl
 no_parts (ask.Auth body) not = refl
 no_parts (ask.SetWatches body) not = refl
 no_parts ask.CloseSession not = refl

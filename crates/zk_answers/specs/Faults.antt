@@ -11,7 +11,7 @@ use Rattle.zk_records.specs.declared.header.ReplyHeader.{ReplyHeader}
 use Rattle.zk_records.specs.declared.op.Op.{Op}
 use Rattle.zk_records.specs.declared.op.Op.TheVariants as ops
 use Rattle.zk_records.specs.declared.op.PartOp.{PartOp}
-use Rattle.zk_records.specs.Records.{connect_response, reply_header, watcher_event, stat, data_body, acl_body, children_body}
+use Rattle.zk_records.specs.Records.{connect_response, reply_header, watcher_event, stat, data_body, acl_body, children_body, create_body}
 use Rattle.zk_answers.specs.declared.frame.PartDone.{PartDone}
 use Rattle.zk_answers.specs.Results.{multi_items, AnswerAll, IsDoneFault}
 
@@ -64,6 +64,7 @@ body_shape ops.Sync parts = Fields ustring.layout
 body_shape ops.Ping parts = Fields End
 body_shape ops.GetChildren2 parts = Fields children_body.layout
 body_shape ops.Multi parts = Results parts
+body_shape ops.Create2 parts = Fields create_body.layout
 body_shape ops.Auth parts = Fields End
 body_shape ops.SetWatches parts = Fields End
 body_shape ops.CloseSession parts = Fields End

@@ -7,7 +7,7 @@ use Rattle.zk_records.specs.declared.header.ReplyHeader.{ReplyHeader}
 use Rattle.zk_records.specs.declared.op.Op.{Op}
 use Rattle.zk_records.specs.declared.op.Op.TheVariants as ops
 use Rattle.zk_records.specs.declared.op.PartOp.{PartOp}
-use Rattle.zk_records.specs.Records.{connect_response, reply_header, watcher_event, stat, data_body, acl_body, children_body}
+use Rattle.zk_records.specs.Records.{connect_response, reply_header, watcher_event, stat, data_body, acl_body, children_body, create_body}
 use Rattle.zk_answers.specs.declared.frame.Body.{Body}
 use Rattle.zk_answers.specs.declared.frame.Body.TheVariants as body
 use Rattle.zk_answers.specs.declared.frame.Outcome.{Outcome}
@@ -32,6 +32,7 @@ op_of_body (body.Sync path) = ops.Sync
 op_of_body body.Ping = ops.Ping
 op_of_body (body.GetChildren2 names s) = ops.GetChildren2
 op_of_body (body.Multi dones) = ops.Multi
+op_of_body (body.Create2 path s) = ops.Create2
 op_of_body body.Auth = ops.Auth
 op_of_body body.SetWatches = ops.SetWatches
 op_of_body body.CloseSession = ops.CloseSession
@@ -49,6 +50,7 @@ body_items (body.Sync path) = ustring.items path
 body_items body.Ping = []
 body_items (body.GetChildren2 names s) = children_body.items (record { names = names; stat = s })
 body_items (body.Multi dones) = multi_items dones
+body_items (body.Create2 path s) = create_body.items (record { path = path; stat = s })
 body_items body.Auth = []
 body_items body.SetWatches = []
 body_items body.CloseSession = []
@@ -128,21 +130,8 @@ IsEvent (frame.Event zxid event) = Unit {0}
 
 -- a multi has its parts' results
 abbrev pub BodyFits : List PartOp → Body → Type 0
-BodyFits parts (body.Create path) = Unit {0}
-BodyFits parts body.Delete = Unit {0}
-BodyFits parts (body.Exists s) = Unit {0}
-BodyFits parts (body.GetData blob s) = Unit {0}
-BodyFits parts (body.SetData s) = Unit {0}
-BodyFits parts (body.GetAcl acl s) = Unit {0}
-BodyFits parts (body.SetAcl s) = Unit {0}
-BodyFits parts (body.GetChildren names) = Unit {0}
-BodyFits parts (body.Sync path) = Unit {0}
-BodyFits parts body.Ping = Unit {0}
-BodyFits parts (body.GetChildren2 names s) = Unit {0}
 BodyFits parts (body.Multi dones) = AnswerAll parts dones
-BodyFits parts body.Auth = Unit {0}
-BodyFits parts body.SetWatches = Unit {0}
-BodyFits parts body.CloseSession = Unit {0}
+BodyFits parts b = Unit {0}
 
 abbrev pub OutcomeFits : Op → List PartOp → Outcome → Type 0
 OutcomeFits op parts (outcome.Done b) = (op_of_body b ≡ op) × BodyFits parts b

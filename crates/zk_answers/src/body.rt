@@ -10,7 +10,7 @@ use crate::multi::results_at;
 use std::alloc::Global;
 use zk_asks::Asked;
 use zk_jute::{ItemFault, List, Text, Wire};
-use zk_records::{AclBody, ChildrenBody, DataBody, Op, Stat};
+use zk_records::{AclBody, ChildrenBody, CreateBody, DataBody, Op, Stat};
 
 /// What is read, as a body.
 macro_rules! body {
@@ -54,6 +54,9 @@ fn body_at<F: Asked>(
             body!(ChildrenBody::read(alloc, src, place), ChildrenBody { names, stat } => Body::GetChildren2 { names, stat })
         }
         Op::Multi => body!(results_at(alloc, src, place, form), dones => Body::Multi(dones)),
+        Op::Create2 => {
+            body!(CreateBody::read(alloc, src, place), CreateBody { path, stat } => Body::Create2 { path, stat })
+        }
         Op::Auth => Ok((Body::Auth, place)),
         Op::SetWatches => Ok((Body::SetWatches, place)),
         Op::CloseSession => Ok((Body::CloseSession, place)),

@@ -21,6 +21,10 @@ const STAT: &[u8] =
 const DATA: &[u8] =
     b"\0\0\0\x01\0\0\0\0\0\0\0\x05\0\0\0\0\xff\xff\xff\xff\0\0\0\0\0\0\0\x04\0\0\0\0\0\0\0\x04\0\0\0\0\0\0\x03\xe8\0\0\0\0\0\0\x03\xe8\0\0\0\0\0\0\0\0\0\0\0\0\0\0\0\0\0\0\0\0\0\0\0\x03\0\0\0\0\0\0\0\0\0\0\0\x04";
 
+/// A reply's header with err 0, a path and a Stat.
+const CREATED: &[u8] =
+    b"\0\0\0\x01\0\0\0\0\0\0\0\x06\0\0\0\0\0\0\0\x02/a\0\0\0\0\0\0\0\x04\0\0\0\0\0\0\0\x04\0\0\0\0\0\0\x03\xe8\0\0\0\0\0\0\x03\xe8\0\0\0\0\0\0\0\0\0\0\0\0\0\0\0\0\0\0\0\0\0\0\0\x03\0\0\0\0\0\0\0\0\0\0\0\x04";
+
 /// A node's data has changed.
 const EVENT: &[u8] =
     b"\xff\xff\xff\xff\xff\xff\xff\xff\xff\xff\xff\xff\0\0\0\0\0\0\0\x03\0\0\0\x03\0\0\0\x02/a";
@@ -294,6 +298,27 @@ fn stats(rt: HostRuntime) -> Result<(), Fail> {
     assert!(rt; matches!(&allowed, Outcome::Done(Body::SetAcl { .. })));
     refused(&rt, read(alloc, &delete, STAT), 16, Reason::Trailing)?;
     refused(&rt, read(alloc, &create, STAT), 20, Reason::Trailing)
+}
+
+/// A create2 is answered with a Stat behind the path, a create with the path alone.
+#[test]
+fn created(rt: HostRuntime) -> Result<(), Fail> {
+    let alloc = rt.alloc();
+    let record = || CreateAsk {
+        path: Text::Null,
+        blob: Blob::Null,
+        acl: List::Null,
+        flags: 0,
+    };
+    let create = left(alloc, Ask::Create(record()))?;
+    let create2 = left(alloc, Ask::Create2(record()))?;
+    let got = answered(&rt, alloc, &create2, &create, CREATED)?;
+    assert!(rt;
+        matches!(&got, Outcome::Done(Body::Create2 { path: Text::Full(_), stat }) if stat.data_length == 3)
+    );
+    refused(&rt, read(alloc, &create, CREATED), 22, Reason::Trailing)?;
+    let path = &CREATED[..22];
+    refused(&rt, read(alloc, &create2, path), 22, Reason::Short)
 }
 
 #[test]

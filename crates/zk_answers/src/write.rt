@@ -82,6 +82,7 @@ impl Spell for Body {
             Body::Sync { path } => path.put(out),
             Body::GetChildren2 { names, stat } => (names, stat).put(out),
             Body::Multi(dones) => (dones, &end_header()).put(out),
+            Body::Create2 { path, stat } => (path, stat).put(out),
             Body::Delete | Body::Ping | Body::Auth | Body::SetWatches | Body::CloseSession => {
                 Ok(())
             }
@@ -100,6 +101,7 @@ impl Spell for Body {
             Body::Sync { path } => path.size_within(limit),
             Body::GetChildren2 { names, stat } => (names, stat).size_within(limit),
             Body::Multi(dones) => (dones, &end_header()).size_within(limit),
+            Body::Create2 { path, stat } => (path, stat).size_within(limit),
             Body::Delete | Body::Ping | Body::Auth | Body::SetWatches | Body::CloseSession => {
                 Some(0)
             }
