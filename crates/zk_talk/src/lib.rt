@@ -23,6 +23,8 @@ pub use speaker::Speaker;
 pub use talk::{Taken, Talk};
 
 #[cfg(test)]
+mod profile_tests;
+#[cfg(test)]
 mod refusal_tests;
 #[cfg(test)]
 mod reply_tests;
