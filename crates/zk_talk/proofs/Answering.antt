@@ -72,7 +72,7 @@ module _ (t : TalkState) (piece : List ℕ) (s s' : Stream) (count : s.count ≡
       (client_stopped t piece s.frames.bytes used reason a))
 
   pub client_makes : (used : ℕ) (f : ClientFrame) (w : Lanes) → IsAdvance t.limits.client t.client_size t.client_held piece (Whole used) s.frames.bytes → t.waiting.max ≡ t.limits.waiting → IsRemembered f t.waiting w →
-      ((m : ℕ) (v : Conversation) → Describes s.count m t.waiting v → IsNextOf t.waiting (drop 4 s.frames.bytes) v f) →
+      ((m : ℕ) (v : Conversation) → Describes s.count m t.waiting v → IsNextOf t.limits.profile t.waiting (drop 4 s.frames.bytes) v f) →
       s' ≡ record { frames = record { limit = s.frames.limit; bytes = [] }; count = s.count + 1; size = s.size + used } →
       GoesOn t Client (take used piece) (FromClient f ∷ []) (record t { client_held = s'.frames.bytes; client_frames = s'.count; client_size = s'.size; waiting = w })
   client_makes used f w a max r judged q =
@@ -85,7 +85,7 @@ module _ (t : TalkState) (piece : List ℕ) (s s' : Stream) (count : s.count ≡
       w ≡ t.waiting →
       (e.reason ≡ NoMemory → (held part : List ℕ) → s.frames.bytes ≡ held ++ part → length part ≡ used → s' ≡ record { frames = record { limit = s.frames.limit; bytes = held }; count = s.count; size = s.size }) →
       ((e.reason ≡ NoMemory → ⊥) → s' ≡ s) →
-      ((e.reason ≡ NoMemory → ⊥) → (limits : Limits) (m : ℕ) (v : Conversation) → limits.waiting ≡ t.waiting.max → Describes s.count m t.waiting v → Tells (IsClientFault limits v (drop 4 s.frames.bytes)) e) →
+      ((e.reason ≡ NoMemory → ⊥) → (limits : Limits) (m : ℕ) (v : Conversation) → limits.waiting ≡ t.waiting.max → limits.profile ≡ t.limits.profile → Describes s.count m t.waiting v → Tells (IsClientFault limits v (drop 4 s.frames.bytes)) e) →
       Fails t Client piece result (record t { client_held = s'.frames.bytes; client_frames = s'.count; client_size = s'.size; waiting = w; fault = kept })
   client_fails w kept used e result a max wanting refused same_w back stays fault = go (lacking e.reason)
     where
@@ -105,7 +105,7 @@ module _ (t : TalkState) (piece : List ℕ) (s s' : Stream) (count : s.count ≡
           let holds = r.1 ∙ ap Some same in
           subst (λ z. Fails t Client piece z (record t { client_held = s'.frames.bytes; client_frames = s'.count; client_size = s'.size; waiting = w; fault = kept })) (sym same)
           (subst (Fails t Client piece (fault_of Client t.client_frames (t.client_size + used) e.place e.reason)) (λ i. record t { client_held = (sym q i).frames.bytes; client_frames = sym count' i; client_size = sym size' i; waiting = sym same_w i; fault = sym holds i })
-          (client_judged t piece s.frames.bytes used e a max (λ limits m v l d. fault n limits m v l (subst (λ z. Describes z m t.waiting v) (sym count) d))))
+          (client_judged t piece s.frames.bytes used e a max (λ limits m v l o d. fault n limits m v l o (subst (λ z. Describes z m t.waiting v) (sym count) d))))
 
 module _ (t : TalkState) (piece : List ℕ) (s s' : Stream) (count : s.count ≡ t.server_frames) (size : s.size ≡ t.server_size) where
   pub server_goes : IsAdvance t.limits.server t.server_size t.server_held piece Within s.frames.bytes → GoesOn t Server (take (length piece) piece) [] (record t { server_held = s.frames.bytes; server_frames = s.count; server_size = s.size + length piece })

@@ -6,7 +6,8 @@ use Rattle.zk_jute.specs.Item.{Fit}
 use Rattle.zk_asks.specs.declared.frame.Ask.{Ask as Asked}
 use Rattle.zk_asks.specs.declared.frame.ClientFrame.{ClientFrame}
 use Rattle.zk_asks.specs.declared.frame.ClientFrame.TheVariants.{Connect, Ask}
-use Rattle.zk_asks.specs.Frames.{IsFirst, IsLater, MaySend, ops_of_ask}
+use Rattle.zk_records.specs.declared.profile.Profile.{Profile}
+use Rattle.zk_asks.specs.Frames.{IsFirst, IsLater, IsOfProfile, ops_of_ask}
 use Rattle.zk_asks.specs.Rows.{op_of_ask}
 use Rattle.zk_asks.specs.Frames as asks
 use Rattle.zk_answers.specs.declared.frame.Reply.{Reply}
@@ -24,7 +25,7 @@ use Rattle.zk_talk.specs.Payloads.{client_payload, server_payload}
 use Rattle.zk_talk.specs.Splits.{EachAfter}
 use Rattle.zk_talk.specs.Conversation.{Conversation, IsConversation, asks_on, replies_on, ClientMay, ServerMay, IsAnswered}
 use Rattle.zk_talk.specs.Fault.{IsNext}
-use Rattle.zk_talk.specs.Said.{SpeakerState, Says, AreSaid, MaySay, IsSayFault, IsSaidClient, IsSaidServer, IsClientRefusal, IsServerRefusal, conversation_of}
+use Rattle.zk_talk.specs.Said.{SpeakerState, Says, AreSaid, MayAsk, MaySay, IsSayFault, IsSaidClient, IsSaidServer, IsClientRefusal, IsServerRefusal, conversation_of}
 use Rattle.zk_talk.specs.Said.IsClientRefusal.{not_allowed, too_long, queue_full, second_connect, before_connect}
 use Rattle.zk_talk.specs.Said.IsServerRefusal.{no_connect, long_connected, long_event, event_xid, unasked, xid_order, misfit, long_reply, second_connected, before_connected}
 use Rattle.zk_talk.proofs.Lists.{EachAfter-nil}
@@ -35,29 +36,30 @@ use Rattle.zk_talk.proofs.FaultOnce.{next_once, next_exists}
 use Rattle.zk_talk.proofs.Speaking.{one_client, one_server}
 
 -- ---- Messages that were said are a conversation.
-one_conversation : (limits : Limits) (M : List Message) (m : Message) → IsConversation (conversation_of M) → MaySay limits M m → IsConversation (conversation_of (M ++ m ∷ []))
-one_conversation limits M (FromClient f) conv may = subst IsConversation (sym (one_client M f)) (conversation_client (conversation_of M) f conv may.0)
-one_conversation limits M (FromServer s) conv may = subst IsConversation (sym (one_server M s)) (conversation_server (conversation_of M) s conv may.0)
+one_conversation : (limits : Limits) (M : List Message) (m : Message) → IsConversation limits.profile (conversation_of M) → MaySay limits M m → IsConversation limits.profile (conversation_of (M ++ m ∷ []))
+one_conversation limits M (FromClient f) conv may = subst (IsConversation limits.profile) (sym (one_client M f)) (conversation_client limits.profile (conversation_of M) f conv may.0)
+one_conversation limits M (FromServer s) conv may = subst (IsConversation limits.profile) (sym (one_server M s)) (conversation_server limits.profile (conversation_of M) s conv may.0)
 
-conversation_from : (limits : Limits) (before more : List Message) → IsConversation (conversation_of before) → ((a : List Message) (x : Message) (b : List Message) → more ≡ a ++ x ∷ b → MaySay limits (before ++ a) x) → IsConversation (conversation_of (before ++ more))
-conversation_from limits before [] conv may = subst (λ z. IsConversation (conversation_of z)) (sym (append-nil before)) conv
+conversation_from : (limits : Limits) (before more : List Message) → IsConversation limits.profile (conversation_of before) → ((a : List Message) (x : Message) (b : List Message) → more ≡ a ++ x ∷ b → MaySay limits (before ++ a) x) → IsConversation limits.profile (conversation_of (before ++ more))
+conversation_from limits before [] conv may = subst (λ z. IsConversation limits.profile (conversation_of z)) (sym (append-nil before)) conv
 conversation_from limits before (m ∷ more) conv may =
     let here = subst (λ x. MaySay limits x m) (append-nil before) (may [] m more refl) in
     let next = one_conversation limits before m conv here in
-    subst (λ z. IsConversation (conversation_of z)) (append_assoc before (m ∷ []) more)
+    subst (λ z. IsConversation limits.profile (conversation_of z)) (append_assoc before (m ∷ []) more)
     (conversation_from limits (before ++ m ∷ []) more next (λ a x b e. subst (λ y. MaySay limits y x) (sym (append_assoc before (m ∷ []) a)) (may (m ∷ a) x b (ap (λ y. m ∷ y) e))))
 
-pub are_conversation : (limits : Limits) (M : List Message) → AreSaid limits M → IsConversation (conversation_of M)
-are_conversation limits M are = conversation_from limits [] M (record { client = EachAfter-nil ClientMay; server = EachAfter-nil (ServerMay []) }) are
+pub are_conversation : (limits : Limits) (M : List Message) → AreSaid limits M → IsConversation limits.profile (conversation_of M)
+are_conversation limits M are = conversation_from limits [] M (record { client = EachAfter-nil (ClientMay limits.profile); server = EachAfter-nil (ServerMay []) }) are
 
 -- ---- What may be said has no refusal.
 first_or_later : (f : ClientFrame) → IsFirst f → IsLater f → ⊥
 first_or_later (Connect t g) a b = b
 first_or_later (Ask xid ask) a b = a
 
-sent_client : (C : List ClientFrame) (f : ClientFrame) → ClientMay C f → asks.IsSent f
-sent_client [] f m = m.1
-sent_client (c ∷ cs) f m = m.1
+sent_client : (profile : Profile) (C : List ClientFrame) (f : ClientFrame) → ClientMay profile C f → asks.IsSent f × IsOfProfile profile f
+sent_client profile [] (Connect t g) m = (m.1, tt)
+sent_client profile [] (Ask xid ask) m = absurd m.0
+sent_client profile (c ∷ cs) f m = (m.1, m.2)
 
 sent_server : (C : List ClientFrame) (S : List ServerFrame) (s : ServerFrame) → ServerMay C S s → answers.IsSent s
 sent_server C [] (Connected t g) m = m.0
@@ -83,16 +85,16 @@ answered_next v r w = record { asked = w.asked; after = w.after; stands = w.stan
 
 fit_client : (limits : Limits) (v : Conversation) (f : ClientFrame) → IsSaidClient limits v f → Fit limits.client (asks.frame_items f)
 unfolding client_payload
-fit_client limits v f may = ((sent_client v.client f may.0).1, may.1)
+fit_client limits v f may = ((sent_client limits.profile v.client f may.0).0.1, may.1)
 
 fit_server : (limits : Limits) (v : Conversation) (s : ServerFrame) → IsSaidServer limits v s → Fit limits.server (answers.frame_items s)
 unfolding server_payload
 fit_server limits v s may = ((sent_server v.client v.server s may.0).2, may.1)
 
 client_apart : (limits : Limits) (v : Conversation) (f : ClientFrame) (e : SayFault) → EachAfter (ServerMay v.client) v.server → IsSaidClient limits v f → IsClientRefusal limits v f e → ⊥
-client_apart limits v f e each may (second_connect n first is) = first_or_later f first (may_later v.client f n may.0).0
-client_apart limits v f e each may (before_connect n later is) = first_or_later f (may_first v.client f n may.0).0 later
-client_apart limits v f e each may (not_allowed n later denied is) = denied (sent_client v.client f may.0).0
+client_apart limits v f e each may (second_connect n first is) = first_or_later f first (may_later limits.profile v.client f n may.0).0
+client_apart limits v f e each may (before_connect n later is) = first_or_later f (may_first limits.profile v.client f n may.0).0 later
+client_apart limits v f e each may (not_allowed n later denied is) = (let t = sent_client limits.profile v.client f may.0 in denied (t.0.0, t.1))
 client_apart limits v f e each may (too_long a b sent denied is) = denied (fit_client limits v f may)
 client_apart limits v f e each may (queue_full n later sent fit over is) = omega (arith, over, may.2, load_ask v f each)
 
@@ -115,18 +117,18 @@ server_apart limits v s e may (misfit n r q x ask nx denied is) =
     denied (subst (λ z. Fits (op_of_ask z) (ops_of_ask z) r) (sym same) w.fits)
 server_apart limits v s e may (long_reply n r q x ask nx fits denied is) = denied (fit_server limits v s may)
 
-apart : (limits : Limits) (before : List Message) (m : Message) (e : SayFault) → IsConversation (conversation_of before) → MaySay limits before m → IsSayFault limits before m e → ⊥
-apart limits before (FromClient f) e conv may is = client_apart limits (conversation_of before) f e conv.server may is
-apart limits before (FromServer s) e conv may is = server_apart limits (conversation_of before) s e may is
+apart : (limits : Limits) (before : List Message) (m : Message) (e : SayFault) → EachAfter (ServerMay (conversation_of before).client) (conversation_of before).server → MaySay limits before m → IsSayFault limits before m e → ⊥
+apart limits before (FromClient f) e each may is = client_apart limits (conversation_of before) f e each may is
+apart limits before (FromServer s) e each may is = server_apart limits (conversation_of before) s e may is
 
 pub may_or_not : (limits : Limits) (before : List Message) (m : Message) (e : SayFault) → AreSaid limits before → MaySay limits before m → IsSayFault limits before m e → ⊥
-may_or_not limits before m e are may is = apart limits before m e (are_conversation limits before are) may is
+may_or_not limits before m e are may is = apart limits before m e (are_conversation limits before are).server may is
 
 -- So a refusal that is no want of memory tells that the message may not be said.
 pub only_refused : (s : SpeakerState) (m : Message) (e : SayFault) → ((e ≡ NoMemory) ⊎ ((before : List Message) → Says s before → IsSayFault s.limits before m e)) →
     e ≢ NoMemory → (before : List Message) → Says s before → MaySay s.limits before m → ⊥
 only_refused s m e (inl wanting) n before says may = n wanting
-only_refused s m e (inr all) n before says may = apart s.limits before m e says.heard.conversation may (all before says)
+only_refused s m e (inr all) n before says may = apart s.limits before m e says.heard.may may (all before says)
 
 -- ---- One refusal only.
 
@@ -156,7 +158,7 @@ later_turn : (v : Conversation) (f : ClientFrame) → v.client ≢ [] → IsLate
 later_turn v f n later t = client_turn v f (λ z. absurd (n z)) (λ z. later) t
 
 abbrev ClientCase : Limits → Conversation → ClientFrame → SayFault → Type 0
-ClientCase limits v f e = First (ClientTurn v f) NotFirst (First (MaySend f → ⊥) Misfit (First (Fit limits.client (asks.frame_items f) → ⊥) TooLong (λ x. x ≡ QueueFull))) e
+ClientCase limits v f e = First (ClientTurn v f) NotFirst (First (MayAsk limits f → ⊥) Misfit (First (Fit limits.client (asks.frame_items f) → ⊥) TooLong (λ x. x ≡ QueueFull))) e
 
 client_case : (limits : Limits) (v : Conversation) (f : ClientFrame) (e : SayFault) → IsClientRefusal limits v f e → ClientCase limits v f e
 client_case limits v f e (second_connect n first is) = here (inl (n, first)) is

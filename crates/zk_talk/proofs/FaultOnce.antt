@@ -85,13 +85,13 @@ same_before limits h f g is js = go (cases_order (length is.before) (length js.b
 client_once : (limits : Limits) (v : Conversation) (p : List ℕ) (m n : ℕ) (r s : Reason) → IsClientFault limits v p m r → IsClientFault limits v p n s → Same m n r s
 client_once limits v p m n r s (connect_fault e a) (connect_fault f b) = first_once p m n r s a b
 client_once limits v p m n r s (connect_fault e a) (ask_fault f b) = absurd (f e)
-client_once limits v p m n r s (connect_fault e a) (queue_full f g later sent q l i j) = absurd (f e)
+client_once limits v p m n r s (connect_fault e a) (queue_full f g later sent o q l i j) = absurd (f e)
 client_once limits v p m n r s (ask_fault e a) (connect_fault f b) = absurd (e f)
-client_once limits v p m n r s (ask_fault e a) (ask_fault f b) = ask_once p m n r s a b
-client_once limits v p m n r s (ask_fault e a) (queue_full f g later sent q l i j) = absurd (ask_excluded p m r a g later sent q)
-client_once limits v p m n r s (queue_full f g later sent q l i j) (connect_fault e a) = absurd (f e)
-client_once limits v p m n r s (queue_full f g later sent q l i j) (ask_fault e a) = absurd (ask_excluded p n s a g later sent q)
-client_once limits v p m n r s (queue_full f g later sent q l i j) (queue_full f' g' later' sent' q' l' i' j') = (i ∙ sym i', j ∙ sym j')
+client_once limits v p m n r s (ask_fault e a) (ask_fault f b) = ask_once limits.profile p m n r s a b
+client_once limits v p m n r s (ask_fault e a) (queue_full f g later sent o q l i j) = absurd (ask_excluded limits.profile p m r a g later sent o q)
+client_once limits v p m n r s (queue_full f g later sent o q l i j) (connect_fault e a) = absurd (f e)
+client_once limits v p m n r s (queue_full f g later sent o q l i j) (ask_fault e a) = absurd (ask_excluded limits.profile p n s a g later sent o q)
+client_once limits v p m n r s (queue_full f g later sent o q l i j) (queue_full f' g' later' sent' o' q' l' i' j') = (i ∙ sym i', j ∙ sym j')
 
 -- the next ask of a lane is one
 pub next_once : (v : Conversation) (lane other : Lane) (a b : ℤ) (x y : Asked) → lane ≡ other → IsNext v lane a x → IsNext v other b y → (a ≡ b) × (x ≡ y)

@@ -64,8 +64,8 @@ module _ (limits : Limits) (small : AreSmall limits) (g r : History) (v w : Conv
       let s = same_whole limits small g (clients p.0) v.client (servers p.0) v.server p.3.0 cb p.3.1 sb p.3.2 front.whole in
       let all_c : w.client ≡ clients p.0 ++ clients p.1 = sym b.client ∙ ap clients p.2 ∙ clients-append p.0 p.1 in
       let all_s : w.server ≡ servers p.0 ++ servers p.1 = sym b.server ∙ ap servers p.2 ∙ servers-append p.0 p.1 in
-      let each_c = EachAfter-left ClientMay (clients p.0) (clients p.1) (subst (EachAfter ClientMay) all_c all.conversation.client) in
-      let c = same_clients (clients p.0) v.client each_c front.conversation.client s.0 in
+      let each_c = EachAfter-left (ClientMay limits.profile) (clients p.0) (clients p.1) (subst (EachAfter (ClientMay limits.profile)) all_c all.conversation.client) in
+      let c = same_clients limits.profile (clients p.0) v.client each_c front.conversation.client s.0 in
       let more_c : w.client ≡ v.client ++ clients p.1 = all_c ∙ ap (λ z. z ++ clients p.1) c in
       let each_s = EachAfter-left (ServerMay w.client) (servers p.0) (servers p.1) (subst (EachAfter (ServerMay w.client)) all_s all.conversation.server) in
       let each_v : EachAfter (ServerMay w.client) v.server =

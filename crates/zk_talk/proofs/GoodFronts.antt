@@ -1,6 +1,7 @@
 -- Each front of a good history is good.
 use Rattle.std.proofs.Common.{◌≡◌, ℕ, ◌≤◌, List, [], ◌∷◌, ◌++◌, length, refl, sym, ap, ◌∙◌, subst, arith, append_assoc, length-append}
 use Rattle.std.proofs.lemmas.List.{append-nil, length_push}
+use Rattle.zk_records.specs.declared.profile.Profile.{Profile}
 use Rattle.zk_asks.specs.declared.frame.ClientFrame.{ClientFrame}
 use Rattle.zk_asks.specs.declared.frame.ClientFrame.TheVariants.{Connect, Ask}
 use Rattle.zk_answers.specs.declared.frame.ServerFrame.{ServerFrame}
@@ -30,15 +31,15 @@ server_front S a s b e =
     omega (arith, ap (λ z. length (server_bytes z)) same, ap length (server_bytes-append (a ++ s ∷ []) b), length-append (server_bytes (a ++ s ∷ [])) (server_bytes b))
 
 -- What the server may send where the client's last frame is not answered, it may send without it.
-may_without : (C : List ClientFrame) (f : ClientFrame) (before : List ServerFrame) (s : ServerFrame) → ClientMay C f → (Answers before s C f → ⊥) → ServerMay (C ++ f ∷ []) before s → ServerMay C before s
-may_without [] (Connect t g) [] (Connected u k) may alone m = absurd (alone tt)
-may_without [] (Ask xid ask) [] (Connected u k) may alone m = absurd may.0
-may_without (c ∷ cs) f [] (Connected u k) may alone m = (m.0, λ e. absurd (cc))
-may_without C f [] (Answered r) may alone m = m
-may_without C f [] (Event z k) may alone m = m
-may_without C f (y ∷ ys) (Connected u k) may alone m = m
-may_without C f (y ∷ ys) (Event z k) may alone m = m
-may_without C f (y ∷ ys) (Answered r) may alone m = (m.0, go (in_pushed C f m.1.asked (Ask r.xid m.1.ask) m.1.after m.1.stands))
+may_without : (profile : Profile) (C : List ClientFrame) (f : ClientFrame) (before : List ServerFrame) (s : ServerFrame) → ClientMay profile C f → (Answers before s C f → ⊥) → ServerMay (C ++ f ∷ []) before s → ServerMay C before s
+may_without profile [] (Connect t g) [] (Connected u k) may alone m = absurd (alone tt)
+may_without profile [] (Ask xid ask) [] (Connected u k) may alone m = absurd may.0
+may_without profile (c ∷ cs) f [] (Connected u k) may alone m = (m.0, λ e. absurd (cc))
+may_without profile C f [] (Answered r) may alone m = m
+may_without profile C f [] (Event z k) may alone m = m
+may_without profile C f (y ∷ ys) (Connected u k) may alone m = m
+may_without profile C f (y ∷ ys) (Event z k) may alone m = m
+may_without profile C f (y ∷ ys) (Answered r) may alone m = (m.0, go (in_pushed C f m.1.asked (Ask r.xid m.1.ask) m.1.after m.1.stands))
   where
     go : InPushed C f m.1.asked (Ask r.xid m.1.ask) m.1.after → IsAnswered C (y ∷ ys) r
     go (at_end a b n) = absurd (alone (subst (λ z. Answers (y ∷ ys) (Answered r) C z) (sym b) (refl, ap (asks_on (lane_of r.xid)) a ∙ m.1.counts)))
@@ -58,12 +59,12 @@ module _ (limits : Limits) (h : History) (b : ℕ) (v : Conversation) (cb sb : L
 
     client_fewer : (C : List ClientFrame) (f : ClientFrame) (c' : List ℕ) → v.client ≡ C ++ f ∷ [] → cb ≡ [] → IsCut limits.client (side_bytes Client h) (client_payloads C) c' → Good limits h (record { client = C; server = v.server }) c' sb
     client_fewer C f c' e n cut =
-        let each = subst (EachAfter ClientMay) e g.conversation.client in
-        let may = EachAfter-at ClientMay C f [] each in
+        let each = subst (EachAfter (ClientMay limits.profile)) e g.conversation.client in
+        let may = EachAfter-at (ClientMay limits.profile) C f [] each in
         record {
           conversation = record {
-            client = EachAfter-left ClientMay C (f ∷ []) each;
-            server = λ before s after es. may_without C f before s may (alone before s after es) (subst (λ z. ServerMay z before s) e (g.conversation.server before s after es));
+            client = EachAfter-left (ClientMay limits.profile) C (f ∷ []) each;
+            server = λ before s after es. may_without limits.profile C f before s may (alone before s after es) (subst (λ z. ServerMay z before s) e (g.conversation.server before s after es));
           };
           whole = record { client_cut = cut; server_cut = subst (λ z. IsCut limits.server z (server_payloads v.server) sb) (server-bytes-client h b) g.whole.server_cut };
           causal = λ front rest eh sent s later es asked c further ec. g.causal front (rest ++ (Client, b) ∷ []) (ap (λ z. z ++ (Client, b) ∷ []) eh ∙ append_assoc front rest ((Client, b) ∷ [])) sent s later es asked c (further ++ f ∷ [])

@@ -63,7 +63,7 @@ module _ (limits : Limits) (small : AreSmall limits) (h : History) (b : ℕ) (v 
       }
 
   -- ---- A byte that makes a frame whole
-  pub good_client : (f : ClientFrame) → cb ++ b ∷ [] ≡ frame (client_payload f) → length (client_payload f) ≤ limits.client → ClientMay v.client f → load (v.client ++ f ∷ []) v.server ≤ limits.waiting → length (side_bytes Client h) + 1 < 2 ^ 62 →
+  pub good_client : (f : ClientFrame) → cb ++ b ∷ [] ≡ frame (client_payload f) → length (client_payload f) ≤ limits.client → ClientMay limits.profile v.client f → load (v.client ++ f ∷ []) v.server ≤ limits.waiting → length (side_bytes Client h) + 1 < 2 ^ 62 →
       Good limits (h ++ (Client, b) ∷ []) (with_client v f) [] sb
   good_client f e l may fits size =
       let cut = cut_whole limits.client _ b _ cb (client_payload f) g.whole.client_cut e l in
@@ -71,7 +71,7 @@ module _ (limits : Limits) (small : AreSmall limits) (h : History) (b : ℕ) (v 
       let w = whole_client limits h b v.client (v.client ++ f ∷ []) v.server cb sb [] g.whole named in
       let shorter : length cb < length (frame (client_payload f)) = omega (arith, ap length e, length_push cb b) in
       record {
-        conversation = conversation_client v f g.conversation may;
+        conversation = conversation_client limits.profile v f g.conversation may;
         whole = w;
         causal = causal_lift limits small h (Client, b) (with_client v f) [] sb w (causal_client limits h v cb sb g.whole f g.conversation may g.causal);
         bounded = bounded_lift limits small h (Client, b) (with_client v f) [] sb w fits (bounded_client limits h v cb sb g.whole f shorter g.bounded);
@@ -87,7 +87,7 @@ module _ (limits : Limits) (small : AreSmall limits) (h : History) (b : ℕ) (v 
       let w = whole_server limits h b v.client v.server (v.server ++ s ∷ []) cb sb [] g.whole named in
       let shorter : length sb < length (frame (server_payload s)) = omega (arith, ap length e, length_push sb b) in
       record {
-        conversation = conversation_server v s g.conversation may;
+        conversation = conversation_server limits.profile v s g.conversation may;
         whole = w;
         causal = causal_lift limits small h (Server, b) (with_server v s) cb [] w (causal_server limits h v cb sb g.whole s shorter g.causal);
         bounded = bounded_lift limits small h (Server, b) (with_server v s) cb [] w (omega (arith, load_reply v.client v.server s, load_here limits h v cb sb g)) (bounded_server limits h v cb sb g.whole s shorter g.bounded);
@@ -116,7 +116,7 @@ module _ (limits : Limits) (small : AreSmall limits) (h : History) (b : ℕ) (v 
   pub record FoundClient (p : List ℕ) : Type 0 where
     pub found : ClientFrame
     pub payload : client_payload found ≡ p
-    pub may : ClientMay v.client found
+    pub may : ClientMay limits.profile v.client found
     pub fits : load (v.client ++ found ∷ []) v.server ≤ limits.waiting
 
   pub found_client : (p : List ℕ) → cb ++ b ∷ [] ≡ frame p → length p ≤ limits.client → IsGood limits (h ++ (Client, b) ∷ []) → FoundClient p
@@ -125,11 +125,11 @@ module _ (limits : Limits) (small : AreSmall limits) (h : History) (b : ℕ) (v 
       let cut = subst (λ z. IsCut limits.client z (client_payloads w.client) n.1) (side_bytes-same Client h b) n.3.whole.client_cut in
       let only = cut_only limits.client _ b _ _ cb p n.1 small.0 g.whole.client_cut e l cut in
       let split = map_pushed client_payload w.client (client_payloads v.client) p only.0 in
-      let each = subst (EachAfter ClientMay) split.2 n.3.conversation.client in
-      let before = EachAfter-left ClientMay split.0 (split.1 ∷ []) each in
-      let same = same_clients split.0 v.client before g.conversation.client split.3 in
+      let each = subst (EachAfter (ClientMay limits.profile)) split.2 n.3.conversation.client in
+      let before = EachAfter-left (ClientMay limits.profile) split.0 (split.1 ∷ []) each in
+      let same = same_clients limits.profile split.0 v.client before g.conversation.client split.3 in
       let clients : w.client ≡ v.client ++ split.1 ∷ [] = split.2 ∙ ap (λ z. z ++ split.1 ∷ []) same in
-      let may = subst (λ z. ClientMay z split.1) same (EachAfter-at ClientMay split.0 split.1 [] each) in
+      let may = subst (λ z. ClientMay limits.profile z split.1) same (EachAfter-at (ClientMay limits.profile) split.0 split.1 [] each) in
       let server_cut = subst (λ z. IsCut limits.server z (server_payloads w.server) n.2) (server-bytes-client h b) n.3.whole.server_cut in
       let servers = same_servers (v.client ++ split.1 ∷ []) w.server v.server
       (subst (λ z. EachAfter (ServerMay z) w.server) clients n.3.conversation.server)
@@ -155,7 +155,7 @@ module _ (limits : Limits) (small : AreSmall limits) (h : History) (b : ℕ) (v 
       let only = cut_only limits.server _ b _ _ sb p n.2 small.1 g.whole.server_cut e l cut in
       let split = map_pushed server_payload w.server (server_payloads v.server) p only.0 in
       let client_cut = subst (λ z. IsCut limits.client z (client_payloads w.client) n.1) (client-bytes-server h b) n.3.whole.client_cut in
-      let clients = same_clients w.client v.client n.3.conversation.client g.conversation.client (same_cut limits.client _ _ _ _ _ small.0 client_cut g.whole.client_cut).0 in
+      let clients = same_clients limits.profile w.client v.client n.3.conversation.client g.conversation.client (same_cut limits.client _ _ _ _ _ small.0 client_cut g.whole.client_cut).0 in
       let each = subst (EachAfter (ServerMay v.client)) split.2 (subst (λ z. EachAfter (ServerMay z) w.server) clients n.3.conversation.server) in
       let before = EachAfter-left (ServerMay v.client) split.0 (split.1 ∷ []) each in
       let same = same_servers v.client split.0 v.server before g.conversation.server split.3 in

@@ -32,7 +32,7 @@ use Rattle.zk_talk.proofs.GoodFronts.{good_front}
 pub same_good : (limits : Limits) → AreSmall limits → (h : History) (v w : Conversation) (cb sb db tb : List ℕ) → Good limits h v cb sb → Good limits h w db tb → (v ≡ w) × (cb ≡ db) × (sb ≡ tb)
 same_good limits small h v w cb sb db tb a b =
     let s = same_whole limits small h v.client w.client v.server w.server cb db sb tb a.whole b.whole in
-    let c = same_clients v.client w.client a.conversation.client b.conversation.client s.0 in
+    let c = same_clients limits.profile v.client w.client a.conversation.client b.conversation.client s.0 in
     let each = subst (λ z. EachAfter (ServerMay z) w.server) (sym c) b.conversation.server in
     let t = same_servers v.client v.server w.server a.conversation.server each s.1 in
     ((λ i. record { client = c i; server = t i }), s.2, s.3)

@@ -4,11 +4,12 @@ use Rattle.std.specs.Prelude.{slice_get, true}
 use Rattle.zk_jute.specs.declared.fault.Reason.{Reason}
 use Rattle.zk_jute.specs.declared.fault.Reason.TheVariants.{QueueFull, Unasked, XidOrder}
 use Rattle.zk_records.specs.declared.header.ReplyHeader.{ReplyHeader}
+use Rattle.zk_records.specs.declared.profile.Profile.{Profile}
 use Rattle.zk_asks.specs.declared.frame.Ask.{Ask as Asked}
 use Rattle.zk_asks.specs.declared.frame.ClientFrame.{ClientFrame}
 use Rattle.zk_asks.specs.declared.frame.ClientFrame.TheVariants.{Connect, Ask}
 use Rattle.zk_asks.specs.Codes.{event_xid}
-use Rattle.zk_asks.specs.Frames.{IsFirst, IsLater, ops_of_ask}
+use Rattle.zk_asks.specs.Frames.{IsFirst, IsLater, IsOfProfile, ops_of_ask}
 use Rattle.zk_asks.specs.Rows.{op_of_ask}
 use Rattle.zk_asks.specs.Frames as asks
 use Rattle.zk_asks.specs.Faults.{IsFirstFault, IsAskFault}
@@ -51,44 +52,44 @@ front_none (x ∷ xs) e = absurd (cc)
 module _ (n m : ℕ) (w : Lanes) (v : Conversation) (d : Describes n m w v) where
   -- ---- the client's frames
 
-  pub first_may : (f : ClientFrame) → n ≡ 0 → IsFirst f → asks.IsSent f → ClientMay v.client f
-  first_may f z a s = go v.client (none_of n v.client d.client z)
+  pub first_may : (profile : Profile) (f : ClientFrame) → n ≡ 0 → IsFirst f → asks.IsSent f → ClientMay profile v.client f
+  first_may profile f z a s = go v.client (none_of n v.client d.client z)
     where
-      go : (C : List ClientFrame) → C ≡ [] → ClientMay C f
+      go : (C : List ClientFrame) → C ≡ [] → ClientMay profile C f
       go [] e = (a, s)
       go (c ∷ cs) e = absurd (cc)
 
-  pub later_may : (f : ClientFrame) → (n ≡ 0 → ⊥) → IsLater f → asks.IsSent f → ClientMay v.client f
-  later_may f z a s = go v.client (some_of n v.client d.client z)
+  pub later_may : (profile : Profile) (f : ClientFrame) → (n ≡ 0 → ⊥) → IsLater f → asks.IsSent f → IsOfProfile profile f → ClientMay profile v.client f
+  later_may profile f z a s o = go v.client (some_of n v.client d.client z)
     where
-      go : (C : List ClientFrame) → C ≢ [] → ClientMay C f
+      go : (C : List ClientFrame) → C ≢ [] → ClientMay profile C f
       go [] e = absurd (e refl)
-      go (c ∷ cs) e = (a, s)
+      go (c ∷ cs) e = (a, s, o)
 
-  pub in_turn : (f : ClientFrame) → IsInTurn n f → asks.IsSent f → ClientMay v.client f
-  in_turn f a s = go (cases_order n 0)
+  pub in_turn : (profile : Profile) (f : ClientFrame) → IsInTurn profile n f → asks.IsSent f → ClientMay profile v.client f
+  in_turn profile f a s = go (cases_order n 0)
     where
-      go : ((n ≡ 0) ⊎ ((n < 0) ⊎ (0 < n))) → ClientMay v.client f
-      go (inl z) = first_may f z (a.0 z) s
+      go : ((n ≡ 0) ⊎ ((n < 0) ⊎ (0 < n))) → ClientMay profile v.client f
+      go (inl z) = first_may profile f z (a.0 z) s
       go (inr (inl l)) = absurd (omega arith)
-      go (inr (inr l)) = later_may f (λ z. omega (arith, z, l)) (a.1 (λ z. omega (arith, z, l))) s
+      go (inr (inr l)) = let some : n ≡ 0 → ⊥ = (λ z. omega (arith, z, l)) in later_may profile f some (a.1 some).0 s (a.1 some).1
 
   pub first_refused : (limits : Limits) (p : List ℕ) (place : ℕ) (reason : Reason) → n ≡ 0 → IsFirstFault p place reason → IsClientFault limits v p place reason
   first_refused limits p place reason z f = connect_fault (none_of n v.client d.client z) f
 
-  pub ask_refused : (limits : Limits) (p : List ℕ) (place : ℕ) (reason : Reason) → (n ≡ 0 → ⊥) → IsAskFault p place reason → IsClientFault limits v p place reason
+  pub ask_refused : (limits : Limits) (p : List ℕ) (place : ℕ) (reason : Reason) → (n ≡ 0 → ⊥) → IsAskFault limits.profile p place reason → IsClientFault limits v p place reason
   ask_refused limits p place reason z f = ask_fault (some_of n v.client d.client z) f
 
-  pub full : (limits : Limits) (p : List ℕ) (f : ClientFrame) → ClientMay v.client f → IsLater f → client_payload f ≡ p → limits.waiting < weight_of w + weight f → IsClientFault limits v p 0 QueueFull
+  pub full : (limits : Limits) (p : List ℕ) (f : ClientFrame) → ClientMay limits.profile v.client f → IsLater f → client_payload f ≡ p → limits.waiting < weight_of w + weight f → IsClientFault limits v p 0 QueueFull
   full limits p f may later e l = go v.client refl may
     where
-      go : (C : List ClientFrame) → v.client ≡ C → ClientMay C f → IsClientFault limits v p 0 QueueFull
+      go : (C : List ClientFrame) → v.client ≡ C → ClientMay limits.profile C f → IsClientFault limits v p 0 QueueFull
       go [] q may = absurd (apart f may.0 later)
         where
           apart : (f : ClientFrame) → IsFirst f → IsLater f → ⊥
           apart (Connect t g) a b = b
           apart (Ask xid ask) a b = a
-      go (c ∷ cs) q may = queue_full (λ z. absurd (nothing (sym q ∙ z))) f may.0 may.1 e (omega (arith, l, weight_is_load v w d.queues)) refl refl
+      go (c ∷ cs) q may = queue_full (λ z. absurd (nothing (sym q ∙ z))) f may.0 may.1 may.2 e (omega (arith, l, weight_is_load v w d.queues)) refl refl
         where
           nothing : (c ∷ cs) ≡ [] → ⊥
           nothing e = cc
@@ -100,7 +101,7 @@ module _ (n m : ℕ) (w : Lanes) (v : Conversation) (d : Describes n m w v) wher
   next_load x (Connect t g) r l = omega (arith, l, load_ask v (Connect t g) d.may)
   next_load x (Ask xid ask) r l = heavier w.max (Ask xid ask) r.0
 
-  pub put_refused : (limits : Limits) (p : List ℕ) (f : ClientFrame) (e : ItemFault) → limits.waiting ≡ w.max → ClientMay v.client f → client_payload f ≡ p → IsLater f × (e ≡ record { place = 0; reason = QueueFull }) × (w.max < weight_of w + weight f) → Tells (IsClientFault limits v p) e
+  pub put_refused : (limits : Limits) (p : List ℕ) (f : ClientFrame) (e : ItemFault) → limits.waiting ≡ w.max → ClientMay limits.profile v.client f → client_payload f ≡ p → IsLater f × (e ≡ record { place = 0; reason = QueueFull }) × (w.max < weight_of w + weight f) → Tells (IsClientFault limits v p) e
   put_refused limits p f e q may pay r = (0, subst (λ z. IsClientFault limits v p 0 z.reason) (sym r.1) (full limits p f may r.0 pay (omega (arith, q, r.2))), ap (λ z. z.place) r.1)
 
   -- ---- the server's frames

@@ -25,12 +25,13 @@ use Rattle.zk_answers.proofs.Events.{event_unique, event_excludes, event_injecti
 use Rattle.zk_jute.specs.declared.fault.Reason.{Reason}
 use Rattle.zk_records.specs.declared.header.ReplyHeader.{ReplyHeader}
 use Rattle.zk_records.specs.declared.op.Op.{Op}
+use Rattle.zk_records.specs.declared.profile.Profile.{Profile}
 use Rattle.zk_records.specs.declared.op.PartOp.{PartOp}
 use Rattle.zk_asks.specs.declared.frame.Ask.{Ask as Asked}
 use Rattle.zk_asks.specs.declared.frame.ClientFrame.{ClientFrame}
 use Rattle.zk_asks.specs.declared.frame.ClientFrame.TheVariants.{Ask}
 use Rattle.zk_asks.specs.Codes.{event_xid}
-use Rattle.zk_asks.specs.Frames.{IsFirst, IsLater, ops_of_ask}
+use Rattle.zk_asks.specs.Frames.{IsFirst, IsLater, IsOfProfile, ops_of_ask}
 use Rattle.zk_asks.specs.Frames as asks
 use Rattle.zk_asks.specs.Faults.{IsFirstFault, IsAskFault}
 use Rattle.zk_answers.specs.declared.frame.Reply.{Reply}
@@ -69,12 +70,12 @@ pub ask_inj : (f g : ClientFrame) → IsLater f → IsLater g → asks.IsSent f 
 unfolding client_payload
 ask_inj f g a b c d e = ask_injective f g a b c d e
 
-pub ask_excluded : (p : List ℕ) (place : ℕ) (reason : Reason) → IsAskFault p place reason → (f : ClientFrame) → IsLater f → asks.IsSent f → client_payload f ≡ p → ⊥
+pub ask_excluded : (profile : Profile) (p : List ℕ) (place : ℕ) (reason : Reason) → IsAskFault profile p place reason → (f : ClientFrame) → IsLater f → asks.IsSent f → IsOfProfile profile f → client_payload f ≡ p → ⊥
 unfolding client_payload
-ask_excluded p place reason fault f a c e = ask_excludes f place reason a c (subst (λ z. IsAskFault z place reason) (sym e) fault)
+ask_excluded profile p place reason fault f a c o e = ask_excludes profile f place reason a o c (subst (λ z. IsAskFault profile z place reason) (sym e) fault)
 
-pub ask_once : (p : List ℕ) (m n : ℕ) (r s : Reason) → IsAskFault p m r → IsAskFault p n s → Same m n r s
-ask_once p m n r s a b = ask_unique p m n r s a b
+pub ask_once : (profile : Profile) (p : List ℕ) (m n : ℕ) (r s : Reason) → IsAskFault profile p m r → IsAskFault profile p n s → Same m n r s
+ask_once profile p m n r s a b = ask_unique profile p m n r s a b
 
 -- each part has a byte
 parts_long : (ps : List Part) (more : List Item) → length ps ≤ length (bytes_of (flat_map part_items ps ++ more))
@@ -101,20 +102,7 @@ few_parts xid ask =
   where
     in_body : (ask : Asked) → length (parts_of_ask ask) ≤ length (bytes_of (body_items ask))
     in_body (asked.Multi ps) = parts_long ps (marked end_header)
-    in_body (asked.Create b) = omega arith
-    in_body (asked.Delete b) = omega arith
-    in_body (asked.Exists b) = omega arith
-    in_body (asked.GetData b) = omega arith
-    in_body (asked.SetData b) = omega arith
-    in_body (asked.GetAcl b) = omega arith
-    in_body (asked.SetAcl b) = omega arith
-    in_body (asked.GetChildren b) = omega arith
-    in_body (asked.Sync b) = omega arith
-    in_body asked.Ping = omega arith
-    in_body (asked.GetChildren2 b) = omega arith
-    in_body (asked.Auth b) = omega arith
-    in_body (asked.SetWatches b) = omega arith
-    in_body asked.CloseSession = omega arith
+    in_body _ = omega arith
 
 -- ---- the server's first frame
 

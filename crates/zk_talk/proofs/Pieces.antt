@@ -47,7 +47,7 @@ go_more_client t part n e begin size h M st =
     (subst (Stands (record t { client_held = t.client_held ++ part; client_size = t.client_size + length part }) (h ++ on Client part)) (sym (append-nil M)) (more_client t h M st part begin (omega arith)))
 
 pub go_whole_client : (t : TalkState) (part : List ℕ) (n : ℕ) (p : List ℕ) (f : ClientFrame) (w : Lanes) → n ≡ length part → 0 < length part → t.client_held ++ part ≡ frame p → length p ≤ t.limits.client → t.client_size + n < 2 ^ 62 →
-    ((v : Conversation) → Describes t.client_frames t.server_frames t.waiting v → (client_payload f ≡ p) × ClientMay v.client f × (load v.client v.server ≤ t.limits.waiting → load (v.client ++ f ∷ []) v.server ≤ t.limits.waiting)) →
+    ((v : Conversation) → Describes t.client_frames t.server_frames t.waiting v → (client_payload f ≡ p) × ClientMay t.limits.profile v.client f × (load v.client v.server ≤ t.limits.waiting → load (v.client ++ f ∷ []) v.server ≤ t.limits.waiting)) →
     ((v : Conversation) → Describes t.client_frames t.server_frames t.waiting v → (lane : Lane) → IsQueue lane (with_client v f) (queue_on lane w)) →
     GoesOn t Client part (FromClient f ∷ []) (record t { client_held = []; client_size = t.client_size + n; client_frames = t.client_frames + 1; waiting = w })
 go_whole_client t part n p f w e l is fits size judged queues h M st =

@@ -18,9 +18,10 @@ use Rattle.zk_talk.proofs.Small.{AreSmall}
 use Rattle.std.proofs.Common.{ℤ}
 use Rattle.zk_jute.specs.declared.fault.Reason.{Reason}
 use Rattle.zk_records.specs.declared.header.ReplyHeader.{ReplyHeader}
+use Rattle.zk_records.specs.declared.profile.Profile.{Profile}
 use Rattle.zk_asks.specs.declared.frame.Ask.{Ask as Asked}
 use Rattle.zk_asks.specs.Codes.{event_xid}
-use Rattle.zk_asks.specs.Frames.{IsFirst, IsLater, ops_of_ask}
+use Rattle.zk_asks.specs.Frames.{IsFirst, IsLater, IsOfProfile, ops_of_ask}
 use Rattle.zk_asks.specs.Rows.{op_of_ask}
 use Rattle.zk_asks.specs.Frames as asks
 use Rattle.zk_answers.specs.Frames.{IsConnected, IsEvent, Fits}
@@ -37,13 +38,13 @@ use Rattle.zk_talk.proofs.Loads.{load_ask}
 use Rattle.zk_talk.proofs.GoodSteps.{found_client, found_server}
 
 -- what may stand after no frame, and after some
-pub may_first : (C : List ClientFrame) (f : ClientFrame) → C ≡ [] → ClientMay C f → IsFirst f × asks.IsSent f
-may_first [] f n m = m
-may_first (c ∷ cs) f n m = absurd (cc)
+pub may_first : (profile : Profile) (C : List ClientFrame) (f : ClientFrame) → C ≡ [] → ClientMay profile C f → IsFirst f × asks.IsSent f
+may_first profile [] f n m = m
+may_first profile (c ∷ cs) f n m = absurd (cc)
 
-pub may_later : (C : List ClientFrame) (f : ClientFrame) → C ≢ [] → ClientMay C f → IsLater f × asks.IsSent f
-may_later [] f n m = absurd (n refl)
-may_later (c ∷ cs) f n m = m
+pub may_later : (profile : Profile) (C : List ClientFrame) (f : ClientFrame) → C ≢ [] → ClientMay profile C f → IsLater f × asks.IsSent f × IsOfProfile profile f
+may_later profile [] f n m = absurd (n refl)
+may_later profile (c ∷ cs) f n m = m
 
 pub sent_first : (C : List ClientFrame) (S : List ServerFrame) (s : ServerFrame) → S ≡ [] → ServerMay C S s → IsConnected s × answers.IsSent s × (C ≢ [])
 sent_first C [] (Connected t g) n m = (tt, m.0, m.1)
@@ -63,15 +64,15 @@ sent_later C (x ∷ xs) (Event z k) n m = an_event tt m
 
 -- no frame that may stand after the client's has a payload with a fault
 client_alone : (limits : Limits) (v : Conversation) (p : List ℕ) (place : ℕ) (reason : Reason) → EachAfter (ServerMay v.client) v.server → IsClientFault limits v p place reason →
-    (f : ClientFrame) → ClientMay v.client f → client_payload f ≡ p → load (v.client ++ f ∷ []) v.server ≤ limits.waiting → ⊥
+    (f : ClientFrame) → ClientMay limits.profile v.client f → client_payload f ≡ p → load (v.client ++ f ∷ []) v.server ≤ limits.waiting → ⊥
 client_alone limits v p place reason each (connect_fault n bad) f may e fits =
-    let t = may_first v.client f n may in
+    let t = may_first limits.profile v.client f n may in
     first_excluded p place reason bad f t.0 t.1 e
 client_alone limits v p place reason each (ask_fault n bad) f may e fits =
-    let t = may_later v.client f n may in
-    ask_excluded p place reason bad f t.0 t.1 e
-client_alone limits v p place reason each (queue_full n g later sent pay over x y) f may e fits =
-    let t = may_later v.client f n may in
+    let t = may_later limits.profile v.client f n may in
+    ask_excluded limits.profile p place reason bad f t.0 t.1 t.2 e
+client_alone limits v p place reason each (queue_full n g later sent of pay over x y) f may e fits =
+    let t = may_later limits.profile v.client f n may in
     let same = ask_inj g f later t.0 sent t.1 (pay ∙ sym e) in
     omega (arith, over, fits, ap (λ z. load (v.client ++ z ∷ []) v.server) same, load_ask v g each)
 

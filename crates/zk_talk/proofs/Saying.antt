@@ -4,7 +4,7 @@ use Rattle.std.specs.Prelude.{slice_get, negsuc}
 use Rattle.zk_jute.specs.Item.{Fit}
 use Rattle.zk_asks.specs.declared.frame.ClientFrame.{ClientFrame}
 use Rattle.zk_asks.specs.declared.frame.ClientFrame.TheVariants.{Connect, Ask}
-use Rattle.zk_asks.specs.Frames.{IsFirst, IsLater, MaySend, ops_of_ask}
+use Rattle.zk_asks.specs.Frames.{IsFirst, IsLater, ops_of_ask}
 use Rattle.zk_asks.specs.Rows.{op_of_ask}
 use Rattle.zk_asks.specs.Frames as asks
 use Rattle.zk_answers.specs.declared.frame.Reply.{Reply}
@@ -23,12 +23,12 @@ use Rattle.zk_talk.specs.Conversation.{Conversation, with_client, with_server, i
 use Rattle.zk_talk.specs.Describes.{Describes}
 use Rattle.zk_talk.specs.Judged.{IsRemembered, IsForgotten, HasAsk}
 use Rattle.zk_talk.specs.Fault.{IsNext}
-use Rattle.zk_talk.specs.Said.{Heard, HasSpoken, IsSaidClient, IsSaidServer, IsClientRefusal, IsServerRefusal, IsUnwritten, IsUnput, IsUnfit, MayAnswer, CannotAnswer}
+use Rattle.zk_talk.specs.Said.{Heard, HasSpoken, MayAsk, IsSaidClient, IsSaidServer, IsClientRefusal, IsServerRefusal, IsUnwritten, IsUnput, IsUnfit, MayAnswer, CannotAnswer}
 use Rattle.zk_talk.specs.Said.IsClientRefusal.{not_allowed, too_long, queue_full}
 use Rattle.zk_talk.specs.Said.IsServerRefusal.{no_connect, long_connected, long_event, event_xid, unasked, xid_order, misfit, long_reply}
 use Rattle.zk_talk.specs.Said.IsUnfit.{not_a_reply, none_waits, other_waits, unlike}
-use Rattle.zk_talk.proofs.Lists.{not_empty}
-use Rattle.zk_talk.proofs.Steps.{conversation_client, conversation_server}
+use Rattle.zk_talk.proofs.Lists.{not_empty, EachAfter-push}
+use Rattle.zk_talk.proofs.Steps.{each_still}
 use Rattle.zk_talk.proofs.Queues.{weight_is_load, requests-length}
 use Rattle.zk_talk.proofs.Lanes.{remembered, forgotten}
 use Rattle.zk_talk.proofs.Loads.{load_ask}
@@ -77,7 +77,7 @@ unfit_unlike w r lane q fits same n some x parts tells off =
 
 module _ (limits : Limits) (asked welcomed : Bool) (w : Lanes) (v : Conversation) (heard : Heard asked welcomed w v) where
   describes : Describes (length v.client) (length v.server) w v
-  describes = record { client = refl; server = refl; may = heard.conversation.server; queues = heard.queues }
+  describes = record { client = refl; server = refl; may = heard.may; queues = heard.queues }
 
   clients_none : asked ≡ false → v.client ≡ []
   clients_none e = subst (λ b. HasSpoken b v.client) e heard.client
@@ -93,15 +93,15 @@ module _ (limits : Limits) (asked welcomed : Bool) (w : Lanes) (v : Conversation
 
   -- ---- the client's messages
   module _ (f : ClientFrame) (connect : Bool) (kind : MatchBool connect (IsFirst f) (IsLater f)) (turn : connect ≡ asked → ⊥) where
-    pub client_misfit : (MaySend f → ⊥) → IsClientRefusal limits v f Misfit
+    pub client_misfit : (MayAsk limits f → ⊥) → IsClientRefusal limits v f Misfit
     client_misfit n = go f connect refl kind n
       where
-        go : (g : ClientFrame) (b : Bool) → connect ≡ b → MatchBool b (IsFirst g) (IsLater g) → (MaySend g → ⊥) → IsClientRefusal limits v g Misfit
-        go (Connect t h) b e k n = absurd (n tt)
+        go : (g : ClientFrame) (b : Bool) → connect ≡ b → MatchBool b (IsFirst g) (IsLater g) → (MayAsk limits g → ⊥) → IsClientRefusal limits v g Misfit
+        go (Connect t h) b e k n = absurd (n (tt, tt))
         go (Ask xid ask) true e k n = absurd k
         go (Ask xid ask) false e k n = not_allowed (clients_some (other_side connect asked turn e)) k n refl
 
-    pub client_long : (e : SayFault) → MaySend f → IsUnwritten limits.client (asks.frame_items f) e → (e ≡ NoMemory) ⊎ IsClientRefusal limits v f e
+    pub client_long : (e : SayFault) → MayAsk limits f → IsUnwritten limits.client (asks.frame_items f) e → (e ≡ NoMemory) ⊎ IsClientRefusal limits v f e
     client_long e may (inl m) = inl m
     client_long e may (inr l) = inr (go connect refl kind)
       where
@@ -109,17 +109,17 @@ module _ (limits : Limits) (asked welcomed : Bool) (w : Lanes) (v : Conversation
         go true q k = too_long (λ z. k) (λ z. absurd (z (clients_none (opposite connect asked turn q)))) may l.1 l.0
         go false q k = too_long (λ z. absurd (clients_some (other_side connect asked turn q) z)) (λ z. k) may l.1 l.0
 
-    pub client_full : (e : SayFault) → w.max ≡ limits.waiting → MaySend f → Fit limits.client (asks.frame_items f) → IsUnput f w e → (e ≡ NoMemory) ⊎ IsClientRefusal limits v f e
+    pub client_full : (e : SayFault) → w.max ≡ limits.waiting → MayAsk limits f → Fit limits.client (asks.frame_items f) → IsUnput f w e → (e ≡ NoMemory) ⊎ IsClientRefusal limits v f e
     client_full e room may fit (inl m) = inl m
     client_full e room may fit (inr full) = inr (go f connect refl kind may fit full.0 full.2)
       where
-        go : (g : ClientFrame) (b : Bool) → connect ≡ b → MatchBool b (IsFirst g) (IsLater g) → MaySend g → Fit limits.client (asks.frame_items g) → IsLater g → w.max < weight_of w + weight g → IsClientRefusal limits v g e
+        go : (g : ClientFrame) (b : Bool) → connect ≡ b → MatchBool b (IsFirst g) (IsLater g) → MayAsk limits g → Fit limits.client (asks.frame_items g) → IsLater g → w.max < weight_of w + weight g → IsClientRefusal limits v g e
         go (Connect t h) b q k may fit later l = absurd later
         go (Ask xid ask) true q k may fit later l = absurd k
         go (Ask xid ask) false q k may fit later l =
             queue_full (clients_some (other_side connect asked turn q)) later may fit (omega (arith, l, room, weight_is_load v w heard.queues)) full.1
 
-    pub client_said : (x : Lanes) → w.max ≡ limits.waiting → MaySend f → Fit limits.client (asks.frame_items f) → IsRemembered f w x → IsSaidClient limits v f × Heard true welcomed x (with_client v f)
+    pub client_said : (x : Lanes) → w.max ≡ limits.waiting → MayAsk limits f → Fit limits.client (asks.frame_items f) → IsRemembered f w x → IsSaidClient limits v f × Heard true welcomed x (with_client v f)
     unfolding client_payload
     client_said x room may fit put =
         let clientMay = may_stand connect refl kind in (
@@ -127,19 +127,19 @@ module _ (limits : Limits) (asked welcomed : Bool) (w : Lanes) (v : Conversation
           record {
             client = λ e. not_empty v.client f [] e;
             server = heard.server;
-            conversation = conversation_client v f heard.conversation clientMay;
+            may = each_still v.client f v.server heard.may;
             queues = λ k. remembered (length v.client) (length v.server) w x v describes f put k;
           },
         )
       where
-        may_stand : (b : Bool) → connect ≡ b → MatchBool b (IsFirst f) (IsLater f) → ClientMay v.client f
-        may_stand true q k = first_may (length v.client) (length v.server) w v describes f (zero_length v.client (clients_none (opposite connect asked turn q))) k (may, fit.0)
-        may_stand false q k = later_may (length v.client) (length v.server) w v describes f (some_length v.client (clients_some (other_side connect asked turn q))) k (may, fit.0)
+        may_stand : (b : Bool) → connect ≡ b → MatchBool b (IsFirst f) (IsLater f) → ClientMay limits.profile v.client f
+        may_stand true q k = first_may (length v.client) (length v.server) w v describes limits.profile f (zero_length v.client (clients_none (opposite connect asked turn q))) k (may.0, fit.0)
+        may_stand false q k = later_may (length v.client) (length v.server) w v describes limits.profile f (some_length v.client (clients_some (other_side connect asked turn q))) k (may.0, fit.0) may.1
 
         loads : (g : ClientFrame) (b : Bool) → connect ≡ b → MatchBool b (IsFirst g) (IsLater g) → IsRemembered g w x → load (v.client ++ g ∷ []) v.server ≤ limits.waiting
         loads (Connect t h) true q k put =
             let none = subst (λ z. load z v.server ≤ limits.waiting) (sym (clients_none (opposite connect asked turn q))) (omega arith) in
-            omega (arith, none, load_ask v (Connect t h) heard.conversation.server)
+            omega (arith, none, load_ask v (Connect t h) heard.may)
         loads (Connect t h) false q k put = absurd k
         loads (Ask xid ask) b q k put = heavier (length v.client) (length v.server) w v describes limits.waiting (Ask xid ask) (omega (arith, put.0, room))
 
@@ -221,7 +221,7 @@ module _ (limits : Limits) (asked welcomed : Bool) (w : Lanes) (v : Conversation
         record {
           client = heard.client;
           server = λ e. not_empty v.server s [] e;
-          conversation = conversation_server v s heard.conversation here;
+          may = EachAfter-push (ServerMay v.client) v.server s heard.may here;
           queues = λ lane. forgotten (length v.client) (length v.server) w x v describes s (has_ask s may) left lane;
         },
       )

@@ -1,5 +1,5 @@
 -- What a piece does to a talk, by what it does to its side.
-use Rattle.std.proofs.Common.{◌≡◌, ℕ, ◌+◌, inr, List, [], ◌∷◌, ◌++◌, length, take, drop, Some, sym, ap, ◌∙◌, subst, arith}
+use Rattle.std.proofs.Common.{◌≡◌, ℕ, ◌+◌, inr, List, [], ◌∷◌, ◌++◌, length, take, drop, Some, refl, sym, ap, ◌∙◌, subst, arith}
 use Rattle.std.proofs.lemmas.List.{length-take-le, take-append-drop, take_all}
 use Rattle.zk_jute.specs.declared.fault.ItemFault.{ItemFault}
 use Rattle.zk_jute.specs.declared.fault.Reason.{Reason}
@@ -57,7 +57,7 @@ module _ (t : TalkState) (piece after : List ℕ) where
           (subst (λ z. Refuses (record t { client_held = after; fault = Some (fault_of Client t.client_frames (t.client_size + used) 0 LengthRange) }) (h ++ on Client z) M (fault_of Client t.client_frames (t.client_size + used) 0 LengthRange)) (take-append-drop used piece) stop)
 
   pub client_passed : (used : ℕ) (f : ClientFrame) (w : Lanes) → IsAdvance t.limits.client t.client_size t.client_held piece (Whole used) after → t.waiting.max ≡ t.limits.waiting → IsRemembered f t.waiting w →
-      ((m : ℕ) (v : Conversation) → Describes t.client_frames m t.waiting v → IsNextOf t.waiting (drop 4 after) v f) →
+      ((m : ℕ) (v : Conversation) → Describes t.client_frames m t.waiting v → IsNextOf t.limits.profile t.waiting (drop 4 after) v f) →
       GoesOn t Client (take used piece) (FromClient f ∷ []) (record t { client_held = []; client_size = t.client_size + used; client_frames = t.client_frames + 1; waiting = w })
   client_passed used f w a max r judged =
       let whole = a.4 in
@@ -68,7 +68,7 @@ module _ (t : TalkState) (piece after : List ℕ) where
       (λ v d. remembered t.client_frames t.server_frames t.waiting w v d f r)
 
   pub client_judged : (used : ℕ) (e : ItemFault) → IsAdvance t.limits.client t.client_size t.client_held piece (Whole used) after → t.waiting.max ≡ t.limits.waiting →
-      ((limits : Limits) (m : ℕ) (v : Conversation) → limits.waiting ≡ t.waiting.max → Describes t.client_frames m t.waiting v → Tells (IsClientFault limits v (drop 4 after)) e) →
+      ((limits : Limits) (m : ℕ) (v : Conversation) → limits.waiting ≡ t.waiting.max → limits.profile ≡ t.limits.profile → Describes t.client_frames m t.waiting v → Tells (IsClientFault limits v (drop 4 after)) e) →
       Fails t Client piece (fault_of Client t.client_frames (t.client_size + used) e.place e.reason) (record t { client_held = after; fault = Some (fault_of Client t.client_frames (t.client_size + used) e.place e.reason) })
   client_judged used e a max judged = inr go
     where
@@ -77,7 +77,7 @@ module _ (t : TalkState) (piece after : List ℕ) where
           let whole = a.4 in
           let n : used ≡ length (take used piece) = sym (length-take-le used piece a.1) in
           let same = carried after whole.0 whole.1 in
-          let j = judged t.limits t.server_frames st.conversation (sym max) (described t h M st) in
+          let j = judged t.limits t.server_frames st.conversation (sym max) refl (described t h M st) in
           let cause = subst (λ z. IsClientFault t.limits st.conversation z j.0 e.reason) (sym same) j.1 in
           subst (λ z. Refuses (record t { client_held = after; fault = Some (fault_of Client t.client_frames (t.client_size + used) e.place e.reason) }) (h ++ on Client z) M (fault_of Client t.client_frames (t.client_size + used) e.place e.reason)) (take-append-drop used piece)
           (fail_client_here t after j.0 e.place j.2 e.reason (take used piece) (drop used piece) used n (omega (arith, n, a.0)) a.2 whole.0 (sym a.3 ∙ whole.1) whole.2 h M st cause)

@@ -14,7 +14,7 @@ use Rattle.zk_talk.specs.declared.message.Message.TheVariants.{Client as FromCli
 use Rattle.zk_talk.specs.declared.say.SayFault.{SayFault}
 use Rattle.zk_talk.specs.declared.say.SayFault.TheVariants.{NoMemory}
 use Rattle.zk_talk.specs.Payloads.{client_payload}
-use Rattle.zk_talk.specs.Conversation.{Conversation, with_client, with_server, ClientMay, ServerMay}
+use Rattle.zk_talk.specs.Conversation.{Conversation, with_client, with_server, ServerMay}
 use Rattle.zk_talk.specs.Good.{clients, servers}
 use Rattle.zk_talk.specs.Queues.{IsQueue}
 use Rattle.zk_talk.specs.Ending.{unanswered, unwelcomed}
@@ -38,7 +38,7 @@ starts limits w e =
       heard = record {
         client = refl;
         server = refl;
-        conversation = record { client = EachAfter-nil ClientMay; server = EachAfter-nil (ServerMay []) };
+        may = EachAfter-nil (ServerMay []);
         queues = λ lane. none lane;
       };
       room = refl;

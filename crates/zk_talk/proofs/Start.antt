@@ -41,7 +41,7 @@ pub start : (limits : Limits) → Stands (start_state limits) [] []
 start limits = record {
   conversation = no_conversation;
   good = record {
-    conversation = record { client = EachAfter-nil ClientMay; server = EachAfter-nil (ServerMay []) };
+    conversation = record { client = EachAfter-nil (ClientMay limits.profile); server = EachAfter-nil (ServerMay []) };
     whole = empty_whole limits;
     causal = λ front rest e sent s later es. absurd (not_empty sent s later (sym es));
     bounded = λ front rest e client further ec server later es w.

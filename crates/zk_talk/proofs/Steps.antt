@@ -4,6 +4,7 @@ use Rattle.std.proofs.lemmas.List.{append-nil, map-append, length-map, nil_from_
 use Rattle.std.proofs.lemmas.List.Concat.{flat_map-append}
 use Rattle.std.proofs.lemmas.List.Elements.{filter-append}
 use Rattle.std.proofs.lemmas.Bool.{leb-true, leb-false}
+use Rattle.zk_records.specs.declared.profile.Profile.{Profile}
 use Rattle.zk_asks.specs.declared.frame.ClientFrame.{ClientFrame}
 use Rattle.zk_asks.specs.declared.frame.ClientFrame.TheVariants.{Connect, Ask}
 use Rattle.zk_answers.specs.declared.frame.ServerFrame.{ServerFrame}
@@ -79,10 +80,10 @@ module _ (limits : Limits) (small : AreSmall limits) (h : History) (x : Side × 
       go (front_of r' f r) = before front r' f client further ec server later es w
 
 -- a frame that may stand after all of the client's is answered by nothing yet
-no_early : (v : Conversation) → IsConversation v → (f : ClientFrame) → ClientMay v.client f → (sent : List ServerFrame) (s : ServerFrame) (later : List ServerFrame) → v.server ≡ sent ++ s ∷ later → Answers sent s v.client f → ⊥
-no_early v conv f may sent s later e answers = go v.client sent f s may (conv.server sent s later e) answers
+no_early : (profile : Profile) (v : Conversation) → IsConversation profile v → (f : ClientFrame) → ClientMay profile v.client f → (sent : List ServerFrame) (s : ServerFrame) (later : List ServerFrame) → v.server ≡ sent ++ s ∷ later → Answers sent s v.client f → ⊥
+no_early profile v conv f may sent s later e answers = go v.client sent f s may (conv.server sent s later e) answers
   where
-    go : (C : List ClientFrame) (sent : List ServerFrame) (f : ClientFrame) (s : ServerFrame) → ClientMay C f → ServerMay C sent s → Answers sent s C f → ⊥
+    go : (C : List ClientFrame) (sent : List ServerFrame) (f : ClientFrame) (s : ServerFrame) → ClientMay profile C f → ServerMay C sent s → Answers sent s C f → ⊥
     go [] [] (Connect t g) (Connected u k) m n a = n.1 refl
     go [] (y ∷ ys) (Connect t g) (Connected u k) m n a = n
     go (c ∷ cs) sent (Connect t g) (Connected u k) m n a = m.0
@@ -110,14 +111,14 @@ may_still C f (y ∷ ys) (Event z k) m = m
 pub each_still : (C : List ClientFrame) (f : ClientFrame) (S : List ServerFrame) → EachAfter (ServerMay C) S → EachAfter (ServerMay (C ++ f ∷ [])) S
 each_still C f S each before s after e = may_still C f before s (each before s after e)
 
-pub conversation_client : (v : Conversation) (f : ClientFrame) → IsConversation v → ClientMay v.client f → IsConversation (with_client v f)
-conversation_client v f conv may = record {
-  client = EachAfter-push ClientMay v.client f conv.client may;
+pub conversation_client : (profile : Profile) (v : Conversation) (f : ClientFrame) → IsConversation profile v → ClientMay profile v.client f → IsConversation profile (with_client v f)
+conversation_client profile v f conv may = record {
+  client = EachAfter-push (ClientMay profile) v.client f conv.client may;
   server = each_still v.client f v.server conv.server;
 }
 
-pub conversation_server : (v : Conversation) (s : ServerFrame) → IsConversation v → ServerMay v.client v.server s → IsConversation (with_server v s)
-conversation_server v s conv may = record {
+pub conversation_server : (profile : Profile) (v : Conversation) (s : ServerFrame) → IsConversation profile v → ServerMay v.client v.server s → IsConversation profile (with_server v s)
+conversation_server profile v s conv may = record {
   client = conv.client;
   server = EachAfter-push (ServerMay v.client) v.server s conv.server may;
 }
@@ -129,11 +130,11 @@ length-server_push : (S : List ServerFrame) (s : ServerFrame) → length (server
 length-server_push S s = ap length (server_bytes-append S (s ∷ [])) ∙ length-append (server_bytes S) (server_bytes (s ∷ [])) ∙ ap (λ z. length (server_bytes S) + length z) (append-nil (frame (server_payload s)))
 
 module _ (limits : Limits) (h : History) (v : Conversation) (cb sb : List ℕ) (whole : IsWhole limits h v.client v.server cb sb) where
-  pub causal_client : (f : ClientFrame) → IsConversation v → ClientMay v.client f → IsCausal v h → IsCausal (with_client v f) h
+  pub causal_client : (f : ClientFrame) → IsConversation limits.profile v → ClientMay limits.profile v.client f → IsCausal v h → IsCausal (with_client v f) h
   causal_client f conv may causal front rest e sent s later es asked c further ec answers short = go (in_pushed v.client f asked c further ec)
     where
       go : InPushed v.client f asked c further → length (client_bytes (asked ++ c ∷ [])) ≤ length (side_bytes Client front)
-      go (at_end a b n) = absurd (no_early v conv f may sent s later es (subst (λ z. Answers sent s z f) (sym a) (subst (λ z. Answers sent s asked z) (sym b) answers)))
+      go (at_end a b n) = absurd (no_early limits.profile v conv f may sent s later es (subst (λ z. Answers sent s z f) (sym a) (subst (λ z. Answers sent s asked z) (sym b) answers)))
       go (inside b' a n) = causal front rest e sent s later es asked c b' a answers short
 
   pub bounded_client : (f : ClientFrame) → length cb < length (frame (client_payload f)) → IsBounded limits v h → IsBounded limits (with_client v f) h

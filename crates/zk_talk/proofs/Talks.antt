@@ -44,7 +44,7 @@ module _ (t : TalkState) (h : History) (M : List Message) (st : Stands t h M) wh
         no_fault = st.no_fault;
       }
 
-  pub whole_client : (bs : List ℕ) (b : ℕ) (f : ClientFrame) (w : Lanes) → (t.client_held ++ bs) ++ b ∷ [] ≡ frame (client_payload f) → length (client_payload f) ≤ t.limits.client → ClientMay st.conversation.client f →
+  pub whole_client : (bs : List ℕ) (b : ℕ) (f : ClientFrame) (w : Lanes) → (t.client_held ++ bs) ++ b ∷ [] ≡ frame (client_payload f) → length (client_payload f) ≤ t.limits.client → ClientMay t.limits.profile st.conversation.client f →
       load (st.conversation.client ++ f ∷ []) st.conversation.server ≤ t.limits.waiting → t.client_size + (length bs + 1) < 2 ^ 62 → ((lane : Lane) → IsQueue lane (with_client st.conversation f) (queue_on lane w)) →
       Stands (record t { client_held = []; client_size = t.client_size + (length bs + 1); client_frames = t.client_frames + 1; waiting = w }) (h ++ on Client (bs ++ b ∷ [])) (M ++ FromClient f ∷ [])
   whole_client bs b f w e l may fits size qs =

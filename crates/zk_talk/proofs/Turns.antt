@@ -1,6 +1,7 @@
 -- Which ask a reply answers, by counts; and that a payload at its place is one frame.
 use Rattle.std.proofs.Common.{◌≡◌, ℕ, zero, suc, ◌+◌, List, [], ◌∷◌, ◌++◌, length, drop, refl, sym, ap, ◌∙◌, subst, arith, length-append, Bool, true, false, filter, cond}
 use Rattle.std.proofs.lemmas.List.Elements.{filter-append}
+use Rattle.zk_records.specs.declared.profile.Profile.{Profile}
 use Rattle.zk_asks.specs.declared.frame.ClientFrame.{ClientFrame}
 use Rattle.zk_asks.specs.declared.frame.ClientFrame.TheVariants.{Ask}
 use Rattle.zk_answers.specs.declared.frame.ServerFrame.{ServerFrame}
@@ -77,9 +78,9 @@ module _ {X : Type 0} (p : X → Bool) where
           (y ∷ r.0, r.1, ap (λ z. y ∷ z) r.2, count_cons y r.0 ∙ ap (λ z. cond z 1 0 + length (filter p r.0)) t ∙ omega (arith, r.3), r.4)
 
 -- No two frames that may stand at one place have one payload.
-pub client_inj : (before : List ClientFrame) (x y : ClientFrame) → ClientMay before x → ClientMay before y → client_payload x ≡ client_payload y → x ≡ y
-client_inj [] x y p q e = first_inj x y p.0 q.0 p.1 q.1 e
-client_inj (f ∷ fs) x y p q e = ask_inj x y p.0 q.0 p.1 q.1 e
+pub client_inj : (profile : Profile) (before : List ClientFrame) (x y : ClientFrame) → ClientMay profile before x → ClientMay profile before y → client_payload x ≡ client_payload y → x ≡ y
+client_inj profile [] x y p q e = first_inj x y p.0 q.0 p.1 q.1 e
+client_inj profile (f ∷ fs) x y p q e = ask_inj x y p.0 q.0 p.1 q.1 e
 
 -- what two replies answer is the same, where they stand at one place and have one xid
 pub same_answered : (client : List ClientFrame) (sent : List ServerFrame) (r q : Reply) → r.xid ≡ q.xid → (a : IsAnswered client sent r) (b : IsAnswered client sent q) → a.ask ≡ b.ask
@@ -124,8 +125,8 @@ server_inj client (f ∷ fs) (Event z k) (Answered r) p q e = absurd (reply_or_e
 server_inj client (f ∷ fs) (Event z k) (Event y l) p q e = event_inj (Event z k) (Event y l) tt tt p q e
 
 -- So the frames of each side are known from the payloads.
-pub same_clients : (C D : List ClientFrame) → EachAfter ClientMay C → EachAfter ClientMay D → client_payloads C ≡ client_payloads D → C ≡ D
-same_clients C D p q e = same_each ClientMay client_payload client_inj C D p q e
+pub same_clients : (profile : Profile) (C D : List ClientFrame) → EachAfter (ClientMay profile) C → EachAfter (ClientMay profile) D → client_payloads C ≡ client_payloads D → C ≡ D
+same_clients profile C D p q e = same_each (ClientMay profile) client_payload (client_inj profile) C D p q e
 
 pub same_servers : (client : List ClientFrame) (S T : List ServerFrame) → EachAfter (ServerMay client) S → EachAfter (ServerMay client) T → server_payloads S ≡ server_payloads T → S ≡ T
 same_servers client S T p q e = same_each (ServerMay client) server_payload (server_inj client) S T p q e

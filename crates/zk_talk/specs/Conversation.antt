@@ -1,9 +1,10 @@
 -- A conversation: the frames of the client and those of the server, and which frame answers which.
 use Rattle.std.specs.Prelude.{◌≡◌, ◌≢◌, ℕ, ◌+◌, List, [], ◌∷◌, ◌++◌, length, filter, Bool, false, if◌then◌else◌, nat_le}
+use Rattle.zk_records.specs.declared.profile.Profile.{Profile}
 use Rattle.zk_asks.specs.declared.frame.Ask.{Ask as Asked}
 use Rattle.zk_asks.specs.declared.frame.ClientFrame.{ClientFrame}
 use Rattle.zk_asks.specs.declared.frame.ClientFrame.TheVariants.{Connect, Ask}
-use Rattle.zk_asks.specs.Frames.{IsFirst, IsLater, ops_of_ask}
+use Rattle.zk_asks.specs.Frames.{IsFirst, IsLater, IsOfProfile, ops_of_ask}
 use Rattle.zk_asks.specs.Rows.{op_of_ask}
 use Rattle.zk_asks.specs.Frames as asks
 use Rattle.zk_answers.specs.declared.frame.Reply.{Reply}
@@ -41,10 +42,10 @@ Answers sent (Connected hello read_only) asked (Ask xid ask) = ⊥
 Answers sent (Answered reply) asked (Connect first flag) = ⊥
 Answers sent (Event zxid event) asked frame = ⊥
 
--- The frame may stand after these of the client: a connect request first, then requests.
-abbrev pub ClientMay : List ClientFrame → ClientFrame → Type 0
-ClientMay [] f = IsFirst f × asks.IsSent f
-ClientMay (first ∷ more) f = IsLater f × asks.IsSent f
+-- The frame may stand after these of the client: a connect request first, then requests of the profile.
+abbrev pub ClientMay : Profile → List ClientFrame → ClientFrame → Type 0
+ClientMay profile [] f = IsFirst f × asks.IsSent f
+ClientMay profile (first ∷ more) f = IsLater f × asks.IsSent f × IsOfProfile profile f
 
 -- What the reply answers: an ask of the same xid, which it fits.
 pub record IsAnswered (client : List ClientFrame) (sent : List ServerFrame) (reply : Reply) : Type 0 where
@@ -76,8 +77,8 @@ with_client v f = record { client = v.client ++ f ∷ []; server = v.server }
 abbrev pub with_server : Conversation → ServerFrame → Conversation
 with_server v s = record { client = v.client; server = v.server ++ s ∷ [] }
 
-pub record IsConversation (v : Conversation) : Type 0 where
-  pub client : EachAfter ClientMay v.client
+pub record IsConversation (profile : Profile) (v : Conversation) : Type 0 where
+  pub client : EachAfter (ClientMay profile) v.client
   pub server : EachAfter (ServerMay v.client) v.server
 
 -- an ask weighs 1, and one more for each part of a multi

@@ -8,7 +8,7 @@ use Rattle.zk_asks.specs.declared.frame.Ask.{Ask as Asked}
 use Rattle.zk_asks.specs.declared.frame.ClientFrame.{ClientFrame}
 use Rattle.zk_asks.specs.declared.frame.ClientFrame.TheVariants.{Ask}
 use Rattle.zk_asks.specs.Codes.{event_xid}
-use Rattle.zk_asks.specs.Frames.{IsLater, IsSent, ops_of_ask}
+use Rattle.zk_asks.specs.Frames.{IsLater, IsSent, IsOfProfile, ops_of_ask}
 use Rattle.zk_asks.specs.Rows.{op_of_ask}
 use Rattle.zk_asks.specs.Faults.{IsFirstFault, IsAskFault}
 use Rattle.zk_answers.specs.Faults.{IsConnectedFault, IsHead, IsHeadFault, IsReplyFault, IsEventFault}
@@ -35,8 +35,8 @@ pub record IsNext (v : Conversation) (lane : Lane) (xid : ℤ) (ask : Asked) : T
 -- why the payload of the client's next frame is refused, where v came before it
 pub data IsClientFault (limits : Limits) (v : Conversation) (p : List ℕ) (place : ℕ) (reason : Reason) : Type 0 where
   connect_fault : v.client ≡ [] → IsFirstFault p place reason → IsClientFault limits v p place reason
-  ask_fault : v.client ≢ [] → IsAskFault p place reason → IsClientFault limits v p place reason
-  queue_full : v.client ≢ [] → (f : ClientFrame) → IsLater f → IsSent f → client_payload f ≡ p → limits.waiting < load v.client v.server + weight f → place ≡ 0 → reason ≡ QueueFull → IsClientFault limits v p place reason
+  ask_fault : v.client ≢ [] → IsAskFault limits.profile p place reason → IsClientFault limits v p place reason
+  queue_full : v.client ≢ [] → (f : ClientFrame) → IsLater f → IsSent f → IsOfProfile limits.profile f → client_payload f ≡ p → limits.waiting < load v.client v.server + weight f → place ≡ 0 → reason ≡ QueueFull → IsClientFault limits v p place reason
 
 -- and of the server's
 pub data IsServerFault (v : Conversation) (p : List ℕ) (place : ℕ) (reason : Reason) : Type 0 where

@@ -52,7 +52,7 @@ IsBounded limits v h =
     AreWholeIn limits front client server → load client server ≤ limits.waiting
 
 pub record Good (limits : Limits) (h : History) (v : Conversation) (client_rest server_rest : List ℕ) : Type 0 where
-  pub conversation : IsConversation v
+  pub conversation : IsConversation limits.profile v
   pub whole : IsWhole limits h v.client v.server client_rest server_rest
   pub causal : IsCausal v h
   pub bounded : IsBounded limits v h

@@ -4,9 +4,10 @@ use Rattle.zk_jute.specs.declared.fault.ItemFault.{ItemFault}
 use Rattle.zk_jute.specs.declared.fault.Reason.{Reason}
 use Rattle.zk_jute.specs.declared.fault.Reason.TheVariants.{QueueFull}
 use Rattle.zk_jute.specs.Reading.{told_place, no_memory}
+use Rattle.zk_records.specs.declared.profile.Profile.{Profile}
 use Rattle.zk_asks.specs.declared.frame.ClientFrame.{ClientFrame}
 use Rattle.zk_asks.specs.declared.frame.ClientFrame.TheVariants.{Connect, Ask}
-use Rattle.zk_asks.specs.Frames.{IsFirst, IsLater, ops_of_ask}
+use Rattle.zk_asks.specs.Frames.{IsFirst, IsLater, IsOfProfile, ops_of_ask}
 use Rattle.zk_asks.specs.Rows.{op_of_ask}
 use Rattle.zk_asks.specs.Faults.{IsFirstFault, IsAskFault}
 use Rattle.zk_answers.specs.declared.frame.ServerFrame.{ServerFrame}
@@ -20,21 +21,21 @@ use Rattle.zk_talk.specs.Conversation.{Conversation, ClientMay, load, weight}
 abbrev pub Tells : (ℕ → Reason → Type 0) → ItemFault → Type 0
 Tells IsTheFault e = (place : ℕ) × IsTheFault place e.reason × (e.place ≡ told_place place)
 
--- by the number of frames before it: the first frame's kind, or another's
-abbrev pub IsInTurn : ℕ → ClientFrame → Type 0
-IsInTurn count f = (count ≡ 0 → IsFirst f) × ((count ≡ 0 → ⊥) → IsLater f)
+-- by the number of frames before it: the first frame's kind, or another's, of the profile
+abbrev pub IsInTurn : Profile → ℕ → ClientFrame → Type 0
+IsInTurn profile count f = (count ≡ 0 → IsFirst f) × ((count ≡ 0 → ⊥) → IsLater f × IsOfProfile profile f)
 
 -- its fault, likewise
-abbrev pub IsTurnFault : ℕ → List ℕ → ItemFault → Type 0
-IsTurnFault count p e = (count ≡ 0 → Tells (IsFirstFault p) e) × ((count ≡ 0 → ⊥) → Tells (IsAskFault p) e)
+abbrev pub IsTurnFault : Profile → ℕ → List ℕ → ItemFault → Type 0
+IsTurnFault profile count p e = (count ≡ 0 → Tells (IsFirstFault p) e) × ((count ≡ 0 → ⊥) → Tells (IsAskFault profile p) e)
 
 -- want of memory, or the queue is full
 abbrev pub IsPutRefusal : ClientFrame → Lanes → ItemFault → Type 0
 IsPutRefusal f old e = (e ≡ no_memory) ⊎ (IsLater f × (e ≡ record { place = 0; reason = QueueFull }) × (old.max < weight_of old + weight f))
 
 -- the frame may stand after those of v, and the load is then within what may wait
-abbrev pub IsNextOf : Lanes → List ℕ → Conversation → ClientFrame → Type 0
-IsNextOf old p v f = (client_payload f ≡ p) × ClientMay v.client f × (load v.client v.server ≤ old.max → load (v.client ++ f ∷ []) v.server ≤ old.max)
+abbrev pub IsNextOf : Profile → Lanes → List ℕ → Conversation → ClientFrame → Type 0
+IsNextOf profile old p v f = (client_payload f ≡ p) × ClientMay profile v.client f × (load v.client v.server ≤ old.max → load (v.client ++ f ∷ []) v.server ≤ old.max)
 
 -- the frame waits for its reply, if it is to have one
 abbrev pub IsRemembered : ClientFrame → Lanes → Lanes → Type 0

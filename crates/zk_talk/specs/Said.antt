@@ -4,7 +4,7 @@ use Rattle.std.specs.List.{flat_map, AllByRecursion}
 use Rattle.zk_jute.specs.Item.{Item, Fit}
 use Rattle.zk_asks.specs.declared.frame.Ask.{Ask as Asked}
 use Rattle.zk_asks.specs.declared.frame.ClientFrame.{ClientFrame}
-use Rattle.zk_asks.specs.Frames.{IsFirst, IsLater, MaySend, ops_of_ask}
+use Rattle.zk_asks.specs.Frames.{IsFirst, IsLater, IsOfProfile, MaySend, ops_of_ask}
 use Rattle.zk_asks.specs.Rows.{op_of_ask}
 use Rattle.zk_asks.specs.Frames as asks
 use Rattle.zk_answers.specs.declared.frame.Reply.{Reply}
@@ -26,7 +26,7 @@ use Rattle.zk_talk.specs.declared.say.SayFault.TheVariants.{NotFirst, Unasked, X
 use Rattle.zk_talk.specs.Payloads.{client_payload, server_payload}
 use Rattle.zk_talk.specs.Splits.{EachAfter}
 use Rattle.zk_talk.specs.History.{History, side_bytes, on}
-use Rattle.zk_talk.specs.Conversation.{Conversation, IsConversation, ClientMay, ServerMay, asks_on, replies_on, load, weight}
+use Rattle.zk_talk.specs.Conversation.{Conversation, ClientMay, ServerMay, asks_on, replies_on, load, weight}
 use Rattle.zk_talk.specs.Good.{clients, servers}
 use Rattle.zk_talk.specs.Fault.{IsNext, side_limit}
 use Rattle.zk_talk.specs.Queues.{IsQueue}
@@ -62,7 +62,7 @@ conversation_of messages = record { client = clients messages; server = servers 
 
 -- the frame may be said after those of v, within its side's limit and the load
 abbrev pub IsSaidClient : Limits → Conversation → ClientFrame → Type 0
-IsSaidClient limits v f = ClientMay v.client f × (length (client_payload f) ≤ limits.client) × (load (v.client ++ f ∷ []) v.server ≤ limits.waiting)
+IsSaidClient limits v f = ClientMay limits.profile v.client f × (length (client_payload f) ≤ limits.client) × (load (v.client ++ f ∷ []) v.server ≤ limits.waiting)
 
 abbrev pub IsSaidServer : Limits → Conversation → ServerFrame → Type 0
 IsSaidServer limits v s = ServerMay v.client v.server s × (length (server_payload s) ≤ limits.server)
@@ -76,13 +76,17 @@ MaySay limits before (FromServer s) = IsSaidServer limits (conversation_of befor
 abbrev pub AreSaid : Limits → List Message → Type 0
 AreSaid limits messages = EachAfter (MaySay limits) messages
 
+-- the xid is allowed for the operation, and the operation is of the profile
+abbrev pub MayAsk : Limits → ClientFrame → Type 0
+MayAsk limits f = MaySend f × IsOfProfile limits.profile f
+
 -- why a message of the client is refused after those of v: the first case that applies
 pub data IsClientRefusal (limits : Limits) (v : Conversation) (f : ClientFrame) (e : SayFault) : Type 0 where
   second_connect : v.client ≢ [] → IsFirst f → e ≡ NotFirst → IsClientRefusal limits v f e
   before_connect : v.client ≡ [] → IsLater f → e ≡ NotFirst → IsClientRefusal limits v f e
-  not_allowed : v.client ≢ [] → IsLater f → (MaySend f → ⊥) → e ≡ Misfit → IsClientRefusal limits v f e
-  too_long : (v.client ≡ [] → IsFirst f) → (v.client ≢ [] → IsLater f) → MaySend f → (Fit limits.client (asks.frame_items f) → ⊥) → e ≡ TooLong → IsClientRefusal limits v f e
-  queue_full : v.client ≢ [] → IsLater f → MaySend f → Fit limits.client (asks.frame_items f) → limits.waiting < load v.client v.server + weight f → e ≡ QueueFull → IsClientRefusal limits v f e
+  not_allowed : v.client ≢ [] → IsLater f → (MayAsk limits f → ⊥) → e ≡ Misfit → IsClientRefusal limits v f e
+  too_long : (v.client ≡ [] → IsFirst f) → (v.client ≢ [] → IsLater f) → MayAsk limits f → (Fit limits.client (asks.frame_items f) → ⊥) → e ≡ TooLong → IsClientRefusal limits v f e
+  queue_full : v.client ≢ [] → IsLater f → MayAsk limits f → Fit limits.client (asks.frame_items f) → limits.waiting < load v.client v.server + weight f → e ≡ QueueFull → IsClientRefusal limits v f e
 
 -- and one of the server
 pub data IsServerRefusal (limits : Limits) (v : Conversation) (s : ServerFrame) (e : SayFault) : Type 0 where
@@ -117,7 +121,7 @@ pub record SpeakerState : Type 0 where
 pub record Heard (asked welcomed : Bool) (waiting : Lanes) (v : Conversation) : Type 0 where
   pub client : HasSpoken asked v.client
   pub server : HasSpoken welcomed v.server
-  pub conversation : IsConversation v
+  pub may : EachAfter (ServerMay v.client) v.server
   pub queues : (lane : Lane) → IsQueue lane v (queue_on lane waiting)
 
 -- these messages were said

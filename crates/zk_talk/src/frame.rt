@@ -15,6 +15,7 @@ use std::alloc::Global;
 use zk_answers::ServerFrame;
 use zk_asks::ClientFrame;
 use zk_jute::{ItemFault, Reason};
+use zk_records::Profile;
 use zk_waiting::Waiting;
 
 /// Whether memory was wanted.
@@ -27,10 +28,11 @@ pub fn is_no_memory(item: ItemFault) -> bool
     }
 }
 
-/// The client's frame, which so many bytes have made whole. Where memory is wanted they are not
+/// The client's frame, which so many bytes have made whole, under this profile. Where memory is wanted they are not
 /// taken after all.
 pub fn client_frame(
     alloc: Global,
+    profile: Profile,
     stream: &mut Stream,
     waiting: &mut Waiting,
     used: usize,
@@ -41,15 +43,21 @@ pub fn client_frame(
     requires size { stream.old.size + used < 2 ^ 62 }
     requires count { stream.old.count ≤ stream.old.size }
     ensures max { waiting.new.max ≡ waiting.old.max }
-    ensures found { IfOk result (λ f. (m : ℕ) (v : Conversation) → Describes stream.old.count m waiting.old v → IsNextOf waiting.old (drop 4 stream.old.frames.bytes) v f) }
+    ensures found { IfOk result (λ f. (m : ℕ) (v : Conversation) → Describes stream.old.count m waiting.old v → IsNextOf profile waiting.old (drop 4 stream.old.frames.bytes) v f) }
     ensures waits { IfOk result (λ f. IsRemembered f waiting.old waiting.new) }
     ensures passed { IfOk result (λ f. stream.new ≡ record { frames = record { limit = stream.old.frames.limit; bytes = [] }; count = stream.old.count + 1; size = stream.old.size + used }) }
     ensures same { IfErr result (λ e. waiting.new ≡ waiting.old) }
     ensures back { IfErr result (λ e. e.reason ≡ NoMemory → (held part : List ℕ) → stream.old.frames.bytes ≡ held ++ part → length part ≡ used → stream.new ≡ record { frames = record { limit = stream.old.frames.limit; bytes = held }; count = stream.old.count; size = stream.old.size }) }
     ensures stays { IfErr result (λ e. (e.reason ≡ NoMemory → ⊥) → stream.new ≡ stream.old) }
-    ensures fault { IfErr result (λ e. (e.reason ≡ NoMemory → ⊥) → (limits : Limits) (m : ℕ) (v : Conversation) → limits.waiting ≡ waiting.old.max → Describes stream.old.count m waiting.old v → Tells (IsClientFault limits v (drop 4 stream.old.frames.bytes)) e) }
+    ensures fault { IfErr result (λ e. (e.reason ≡ NoMemory → ⊥) → (limits : Limits) (m : ℕ) (v : Conversation) → limits.waiting ≡ waiting.old.max → limits.profile ≡ profile → Describes stream.old.count m waiting.old v → Tells (IsClientFault limits v (drop 4 stream.old.frames.bytes)) e) }
 {
-    match next_client(alloc, stream.count, waiting, stream.frames.payload()) {
+    match next_client(
+        alloc,
+        profile,
+        stream.count,
+        waiting,
+        stream.frames.payload(),
+    ) {
         Ok(frame) => {
             stream.pass(used);
             Ok(frame)

@@ -17,18 +17,23 @@ use std::alloc::Global;
 use zk_answers::{ServerFrame, form_of, read_connected, read_event, read_reply, reply_head};
 use zk_asks::{ClientFrame, read_ask, read_first};
 use zk_jute::{ItemFault, Reason};
-use zk_records::ReplyHeader;
+use zk_records::{Profile, ReplyHeader};
 use zk_waiting::{PutFault, Waiting, lane_of};
 
 /// The frame after so many of the client.
-fn read_client(alloc: Global, count: u64, payload: &[u8]) -> Result<ClientFrame, ItemFault>
-    ensures found { IfOk result (λ f. IsInTurn count f × IsSent f × (client_payload f ≡ payload.now)) }
-    ensures fault { IfErr result (λ e. (e ≡ no_memory) ⊎ IsTurnFault count payload.now e) }
+fn read_client(
+    alloc: Global,
+    profile: Profile,
+    count: u64,
+    payload: &[u8],
+) -> Result<ClientFrame, ItemFault>
+    ensures found { IfOk result (λ f. IsInTurn profile count f × IsSent f × (client_payload f ≡ payload.now)) }
+    ensures fault { IfErr result (λ e. (e ≡ no_memory) ⊎ IsTurnFault profile count payload.now e) }
 {
     if count == 0 {
         read_first(alloc, payload)
     } else {
-        read_ask(alloc, payload)
+        read_ask(alloc, profile, payload)
     }
 }
 
@@ -54,18 +59,19 @@ pub fn remember(alloc: Global, waiting: &mut Waiting, frame: &ClientFrame) -> Re
 /// The client's next frame, which then waits for its reply.
 pub fn next_client(
     alloc: Global,
+    profile: Profile,
     count: u64,
     waiting: &mut Waiting,
     payload: &[u8],
 ) -> Result<ClientFrame, ItemFault>
     requires { length payload.now < 2 ^ 32 }
     ensures max { waiting.new.max ≡ waiting.old.max }
-    ensures found { IfOk result (λ f. (m : ℕ) (v : Conversation) → Describes count m waiting.old v → IsNextOf waiting.old payload.now v f) }
+    ensures found { IfOk result (λ f. (m : ℕ) (v : Conversation) → Describes count m waiting.old v → IsNextOf profile waiting.old payload.now v f) }
     ensures waits { IfOk result (λ f. IsRemembered f waiting.old waiting.new) }
     ensures same { IfErr result (λ e. waiting.new ≡ waiting.old) }
-    ensures fault { IfErr result (λ e. (e ≡ no_memory) ⊎ ((limits : Limits) (m : ℕ) (v : Conversation) → limits.waiting ≡ waiting.old.max → Describes count m waiting.old v → Tells (IsClientFault limits v payload.now) e)) }
+    ensures fault { IfErr result (λ e. (e ≡ no_memory) ⊎ ((limits : Limits) (m : ℕ) (v : Conversation) → limits.waiting ≡ waiting.old.max → limits.profile ≡ profile → Describes count m waiting.old v → Tells (IsClientFault limits v payload.now) e)) }
 {
-    let frame = match read_client(alloc, count, payload) {
+    let frame = match read_client(alloc, profile, count, payload) {
         Ok(frame) => frame,
         Err(e) => return Err(e),
     };

@@ -25,6 +25,8 @@ pub use talk::{Taken, Talk};
 #[cfg(test)]
 mod library_tests;
 #[cfg(test)]
+mod profile_tests;
+#[cfg(test)]
 mod refusal_tests;
 #[cfg(test)]
 mod reply_tests;

@@ -1,23 +1,28 @@
-//! The limits of a conversation.
+//! The limits of a conversation, and its profile.
 ghost use Rattle.std.specs.Prelude.{◌≡◌, ◌↔◌, IsSome, IfSome};
+ghost use Rattle.zk_records.specs.declared.profile.Profile.TheVariants.{V34};
 ghost use Rattle.zk_talk.specs.Ranges.{AreLimits};
 
-/// The longest payloads of both sides in bytes (ZooKeeper's `jute.maxbuffer`), and what the
-/// requests that wait for their replies may weigh: each weighs 1, and one more for each part.
+use zk_records::Profile;
+
+/// The longest payloads of both sides in bytes (ZooKeeper's `jute.maxbuffer`); what the requests
+/// that wait for their replies may weigh: each weighs 1, and one more for each part; and the
+/// profile, of which each request's operation is.
 #[derive(Clone, Copy, Debug, PartialEq, Eq)]
 pub struct Limits {
     client: u32,
     server: u32,
     waiting: u32,
+    profile: Profile,
     ghost in_range: { AreLimits client server waiting },
 }
 
 impl Limits {
-    /// Limits of these numbers: frames of 64 to 16,777,216 bytes, waiting 1 to 1,048,576; None
-    /// outside.
+    /// Limits of these numbers, under profile 3.4: frames of 64 to 16,777,216 bytes, waiting 1 to
+    /// 1,048,576; None outside.
     pub fn new(client: u32, server: u32, waiting: u32) -> Option<Limits>
         ensures when { IsSome result ↔ AreLimits client server waiting }
-        ensures value { IfSome result (λ l. (l.client ≡ client) × (l.server ≡ server) × (l.waiting ≡ waiting)) }
+        ensures value { IfSome result (λ l. (l.client ≡ client) × (l.server ≡ server) × (l.waiting ≡ waiting) × (l.profile ≡ V34)) }
     {
         let frames = 64..=16_777_216;
         if frames.contains(&client)
@@ -28,9 +33,23 @@ impl Limits {
                 client,
                 server,
                 waiting,
+                profile: Profile::V34,
             })
         } else {
             None
+        }
+    }
+
+    /// The same numbers under this profile.
+    pub fn with_profile(self, profile: Profile) -> Limits
+        ensures numbers { (result.client ≡ self.client) × (result.server ≡ self.server) × (result.waiting ≡ self.waiting) }
+        ensures profile { result.profile ≡ profile }
+    {
+        Limits {
+            client: self.client,
+            server: self.server,
+            waiting: self.waiting,
+            profile,
         }
     }
 
@@ -53,5 +72,12 @@ impl Limits {
         ensures { result ≡ self.now.waiting }
     {
         self.waiting
+    }
+
+    /// Which operations a request may have.
+    pub fn profile(&self) -> Profile
+        ensures { result ≡ self.now.profile }
+    {
+        self.profile
     }
 }

@@ -1,6 +1,7 @@
 //! One message more: whether it may be said, and its frame.
 ghost use Rattle.std.specs.Prelude.{◌≡◌, ◌≤◌, ◌<◌, ◌+◌, ◌^◌, ◌++◌, ◌⊎◌, ◌∷◌, [], pos, length, Bool, true, OnOk, OnErr, IfErr, MatchBool, IsTrue, ◌↔◌};
 ghost use Rattle.zk_jute.specs.Item.{Fit, int_bytes};
+ghost use Rattle.zk_records.specs.Codes.{HasOp};
 ghost use Rattle.zk_asks.specs.Frames as asks;
 ghost use Rattle.zk_answers.specs.Frames as answers;
 ghost use Rattle.zk_frames.specs.Framing.{frame};
@@ -10,7 +11,7 @@ ghost use Rattle.zk_talk.specs.Payloads.{client_payload, server_payload};
 ghost use Rattle.zk_talk.specs.Conversation.{Conversation, with_client, with_server};
 ghost use Rattle.zk_talk.specs.Judged.{IsRemembered};
 ghost use Rattle.zk_talk.specs.SayNames as names;
-ghost use Rattle.zk_talk.specs.Said.{Heard, IsClientRefusal, IsServerRefusal, IsUnwritten, IsUnput, FitsNext, IsUnfit, MayAnswer, CannotAnswer, IsSaidClient, IsSaidServer};
+ghost use Rattle.zk_talk.specs.Said.{Heard, MayAsk, IsClientRefusal, IsServerRefusal, IsUnwritten, IsUnput, FitsNext, IsUnfit, MayAnswer, CannotAnswer, IsSaidClient, IsSaidServer};
 
 use crate::judge::{forget, remember};
 use crate::limits::Limits;
@@ -18,6 +19,7 @@ use std::alloc::{AllocError, Global};
 use zk_answers::{Outcome, Reply, ServerFrame, fits, write_server};
 use zk_asks::{ClientFrame, allowed, write_client};
 use zk_jute::Reason;
+use zk_records::{Op, Profile, op_number, op_of};
 use zk_waiting::{Waiting, lane_of};
 
 /// Why a message can't be said, in the order of the checks.
@@ -29,7 +31,8 @@ pub enum SayFault {
     Unasked,
     /// The lane's oldest request has another xid.
     XidOrder { expected: i32, got: i32 },
-    /// The xid isn't allowed for the operation, or the reply doesn't fit its request.
+    /// The xid isn't allowed for the operation, the operation isn't of the profile, or the reply
+    /// doesn't fit its request.
     Misfit,
     /// The payload is longer than its side's limit.
     TooLong,
@@ -122,12 +125,21 @@ fn is_connected(message: &ServerFrame) -> bool
     matches!(message, ServerFrame::Connected { .. })
 }
 
-fn may_send(message: &ClientFrame) -> bool
-    ensures { IsTrue result ↔ asks.MaySend message.now }
+fn is_of(profile: Profile, op: Op) -> bool
+    ensures { IsTrue result ↔ HasOp profile op }
+{
+    op_of(profile, op_number(op)).is_some()
+}
+
+/// Whether the xid is allowed for the operation, and the operation is of the profile.
+fn may_ask(limits: Limits, message: &ClientFrame) -> bool
+    ensures { IsTrue result ↔ MayAsk limits message.now }
 {
     match message {
         ClientFrame::Connect { .. } => true,
-        ClientFrame::Ask { xid, ask } => allowed(*xid, ask.op()),
+        ClientFrame::Ask { xid, ask } => {
+            allowed(*xid, ask.op()) && is_of(limits.profile(), ask.op())
+        }
     }
 }
 
@@ -167,7 +179,7 @@ pub fn say_client(
     if is_connect(message) == asked {
         return Err(SayFault::NotFirst);
     }
-    if !may_send(message) {
+    if !may_ask(limits, message) {
         return Err(SayFault::Misfit);
     }
     let start = out.len();

@@ -136,7 +136,14 @@ impl Talk {
                 })
             }
             Advance::Whole(used) => {
-                match client_frame(self.alloc, &mut self.client, &mut self.waiting, used) {
+                let profile = self.limits.profile();
+                match client_frame(
+                    self.alloc,
+                    profile,
+                    &mut self.client,
+                    &mut self.waiting,
+                    used,
+                ) {
                     Ok(frame) => Ok(Taken {
                         used,
                         message: Some(Message::Client(frame)),

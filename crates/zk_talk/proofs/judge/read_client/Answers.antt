@@ -7,10 +7,10 @@ pub returns-then-count-eq0-clause-found : goal.returns-then-count-eq0-clause-fou
 returns-then-count-eq0-clause-found c = IfOk-weaker c.read_first.result _ _ (λ f x. (((λ z. x.0), (λ n. absurd (n c.if-count-eq0.true))), x.1, client_is f c.args.payload.now x.2)) c.read_first.ensures.found
 
 pub returns-then-count-eq0-clause-fault : goal.returns-then-count-eq0-clause-fault
-returns-then-count-eq0-clause-fault c = IfErr-weaker c.read_first.result _ _ (λ e f. told_first c.args.count c.args.payload.now e c.if-count-eq0.true f) c.read_first.ensures.fault
+returns-then-count-eq0-clause-fault c = IfErr-weaker c.read_first.result _ _ (λ e f. told_first c.args.profile c.args.count c.args.payload.now e c.if-count-eq0.true f) c.read_first.ensures.fault
 
 pub returns-else-count-eq0-clause-found : goal.returns-else-count-eq0-clause-found
-returns-else-count-eq0-clause-found c = IfOk-weaker c.read_ask.result _ _ (λ f x. (((λ z. absurd (c.if-count-eq0.false z)), (λ n. x.0)), x.1, client_is f c.args.payload.now x.2)) c.read_ask.ensures.found
+returns-else-count-eq0-clause-found c = IfOk-weaker c.read_ask.result _ _ (λ f x. (((λ z. absurd (c.if-count-eq0.false z)), (λ n. (x.0, x.1))), x.2, client_is f c.args.payload.now x.3)) c.read_ask.ensures.found
 
 pub returns-else-count-eq0-clause-fault : goal.returns-else-count-eq0-clause-fault
-returns-else-count-eq0-clause-fault c = IfErr-weaker c.read_ask.result _ _ (λ e f. told_later c.args.count c.args.payload.now e c.if-count-eq0.false f) c.read_ask.ensures.fault
+returns-else-count-eq0-clause-fault c = IfErr-weaker c.read_ask.result _ _ (λ e f. told_later c.args.profile c.args.count c.args.payload.now e c.if-count-eq0.false f) c.read_ask.ensures.fault

@@ -12,13 +12,13 @@ put_request-requires c =
 
 pub returns-in-Ok-put_request-clause-said : goal.returns-in-Ok-put_request-clause-said
 returns-in-Ok-put_request-clause-said c = λ welcomed v heard.
-    let sent : c.may_send.result ≡ true = cc in
+    let sent : c.may_ask.result ≡ true = cc in
     let fits = subst (λ z. Fit z (frame_items c.args.message.now)) c.client.ensures c.in-Ok.ensures.fits in
-    client_said c.args.limits c.args.asked welcomed c.args.waiting.now v heard c.args.message.now c.is_connect.result c.is_connect.ensures (unequal _ _ c.if-is_connect-asked.false) c.put_request.new.waiting c.requires.room (c.may_send.ensures.0 sent) fits c.in-Ok-put_request.ensures.ok
+    client_said c.args.limits c.args.asked welcomed c.args.waiting.now v heard c.args.message.now c.is_connect.result c.is_connect.ensures (unequal _ _ c.if-is_connect-asked.false) c.put_request.new.waiting c.requires.room (c.may_ask.ensures.0 sent) fits c.in-Ok-put_request.ensures.ok
 
 pub returns-in-Err-put_request-clause-err : goal.returns-in-Err-put_request-clause-err
 returns-in-Err-put_request-clause-err c =
-    let sent : c.may_send.result ≡ true = cc in
+    let sent : c.may_ask.result ≡ true = cc in
     let fits = subst (λ z. Fit z (frame_items c.args.message.now)) c.client.ensures c.in-Ok.ensures.fits in
     either_way c.in-Err-put_request.e _ _ (λ welcomed v heard.
-    client_full c.args.limits c.args.asked welcomed c.args.waiting.now v heard c.args.message.now c.is_connect.result c.is_connect.ensures (unequal _ _ c.if-is_connect-asked.false) c.in-Err-put_request.e c.requires.room (c.may_send.ensures.0 sent) fits c.in-Err-put_request.ensures.err)
+    client_full c.args.limits c.args.asked welcomed c.args.waiting.now v heard c.args.message.now c.is_connect.result c.is_connect.ensures (unequal _ _ c.if-is_connect-asked.false) c.in-Err-put_request.e c.requires.room (c.may_ask.ensures.0 sent) fits c.in-Err-put_request.ensures.err)

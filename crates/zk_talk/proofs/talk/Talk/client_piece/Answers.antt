@@ -1,7 +1,8 @@
-use Rattle.std.proofs.Common.{subst, arith}
+use Rattle.std.proofs.Common.{◌∙◌, drop, sym, subst, arith}
 use Rattle.zk_talk.specs.contracts.talk.Talk.{the_view}
 use Rattle.zk_talk.specs.declared.stream.Advance.TheVariants.{Within, Whole, Refused}
 use Rattle.zk_talk.specs.Advance.{IsAdvance}
+use Rattle.zk_talk.specs.Judged.{IsNextOf}
 use Rattle.zk_talk.proofs.Answering.{client_goes, client_stops, client_makes, client_fails}
 use Rattle.zk_talk.proofs.talk.Talk.client_piece.Goals as goal
 
@@ -18,7 +19,7 @@ returns-in-Ok-clause-ok c =
     let s = c.take.new.self in
     let k = c.in-Ok.ensures in
     let a = subst (λ z. IsAdvance z T.client_size T.client_held c.args.piece.now (Whole c.in-Whole.used) s.frames.bytes) c.self.invariant.0.same (c.in-Whole.ensures).advance in
-    rw (← c.self.view_is) (a.1, (λ l. a.0), client_makes T c.args.piece.now s c.client_frame.new.stream (c.in-Whole.ensures).count (c.in-Whole.ensures).size c.in-Whole.used c.in-Ok.frame c.client_frame.new.waiting a c.self.invariant.2 k.waits k.found k.passed)
+    rw (← c.self.view_is) (a.1, (λ l. a.0), client_makes T c.args.piece.now s c.client_frame.new.stream (c.in-Whole.ensures).count (c.in-Whole.ensures).size c.in-Whole.used c.in-Ok.frame c.client_frame.new.waiting a c.self.invariant.2 k.waits (λ m v d. subst (λ z. IsNextOf z T.waiting (drop 4 s.frames.bytes) v c.in-Ok.frame) c.profile-profile.ensures (k.found m v d)) k.passed)
 
 pub returns-in-Err-clause-err : goal.returns-in-Err-clause-err
 returns-in-Err-clause-err c =
@@ -27,7 +28,7 @@ returns-in-Err-clause-err c =
     let k = c.in-Err.ensures in
     let a = subst (λ z. IsAdvance z T.client_size T.client_held c.args.piece.now (Whole c.in-Whole.used) s.frames.bytes) c.self.invariant.0.same (c.in-Whole.ensures).advance in
     rw (← c.self.view_is) (client_fails T c.args.piece.now s c.client_frame.new.stream (c.in-Whole.ensures).count (c.in-Whole.ensures).size c.client_frame.new.waiting c.refuse.new.kept c.in-Whole.used c.in-Err.item c.refuse.result a c.self.invariant.2
-    c.refuse.ensures.wanting c.refuse.ensures.refused k.same k.back k.stays k.fault)
+    c.refuse.ensures.wanting c.refuse.ensures.refused k.same k.back k.stays (λ n limits m v q o d. k.fault n limits m v q (o ∙ sym c.profile-profile.ensures) d))
 
 pub returns-in-Refused-clause-err : goal.returns-in-Refused-clause-err
 returns-in-Refused-clause-err c =
