@@ -1,0 +1,53 @@
+"""What the tests of the tools share."""
+
+import io
+import pathlib
+import subprocess
+import sys
+import tempfile
+import unittest
+
+TOOLS = pathlib.Path(__file__).resolve().parent.parent
+TOP = TOOLS.parent
+CAPTURES = sorted((TOP / "captures").glob("*.zkr"))
+PROGRAM = TOP / "crates" / "zkdump" / "out" / "zkdump"
+sys.path.insert(0, str(TOOLS))
+
+import zkr  # noqa: E402  (found by the line above)
+
+
+class ToolCase(unittest.TestCase):
+    """A test with a folder of its own, `folder`, which is gone afterwards."""
+
+    def setUp(self):
+        folder = tempfile.TemporaryDirectory()
+        self.addCleanup(folder.cleanup)
+        self.folder = pathlib.Path(folder.name)
+
+    def run_tool(self, tool, *words, stdin=b"", seconds=60):
+        """Runs a tool of this folder to its end: its status, standard output and standard error."""
+        done = subprocess.run([sys.executable, TOOLS / tool, *map(str, words)], input=stdin, capture_output=True,
+                              timeout=seconds, check=False)
+        return done.returncode, done.stdout.decode(), done.stderr.decode()
+
+    def assert_bad_words(self, tool, *words):
+        """That these words are refused with one line on standard error and status 2, and nothing else is said."""
+        status, out, err = self.run_tool(tool, *words)
+        self.assertEqual((status, out, err.count("\n")), (2, "", 1), (words, err))
+
+    def show(self, recording):
+        """The listing of a recording, by the proved program. The test is skipped where that isn't built."""
+        if not PROGRAM.exists():
+            self.skipTest("the program zkdump is not built")
+        return subprocess.run([PROGRAM, "show"], input=recording, capture_output=True, check=False).stdout.decode()
+
+
+def pieces(recording):
+    """The pieces of a recording, given as bytes."""
+    return list(zkr.Reader(io.BytesIO(recording)))
+
+
+def sides(recording):
+    """All bytes of the client and all of the server."""
+    found = pieces(recording)
+    return tuple(b"".join(piece.data for piece in found if piece.side == side) for side in (zkr.CLIENT, zkr.SERVER))

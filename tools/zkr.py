@@ -1,0 +1,318 @@
+"""Recordings of one connection, read, cut into frames and written: what the tools of this folder share.
+
+A recording of the first format is the bytes ZKR1 and then pieces: a byte for the side (C or S), four bytes for the
+number of bytes, and the bytes (docs/FORMATS.md, section 12). One of the second format has after its head ZKR2 four
+ints: the greatest payload of the client's frames and of the server's, how many requests may wait, and the profile
+(34 or 35). Its pieces have eight bytes between the side and the number of bytes: milliseconds since 1970.
+
+The times of a recording's pieces may also stand in a file beside it, RECORDING.times: a line for each piece, its
+milliseconds since 1970 in decimal, with a fraction. All times in this module are such numbers of milliseconds.
+"""
+
+import argparse
+import datetime
+import os
+import resource
+import struct
+import sys
+import time
+from typing import NamedTuple, Optional
+
+CLIENT, SERVER = b"C", b"S"
+LARGEST_PIECE = 16_777_220
+LIMITS, USUAL_LIMIT = range(64, 16_777_217), 4_194_304
+WAITINGS, USUAL_WAITING = range(1, 1_048_577), 65_536
+PROFILES = {"3.4": 34, "3.5": 35}
+
+
+class Damaged(ValueError):
+    """A recording that is damaged: at which offset of the file, and why (the reasons of docs/FORMATS.md)."""
+
+    def __init__(self, offset, reason):
+        super().__init__(f"recording offset={offset} reason={reason}")
+        self.offset, self.reason = offset, reason
+
+
+class Head(NamedTuple):
+    """What stands before the pieces. The numbers are those of a ZKR2 head; a ZKR1 head has none, so they are usual."""
+    form: str = "zkr1"
+    client_limit: int = USUAL_LIMIT
+    server_limit: int = USUAL_LIMIT
+    waiting: int = USUAL_WAITING
+    profile: int = PROFILES["3.4"]
+
+    def to_bytes(self):
+        if self.form == "zkr1":
+            return b"ZKR1"
+        return b"ZKR2" + struct.pack(">iiii", *self[1:])
+
+    def piece(self, side, milliseconds, data):
+        """The bytes of one piece, of 1 to LARGEST_PIECE bytes."""
+        if self.form == "zkr1":
+            return struct.pack(">cI", side, len(data)) + data
+        return struct.pack(">cqI", side, max(0, int(milliseconds)), len(data)) + data
+
+
+class Piece(NamedTuple):
+    """Bytes of one side that were taken together, and when; None where that isn't known."""
+    side: bytes
+    milliseconds: Optional[float]
+    data: bytes
+
+
+class Reader:
+    """Reads a recording from a stream of bytes. `head` is its head; iterating gives its pieces one by one.
+
+    Where the recording is damaged, Damaged is raised once everything before is given, the bytes of a piece that is
+    cut short included.
+    """
+
+    def __init__(self, stream):
+        self.stream, self.offset = stream, 0
+        mark = stream.read(4)
+        if mark not in (b"ZKR1", b"ZKR2"):
+            raise Damaged(0, "BadHead")
+        self.offset, self.head = 4, Head()
+        if mark == b"ZKR2":
+            self.head = Head("zkr2", *(self.head_number(allowed) for allowed in (LIMITS, LIMITS, WAITINGS, (34, 35))))
+
+    def number(self, form):
+        size = struct.calcsize(form)
+        data = self.stream.read(size)
+        if len(data) < size:
+            raise Damaged(self.offset, "Short")
+        self.offset += size
+        return struct.unpack(form, data)[0]
+
+    def head_number(self, allowed):
+        found = self.number(">i")
+        if found not in allowed:
+            raise Damaged(self.offset - 4, "BadLimits")
+        return found
+
+    def __iter__(self):
+        while side := self.stream.read(1):
+            if side not in (CLIENT, SERVER):
+                raise Damaged(self.offset, "BadSide")
+            self.offset += 1
+            milliseconds = self.number(">q") if self.head.form == "zkr2" else None
+            if milliseconds is not None and milliseconds < 0:
+                raise Damaged(self.offset - 8, "BadTime")
+            size = self.number(">i")
+            if not 1 <= size <= LARGEST_PIECE:
+                raise Damaged(self.offset - 4, "BadSize")
+            data = self.stream.read(size)
+            if data:
+                yield Piece(side, milliseconds, data)
+            if len(data) < size:
+                raise Damaged(self.offset, "Short")
+            self.offset += size
+
+
+def times_path(path):
+    """The file of the times of the recording at this path."""
+    return f"{path}.times"
+
+
+def read_times(path):
+    """The times in a file of times, one for each piece of its recording."""
+    with open(path, encoding="ascii") as lines:
+        for line in lines:
+            yield float(line)
+
+
+def with_times(pieces, times):
+    """These pieces with these times, as far as there are times."""
+    times = iter(times)
+    for piece in pieces:
+        yield piece._replace(milliseconds=next(times, piece.milliseconds))
+
+
+class Frame(NamedTuple):
+    """A whole frame: its side, its number on that side from 0, its payload, and the time of its last byte."""
+    side: bytes
+    number: int
+    payload: bytes
+    milliseconds: Optional[float]
+
+
+class Cutter:
+    """Cuts each side's bytes into frames. `held` has what is left of each side: a beginning of a frame.
+
+    Where a side's length is negative or above the limit, that side is in `broken`, and all its bytes from there on
+    stay in `held`.
+    """
+
+    def __init__(self, head=Head()):
+        self.limits = {CLIENT: head.client_limit, SERVER: head.server_limit}
+        self.held = {CLIENT: bytearray(), SERVER: bytearray()}
+        self.count = {CLIENT: 0, SERVER: 0}
+        self.broken = set()
+
+    def take(self, piece):
+        """The frames that are whole with this piece."""
+        side, held, at, frames = piece.side, self.held[piece.side], 0, []
+        held += piece.data
+        while side not in self.broken and len(held) - at >= 4:
+            size = int.from_bytes(held[at:at + 4], "big", signed=True)
+            if not 0 <= size <= self.limits[side]:
+                self.broken.add(side)
+            elif len(held) - at < 4 + size:
+                break
+            else:
+                frames.append(Frame(side, self.count[side], bytes(held[at + 4:at + 4 + size]), piece.milliseconds))
+                self.count[side] += 1
+                at += 4 + size
+        del held[:at]
+        return frames
+
+
+class NewFile:
+    """A file that wasn't there yet, and that its owner alone may read: recordings have passwords."""
+
+    def __init__(self, path):
+        self.path, self.waiting, self.size = path, bytearray(), 0
+        self.file = open(path, "xb", buffering=0, opener=lambda name, flags: os.open(name, flags, 0o600))
+
+    def flush(self):
+        """Writes what waits: all of it, or after an OSError none of it, as far as the system takes it back."""
+        data, self.waiting = memoryview(self.waiting), bytearray()
+        at = 0
+        try:
+            while at < len(data):
+                at += self.file.write(data[at:])
+        except OSError:
+            self.file.truncate(self.size)
+            raise
+        self.size += len(data)
+
+
+class Writer:
+    """A new recording, with a file of times where `times` is true. What `piece` is given is in the file once it
+    returns; `gather` says how many bytes may be gathered first. An OSError leaves whole pieces in the file."""
+
+    def __init__(self, path, head, times, gather=0):
+        self.path, self.head, self.gather = path, head, gather
+        self.count = {CLIENT: 0, SERVER: 0}
+        self.recording, self.times = NewFile(path), None
+        if times:
+            try:
+                self.times = NewFile(times_path(path))
+            except OSError:
+                self.recording.file.close()
+                os.unlink(path)
+                raise
+        self.recording.waiting += head.to_bytes()
+        if not gather:
+            self.flush()
+
+    def piece(self, side, milliseconds, data):
+        """Writes bytes of a side, of any number, as pieces."""
+        for at in range(0, len(data), LARGEST_PIECE):
+            self.recording.waiting += self.head.piece(side, milliseconds, data[at:at + LARGEST_PIECE])
+            if self.times:
+                self.times.waiting += b"%.3f\n" % milliseconds
+        self.count[side] += len(data)
+        if len(self.recording.waiting) >= self.gather:
+            self.flush()
+
+    def flush(self):
+        self.recording.flush()
+        if self.times:
+            self.times.flush()
+
+    def close(self):
+        try:
+            self.flush()
+        finally:
+            self.recording.file.close()
+            if self.times:
+                self.times.file.close()
+
+
+class Series:
+    """The recordings PREFIX-1.zkr, PREFIX-2.zkr and so on; a number whose file is there already is passed over."""
+
+    def __init__(self, prefix, head, times, gather=0):
+        self.prefix, self.head, self.times, self.gather, self.number = prefix, head, times, gather, 0
+
+    def next(self):
+        while True:
+            self.number += 1
+            try:
+                return Writer(f"{self.prefix}-{self.number}.zkr", self.head, self.times, self.gather)
+            except FileExistsError:
+                continue
+
+
+def clock(milliseconds):
+    """A time as it is told: date and time of day in UTC."""
+    whole, part = divmod(int(milliseconds), 1000)
+    moment = datetime.datetime(1970, 1, 1) + datetime.timedelta(seconds=whole)
+    return f"{moment:%Y-%m-%dT%H:%M:%S}.{part:03}Z"
+
+
+def allow_many_files():
+    """Lets this process have as many open files as the system allows it."""
+    _, most = resource.getrlimit(resource.RLIMIT_NOFILE)
+    resource.setrlimit(resource.RLIMIT_NOFILE, (most, most))
+
+
+class Words(argparse.ArgumentParser):
+    """The words of a command: what is wrong with them is told in one line, with status 2."""
+
+    def __init__(self, description):
+        super().__init__(description=description, allow_abbrev=False,
+                         formatter_class=argparse.RawDescriptionHelpFormatter)
+
+    def error(self, message):
+        self.exit(2, f"{self.prog}: {' '.join(message.split())}\n")
+
+    def add_number(self, word, allowed, **more):
+        """An option whose value is a number in the range `allowed`."""
+        def number(text):
+            if not (text.isascii() and text.isdigit() and text == str(int(text)) and int(text) in allowed):
+                raise argparse.ArgumentTypeError(f"{text!r} is no number from {allowed[0]} to {allowed[-1]}")
+            return int(text)
+        self.add_argument(word, type=number, metavar="N", **more)
+
+    def add_format(self):
+        """The options that say how recordings are written."""
+        self.add_argument("--times", action="store_true", help="write RECORDING.times, too: a line for each piece, "
+                          "its milliseconds since 1970")
+        self.add_argument("--format", choices=("zkr1", "zkr2"), default="zkr1",
+                          help="zkr2 has a time in each piece, and in its head these three:")
+        self.add_number("--limit", LIMITS, help=f"the greatest payload of a frame ({USUAL_LIMIT})")
+        self.add_number("--waiting", WAITINGS, help=f"how many requests may wait ({USUAL_WAITING})")
+        self.add_argument("--profile", choices=PROFILES, help="the release whose operations are spoken (3.4)")
+
+    def head_of(self, words):
+        """The head that these words ask for."""
+        asked = {"--limit": words.limit, "--waiting": words.waiting, "--profile": words.profile}
+        if words.format == "zkr1":
+            for option, value in asked.items():
+                if value is not None:
+                    self.error(f"{option} goes with --format zkr2 alone")
+            return Head()
+        limit = words.limit or USUAL_LIMIT
+        return Head("zkr2", limit, limit, words.waiting or USUAL_WAITING, PROFILES[words.profile or "3.4"])
+
+
+class Progress:
+    """Tells on standard error how far long work is, where a person looks on: on a terminal alone."""
+
+    def __init__(self, what):
+        self.what, self.shown = what, False
+        self.due = time.monotonic() + 1 if sys.stderr.isatty() else float("inf")
+
+    def tell(self, amount):
+        """Tells the amount that is done, once a second; `amount` is a text, or a function that gives it."""
+        if time.monotonic() >= self.due:
+            self.due, self.shown = time.monotonic() + 1, True
+            text = amount() if callable(amount) else amount
+            print(f"\r{self.what}: {text}\033[K", end="", file=sys.stderr, flush=True)
+
+    def end(self):
+        """Clears the line."""
+        if self.shown:
+            print("\r\033[K", end="", file=sys.stderr, flush=True)
