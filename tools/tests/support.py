@@ -2,6 +2,7 @@
 
 import io
 import pathlib
+import signal
 import subprocess
 import sys
 import tempfile
@@ -17,12 +18,18 @@ import zkr  # noqa: E402  (found by the line above)
 
 
 class ToolCase(unittest.TestCase):
-    """A test with a folder of its own, `folder`, which is gone afterwards."""
+    """A test with a folder of its own, `folder`, which is gone afterwards. It fails where it takes a minute."""
 
     def setUp(self):
+        signal.signal(signal.SIGALRM, self.took_too_long)
+        signal.alarm(60)
+        self.addCleanup(signal.alarm, 0)
         folder = tempfile.TemporaryDirectory()
         self.addCleanup(folder.cleanup)
         self.folder = pathlib.Path(folder.name)
+
+    def took_too_long(self, *_):
+        raise TimeoutError("this test took a minute")
 
     def run_tool(self, tool, *words, stdin=b"", seconds=60):
         """Runs a tool of this folder to its end: its status, standard output and standard error."""
