@@ -5,7 +5,6 @@ import itertools
 import json
 import os
 import re
-import signal
 import sys
 
 import zkr
@@ -16,10 +15,9 @@ HEXADECIMAL = {"session", "zxid"}
 HEXADECIMAL_OF_STAT = {"czxid", "mzxid", "ephemeralOwner", "pzxid"}
 BITS = {"watch", "ro"}
 OWN_LANES = {None, -2, -4, -8}
-LARGEST_FRAMES = zkr.Head(client_limit=zkr.LIMITS[-1], server_limit=zkr.LIMITS[-1])
 
 TEXT = r'~|"[^"]*"'
-HEAD = re.compile(r"([CS]) (?:(-?\d+) )?(\w+)")
+HEAD = re.compile(r"([CS]) (?:(-?\d+) )?([A-Za-z]\w*)")
 FIELD = re.compile(rf" (\w+)=(?:({TEXT})|#([0-9a-f]*)|\((-?\d+(?:,-?\d+){{10}})\)|(-?\d+)(?:/(\w+))?|(-)|(\[\]?))")
 IS_TEXT, IS_BLOB, IS_STAT, IS_NUMBER, IS_NAMED_NUMBER, IS_ABSENT, IS_LIST = range(2, 9)
 ELEMENT = re.compile(rf"[\[,](?:(-?\d+):({TEXT}):)?({TEXT})")
@@ -240,7 +238,7 @@ def last_bytes(pieces, times):
 
     `times` are those of the pieces, one each; where it is None, those that the pieces have. There 0 is no time.
     """
-    cutter = zkr.Cutter(LARGEST_FRAMES)
+    cutter = zkr.Cutter(zkr.LARGEST_FRAMES)
     times = times and itertools.chain(times, itertools.repeat(None))
     try:
         for piece in pieces:
@@ -279,17 +277,3 @@ def times_of(parser, words):
     if not os.path.exists(path):
         parser.error(f"{words.recording} has no times: --times FILE names them")
     return last_bytes(pieces, zkr.read_times(path))
-
-
-def tool(main):
-    """Runs a tool's main function; what it can't do is told in one line, and gives the status."""
-    name = os.path.basename(sys.argv[0])
-    signal.signal(signal.SIGPIPE, signal.SIG_DFL)
-    try:
-        return main()
-    except ValueError as error:
-        print(f"{name}: {error}", file=sys.stderr)
-        return 1
-    except OSError as error:
-        print(f"{name}: {error}", file=sys.stderr)
-        return 3

@@ -133,4 +133,4 @@ def main():
 
 
 if __name__ == "__main__":
-    sys.exit(listing.tool(main))
+    sys.exit(zkr.tool(main))
