@@ -37,7 +37,7 @@ class Latencies:
         for latency in sorted(self.counts):
             due -= self.counts[latency]
             if due <= 0:
-                return latency
+                return min(latency, self.longest)
 
     def summary(self):
         """None where there are no latencies."""
@@ -97,8 +97,8 @@ def table(found):
     """The lines of the table for a person."""
     yield f"{'operation':14}{'asked':>10}{'answered':>10}{'failed':>10}{'p50 ms':>10}{'p95 ms':>10}{'max ms':>10}"
     for name, counts in found["operations"].items():
-        times = counts["ms"] or {}
-        cells = "".join(f"{times.get(each, '-'):>10}" for each in (*QUANTILES, "max"))
+        times = counts["ms"]
+        cells = "".join(f"{times[each]:>10.7g}" if times else f"{'-':>10}" for each in (*QUANTILES, "max"))
         yield f"{name:14}{counts['asked']:>10}{counts['answered']:>10}{counts['failed']:>10}{cells}"
     for name, counts in found["operations"].items():
         for error, count in counts["errors"].items():

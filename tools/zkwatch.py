@@ -40,7 +40,7 @@ class Watch:
         """Takes connections until it is over, and then ends them all, each with its ending line."""
         for number in (signal.SIGINT, signal.SIGTERM):
             asyncio.get_running_loop().add_signal_handler(number, self.over.set)
-        servers = [await asyncio.start_server(self.connection, sock=listener) for listener in listeners]
+        servers = [await asyncio.start_server(self.take, sock=listener) for listener in listeners]
         await self.over.wait()
         for server in servers:
             server.close()
@@ -55,10 +55,14 @@ class Watch:
             zkr.read_no_more()
             self.over.set()
 
-    async def connection(self, from_client, to_client):
+    def take(self, from_client, to_client):
+        """Takes a client's connection."""
+        task = asyncio.create_task(self.connection(next(self.numbers), from_client, to_client))
+        self.connections.add(task)
+        task.add_done_callback(self.connections.discard)
+
+    async def connection(self, number, from_client, to_client):
         """Passes one connection on, and tells what it says."""
-        self.connections.add(asyncio.current_task())
-        number = next(self.numbers)
         self.say(number, f"from {record.address_text(to_client.get_extra_info('peername'))}")
         try:
             from_server, to_server = await asyncio.open_connection(*self.server)
@@ -70,12 +74,11 @@ class Watch:
             self.say(number, f"not watched: {error}")
         finally:
             to_client.close()
-            self.connections.discard(asyncio.current_task())
             if self.once:
                 self.over.set()
 
     async def watched(self, number, from_client, to_client, from_server, to_server):
-        """Passes both directions on, through a `show` of their own."""
+        """Passes both directions on, through a `show` of their own, which Ctrl-C doesn't end before it has told all."""
         show = await asyncio.create_subprocess_exec(self.zkdump, "show", stdin=asyncio.subprocess.PIPE,
                                                     stdout=asyncio.subprocess.PIPE, limit=LONGEST_LINE,
                                                     start_new_session=True)
