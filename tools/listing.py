@@ -22,7 +22,8 @@ FIELD = re.compile(rf" (\w+)=(?:({TEXT})|#([0-9a-f]*)|\((-?\d+(?:,-?\d+){{10}})\
 IS_TEXT, IS_BLOB, IS_STAT, IS_NUMBER, IS_NAMED_NUMBER, IS_ABSENT, IS_LIST = range(2, 9)
 ELEMENT = re.compile(rf"[\[,](?:(-?\d+):({TEXT}):)?({TEXT})")
 PART = re.compile(r"[{;](\w+)")
-OUTLINE = re.compile(rf"([CS]) (-?\d+) (?!multi)(\w+)(?: path=({TEXT})| zxid=-?\d+(?: err=(-?\d+)(?:/(\w+))?)?)?(?= |$)")
+OUTLINE = re.compile(rf"([CS]) (-?\d+) (?!multi)(\w+)"
+                     rf"(?: path=({TEXT})| zxid=-?\d+(?: err=(-?\d+)(?:/(\w+))?)?)?(?= |$)")
 ESCAPE = re.compile(rb"\\(..)")
 
 
@@ -53,7 +54,7 @@ def message(line, n):
 
 
 def outline(line, n):
-    """What a message's line begins with: its side, xid, operation, path and error. It is read in a tenth of the time."""
+    """What a message's line begins with, which is read sooner than all of it: its side, xid, operation, path, error."""
     found = OUTLINE.match(line)
     if not found:
         return message(line, n)
@@ -218,7 +219,7 @@ class Conversation:
         """The message of a line, and the request that it answers."""
         if line.startswith("."):
             return ending(line), None
-        made = json.loads(line) if line.startswith("{") else self.read(line, n)
+        made = {"n": n, **json.loads(line)} if line.startswith("{") else self.read(line, n)
         if "ending" in made:
             return made, None
         if self.times:

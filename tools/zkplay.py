@@ -59,7 +59,7 @@ class Play:
         while due:
             try:
                 got = self.connection.recv(len(due))
-            except TimeoutError:
+            except socket.timeout:
                 raise self.refused(f"nothing comes, {due[0]:02x} is due") from None
             except OSError as error:
                 raise self.refused(f"{error.strerror}, {due[0]:02x} is due") from None
@@ -111,6 +111,8 @@ def main():
     parser.add_argument("--client", action="store_true", help="play the client, to the server at HOST:PORT")
     parser.add_argument("--wait", type=float, default=10, metavar="SECONDS", help="how long it waits for a byte (10)")
     words = parser.parse_args()
+    if not words.wait > 0:
+        parser.error(f"{words.wait} is no time to wait")
     address = record.address_word(parser, words.address, None if words.client else "127.0.0.1")
     with open(words.recording, "rb") as recording:
         zkr.Reader(recording)

@@ -33,7 +33,7 @@ class Latencies:
         self.longest = max(self.longest, latency)
 
     def quantile(self, share):
-        due = math.ceil(share * self.counts.total())
+        due = math.ceil(share * sum(self.counts.values()))
         for latency in sorted(self.counts):
             due -= self.counts[latency]
             if due <= 0:
@@ -67,7 +67,7 @@ class Operation:
             self.latencies.add(made["ms"])
 
     def summary(self):
-        return {"asked": self.asked, "answered": self.answered, "failed": self.errors.total(),
+        return {"asked": self.asked, "answered": self.answered, "failed": sum(self.errors.values()),
                 "errors": dict(self.errors.most_common()), "ms": self.latencies.summary()}
 
 
@@ -84,11 +84,12 @@ def summary(talk):
         if "ending" in made:
             ending = {name: value for name, value in made.items() if name != "waiting"}
         elif made["op"] == "event":
-            events[made.get("kindName", str(made["kind"]))] += 1
+            events[made.get("kindName", str(made.get("kind")))] += 1
         else:
             operations[made["op"]].add(made)
     ordered = sorted(operations.items(), key=lambda item: -item[1].asked)
-    waiting = [{name: made[name] for name in ("n", "xid", "op", "path") if name in made} for made in talk.waiting.left()]
+    waiting = [{name: made[name] for name in ("n", "xid", "op", "path") if name in made}
+               for made in talk.waiting.left()]
     return {"operations": {name: operation.summary() for name, operation in ordered},
             "events": dict(events.most_common()), "unanswered": waiting, "ending": ending}
 

@@ -15,7 +15,8 @@ ANYONE = [{"perms": 31, "scheme": "world", "id": "anyone"}]
 
 # A line of each kind, by the tables of docs/FORMATS.md, section 9, and what stands behind its side, xid and operation.
 LINES = {
-    CONNECT: {"version": 0, "zxid": "0x0", "timeout": 30000, "session": "0x0", "passwd": {"hex": "00" * 16}, "ro": False},
+    CONNECT: {"version": 0, "zxid": "0x0", "timeout": 30000, "session": "0x0", "passwd": {"hex": "00" * 16},
+              "ro": False},
     CONNECTED: {"version": 0, "timeout": 30000, "session": "0x100000000000001",
                 "passwd": {"hex": "000102030405060708090a0b0c0d0e0f"}, "ro": None},
     'C 1 create path="/a" blob=~ acl=[31:"world":"anyone"] flags=0':
@@ -108,8 +109,8 @@ class Zkjson(ToolCase):
                 self.assertEqual(found[2:], [{**expected, "waiting": [1, 2]}])
 
     def test_a_ping_overtakes_and_xids_come_twice(self):
-        found = self.json_of(['C 7 exists path="/a" watch=1', 'C 7 delete path="/b" version=-1', "C -2 ping", "S -2 ping zxid=5",
-                              "S 7 exists zxid=5 err=-101/NONODE", "S 7 delete zxid=6"])
+        found = self.json_of(['C 7 exists path="/a" watch=1', 'C 7 delete path="/b" version=-1', "C -2 ping",
+                              "S -2 ping zxid=5", "S 7 exists zxid=5 err=-101/NONODE", "S 7 delete zxid=6"])
         self.assertEqual([made.get("of") for made in found], [None, None, None, 3, 1, 2])
 
     def test_no_character_that_a_terminal_obeys(self):
@@ -118,7 +119,8 @@ class Zkjson(ToolCase):
         self.assertEqual(json.loads(out)["path"], "/\x9b\u202e\x07")
 
     def test_what_is_no_listing(self):
-        for line, told in (("", "column 1 on"), ("C 1", "column 1 on"), ("S 1 exists zxid=5", "a reply without its request"),
+        for line, told in (("", "column 1 on"), ("C 1", "column 1 on"),
+                           ("S 1 exists zxid=5", "a reply without its request"),
                            ('C 1 exists path="/a', "column 11 on"), ("C 1 ping\r", "column 9 on"),
                            ('C 1 delete path="/a" version=1 stat=(1,2)', "column 31 on"), ('{"side": "C"}', "no 'op'"),
                            ("C 1 multi {delete", "column 18 on"), ('C 1 setACL path="/a" acl=[1:"a"]', "column 26 on")):

@@ -79,12 +79,14 @@ class Zkplay(ToolCase):
     def test_an_end_and_silence_where_a_byte_is_due(self):
         said = sides(RUN.read_bytes())[0][:-1]
         self.assertEqual(self.refusal(said, end=True), "client frame=1 offset=68 place=14: it has ended, 01 is due")
-        self.assertEqual(self.refusal(said, "--wait", "0.5"), "client frame=1 offset=68 place=14: nothing comes, 01 is due")
+        self.assertEqual(self.refusal(said, "--wait", "0.5"),
+                         "client frame=1 offset=68 place=14: nothing comes, 01 is due")
 
     def test_a_damaged_recording(self):
         path = self.folder / "damaged.zkr"
         path.write_bytes(RUN.read_bytes() + b"X")
-        self.assertEqual(self.refusal(sides(RUN.read_bytes())[0], recording=path), "recording offset=153 reason=BadSide")
+        self.assertEqual(self.refusal(sides(RUN.read_bytes())[0], recording=path),
+                         "recording offset=153 reason=BadSide")
 
     def test_both_ends_of_every_capture(self):
         for capture in CAPTURES:
@@ -107,8 +109,10 @@ class Zkplay(ToolCase):
                          (1, "", "zkplay.py: server frame=1 offset=61 place=15: 9a in place of 9b\n"))
 
     def test_words(self):
-        for words in ([], ["0"], ["0", str(RUN), "more"], ["port", str(RUN)], ["99999", str(RUN)], ["--client", "0", str(RUN)],
-                      ["--wait", "long", "0", str(RUN)], ["--nonsense", "0", str(RUN)]):
+        for words in ([], ["0"], ["0", str(RUN), "more"], ["port", str(RUN)], ["99999", str(RUN)],
+                      ["--client", "0", str(RUN)],
+                      ["--wait", "long", "0", str(RUN)], ["--wait", "0", "0", str(RUN)],
+                      ["--nonsense", "0", str(RUN)]):
             self.assert_bad_words("zkplay.py", *words)
         self.assertEqual(self.run_tool("zkplay.py", "0", "/no/such/recording")[0], 3)
         with socket.create_server(("127.0.0.1", 0)) as taken:

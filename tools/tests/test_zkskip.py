@@ -28,7 +28,8 @@ def recording(frames, head=zkr.Head()):
     """A recording of the connect frames and these, one frame a piece."""
     every = [("C", CONNECT), ("S", CONNECTED), *frames]
     return head.to_bytes() + b"".join(
-        head.piece(side.encode(), at, len(payload).to_bytes(4, "big") + payload) for at, (side, payload) in enumerate(every))
+        head.piece(side.encode(), at, len(payload).to_bytes(4, "big") + payload)
+        for at, (side, payload) in enumerate(every))
 
 
 # Frames, those numbers of them (from 0) that profile 3.4 leaves out, and what is told of the first of these.
@@ -46,12 +47,14 @@ CASES = {
         [request(7, 19), request(7, 3, PATH + b"\0"), reply(7), reply(7, -101)], [0, 2],
         "left out: C frame=1 xid=7 createContainer, 8 bytes"),
     "setWatches2 under its xid, and no reply": (
-        [request(-8, 105), request(-8, 101), ("S", reply(-1)[1])], [0], "left out: C frame=1 xid=-8 setWatches2, 8 bytes"),
+        [request(-8, 105), request(-8, 101), ("S", reply(-1)[1])], [0],
+        "left out: C frame=1 xid=-8 setWatches2, 8 bytes"),
     "a check outside a multi, SASL and an operation that no release has": (
         [request(1, 13), request(2, 102), request(3, 999), reply(1), reply(2), reply(3)], [0, 1, 3, 4],
         "left out: C frame=1 xid=1 check, 8 bytes"),
     "a multi of 3.4": (
-        [request(1, 14, part(1, CREATE) + part(2, PATH + bytes(4)) + part(5, PATH + bytes(8)) + part(13, PATH + bytes(4)) + DONE),
+        [request(1, 14, part(1, CREATE) + part(2, PATH + bytes(4)) + part(5, PATH + bytes(8))
+                 + part(13, PATH + bytes(4)) + DONE),
          reply(1, 0, DONE)], [], None),
     "a multi with create2": (
         [request(1, 14, part(1, CREATE) + part(15, CREATE) + DONE), reply(1, 0, DONE)], [0, 1],

@@ -73,8 +73,8 @@ class Zkwatch(ToolCase):
 
     def watch(self, server, *words, listen="0", program=None):
         """Begins to watch: the process, and its address."""
-        watcher = subprocess.Popen([sys.executable, TOOLS / "zkwatch.py", "--zkdump", program or self.stand_in, *words, listen,
-                                    server], stdout=subprocess.PIPE, stderr=subprocess.PIPE, text=True)
+        watcher = subprocess.Popen([sys.executable, TOOLS / "zkwatch.py", "--zkdump", program or self.stand_in, *words,
+                                    listen, server], stdout=subprocess.PIPE, stderr=subprocess.PIPE, text=True)
         self.addCleanup(watcher.wait)
         self.addCleanup(watcher.kill)
         host, _, port = watcher.stdout.readline().removeprefix("listening on ").rpartition(":")
@@ -197,7 +197,8 @@ class Zkwatch(ToolCase):
 
     def test_words(self):
         program = ["--zkdump", str(self.stand_in)]
-        for words in ([*program], [*program, "0"], [*program, "0", "2181"], [*program, "x", "a:1"], [*program, "0", "a:1", "more"],
+        for words in ([*program], [*program, "0"], [*program, "0", "2181"], [*program, "x", "a:1"],
+                      [*program, "0", "a:1", "more"],
                       ["--zkdump", "/no/such/program", "0", "localhost:1"], [*program, "--nonsense", "0", "a:1"]):
             self.assert_bad_words("zkwatch.py", *words)
         self.assertTrue(pathlib.Path(TOOLS / "zkwatch.py").stat().st_mode & 0o100)
