@@ -68,8 +68,6 @@ class Half:
 
     def put(self, part):
         """Takes bytes of any place."""
-        if self.end is not None:
-            part = part._replace(data=part.data[:max(0, self.end - part.place)])
         heapq.heappush(self.apart, part)
         self.held += len(part.data)
         while self.apart and self.apart[0].place <= self.place:

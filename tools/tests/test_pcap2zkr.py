@@ -288,21 +288,32 @@ class Late(PcapCase):
             else:
                 self.assertEqual(xid, waiting.pop(0))
 
+    def frame(self, side, *numbers, more=b""):
+        payload = b"".join(value.to_bytes(length, "big", signed=True) for value, length in numbers) + more
+        return zkr.Piece(side, None, len(payload).to_bytes(4, "big") + payload)
+
+    def asks_and_replies(self, count):
+        """So many requests for exists, and the replies that there is no such node."""
+        return ([self.frame(zkr.CLIENT, (xid, 4), (3, 4), more=b"\0\0\0\2/a\0") for xid in range(1, count + 1)],
+                [self.frame(zkr.SERVER, (xid, 4), (7, 8), (-101, 4)) for xid in range(1, count + 1)])
+
     def test_replies_without_their_requests_are_counted(self):
-        def frame(side, *numbers, more=b""):
-            payload = b"".join(size.to_bytes(length, "big", signed=True) for size, length in numbers) + more
-            return zkr.Piece(side, None, len(payload).to_bytes(4, "big") + payload)
-        path = b"\0\0\0\2/a\0"
-        asks = [frame(zkr.CLIENT, (xid, 4), (3, 4), more=path) for xid in range(1, 6)]
-        replies = [frame(zkr.SERVER, (xid, 4), (7, 8), (-101, 4)) for xid in range(1, 6)]
-        event = frame(zkr.SERVER, (-1, 4), (-1, 8), (0, 4), more=bytes(8) + path[:-1])
+        asks, replies = self.asks_and_replies(5)
+        event = self.frame(zkr.SERVER, (-1, 4), (-1, 8), (0, 4), more=bytes(8) + b"\0\0\0\2/a")
         sent = list(wire.conversation([*asks[:3], replies[0], event, asks[3], replies[1], replies[2], replies[3],
                                        asks[4], replies[4]]))[6:]
         status, told, made = self.convert(capture_of(sent), "--late")
         self.assertEqual((status, told[0].split()[-3:]), (1, ["late", "skipped=C:0,S:0", "unasked=3"]))
-        kept = [event, asks[3], replies[3], asks[4], replies[4]]
-        self.assertEqual(pieces(made[0])[2:], kept)
+        self.assertEqual(pieces(made[0])[2:], [event, asks[3], replies[3], asks[4], replies[4]])
 
+    def test_the_client_is_joined_behind_the_server(self):
+        asks, replies = self.asks_and_replies(4)
+        cut = [replies[0]._replace(data=replies[0].data[:7]),
+               replies[1]._replace(data=replies[0].data[7:] + replies[1].data)]
+        sent = list(wire.conversation([asks[0], cut[0], asks[1], cut[1], asks[2], replies[2], asks[3], replies[3]]))
+        status, told, made = self.convert(capture_of(sent[3:]), "--late")
+        self.assertEqual((status, told[0].split()[-2:]), (1, ["skipped=C:57,S:40", "unasked=1"]))
+        self.assertEqual(pieces(made[0])[2:], [asks[3], replies[3]])
 
 class Others(PcapCase):
     def test_tshark_follows_the_same_bytes(self):
