@@ -219,9 +219,10 @@ class Conversation:
         """The message of a line, and the request that it answers."""
         if line.startswith("."):
             return ending(line), None
-        made = {"n": n, **json.loads(line)} if line.startswith("{") else self.read(line, n)
+        made = json.loads(line) if line.startswith("{") else self.read(line, n)
         if "ending" in made:
             return made, None
+        made.setdefault("n", n)
         if self.times:
             side, at = next(self.times, (made["side"], None))
             if side != made["side"]:
