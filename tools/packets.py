@@ -14,6 +14,7 @@ LARGEST_PACKET = 1 << 26
 LINKS = {0: 4, 108: 4, 113: 16, 276: 20, 12: 0, 14: 0, 101: 0, 228: 0, 229: 0}
 ETHERNET, VLANS, IP_KINDS = 1, (b"\x81\x00", b"\x88\xa8", b"\x91\x00"), (b"\x08\x00", b"\x86\xdd")
 FRAGMENTED, EXTENSIONS, TCP = 0x3FFF, (0, 43, 60), 6
+IPV4, TCP_HEAD = struct.Struct(">2xH2xHxB2x4s4s"), struct.Struct(">HHIIBB")
 
 
 class NotRead(ValueError):
@@ -125,8 +126,8 @@ def segment_of(milliseconds, packet):
     """The TCP segment in an IP packet, or None."""
     version = packet[0] >> 4 if packet else 0
     if version == 4 and len(packet) >= 20:
-        size, fragment = struct.unpack(">2xH2xH", packet[:8])
-        at, kind, source, target = (packet[0] & 15) * 4, packet[9], packet[12:16], packet[16:20]
+        size, fragment, kind, source, target = IPV4.unpack_from(packet)
+        at = (packet[0] & 15) * 4
         if fragment & FRAGMENTED:
             return None
     elif version == 6 and len(packet) >= 40:
@@ -140,7 +141,7 @@ def segment_of(milliseconds, packet):
     if kind != TCP or len(packet) < at + 20:
         return None
     size = size or len(packet)  # 0 where the network card cuts the packet only later
-    from_port, to_port, number, acknowledged, flags = struct.unpack(">HHIIH", packet[at:at + 14])
-    data = packet[at + (flags >> 12) * 4:size]
-    return Segment(milliseconds, (source, from_port), (target, to_port), number, acknowledged, flags & 0xFF, data,
+    from_port, to_port, number, acknowledged, length, flags = TCP_HEAD.unpack_from(packet, at)
+    data = packet[at + (length >> 4) * 4:size]
+    return Segment(milliseconds, (source, from_port), (target, to_port), number, acknowledged, flags, data,
                    size > len(packet))

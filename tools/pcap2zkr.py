@@ -68,6 +68,11 @@ class Half:
 
     def put(self, part):
         """Takes bytes of any place."""
+        if part.place == self.place and not self.apart:
+            self.ready.append(part)
+            self.place += len(part.data)
+            self.held += len(part.data)
+            return
         heapq.heappush(self.apart, part)
         self.held += len(part.data)
         while self.apart and self.apart[0].place <= self.place:
@@ -133,6 +138,8 @@ class Connection:
         """Writes what is in order on its side and follows nothing that isn't written."""
         while True:
             heads = [(self.halves[side].ready[0], side) for side in SIDES if self.halves[side].ready]
+            if not heads:
+                return
             free = [(head.order, side) for head, side in heads if head.follows <= self.halves[OTHER[side]].reached()]
             if free:
                 side = min(free)[1]
@@ -152,9 +159,16 @@ class Connection:
             self.recording = self.series.next()
         self.recording.piece(side, milliseconds, data)
 
+    def held(self):
+        """How many bytes wait to be written."""
+        return sum([half.held for half in self.halves.values()])
+
     def ended(self):
         """Whether both sides have ended, and all is written."""
-        return len(self.halves) == 2 and all(half.end == half.written for half in self.halves.values())
+        for half in self.halves.values():
+            if half.end != half.written:
+                return False
+        return len(self.halves) == 2
 
     def finish(self):
         """Ends the recording, tells it, and says whether anything was left out."""
@@ -300,7 +314,7 @@ class Capture:
             self.begun += 1
         if not connection.over:
             connection.take(side, segment, self.segments)
-            if connection.ended() or sum(half.held for half in connection.halves.values()) > MOST_HELD:
+            if connection.ended() or connection.held() > MOST_HELD:
                 self.finish(connection)
 
     def finish(self, connection):

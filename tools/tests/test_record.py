@@ -1,6 +1,7 @@
 """Tests of record.py against a server of our own on loopback."""
 
 import contextlib
+import queue
 import re
 import signal
 import socket
@@ -122,18 +123,19 @@ class Passing(RecordCase):
                 self.assertEqual(exactly(client, 8), b"ruokend")
 
     def test_the_server_may_end_its_side_first(self):
-        heard = []
+        heard = queue.Queue()
 
         def talk(connection):
             connection.sendall(b"bye")
             connection.shutdown(socket.SHUT_WR)
-            heard.append(exactly(connection, 8))
+            heard.put(exactly(connection, 8))
         client = self.client(self.record(self.server(talk)))
         self.assertEqual(exactly(client, 4), b"bye")
         client.sendall(b"still me")
         client.close()
         self.ended()
-        self.assertEqual((heard, sides(self.recording())), ([b"still me"], (b"still me", b"bye")))
+        self.assertEqual(heard.get(timeout=SECONDS), b"still me")
+        self.assertEqual(sides(self.recording()), (b"still me", b"bye"))
 
     def test_a_reset_is_passed_on(self):
         def talk(connection):

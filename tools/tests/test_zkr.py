@@ -2,6 +2,7 @@
 
 import io
 import stat
+import unittest.mock
 
 from support import CAPTURES, ToolCase, pieces, zkr
 
@@ -90,3 +91,20 @@ class Writing(ToolCase):
         self.assertEqual([writer.path[-7:] for writer in made], ["a-2.zkr", "a-4.zkr"])
         self.assertEqual(sorted(path.name for path in self.folder.iterdir()),
                          ["a-1.zkr", "a-2.zkr", "a-2.zkr.times", "a-3.zkr.times", "a-4.zkr", "a-4.zkr.times"])
+
+
+class Progress(ToolCase):
+    def told(self, is_terminal):
+        stream = io.StringIO()
+        stream.isatty = lambda: is_terminal
+        with unittest.mock.patch("sys.stderr", stream), unittest.mock.patch("time.monotonic", side_effect=range(9)):
+            progress = zkr.Progress("tool")
+            for number in range(3):
+                progress.tell(f"{number} frames")
+            progress.end()
+        return stream.getvalue()
+
+    def test_on_a_terminal_alone(self):
+        self.assertEqual(self.told(False), "")
+        self.assertEqual(self.told(True)[:17], "\rtool: 0 frames\033[")
+        self.assertTrue(self.told(True).endswith("\r\033[K"))
