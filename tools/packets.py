@@ -9,7 +9,7 @@ import struct
 from typing import NamedTuple
 
 FIN, SYN, RST, ACK = 1, 2, 4, 16
-LARGEST_PACKET = 1 << 26
+LARGEST_PACKET, LATEST = 1 << 26, 253_402_300_800_000
 # The bytes of the link's header before the IP header, by the number of the link type.
 LINKS = {0: 4, 108: 4, 113: 16, 276: 20, 12: 0, 14: 0, 101: 0, 228: 0, 229: 0}
 ETHERNET, VLANS, IP_KINDS = 1, (b"\x81\x00", b"\x88\xa8", b"\x91\x00"), (b"\x08\x00", b"\x86\xdd")
@@ -50,6 +50,8 @@ def segments(stream):
     mark = stream.read(4)
     packets = packets_of_pcapng(stream) if mark == b"\x0a\x0d\x0d\x0a" else packets_of_pcap(stream, mark)
     for milliseconds, link, packet in packets:
+        if not 0 <= milliseconds < LATEST:
+            raise NotRead("a packet has no time between the years 1970 and 9999")
         segment = segment_of(milliseconds, network_part(link, packet))
         if segment:
             yield segment

@@ -245,6 +245,14 @@ def address_of(text, usual):
     return host, int(port)
 
 
+def address_word(parser, text, usual):
+    """The host and the port that a command's word names."""
+    try:
+        return address_of(text, usual)
+    except ValueError:
+        parser.error(f"{text!r} is no host and port")
+
+
 def found(address, *flags):
     """The socket addresses that a host and a port stand for."""
     return socket.getaddrinfo(*address, 0, socket.SOCK_STREAM, 0, *flags)
@@ -271,12 +279,8 @@ def words_of():
     parser.add_argument("prefix", metavar="PREFIX")
     parser.add_format()
     words = parser.parse_args()
-    for name, usual in (("listen", "127.0.0.1"), ("server", None)):
-        text = getattr(words, name)
-        try:
-            setattr(words, name, address_of(text, usual))
-        except ValueError:
-            parser.error(f"{text!r} is no host and port")
+    words.listen = address_word(parser, words.listen, "127.0.0.1")
+    words.server = address_word(parser, words.server, None)
     return words, parser.head_of(words)
 
 

@@ -53,6 +53,9 @@ class Head(NamedTuple):
         return struct.pack(">cqI", side, max(0, int(milliseconds)), len(data)) + data
 
 
+LARGEST_FRAMES = Head(client_limit=LIMITS[-1], server_limit=LIMITS[-1])
+
+
 class Piece(NamedTuple):
     """Bytes of one side that were taken together, and when; None where that isn't known."""
     side: bytes
@@ -296,6 +299,28 @@ class Words(argparse.ArgumentParser):
             return Head()
         limit = words.limit or USUAL_LIMIT
         return Head("zkr2", limit, limit, words.waiting or USUAL_WAITING, PROFILES[words.profile or "3.4"])
+
+
+def read_no_more():
+    """Does without standard output, whose reader has gone."""
+    os.dup2(os.open(os.devnull, os.O_WRONLY), sys.stdout.fileno())
+
+
+def tool(main):
+    """Runs a tool's main function. What it can't do is told in one line; the status is then 1 for what it has read
+    and 3 for the system."""
+    try:
+        status = main()
+        sys.stdout.flush()
+        return status
+    except BrokenPipeError:
+        read_no_more()
+        return 3
+    except KeyboardInterrupt:
+        return 130
+    except (ValueError, OSError) as error:
+        print(f"{os.path.basename(sys.argv[0])}: {error}", file=sys.stderr)
+        return 3 if isinstance(error, OSError) else 1
 
 
 class Progress:

@@ -31,10 +31,14 @@ class ToolCase(unittest.TestCase):
     def took_too_long(self, *_):
         raise TimeoutError("this test took a minute")
 
+    def run_raw(self, tool, *words, stdin=b"", seconds=60):
+        """Runs a tool of this folder to its end."""
+        return subprocess.run([sys.executable, TOOLS / tool, *map(str, words)], input=stdin, capture_output=True,
+                              timeout=seconds, check=False)
+
     def run_tool(self, tool, *words, stdin=b"", seconds=60):
         """Runs a tool of this folder to its end: its status, standard output and standard error."""
-        done = subprocess.run([sys.executable, TOOLS / tool, *map(str, words)], input=stdin, capture_output=True,
-                              timeout=seconds, check=False)
+        done = self.run_raw(tool, *words, stdin=stdin, seconds=seconds)
         return done.returncode, done.stdout.decode(), done.stderr.decode()
 
     def assert_bad_words(self, tool, *words):
@@ -47,6 +51,14 @@ class ToolCase(unittest.TestCase):
         if not PROGRAM.exists():
             self.skipTest("the program zkdump is not built")
         return subprocess.run([PROGRAM, "show"], input=recording, capture_output=True, check=False).stdout.decode()
+
+
+def receive(end, size):
+    """The next bytes from a socket: so many, unless it ends before."""
+    data = b""
+    while len(data) < size and (part := end.recv(size - len(data))):
+        data += part
+    return data
 
 
 def pieces(recording):

@@ -40,7 +40,8 @@ def disturbed(sent, chance):
             rest.append(each)
         before = last.get(each.side)
         # Bytes that are known to have come are not sent again.
-        if each.data and before and before.acknowledged == each.acknowledged and chance.random() < 0.5:
+        if each.data and before and before.number + len(before.data) == each.number \
+                and before.acknowledged == each.acknowledged and chance.random() < 0.5:
             cut = chance.randrange(len(before.data) + 1)
             rest.append(each._replace(number=before.number + cut, data=before.data[cut:] + each.data))
         last[each.side] = each
@@ -143,6 +144,16 @@ class Forms(PcapCase):
                 self.assertEqual((status, self.complaint.count("\n")), (expected, 1), self.complaint)
         status, _, err = self.run_tool("pcap2zkr.py", self.folder / "none", self.folder / "r")
         self.assertEqual((status, err.count("\n")), (3, 1))
+
+    def test_damaged_captures_end_with_a_status(self):
+        chance = random.Random(17)
+        packets = packed(list(wire.conversation(pieces(SMALL[0].read_bytes())))[:30])
+        for make in (wire.pcap, wire.pcapng):
+            for _ in range(100):
+                capture = bytearray(make(packets))
+                for _ in range(chance.randrange(1, 20)):
+                    capture[chance.randrange(len(capture))] = chance.randrange(256)
+                self.assertIn(self.convert(capture)[0], (0, 1, 3))
 
     def test_bad_words(self):
         for words in ((), ("a",), ("a", "b", "c"), ("--port", "0", "a", "b"), ("--port", "x", "a", "b"),

@@ -1,0 +1,209 @@
+"""Tests of zkjson: what each line becomes, what is paired, and whose times a message has."""
+
+import json
+
+from support import CAPTURES, ToolCase, zkr
+
+CONNECT = "C connect version=0 zxid=0 timeout=30000 session=0 passwd=#00000000000000000000000000000000 ro=0"
+CONNECTED = ("S connect version=0 timeout=30000 session=72057594037927937 passwd=#000102030405060708090a0b0c0d0e0f "
+             "ro=-")
+STAT = "(4,5,1000,1001,1,2,3,-1,3,0,72057594037927937)"
+STAT_NAMED = {"czxid": "0x4", "mzxid": "0x5", "ctime": 1000, "mtime": 1001, "version": 1, "cversion": 2, "aversion": 3,
+              "ephemeralOwner": "0xffffffffffffffff", "dataLength": 3, "numChildren": 0,
+              "pzxid": "0x100000000000001"}
+ANYONE = [{"perms": 31, "scheme": "world", "id": "anyone"}]
+
+# A line of each kind, by the tables of docs/FORMATS.md, section 9, and what stands behind its side, xid and operation.
+LINES = {
+    CONNECT: {"version": 0, "zxid": "0x0", "timeout": 30000, "session": "0x0", "passwd": {"hex": "00" * 16},
+              "ro": False},
+    CONNECTED: {"version": 0, "timeout": 30000, "session": "0x100000000000001",
+                "passwd": {"hex": "000102030405060708090a0b0c0d0e0f"}, "ro": None},
+    'C 1 create path="/a" blob=~ acl=[31:"world":"anyone"] flags=0':
+        {"path": "/a", "blob": None, "acl": ANYONE, "flags": 0},
+    'C 2 create path="/a" blob=# acl=~ flags=3': {"path": "/a", "blob": "", "acl": None, "flags": 3},
+    'C 3 delete path="/a" version=-1': {"path": "/a", "version": -1},
+    r'C 4 exists path="/\c3\a9\22 =[{\5c" watch=1': {"path": '/é" =[{\\', "watch": True},
+    'C 5 getData path=~ watch=0': {"path": None, "watch": False},
+    'C 6 setData path="/a" blob=#c3a90a version=3': {"path": "/a", "blob": "é\n", "version": 3},
+    'C 7 setData path="/a" blob=#c3 version=3': {"path": "/a", "blob": {"hex": "c3"}, "version": 3},
+    'C 8 setData path="/a" blob=#6100 version=3': {"path": "/a", "blob": {"hex": "6100"}, "version": 3},
+    'C 9 getACL path="/a"': {"path": "/a"},
+    'C 10 setACL path="/a" acl=[31:"world":"anyone",1:~:""] version=-1':
+        {"path": "/a", "acl": [*ANYONE, {"perms": 1, "scheme": None, "id": ""}], "version": -1},
+    "C -2 ping": {},
+    'C -4 auth kind=0 scheme="digest" auth=#613a62': {"kind": 0, "scheme": "digest", "auth": "a:b"},
+    'C -8 setWatches zxid=5 dataWatches=["/a","/b"] existWatches=[] childWatches=~':
+        {"zxid": "0x5", "dataWatches": ["/a", "/b"], "existWatches": [], "childWatches": None},
+    "C 11 multi {}": {"parts": []},
+    'C 12 multi {create path="/a" blob=# acl=[31:"world":"anyone"] flags=0;check path="/;}" version=3;delete path="/a" '
+    'version=3}':
+        {"parts": [{"op": "create", "path": "/a", "blob": "", "acl": ANYONE, "flags": 0},
+                   {"op": "check", "path": "/;}", "version": 3}, {"op": "delete", "path": "/a", "version": 3}]},
+    'S event zxid=-1 kind=3/NodeDataChanged state=3 path="/a"':
+        {"zxid": "0xffffffffffffffff", "kind": 3, "kindName": "NodeDataChanged", "state": 3, "path": "/a"},
+    'S event zxid=-1 kind=9 state=3 path="/a"': {"zxid": "0xffffffffffffffff", "kind": 9, "state": 3, "path": "/a"},
+}
+
+# Requests, and then replies to them in their order: what stands in a reply behind its side, xid and operation.
+REPLIES = {
+    ('C 1 exists path="/a" watch=1', "S 1 exists zxid=5 err=-101/NONODE"):
+        {"zxid": "0x5", "err": -101, "errName": "NONODE", "asked": "/a"},
+    ('C 1 delete path="/a" version=-1', "S 1 delete zxid=6 err=-200"): {"zxid": "0x6", "err": -200, "asked": "/a"},
+    ('C 1 create path="/a-" blob=~ acl=~ flags=2', 'S 1 create zxid=6 path="/a-0000000001"'):
+        {"zxid": "0x6", "path": "/a-0000000001", "asked": "/a-"},
+    ('C 1 getData path="/a" watch=0', f"S 1 getData zxid=6 blob=#616263 stat={STAT}"):
+        {"zxid": "0x6", "blob": "abc", "stat": STAT_NAMED, "asked": "/a"},
+    ('C 1 getChildren2 path="/a" watch=0', f'S 1 getChildren2 zxid=6 names=["b"] stat={STAT}'):
+        {"zxid": "0x6", "names": ["b"], "stat": STAT_NAMED, "asked": "/a"},
+    ('C 1 getACL path="/a"', f'S 1 getACL zxid=6 acl=[31:"world":"anyone"] stat={STAT}'):
+        {"zxid": "0x6", "acl": ANYONE, "stat": STAT_NAMED, "asked": "/a"},
+    ('C 1 multi {check path="/a" version=3;delete path="/b" version=1}',
+     "S 1 multi zxid=5 {fail err=0/OK;fail err=-103/BADVERSION}"):
+        {"zxid": "0x5", "parts": [{"op": "fail", "err": 0, "errName": "OK", "asked": "/a"},
+                                  {"op": "fail", "err": -103, "errName": "BADVERSION", "asked": "/b"}]},
+    ('C 1 multi {setData path="/a" blob=# version=3;check path="/b" version=1}',
+     f"S 1 multi zxid=5 {{setData stat={STAT};check}}"):
+        {"zxid": "0x5", "parts": [{"op": "setData", "stat": STAT_NAMED}, {"op": "check"}]},
+}
+
+ENDINGS = {
+    ". whole unanswered=2": {"ending": "whole", "unanswered": 2},
+    ". cut side=S frame=7 got=12": {"ending": "cut", "side": "S", "frame": 7, "got": 12},
+    ". refused side=S frame=1 offset=61 place=0 reason=XidOrder expected=-8 got=2":
+        {"ending": "refused", "side": "S", "frame": 1, "offset": 61, "place": 0, "reason": "XidOrder", "expected": -8,
+         "got": 2},
+    ". recording offset=9 reason=Short": {"ending": "recording", "offset": 9, "reason": "Short"},
+}
+
+
+class Zkjson(ToolCase):
+    def json_of(self, lines, *words):
+        """The objects that zkjson makes of these lines."""
+        status, out, err = self.run_tool("zkjson.py", *words, stdin="".join(f"{line}\n" for line in lines).encode())
+        self.assertEqual((status, err), (0, ""))
+        return [json.loads(line) for line in out.splitlines()]
+
+    def test_each_kind_of_line(self):
+        found = self.json_of(LINES)
+        self.assertEqual(len(found), len(LINES))
+        for n, (made, (line, expected)) in enumerate(zip(found, LINES.items()), 1):
+            side, xid, operation = (line + " ").split(" ")[:3]
+            head = {"side": side, "xid": int(xid), "op": operation} if xid[-1].isdigit() else {"side": side, "op": xid}
+            answers = {"of": 1} if line == CONNECTED else {}
+            with self.subTest(line=line):
+                self.assertEqual(made, {"n": n, **head, **expected, **answers})
+
+    def test_replies_tell_what_was_asked(self):
+        found = self.json_of([line for pair in REPLIES for line in pair])
+        self.assertEqual(len(found), 2 * len(REPLIES))
+        for n, ((request, reply), expected) in enumerate(REPLIES.items()):
+            head = {"n": 2 * n + 2, "side": "S", "xid": 1, "op": request.split(" ")[2], "of": 2 * n + 1}
+            with self.subTest(reply=reply):
+                self.assertEqual(found[2 * n + 1], {**head, **expected})
+
+    def test_endings_tell_who_waits(self):
+        for line, expected in ENDINGS.items():
+            with self.subTest(line=line):
+                found = self.json_of(['C 7 getData path="/a" watch=0', "C -2 ping", line])
+                self.assertEqual(found[2:], [{**expected, "waiting": [1, 2]}])
+
+    def test_a_ping_overtakes_and_xids_come_twice(self):
+        found = self.json_of(['C 7 exists path="/a" watch=1', 'C 7 delete path="/b" version=-1', "C -2 ping",
+                              "S -2 ping zxid=5", "S 7 exists zxid=5 err=-101/NONODE", "S 7 delete zxid=6"])
+        self.assertEqual([made.get("of") for made in found], [None, None, None, 3, 1, 2])
+
+    def test_no_character_that_a_terminal_obeys(self):
+        _, out, _ = self.run_tool("zkjson.py", stdin=rb'C 1 exists path="/\c2\9b\e2\80\ae\07" watch=1')
+        self.assertTrue(out.removesuffix("\n").isprintable())
+        self.assertEqual(json.loads(out)["path"], "/\x9b\u202e\x07")
+
+    def test_what_is_no_listing(self):
+        for line, told in (("", "column 1 on"), ("C 1", "column 1 on"),
+                           ("S 1 exists zxid=5", "a reply without its request"),
+                           ('C 1 exists path="/a', "column 11 on"), ("C 1 ping\r", "column 9 on"),
+                           ('C 1 delete path="/a" version=1 stat=(1,2)', "column 31 on"), ('{"side": "C"}', "no 'op'"),
+                           ("C 1 multi {delete", "column 18 on"), ('C 1 setACL path="/a" acl=[1:"a"]', "column 26 on")):
+            with self.subTest(line=line):
+                status, out, err = self.run_tool("zkjson.py", stdin=f"C -2 ping\n{line}\n".encode())
+                self.assertEqual((status, out.count("\n"), err.count("\n")), (1, 1, 1))
+                self.assertTrue(err.startswith("zkjson.py: line 2: ") and told in err, err)
+
+    def test_every_capture(self):
+        for capture in CAPTURES:
+            with self.subTest(capture=capture.name):
+                lines = capture.with_suffix(".show").read_text(encoding="ascii").splitlines()
+                found = self.json_of([], capture.with_suffix(".show"))
+                self.assertEqual(len(found), len(lines))
+                waiting = set(range(1, len(lines))) - {made.get("of") for made in found}
+                waiting = [n for n in sorted(waiting) if lines[n - 1].startswith("C")]
+                self.assertEqual(found[-1]["waiting"], waiting)
+                self.assertEqual(found[-1].get("unanswered", len(waiting)), len(waiting))
+                self.assertEqual(self.json_of([], "--recording", self.with_times(capture),
+                                              capture.with_suffix(".show"))[-1], found[-1])
+
+    def with_times(self, capture):
+        """A copy of a recording, beside which stand the times of its pieces."""
+        copy = self.folder / capture.name
+        copy.write_bytes(capture.read_bytes())
+        with open(capture, "rb") as recording:
+            count = sum(1 for _ in zkr.Reader(recording))
+        (self.folder / (capture.name + ".times")).write_text("".join(f"{at}.5\n" for at in range(count)), "ascii")
+        return copy
+
+
+class Times(ToolCase):
+    """Two requests and their replies, in pieces that are parts of frames and several frames."""
+
+    FRAMES = {"request": bytes.fromhex("0000000f 00000001 00000003 00000002 2f61 01"),
+              "reply": bytes.fromhex("00000010 00000001 0000000000000005 ffffff9b")}
+    LISTING = 'C 1 exists path="/a" watch=1\nS 1 exists zxid=5 err=-101/NONODE\n' * 2
+    PIECES = [(b"C", FRAMES["request"][:3]), (b"C", FRAMES["request"][3:-1]), (b"S", FRAMES["reply"][:5]),
+              (b"C", FRAMES["request"][-1:]), (b"S", FRAMES["reply"][5:]), (b"C", FRAMES["request"][:18]),
+              (b"C", FRAMES["request"][18:]), (b"S", FRAMES["reply"])]
+    AT = [3, 4, 6, 7]       # the pieces, from 0, in which the four last bytes came
+
+    def recording(self, head, times):
+        path = self.folder / "two.zkr"
+        path.write_bytes(head.to_bytes() + b"".join(head.piece(side, at, data)
+                                                    for (side, data), at in zip(self.PIECES, times)))
+        return path
+
+    def found(self, *words):
+        status, out, err = self.run_tool("zkjson.py", *words, stdin=self.LISTING.encode())
+        self.assertEqual((status, err), (0, ""))
+        made = list(map(json.loads, out.splitlines()))
+        return [each.get("at") for each in made], [each.get("ms") for each in made]
+
+    def test_times_of_the_second_format(self):
+        times = [1000 + 10 * n for n in range(8)]
+        path = self.recording(zkr.Head("zkr2"), times)
+        self.assertEqual(self.found("--recording", path), ([1030, 1040, 1060, 1070], [None, 10, None, 10]))
+
+    def test_a_time_of_0_is_none(self):
+        path = self.recording(zkr.Head("zkr2"), [0, 0, 0, 0, 5, 0, 0, 0])
+        self.assertEqual(self.found("--recording", path), ([None, 5, None, None], [None] * 4))
+
+    def test_a_file_of_times(self):
+        path = self.recording(zkr.Head(), range(8))
+        times = [f"{1795332633516 + 2 ** n / 4}\n" for n in range(8)]
+        beside = self.folder / "two.zkr.times"
+        for file, words in ((beside, []), (self.folder / "elsewhere", ["--times", self.folder / "elsewhere"])):
+            file.write_text("".join(times), "ascii")
+            self.assertEqual(self.found("--recording", path, *words),
+                             ([1795332633518, 1795332633520, 1795332633532, 1795332633548], [None, 2, None, 16]))
+            file.unlink()
+        self.assert_bad_words("zkjson.py", "--recording", path)
+        beside.write_text(times[0], "ascii")
+        self.assertEqual(self.found("--recording", path), ([None] * 4, [None] * 4))
+
+    def test_another_recording(self):
+        path = self.recording(zkr.Head("zkr2"), range(8))
+        status, _, err = self.run_tool("zkjson.py", "--recording", path, stdin=b"C -2 ping\nC -2 ping\n")
+        self.assertEqual((status, err), (1, "zkjson.py: line 2: the recording has another message there\n"))
+
+    def test_words(self):
+        for words in (["--nonsense"], ["a", "b"], ["--times", "a"]):
+            self.assert_bad_words("zkjson.py", *words)
+        self.assertEqual(self.run_tool("zkjson.py", "/no/such/listing")[0], 3)
+        self.assertEqual(self.run_tool("zkjson.py", "--help")[0], 0)

@@ -1,0 +1,124 @@
+"""Tests of zkplay: a client that says what was recorded is played with, and any other is refused."""
+
+import select
+import socket
+import subprocess
+import sys
+
+from support import CAPTURES, TOOLS, TOP, ToolCase, pieces, receive, sides, zkr
+
+RUN = TOP / "crates" / "zkdump" / "stdin"       # connect, exists, and their replies: 68 and 61 bytes
+CONNECT, EXISTS = 49, 19                        # the bytes of the client's two frames
+SECONDS = 20
+
+
+class Zkplay(ToolCase):
+    def play(self, recording, *words, address="0"):
+        """Begins to play, and gives the process and, where it listens, its address."""
+        player = subprocess.Popen([sys.executable, TOOLS / "zkplay.py", *words, address, recording],
+                                  stdout=subprocess.PIPE, stderr=subprocess.PIPE, text=True)
+        self.addCleanup(player.wait)
+        self.addCleanup(player.kill)
+        if "--client" in words:
+            return player, None
+        host, _, port = player.stdout.readline().removeprefix("listening on ").rpartition(":")
+        return player, (host.strip("[]"), int(port))
+
+    def ended(self, player):
+        out, err = player.communicate(timeout=SECONDS)
+        return player.returncode, out, err
+
+    def refusal(self, said, *words, end=False, recording=RUN):
+        """What is told of a client that says this to the stored run, and waits or ends."""
+        player, address = self.play(recording, *words)
+        with socket.create_connection(address) as client:
+            client.sendall(said)
+            if end:
+                client.shutdown(socket.SHUT_WR)
+            status, out, err = self.ended(player)
+        self.assertEqual((status, out, err.count("\n")), (1, "", 1))
+        return err.removeprefix("zkplay.py: ").removesuffix("\n")
+
+    def test_the_recorded_client(self):
+        player, address = self.play(RUN)
+        client_bytes, server_bytes = sides(RUN.read_bytes())
+        with socket.create_connection(address, SECONDS) as client:
+            self.assertTrue(client.getpeername()[0] == "127.0.0.1")
+            for begin, end, answer in ((0, CONNECT, server_bytes[:41]), (CONNECT, 68, server_bytes[41:])):
+                client.sendall(client_bytes[begin:end - 1])
+                self.assertEqual(select.select([client], [], [], 0.2)[0], [])
+                client.sendall(client_bytes[end - 1:end])
+                self.assertEqual(receive(client, len(answer)), answer)
+        self.assertEqual(self.ended(player), (0, "played: 68 bytes of the client, 61 of the server\n", ""))
+
+    def test_all_at_once_over_ipv6(self):
+        if not socket.has_ipv6:
+            self.skipTest("this machine has no IPv6")
+        try:
+            socket.create_server(("::1", 0), family=socket.AF_INET6).close()
+        except OSError as error:
+            self.skipTest(f"this machine has no IPv6: {error}")
+        player, address = self.play(RUN, address="[::1]:0")
+        with socket.create_connection(address, SECONDS) as client:
+            client.sendall(sides(RUN.read_bytes())[0])
+            client.shutdown(socket.SHUT_WR)
+            self.assertEqual(receive(client, 100), sides(RUN.read_bytes())[1])
+        self.assertEqual(self.ended(player)[0], 0)
+
+    def test_the_first_other_byte(self):
+        said = sides(RUN.read_bytes())[0]
+        for other, told in (
+                (said[:67] + b"\0", "client frame=1 offset=68 place=14: 00 in place of 01"),
+                (said[:4] + b"\1" + said[5:], "client frame=0 offset=5 place=0: 01 in place of 00"),
+                (said[:52] + b"\x10" + said[53:], "client frame=1 offset=53 place=0: 10 in place of 0f"),
+                (b"ruok", "client frame=0 offset=1 place=0: 72 in place of 00"),
+                (said + b"\7", "client frame=2 offset=69 place=0: 07 where the recording has no more")):
+            with self.subTest(told):
+                self.assertEqual(self.refusal(other), told)
+
+    def test_an_end_and_silence_where_a_byte_is_due(self):
+        said = sides(RUN.read_bytes())[0][:-1]
+        self.assertEqual(self.refusal(said, end=True), "client frame=1 offset=68 place=14: it has ended, 01 is due")
+        self.assertEqual(self.refusal(said, "--wait", "0.5"),
+                         "client frame=1 offset=68 place=14: nothing comes, 01 is due")
+
+    def test_a_damaged_recording(self):
+        path = self.folder / "damaged.zkr"
+        path.write_bytes(RUN.read_bytes() + b"X")
+        self.assertEqual(self.refusal(sides(RUN.read_bytes())[0], recording=path),
+                         "recording offset=153 reason=BadSide")
+
+    def test_both_ends_of_every_capture(self):
+        for capture in CAPTURES:
+            with self.subTest(capture=capture.name):
+                server, address = self.play(capture)
+                client, _ = self.play(capture, "--client", address=f"{address[0]}:{address[1]}")
+                counts = [len(side) for side in sides(capture.read_bytes())]
+                told = "played: {} bytes of the client, {} of the server\n".format(*counts)
+                self.assertEqual(self.ended(client), (0, told, ""))
+                self.assertEqual(self.ended(server), (0, told, ""))
+
+    def test_a_server_that_says_another_byte(self):
+        data = bytearray(RUN.read_bytes())
+        data[-1] ^= 1
+        other = self.folder / "other.zkr"
+        other.write_bytes(data)
+        _, address = self.play(other)
+        client, _ = self.play(RUN, "--client", address=f"{address[0]}:{address[1]}")
+        self.assertEqual(self.ended(client),
+                         (1, "", "zkplay.py: server frame=1 offset=61 place=15: 9a in place of 9b\n"))
+
+    def test_words(self):
+        for words in ([], ["0"], ["0", str(RUN), "more"], ["port", str(RUN)], ["99999", str(RUN)],
+                      ["--client", "0", str(RUN)],
+                      ["--wait", "long", "0", str(RUN)], ["--wait", "0", "0", str(RUN)],
+                      ["--nonsense", "0", str(RUN)]):
+            self.assert_bad_words("zkplay.py", *words)
+        self.assertEqual(self.run_tool("zkplay.py", "0", "/no/such/recording")[0], 3)
+        with socket.create_server(("127.0.0.1", 0)) as taken:
+            status, out, err = self.run_tool("zkplay.py", taken.getsockname()[1], RUN)
+        self.assertEqual((status, out, err.count("\n")), (3, "", 1))
+
+    def test_pieces_of_the_stored_run(self):
+        self.assertEqual([(piece.side, len(piece.data)) for piece in pieces(RUN.read_bytes())],
+                         [(zkr.CLIENT, CONNECT), (zkr.SERVER, 41), (zkr.CLIENT, EXISTS), (zkr.SERVER, 20)])

@@ -1,0 +1,204 @@
+"""Tests of zkwatch: what goes through it, and what it tells of it, with the program or with a stand-in for it."""
+
+import pathlib
+import re
+import signal
+import socket
+import subprocess
+import sys
+import threading
+import time
+
+from support import PROGRAM, TOOLS, TOP, ToolCase, receive, sides
+
+RUN = TOP / "crates" / "zkdump" / "stdin"
+LISTING = """C connect version=0 zxid=0 timeout=30000 session=0 passwd=#00000000000000000000000000000000 ro=0
+S connect version=0 timeout=30000 session=72057594037927937 passwd=#000102030405060708090a0b0c0d0e0f ro=0
+C 1 exists path="/a" watch=1
+S 1 exists zxid=5 err=-101/NONODE
+. whole unanswered=0
+"""
+STAND_IN = f"""#!{sys.executable}
+# Tells each frame as its side, its number and how many bytes it has; a frame of no bytes is refused.
+import sys
+sys.path.insert(0, {str(TOOLS)!r})
+import zkr
+cutter = zkr.Cutter()
+for piece in zkr.Reader(sys.stdin.buffer):
+    for frame in cutter.take(piece):
+        if not frame.payload:
+            print(". refused", flush=True)
+            sys.exit(1)
+        print(frame.side.decode(), frame.number, len(frame.payload), flush=True)
+print(". whole")
+"""
+LINE = re.compile(r"\d{4}-\d\d-\d\dT\d\d:\d\d:\d\d\.\d{3}Z (#\d+) (.*)")
+SECONDS = 20
+
+
+class Echo(threading.Thread):
+    """A server that says back what it hears, and ends once its client has; with `slow` it waits for that end first."""
+
+    def __init__(self, slow=False, host="127.0.0.1"):
+        super().__init__(daemon=True)
+        self.listener = socket.create_server((host, 0), family=socket.AF_INET6 if ":" in host else socket.AF_INET)
+        self.host, self.port, self.slow = host, self.listener.getsockname()[1], slow
+        self.start()
+
+    def run(self):
+        while True:
+            try:
+                client, _ = self.listener.accept()
+            except OSError:
+                return
+            threading.Thread(target=self.answer, args=(client,), daemon=True).start()
+
+    def answer(self, client):
+        heard = b""
+        with client:
+            while data := client.recv(65536):
+                heard += data
+                if not self.slow:
+                    client.sendall(data)
+            if self.slow:
+                client.sendall(heard)
+
+
+class Zkwatch(ToolCase):
+    def setUp(self):
+        super().setUp()
+        self.stand_in = self.folder / "show"
+        self.stand_in.write_text(STAND_IN)
+        self.stand_in.chmod(0o700)
+
+    def watch(self, server, *words, listen="0", program=None):
+        """Begins to watch: the process, and its address."""
+        watcher = subprocess.Popen([sys.executable, TOOLS / "zkwatch.py", "--zkdump", program or self.stand_in, *words,
+                                    listen, server], stdout=subprocess.PIPE, stderr=subprocess.PIPE, text=True)
+        self.addCleanup(watcher.wait)
+        self.addCleanup(watcher.kill)
+        host, _, port = watcher.stdout.readline().removeprefix("listening on ").rpartition(":")
+        return watcher, (host.strip("[]"), int(port))
+
+    def echo(self, slow=False, host="127.0.0.1"):
+        echo = Echo(slow, host)
+        self.addCleanup(echo.listener.close)
+        return echo
+
+    def lines(self, watcher):
+        """What it has told of its connections, once it has ended: number and line."""
+        out, err = watcher.communicate(timeout=SECONDS)
+        self.assertEqual((watcher.returncode, err), (0, ""))
+        return [LINE.fullmatch(line).groups() for line in out.splitlines()]
+
+    def stopped(self, watcher):
+        watcher.send_signal(signal.SIGINT)
+        return self.lines(watcher)
+
+    def test_a_half_closed_connection_is_answered(self):
+        watcher, address = self.watch(f"127.0.0.1:{self.echo(slow=True).port}", "--once")
+        with socket.create_connection(address, SECONDS) as client:
+            client.sendall(b"\0\0\0\2ab\0\0\0\1c")
+            client.shutdown(socket.SHUT_WR)
+            self.assertEqual(receive(client, 100), b"\0\0\0\2ab\0\0\0\1c")
+            peer = f"from 127.0.0.1:{client.getsockname()[1]}"
+        told = [peer, "C 0 2", "C 1 1", "S 0 2", "S 1 1", ". whole"]
+        self.assertEqual(self.lines(watcher), [("#1", line) for line in told])
+
+    def test_lines_come_while_the_connection_lives(self):
+        watcher, address = self.watch(f"127.0.0.1:{self.echo().port}")
+        with socket.create_connection(address, SECONDS) as client:
+            client.sendall(b"\0\0\0\2a")
+            client.sendall(b"b")
+            told = [LINE.fullmatch(watcher.stdout.readline().rstrip()).groups() for _ in range(3)]
+            self.assertEqual(told[1:], [("#1", "C 0 2"), ("#1", "S 0 2")])
+            self.assertEqual(receive(client, 6), b"\0\0\0\2ab")
+            self.assertEqual(self.stopped(watcher), [("#1", ". whole")])
+
+    def test_many_connections(self):
+        watcher, address = self.watch(f"127.0.0.1:{self.echo().port}")
+        clients = [socket.create_connection(address, SECONDS) for _ in range(8)]
+        for size, client in enumerate(clients, 1):
+            client.sendall(b"\0\0\0" + bytes([size]) + bytes(size))
+            self.assertEqual(receive(client, 4 + size)[4:], bytes(size))
+        for client in clients:
+            client.close()
+        time.sleep(0.5)
+        told = self.stopped(watcher)
+        numbers = {number for number, _ in told}
+        self.assertEqual(numbers, {f"#{n}" for n in range(1, 9)})
+        for number in numbers:
+            of_one = [line for each, line in told if each == number]
+            size = of_one[1].split(" ")[2]
+            self.assertEqual(of_one[1:], [f"C 0 {size}", f"S 0 {size}", ". whole"])
+
+    def test_bytes_go_on_after_a_refusal(self):
+        watcher, address = self.watch(f"127.0.0.1:{self.echo().port}", "--once")
+        said = b"\0\0\0\0" + bytes(range(256)) * 4000
+        with socket.create_connection(address, SECONDS) as client:
+            sending = threading.Thread(target=lambda: (client.sendall(said), client.shutdown(socket.SHUT_WR)))
+            sending.start()
+            self.assertEqual(receive(client, len(said)), said)
+            sending.join()
+        self.assertEqual([line for _, line in self.lines(watcher)[1:]], [". refused"])
+
+    def test_small_writes_are_not_held_back(self):
+        _, address = self.watch(f"127.0.0.1:{self.echo().port}")
+        with socket.create_connection(address, SECONDS) as client:
+            client.setsockopt(socket.IPPROTO_TCP, socket.TCP_NODELAY, 1)
+            took = []
+            for _ in range(30):
+                begun = time.monotonic()
+                client.sendall(b"\0\0\0\1a")
+                time.sleep(0.001)
+                client.sendall(b"\0\0\0\1b")
+                receive(client, 10)
+                took.append(time.monotonic() - begun)
+        self.assertLess(sorted(took)[15], 0.03)
+
+    def test_ipv6(self):
+        try:
+            echo = self.echo(host="::1")
+        except OSError as error:
+            self.skipTest(f"this machine has no IPv6: {error}")
+        watcher, address = self.watch(f"[::1]:{echo.port}", "--once", listen="[::1]:0")
+        with socket.create_connection(address, SECONDS) as client:
+            client.sendall(b"\0\0\0\1a")
+            self.assertEqual(receive(client, 5), b"\0\0\0\1a")
+            peer = f"from [::1]:{client.getsockname()[1]}"
+        self.assertEqual([line for _, line in self.lines(watcher)], [peer, "C 0 1", "S 0 1", ". whole"])
+
+    def test_no_server(self):
+        with socket.create_server(("127.0.0.1", 0)) as closed:
+            port = closed.getsockname()[1]
+        watcher, address = self.watch(f"127.0.0.1:{port}", "--once")
+        with socket.create_connection(address, SECONDS) as client:
+            self.assertEqual(client.recv(1), b"")
+        self.assertTrue(self.lines(watcher)[1][1].startswith("not watched: "))
+
+    def test_its_reader_goes(self):
+        watcher, address = self.watch(f"127.0.0.1:{self.echo().port}")
+        watcher.stdout.close()
+        with socket.create_connection(address, SECONDS):
+            self.assertEqual(watcher.wait(SECONDS), 0)
+
+    def test_the_program_itself(self):
+        if not PROGRAM.exists():
+            self.skipTest("the program zkdump is not built")
+        player = subprocess.Popen([sys.executable, TOOLS / "zkplay.py", "0", RUN], stdout=subprocess.PIPE, text=True)
+        self.addCleanup(player.wait)
+        self.addCleanup(player.stdout.close)
+        watcher, address = self.watch(player.stdout.readline().split()[-1], "--once", program=PROGRAM)
+        client_bytes, server_bytes = sides(RUN.read_bytes())
+        with socket.create_connection(address, SECONDS) as client:
+            client.sendall(client_bytes)
+            self.assertEqual(receive(client, 61), server_bytes)
+        self.assertEqual([line for _, line in self.lines(watcher)[1:]], LISTING.splitlines())
+
+    def test_words(self):
+        program = ["--zkdump", str(self.stand_in)]
+        for words in ([*program], [*program, "0"], [*program, "0", "2181"], [*program, "x", "a:1"],
+                      [*program, "0", "a:1", "more"],
+                      ["--zkdump", "/no/such/program", "0", "localhost:1"], [*program, "--nonsense", "0", "a:1"]):
+            self.assert_bad_words("zkwatch.py", *words)
+        self.assertTrue(pathlib.Path(TOOLS / "zkwatch.py").stat().st_mode & 0o100)

@@ -1,0 +1,146 @@
+#!/usr/bin/env python3
+"""Leaves out of a recording the requests that a release lacks, with their replies, so that zkdump reads on.
+
+    zkskip.py [--profile 3.4|3.5] < REC.zkr > PLAIN.zkr
+
+Left out are operations of later releases and of SASL, a check outside a multi, multis with parts of later releases,
+and auth under another xid than -4, which some Go clients send. Each is told in a line on standard error. Numbers that
+no release has stay, and so does everything else. The new recording has the format of the old one, and one frame a
+piece, in the order of their last bytes; from where a side has no frames any more, its bytes stay as they are.
+"""
+
+import collections
+import struct
+import sys
+
+import zkr
+
+OPERATIONS = {1, 2, 3, 4, 5, 6, 7, 8, 9, 11, 12, 14, 100, 101, -11}
+OF_PROFILE = {"3.4": OPERATIONS, "3.5": OPERATIONS | {15}}
+OTHERS = {13: "check", 15: "create2", 16: "reconfig", 17: "checkWatches", 18: "removeWatches", 19: "createContainer",
+          20: "deleteContainer", 21: "createTTL", 22: "multiRead", 102: "sasl", 103: "getEphemerals",
+          104: "getAllChildrenNumber", 105: "setWatches2", 106: "addWatch", 107: "whoAmI"}
+MULTI, AUTH = 14, 100
+EVENT_XID, AUTH_XID = -1, -4
+# What the parts of a multi are made of: b is a text or a blob, i an int, a an access list.
+PARTS = {1: "bbai", 2: "bi", 5: "bbi", 13: "bi"}
+
+
+def int_at(payload, at):
+    return struct.unpack_from(">i", payload, at)[0]
+
+
+def after(payload, at, items):
+    """The place after these items."""
+    for item in items:
+        if item == "a":
+            entries, at = int_at(payload, at), at + 4
+            for _ in range(entries):
+                at = after(payload, at, "ibb")
+        else:
+            at += 4 + (max(0, int_at(payload, at)) if item == "b" else 0)
+    return at
+
+
+def later_part(payload):
+    """The operation of the first part of a multi that it can't have in these releases; None where there is none."""
+    at = 8
+    try:
+        while (kind := int_at(payload, at)) in PARTS:
+            at = after(payload, at + 9, PARTS[kind])
+    except struct.error:
+        return None
+    return OTHERS.get(kind)
+
+
+def lacking(payload, operations):
+    """What a release with these operations lacks of a request; None where it lacks nothing, or no release has it."""
+    xid, kind = struct.unpack_from(">ii", payload)
+    if kind == AUTH and xid != AUTH_XID:
+        return "auth under an ordinary xid"
+    if kind == MULTI and (part := later_part(payload)):
+        return f"multi with {part}"
+    return OTHERS.get(kind) if kind not in operations else None
+
+
+class Skipping:
+    """Says of each frame whether it stays. A reply answers the oldest request of its xid."""
+
+    def __init__(self, operations):
+        self.operations = operations
+        self.waiting = collections.defaultdict(collections.deque)
+        self.requests = self.replies = 0
+
+    def stays(self, frame):
+        if frame.number == 0 or len(frame.payload) < 8:
+            return True
+        xid = int_at(frame.payload, 0)
+        if frame.side == zkr.SERVER:
+            return xid == EVENT_XID or self.stays_reply(frame, xid)
+        lacks = lacking(frame.payload, self.operations)
+        self.waiting[xid].append(lacks)
+        if lacks:
+            self.requests += 1
+            tell(frame, xid, lacks)
+        return not lacks
+
+    def stays_reply(self, frame, xid):
+        requests = self.waiting.get(xid)
+        lacks = requests and requests.popleft()
+        if not requests:
+            self.waiting.pop(xid, None)
+        if lacks:
+            self.replies += 1
+            tell(frame, xid, lacks)
+        return not lacks
+
+
+def tell(frame, xid, lacks):
+    print(f"left out: {frame.side.decode()} frame={frame.number} xid={xid} {lacks}, {len(frame.payload)} bytes",
+          file=sys.stderr)
+
+
+def skip(pieces, out, skipping):
+    """Writes the recording again, without the frames that don't stay."""
+    cutter, head, milliseconds = zkr.Cutter(zkr.LARGEST_FRAMES), pieces.head, 0
+    progress, done = zkr.Progress("zkskip"), 0
+    out.write(head.to_bytes())
+    try:
+        for piece in pieces:
+            milliseconds = piece.milliseconds
+            for frame in cutter.take(piece):
+                if skipping.stays(frame):
+                    data = len(frame.payload).to_bytes(4, "big") + frame.payload
+                    out.write(head.piece(frame.side, milliseconds, data))
+            if piece.side in cutter.broken:
+                rest(cutter, piece.side, head, milliseconds, out)
+            done += len(piece.data)
+            progress.tell(lambda: f"{done:,} bytes")
+    finally:
+        for side in cutter.held:
+            rest(cutter, side, head, milliseconds, out)
+        progress.end()
+
+
+def rest(cutter, side, head, milliseconds, out):
+    """Writes what is held of a side: a frame's beginning, or what can't be cut into frames."""
+    held = cutter.held[side]
+    for at in range(0, len(held), zkr.LARGEST_PIECE):
+        out.write(head.piece(side, milliseconds, bytes(held[at:at + zkr.LARGEST_PIECE])))
+    held.clear()
+
+
+def main():
+    parser = zkr.Words(__doc__)
+    parser.add_argument("--profile", choices=OF_PROFILE, default="3.4", help="the release whose operations stay (3.4)")
+    skipping = Skipping(OF_PROFILE[parser.parse_args().profile])
+    recording = zkr.Reader(sys.stdin.buffer)
+    try:
+        skip(recording, sys.stdout.buffer, skipping)
+    finally:
+        print(f"left out: {skipping.requests} requests, {skipping.replies} replies", file=sys.stderr)
+    return 0
+
+
+if __name__ == "__main__":
+    sys.exit(zkr.tool(main))
