@@ -1,5 +1,5 @@
 -- What a run of reads comes to.
-use Rattle.std.proofs.Common.{◌≡◌, ℕ, List, [], ◌++◌, ◌+◌, length, Option, inl, inr, sym, ◌∙◌, ap, subst, append-nil, IfOk, OnErr}
+use Rattle.std.proofs.Common.{◌≡◌, ℕ, List, [], ◌++◌, ◌+◌, length, Option, inl, inr, refl, sym, ◌∙◌, ap, subst, append-nil, IfOk, OnErr}
 use Rattle.std.specs.Io.KnownBytes.{Consumes, IsAtEnd, Appends}
 use Rattle.zk_talk.specs.declared.limits.Limits.{Limits}
 use Rattle.zk_talk.specs.declared.message.Message.{Message}
@@ -15,7 +15,9 @@ use Rattle.zkdump.specs.Stopping.{IsStop, IfFound, answer_of}
 use Rattle.zkdump.specs.Outcome.{Reads, IsFound, IsRunning, HasBegun, HasGrownIn, IsGoodWith}
 use Rattle.zkdump.specs.Following.{Follows, Finishes}
 use Rattle.std.proofs.Math.Seq.{take-append-add, take-append_seam}
-use Rattle.zkdump.proofs.Bytes.{Consumes-then, Appends-then}
+use Rattle.zk_talk.proofs.Start.{start_state, start}
+use Rattle.zkdump.proofs.Any.{any}
+use Rattle.zkdump.proofs.Bytes.{Consumes-none, Consumes-then, Appends-then}
 use Rattle.zkdump.proofs.Feeding.{good-here, grown-then, told-then}
 use Rattle.zkdump.proofs.Outcomes.{outcome-once, outcome-good}
 use Rattle.zkdump.proofs.Stops.{read-at}
@@ -59,6 +61,20 @@ running-begun limits before after messages i = record {
   splits = sym (append-nil (history_of i.recording));
   good = i.good;
 }
+
+-- nothing was read
+pub begun-none : (limits : Limits) (before : Option (List ℕ)) → HasBegun limits before before []
+begun-none limits before =
+    let nothing = any [] in
+    record {
+      bytes = [];
+      recording = nothing.recording;
+      reads = reads before before [] nothing.recording (Consumes-none before) nothing.spells;
+      front = [];
+      rest = nothing.after;
+      splits = nothing.history;
+      good = good-here (start_state limits) limits [] [] refl (start limits);
+    }
 
 module _ (limits : Limits) (before mid after : Option (List ℕ)) (x block : List ℕ) (messages : List Message) (listing : Listing) (contents during contents_now : Option (List ℕ)) (p : Consumes before mid x) (q : Consumes mid after block) (told : Appends contents during (text_of listing messages)) where
   pub found-answer : (stop : Stop) → IsStop limits (x ++ block) messages listing during stop contents_now →

@@ -1,8 +1,14 @@
-use Rattle.std.proofs.Common.{arith, ◌∙◌, ◌++◌, false, true, refl, length-take, ap, ◌||◌, inl, inr}
+use Rattle.std.proofs.Common.{arith, ◌∙◌, [], ◌++◌, false, true, refl, length-take, ap, ◌||◌, inl, inr}
+use Rattle.std.proofs.lemmas.Result.{err_from_is_err_and}
 use Rattle.zkdump.proofs.Bytes.{Consumes-then, Consumes-kept}
-use Rattle.zkdump.proofs.Feeding.{told-then, grown-whole}
-use Rattle.zkdump.proofs.Found.{found-at_end, found-answer, begun-answer, running, running-begun, live-answer}
+use Rattle.zkdump.proofs.Feeding.{told-none, told-then, grown-whole}
+use Rattle.zkdump.proofs.Found.{begun-none, found-at_end, found-answer, begun-answer, running, running-begun, live-answer}
 use Rattle.zkdump.proofs.engines.read_on.Goals as goal
+
+pub returns-in_err-progress-clause-begun : goal.returns-in_err-progress-clause-begun
+returns-in_err-progress-clause-begun g c =
+    let p = err_from_is_err_and c.from_residual.result c.from_residual.ensures.1 in
+    rw p.1 ([], begun-none c.args.limits _, grown-whole _ _ _ (told-none c.args.listing _))
 
 pub returns-in_default-clause-read : goal.returns-in_default-clause-read
 returns-in_default-clause-read g c = λ _.
