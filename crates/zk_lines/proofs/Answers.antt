@@ -22,8 +22,8 @@ use Rattle.zk_items.proofs.Texts.{text_is}
 use Rattle.zk_items.proofs.Blobs.{blob_is}
 use Rattle.zk_items.proofs.Codes.{code_is, other_code_is}
 use Rattle.zk_items.proofs.Words.{field_is, word_stops}
-use Rattle.zk_lines.specs.declared.answer.DoneName.{DoneName}
-use Rattle.zk_lines.specs.declared.answer.DoneName.TheVariants as names
+use Rattle.zk_lines.specs.declared.done.DoneName.{DoneName}
+use Rattle.zk_lines.specs.declared.done.DoneName.TheVariants as names
 use Rattle.zk_lines.specs.Series.{list_of, if_passed}
 use Rattle.zk_lines.specs.Records.{acl, stat}
 use Rattle.zk_lines.specs.Answers as answers
@@ -68,15 +68,15 @@ acl_stat_is = field_is words.Acl (list_of acl) acls_is with stats_is
 children_is : IsField answers.children
 children_is = names_is with stats_is
 
+created_is : IsField answers.created
+created_is = path_is with stats_is
+
 -- ---- results of a multi
 
 done_found : (k : DoneName) → answers.done_named (answers.done_name k) ≡ Some k
 unfolding answers.done_named
 done_found names.Create = refl
-done_found names.Delete = refl
-done_found names.SetData = refl
-done_found names.Check = refl
-done_found names.Fail = refl
+done_found _ = refl
 
 done_letters : (k : DoneName) → AllByRecursion (λ c. in_name c ≡ true) (answers.done_name k)
 done_letters names.Create = (refl, (refl, (refl, (refl, (refl, (refl, tt))))))
@@ -115,11 +115,8 @@ done_is = named_is answers.done_bodies (record { found = done_found; tells = don
 
 done_begins : (x : PartDone) (rest : List ℕ) → answers.done_fits x → word_at (125 ∷ []) (answers.done_form.spell x ++ rest) ≡ None
 unfolding word_at
-done_begins (done.Created a) rest fit = refl
-done_begins done.Deleted rest fit = refl
-done_begins (done.DataSet a) rest fit = refl
-done_begins done.Checked rest fit = refl
-done_begins (done.PartFailed a) rest fit = refl
+done_begins (done.Created p) rest fit = refl
+done_begins _ rest fit = refl
 
 multi_is : IsField answers.multi
 multi_is = field_is words.Parts _ (series_is 59 125 (λ e. absurd cc) (λ _. refl) (λ _. refl) answers.done_form done_is done_begins)
@@ -144,6 +141,7 @@ body_opens (body.Sync a) rest stop = path_is.opens a rest
 body_opens body.Ping rest stop = stop
 body_opens (body.GetChildren2 a b) rest stop = children_is.opens (a, b) rest
 body_opens (body.Multi a) rest stop = multi_is.opens a rest
+body_opens (body.Create2 a b) rest stop = created_is.opens (a, b) rest
 body_opens body.Auth rest stop = stop
 body_opens body.SetWatches rest stop = stop
 body_opens body.CloseSession rest stop = stop
@@ -161,6 +159,7 @@ body_again (body.Sync a) rest fit stop = ap (read_map body.Sync) (path_is.lawful
 body_again body.Ping rest fit stop = refl
 body_again (body.GetChildren2 a b) rest fit stop = ap (read_map (λ p. body.GetChildren2 p.0 p.1)) (children_is.lawful.again (a, b) rest fit stop)
 body_again (body.Multi a) rest fit stop = ap (read_map body.Multi) (multi_is.lawful.again a rest fit stop)
+body_again (body.Create2 a b) rest fit stop = ap (read_map (λ p. body.Create2 p.0 p.1)) (created_is.lawful.again (a, b) rest fit stop)
 body_again body.Auth rest fit stop = refl
 body_again body.SetWatches rest fit stop = refl
 body_again body.CloseSession rest fit stop = refl
@@ -181,6 +180,7 @@ body_sound ops.Sync bytes x rest e = let m = mapped (field words.Path text) path
 body_sound ops.Ping bytes x rest e = let ends = some_is (body.Ping, bytes) (x, rest) e in subst (IsBody ops.Ping bytes rest) ends.0 (refl, (ends.1, tt))
 body_sound ops.GetChildren2 bytes x rest e = let m = mapped answers.children children_is.lawful (λ p. body.GetChildren2 p.0 p.1) bytes rest x e in subst (IsBody ops.GetChildren2 bytes rest) m.1 (refl, m.2)
 body_sound ops.Multi bytes x rest e = let m = mapped answers.multi multi_is.lawful body.Multi bytes rest x e in subst (IsBody ops.Multi bytes rest) m.1 (refl, m.2)
+body_sound ops.Create2 bytes x rest e = let m = mapped answers.created created_is.lawful (λ p. body.Create2 p.0 p.1) bytes rest x e in subst (IsBody ops.Create2 bytes rest) m.1 (refl, m.2)
 body_sound ops.Auth bytes x rest e = let ends = some_is (body.Auth, bytes) (x, rest) e in subst (IsBody ops.Auth bytes rest) ends.0 (refl, (ends.1, tt))
 body_sound ops.SetWatches bytes x rest e = let ends = some_is (body.SetWatches, bytes) (x, rest) e in subst (IsBody ops.SetWatches bytes rest) ends.0 (refl, (ends.1, tt))
 body_sound ops.CloseSession bytes x rest e = let ends = some_is (body.CloseSession, bytes) (x, rest) e in subst (IsBody ops.CloseSession bytes rest) ends.0 (refl, (ends.1, tt))
@@ -188,21 +188,8 @@ body_sound ops.CloseSession bytes x rest e = let ends = some_is (body.CloseSessi
 -- nothing that is done begins as an error does
 body_begins : (x : Body) → word_at (word_of words.Err) (answers.body_spell x ++ []) ≡ None
 unfolding word_at word_of
-body_begins (body.Create a) = refl
-body_begins body.Delete = refl
-body_begins (body.Exists a) = refl
-body_begins (body.GetData a b) = refl
-body_begins (body.SetData a) = refl
-body_begins (body.GetAcl a b) = refl
-body_begins (body.SetAcl a) = refl
-body_begins (body.GetChildren a) = refl
-body_begins (body.Sync a) = refl
-body_begins body.Ping = refl
-body_begins (body.GetChildren2 a b) = refl
-body_begins (body.Multi a) = refl
-body_begins body.Auth = refl
-body_begins body.SetWatches = refl
-body_begins body.CloseSession = refl
+body_begins (body.Create p) = refl
+body_begins _ = refl
 
 outcome_opens : (x : Outcome) (rest : List ℕ) → stops rest ≡ true → stops (answers.outcome_spell x ++ rest) ≡ true
 outcome_opens (outcome.Done b) rest stop = body_opens b rest stop

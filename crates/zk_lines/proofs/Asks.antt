@@ -64,9 +64,7 @@ check_is = record_is _ (field_is words.Path text text_is with field_is words.Ver
 part_found : (k : PartOp) → asks.part_named (part_name k) ≡ Some k
 unfolding asks.part_named
 part_found parts.Create = refl
-part_found parts.Delete = refl
-part_found parts.SetData = refl
-part_found parts.Check = refl
+part_found _ = refl
 
 part_letters : (k : PartOp) → AllByRecursion (λ c. in_name c ≡ true) (part_name k)
 part_letters parts.Create = (refl, (refl, (refl, (refl, (refl, (refl, tt))))))
@@ -102,9 +100,7 @@ part_is = named_is asks.part_bodies (record { found = part_found; tells = part_t
 part_begins : (x : Part) (rest : List ℕ) → asks.part_fits x → word_at (125 ∷ []) (asks.part_form.spell x ++ rest) ≡ None
 unfolding word_at
 part_begins (part.Create a) rest fit = refl
-part_begins (part.Delete a) rest fit = refl
-part_begins (part.SetData a) rest fit = refl
-part_begins (part.Check a) rest fit = refl
+part_begins _ rest fit = refl
 
 pub multi_is : IsField asks.multi
 multi_is = field_is words.Parts _ (series_is 59 125 (λ e. absurd cc) (λ _. refl) (λ _. refl) asks.part_form part_is part_begins)
@@ -114,20 +110,7 @@ multi_is = field_is words.Parts _ (series_is 59 125 (λ e. absurd cc) (λ _. ref
 pub op_found : (k : Op) → asks.op_named (op_name k) ≡ Some k
 unfolding asks.op_named
 op_found ops.Create = refl
-op_found ops.Delete = refl
-op_found ops.Exists = refl
-op_found ops.GetData = refl
-op_found ops.SetData = refl
-op_found ops.GetAcl = refl
-op_found ops.SetAcl = refl
-op_found ops.GetChildren = refl
-op_found ops.Sync = refl
-op_found ops.Ping = refl
-op_found ops.GetChildren2 = refl
-op_found ops.Multi = refl
-op_found ops.Auth = refl
-op_found ops.SetWatches = refl
-op_found ops.CloseSession = refl
+op_found _ = refl
 
 pub op_letters : (k : Op) → AllByRecursion (λ c. in_name c ≡ true) (op_name k)
 op_letters ops.Create = (refl, (refl, (refl, (refl, (refl, (refl, tt))))))
@@ -142,6 +125,7 @@ op_letters ops.Sync = (refl, (refl, (refl, (refl, tt))))
 op_letters ops.Ping = (refl, (refl, (refl, (refl, tt))))
 op_letters ops.GetChildren2 = (refl, (refl, (refl, (refl, (refl, (refl, (refl, (refl, (refl, (refl, (refl, (refl, tt))))))))))))
 op_letters ops.Multi = (refl, (refl, (refl, (refl, (refl, tt)))))
+op_letters ops.Create2 = (refl, (refl, (refl, (refl, (refl, (refl, (refl, tt)))))))
 op_letters ops.Auth = (refl, (refl, (refl, (refl, tt))))
 op_letters ops.SetWatches = (refl, (refl, (refl, (refl, (refl, (refl, (refl, (refl, (refl, (refl, tt))))))))))
 op_letters ops.CloseSession = (refl, (refl, (refl, (refl, (refl, (refl, (refl, (refl, (refl, (refl, (refl, (refl, tt))))))))))))
@@ -163,6 +147,7 @@ ask_opens (ask.Sync a) rest stop = path_is.opens a rest
 ask_opens ask.Ping rest stop = stop
 ask_opens (ask.GetChildren2 a) rest stop = watch_is.opens a rest
 ask_opens (ask.Multi a) rest stop = multi_is.opens a rest
+ask_opens (ask.Create2 a) rest stop = create_is.opens a rest
 ask_opens (ask.Auth a) rest stop = auth_is.opens a rest
 ask_opens (ask.SetWatches a) rest stop = set_watches_is.opens a rest
 ask_opens ask.CloseSession rest stop = stop
@@ -180,6 +165,7 @@ ask_again (ask.Sync a) rest fit stop = ap (read_map ask.Sync) (path_is.lawful.ag
 ask_again ask.Ping rest fit stop = refl
 ask_again (ask.GetChildren2 a) rest fit stop = ap (read_map ask.GetChildren2) (watch_is.lawful.again a rest fit stop)
 ask_again (ask.Multi a) rest fit stop = ap (read_map ask.Multi) (multi_is.lawful.again a rest fit stop)
+ask_again (ask.Create2 a) rest fit stop = ap (read_map ask.Create2) (create_is.lawful.again a rest fit stop)
 ask_again (ask.Auth a) rest fit stop = ap (read_map ask.Auth) (auth_is.lawful.again a rest fit stop)
 ask_again (ask.SetWatches a) rest fit stop = ap (read_map ask.SetWatches) (set_watches_is.lawful.again a rest fit stop)
 ask_again ask.CloseSession rest fit stop = refl
@@ -197,6 +183,7 @@ ask_sound ops.Sync bytes x rest e = let m = mapped asks.path path_is.lawful ask.
 ask_sound ops.Ping bytes x rest e = let ends = some_is (ask.Ping, bytes) (x, rest) e in subst (IsRead asks.ask_bodies ops.Ping bytes rest) ends.0 (refl, (ends.1, tt))
 ask_sound ops.GetChildren2 bytes x rest e = let m = mapped asks.watch watch_is.lawful ask.GetChildren2 bytes rest x e in subst (IsRead asks.ask_bodies ops.GetChildren2 bytes rest) m.1 (refl, m.2)
 ask_sound ops.Multi bytes x rest e = let m = mapped asks.multi multi_is.lawful ask.Multi bytes rest x e in subst (IsRead asks.ask_bodies ops.Multi bytes rest) m.1 (refl, m.2)
+ask_sound ops.Create2 bytes x rest e = let m = mapped asks.create create_is.lawful ask.Create2 bytes rest x e in subst (IsRead asks.ask_bodies ops.Create2 bytes rest) m.1 (refl, m.2)
 ask_sound ops.Auth bytes x rest e = let m = mapped asks.auth auth_is.lawful ask.Auth bytes rest x e in subst (IsRead asks.ask_bodies ops.Auth bytes rest) m.1 (refl, m.2)
 ask_sound ops.SetWatches bytes x rest e = let m = mapped asks.set_watches set_watches_is.lawful ask.SetWatches bytes rest x e in subst (IsRead asks.ask_bodies ops.SetWatches bytes rest) m.1 (refl, m.2)
 ask_sound ops.CloseSession bytes x rest e = let ends = some_is (ask.CloseSession, bytes) (x, rest) e in subst (IsRead asks.ask_bodies ops.CloseSession bytes rest) ends.0 (refl, (ends.1, tt))

@@ -18,6 +18,7 @@ use Rattle.zk_records.specs.Records as records
 use Rattle.zk_records.specs.declared.stat.Stat.{Stat}
 use Rattle.zk_records.specs.declared.connect.ConnectRequest.{ConnectRequest}
 use Rattle.zk_records.specs.declared.connect.ConnectResponse.{ConnectResponse}
+use Rattle.zk_records.specs.declared.profile.Profile.{Profile}
 use Rattle.zk_records.specs.declared.ask.CreateAsk.{CreateAsk}
 use Rattle.zk_records.specs.declared.ask.DeleteAsk.{DeleteAsk}
 use Rattle.zk_records.specs.declared.ask.SetDataAsk.{SetDataAsk}
@@ -33,7 +34,8 @@ use Rattle.zk_asks.specs.declared.frame.Ask.{Ask}
 use Rattle.zk_asks.specs.declared.frame.Ask.TheVariants as ask
 use Rattle.zk_asks.specs.declared.frame.ClientFrame.{ClientFrame}
 use Rattle.zk_asks.specs.declared.frame.ClientFrame.TheVariants as client
-use Rattle.zk_asks.specs.Parts.{part_header, end_header, marked}
+use Rattle.zk_asks.specs.Parts.{part_header, end_header, marked, op_of_part, record_of, part_items}
+use Rattle.zk_asks.specs.Rows.{body_items}
 use Rattle.zk_asks.specs.Frames as sent
 use Rattle.zk_answers.specs.declared.frame.PartDone.{PartDone}
 use Rattle.zk_answers.specs.declared.frame.PartDone.TheVariants as done
@@ -218,20 +220,20 @@ check_held a h = (text_held with int_held).held (a.path, a.version) h
 
 -- ---- what a client sends
 
-part_held : (p : Part) → HaveBytes (sent.record_of p) → asks.part_fits p
+part_held : (p : Part) → HaveBytes (record_of p) → asks.part_fits p
 part_held (part.Create a) h = create_held a h
 part_held (part.Delete a) h = delete_held a h
 part_held (part.SetData a) h = set_data_held a h
 part_held (part.Check a) h = check_held a h
 
-parts_held : (ps : List Part) → HaveBytes (flat_map sent.part_items ps) → AllByRecursion asks.part_fits ps
+parts_held : (ps : List Part) → HaveBytes (flat_map part_items ps) → AllByRecursion asks.part_fits ps
 parts_held [] h = tt
 parts_held (p ∷ ps) h =
-    let r = parted (sent.part_items p) (flat_map sent.part_items ps) h in
-    let s = parted (marked (part_header (sent.op_of_part p))) (sent.record_of p) r.0 in
+    let r = parted (part_items p) (flat_map part_items ps) h in
+    let s = parted (marked (part_header (op_of_part p))) (record_of p) r.0 in
     (part_held p s.1, parts_held ps r.1)
 
-ask_held : (a : Ask) → HaveBytes (sent.body_items a) → asks.ask_fits a
+ask_held : (a : Ask) → HaveBytes (body_items a) → asks.ask_fits a
 ask_held (ask.Create a) h = create_held a h
 ask_held (ask.Delete a) h = delete_held a h
 ask_held (ask.Exists a) h = watch_held a h
@@ -243,7 +245,8 @@ ask_held (ask.GetChildren a) h = watch_held a h
 ask_held (ask.Sync a) h = path_held a h
 ask_held ask.Ping h = tt
 ask_held (ask.GetChildren2 a) h = watch_held a h
-ask_held (ask.Multi ps) h = parts_held ps (parted (flat_map sent.part_items ps) (marked end_header) h).0
+ask_held (ask.Multi ps) h = parts_held ps (parted (flat_map part_items ps) (marked end_header) h).0
+ask_held (ask.Create2 a) h = create_held a h
 ask_held (ask.Auth a) h = auth_held a h
 ask_held (ask.SetWatches a) h = set_watches_held a h
 ask_held ask.CloseSession h = tt
@@ -278,6 +281,7 @@ body_held (body.Sync p) h = text_held.held p h
 body_held body.Ping h = tt
 body_held (body.GetChildren2 n s) h = let r = parted ((wired.vector wired.ustring).items n) (records.stat.items s) h in (names_held.held n r.0, stat_held s r.1)
 body_held (body.Multi ds) h = dones_held ds (parted (flat_map results.done_items ds) (marked end_header) h).0
+body_held (body.Create2 p s) h = let r = parted (wired.ustring.items p) (records.stat.items s) h in (text_held.held p r.0, stat_held s r.1)
 body_held body.Auth h = tt
 body_held body.SetWatches h = tt
 body_held body.CloseSession h = tt
@@ -300,9 +304,9 @@ server_held (server.Event zxid e) is h =
 
 -- ---- what may be said
 
-client_sent : (fs : List ClientFrame) (f : ClientFrame) → ClientMay fs f → sent.IsSent f
-client_sent [] f h = h.1
-client_sent (x ∷ fs) f h = h.1
+client_sent : (profile : Profile) (fs : List ClientFrame) (f : ClientFrame) → ClientMay profile fs f → sent.IsSent f
+client_sent profile [] f h = h.1
+client_sent profile (x ∷ fs) f h = h.1
 
 server_sent : (asked : List ClientFrame) (fs : List ServerFrame) (s : ServerFrame) → ServerMay asked fs s → given.IsSent s
 server_sent asked [] (server.Connected hello flag) h = h.0
@@ -313,7 +317,7 @@ server_sent asked (x ∷ fs) (server.Answered r) h = h.0
 server_sent asked (x ∷ fs) (server.Event zxid e) h = h
 
 pub said_held : (limits : Limits) (before : List Message) (m : Message) → MaySay limits before m → Fits m
-said_held limits before (message.Client f) h = client_held f (client_sent (conversation_of before).client f h.0).1
+said_held limits before (message.Client f) h = client_held f (client_sent limits.profile (conversation_of before).client f h.0).1
 said_held limits before (message.Server s) h =
     let is = server_sent (conversation_of before).client (conversation_of before).server s h.0 in
     server_held s is.1 is.2

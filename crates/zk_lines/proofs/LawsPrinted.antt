@@ -21,8 +21,8 @@ use Rattle.zk_items.specs.declared.word.Word.TheVariants as words
 use Rattle.zk_items.specs.Leaf.{is_plain, hex_digit, symbol_spell, text_spell, text_fits, blob_spell, blob_fits}
 use Rattle.zk_items.specs.Codes.{name_spell, error_name, type_name}
 use Rattle.zk_items.specs.Words.{word_of}
-use Rattle.zk_lines.specs.declared.answer.DoneName.{DoneName}
-use Rattle.zk_lines.specs.declared.answer.DoneName.TheVariants as names
+use Rattle.zk_lines.specs.declared.done.DoneName.{DoneName}
+use Rattle.zk_lines.specs.declared.done.DoneName.TheVariants as names
 use Rattle.zk_lines.specs.Answers as answers
 
 -- ---- bytes
@@ -153,6 +153,7 @@ op_printed ops.Sync = checked (codes "sync") refl
 op_printed ops.Ping = checked (codes "ping") refl
 op_printed ops.GetChildren2 = checked (codes "getChildren2") refl
 op_printed ops.Multi = checked (codes "multi") refl
+op_printed ops.Create2 = checked (codes "create2") refl
 op_printed ops.Auth = checked (codes "auth") refl
 op_printed ops.SetWatches = checked (codes "setWatches") refl
 op_printed ops.CloseSession = checked (codes "closeSession") refl

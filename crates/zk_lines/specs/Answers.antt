@@ -23,8 +23,8 @@ use Rattle.zk_items.specs.Leaf.{int, long, ro, text, blob}
 use Rattle.zk_items.specs.Codes.{error_code, failure_code, event_code}
 use Rattle.zk_items.specs.Words.{word_of, field}
 use Rattle.zk_items.specs.declared.word.Word.TheVariants as words
-use Rattle.zk_lines.specs.declared.answer.DoneName.{DoneName}
-use Rattle.zk_lines.specs.declared.answer.DoneName.TheVariants as names
+use Rattle.zk_lines.specs.declared.done.DoneName.{DoneName}
+use Rattle.zk_lines.specs.declared.done.DoneName.TheVariants as names
 use Rattle.zk_lines.specs.Series.{list_of, series, if_passed}
 use Rattle.zk_lines.specs.Records.{acl, stat}
 use Rattle.zk_lines.specs.Named.{Bodies, first_named, named}
@@ -47,6 +47,9 @@ content = field words.Blob blob and field words.Stat stat
 
 abbrev pub acls : Form (Vector Acl × Stat)
 acls = field words.Acl (list_of acl) and field words.Stat stat
+
+abbrev pub created : Form (Text × Stat)
+created = field words.Path text and field words.Stat stat
 
 abbrev pub children : Form (Vector Text × Stat)
 children = field words.Names (list_of text) and field words.Stat stat
@@ -118,6 +121,7 @@ body_spell (body.Sync p) = (field words.Path text).spell p
 body_spell body.Ping = []
 body_spell (body.GetChildren2 n s) = children.spell (n, s)
 body_spell (body.Multi ds) = multi.spell ds
+body_spell (body.Create2 p s) = created.spell (p, s)
 body_spell body.Auth = []
 body_spell body.SetWatches = []
 body_spell body.CloseSession = []
@@ -135,6 +139,7 @@ body_fits (body.Sync p) = text.fits p
 body_fits body.Ping = Unit {0}
 body_fits (body.GetChildren2 n s) = children.fits (n, s)
 body_fits (body.Multi ds) = multi.fits ds
+body_fits (body.Create2 p s) = created.fits (p, s)
 body_fits body.Auth = Unit {0}
 body_fits body.SetWatches = Unit {0}
 body_fits body.CloseSession = Unit {0}
@@ -152,6 +157,7 @@ body_at ops.Sync bytes = read_map body.Sync ((field words.Path text).at bytes)
 body_at ops.Ping bytes = Some (body.Ping, bytes)
 body_at ops.GetChildren2 bytes = read_map (λ p. body.GetChildren2 p.0 p.1) (children.at bytes)
 body_at ops.Multi bytes = read_map body.Multi (multi.at bytes)
+body_at ops.Create2 bytes = read_map (λ p. body.Create2 p.0 p.1) (created.at bytes)
 body_at ops.Auth bytes = Some (body.Auth, bytes)
 body_at ops.SetWatches bytes = Some (body.SetWatches, bytes)
 body_at ops.CloseSession bytes = Some (body.CloseSession, bytes)

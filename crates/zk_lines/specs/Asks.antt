@@ -111,7 +111,7 @@ multi = field words.Parts (series 59 125 part_form)
 abbrev pub all_ops : List Op
 all_ops =
     ops.Create ∷ ops.Delete ∷ ops.Exists ∷ ops.GetData ∷ ops.SetData ∷ ops.GetAcl ∷ ops.SetAcl ∷ ops.GetChildren ∷ ops.Sync
-    ∷ ops.Ping ∷ ops.GetChildren2 ∷ ops.Multi ∷ ops.Auth ∷ ops.SetWatches ∷ ops.CloseSession ∷ []
+    ∷ ops.Ping ∷ ops.GetChildren2 ∷ ops.Multi ∷ ops.Create2 ∷ ops.Auth ∷ ops.SetWatches ∷ ops.CloseSession ∷ []
 
 unfoldable pub op_named : List ℕ → Option Op
 op_named bytes = first_named op_name all_ops bytes
@@ -129,6 +129,7 @@ ask_spell (ask.Sync a) = path.spell a
 ask_spell ask.Ping = []
 ask_spell (ask.GetChildren2 a) = watch.spell a
 ask_spell (ask.Multi ps) = multi.spell ps
+ask_spell (ask.Create2 a) = create.spell a
 ask_spell (ask.Auth a) = auth.spell a
 ask_spell (ask.SetWatches a) = set_watches.spell a
 ask_spell ask.CloseSession = []
@@ -146,6 +147,7 @@ ask_fits (ask.Sync a) = path.fits a
 ask_fits ask.Ping = Unit {0}
 ask_fits (ask.GetChildren2 a) = watch.fits a
 ask_fits (ask.Multi ps) = multi.fits ps
+ask_fits (ask.Create2 a) = create.fits a
 ask_fits (ask.Auth a) = auth.fits a
 ask_fits (ask.SetWatches a) = set_watches.fits a
 ask_fits ask.CloseSession = Unit {0}
@@ -163,6 +165,7 @@ ask_at ops.Sync bytes = read_map ask.Sync (path.at bytes)
 ask_at ops.Ping bytes = Some (ask.Ping, bytes)
 ask_at ops.GetChildren2 bytes = read_map ask.GetChildren2 (watch.at bytes)
 ask_at ops.Multi bytes = read_map ask.Multi (multi.at bytes)
+ask_at ops.Create2 bytes = read_map ask.Create2 (create.at bytes)
 ask_at ops.Auth bytes = read_map ask.Auth (auth.at bytes)
 ask_at ops.SetWatches bytes = read_map ask.SetWatches (set_watches.at bytes)
 ask_at ops.CloseSession bytes = Some (ask.CloseSession, bytes)

@@ -5,117 +5,17 @@ ghost use Rattle.zk_items.specs.Codes.{failure_code};
 ghost use Rattle.zk_lines.specs.Answers as answers;
 ghost use Rattle.zk_lines.specs.Lines as lines;
 
-use crate::ask::PARTS;
-use crate::item::{Item, put_field, read_field};
-use crate::list::{put_series, read_series};
-use crate::name::{done_named, op_named};
+use crate::done::{put_multi, read_multi};
+use crate::item::{put_field, read_field};
+use crate::name::op_named;
 use std::alloc::AllocError;
-use zk_answers::{Body, Failure, Outcome, PartDone, Reply, ServerFrame};
+use zk_answers::{Body, Failure, Outcome, Reply, ServerFrame};
 use zk_items::{
     LineFault, LineReason, Reader, Word, put_error_code, put_event_code, put_int, put_word,
-    read_error_code, read_event_code, read_failure_code, word_bytes,
+    read_event_code, read_failure_code, word_bytes,
 };
-use zk_jute::{Blob, Items, List, Text};
+use zk_jute::{Blob, List, Text};
 use zk_records::{Acl, ConnectResponse, Op, Stat, WatcherEvent, op_name};
-
-/// What a result of a multi begins with.
-#[derive(Clone, Copy, Debug, PartialEq, Eq)]
-pub enum DoneName {
-    Create,
-    Delete,
-    SetData,
-    Check,
-    Fail,
-}
-
-fn name_of(done: &PartDone) -> DoneName
-    ensures { result ≡ answers.name_of_done done.now }
-{
-    match done {
-        PartDone::Created(_) => DoneName::Create,
-        PartDone::Deleted => DoneName::Delete,
-        PartDone::DataSet(_) => DoneName::SetData,
-        PartDone::Checked => DoneName::Check,
-        PartDone::PartFailed(_) => DoneName::Fail,
-    }
-}
-
-fn done_name(name: DoneName) -> &'static [u8]
-    ensures { result.now ≡ answers.done_name name }
-{
-    match name {
-        DoneName::Create => b"create",
-        DoneName::Delete => b"delete",
-        DoneName::SetData => b"setData",
-        DoneName::Check => b"check",
-        DoneName::Fail => b"fail",
-    }
-}
-
-/// The result that is next.
-fn read_done(line: &mut Reader<'_>, name: DoneName) -> Result<PartDone, LineFault>
-    ensures { Gives result line.new (answers.done_at name line.old) }
-{
-    Ok(match name {
-        DoneName::Create => PartDone::Created(read_field(line, Word::Path)?),
-        DoneName::Delete => PartDone::Deleted,
-        DoneName::SetData => PartDone::DataSet(read_field(line, Word::Stat)?),
-        DoneName::Check => PartDone::Checked,
-        DoneName::Fail => {
-            line.word(Word::Err)?;
-            PartDone::PartFailed(read_error_code(line)?)
-        }
-    })
-}
-
-fn put_done(out: &mut Vec<u8>, done: &PartDone) -> Result<(), AllocError>
-    ensures { OnOk result (out.new.items ≡ out.old.items ++ answers.done_spell done.now) }
-{
-    match done {
-        PartDone::Created(path) => put_field(out, Word::Path, path),
-        PartDone::DataSet(stat) => put_field(out, Word::Stat, stat),
-        PartDone::Deleted | PartDone::Checked => Ok(()),
-        PartDone::PartFailed(number) => {
-            put_word(out, Word::Err)?;
-            put_error_code(out, *number)
-        }
-    }
-}
-
-impl Item for PartDone {
-    ghost use Rattle.zk_lines.specs.Answers.{done_form};
-
-    ghost spell = { done_form.spell };
-
-    ghost at = { done_form.at };
-
-    fn read(line: &mut Reader<'_>) -> Result<Self, LineFault> {
-        let fault = line.fault(LineReason::Word);
-        let Some(name) = done_named(line.name()) else {
-            return Err(fault);
-        };
-        read_done(line, name)
-    }
-
-    fn put(&self, out: &mut Vec<u8>) -> Result<(), AllocError> {
-        out.extend_from_slice(done_name(name_of(self)))?;
-        put_done(out, self)
-    }
-}
-
-fn read_multi(line: &mut Reader<'_>) -> Result<Items<PartDone>, LineFault>
-    ensures { Gives result line.new (answers.multi.at line.old) }
-{
-    line.word(Word::Parts)?;
-    read_series(line, PARTS)
-}
-
-fn put_multi(out: &mut Vec<u8>, results: &[PartDone]) -> Result<(), AllocError>
-    ensures { OnOk result (out.new.items ≡ out.old.items ++ answers.multi.spell results.now) }
-{
-    put_word(out, Word::Parts)?;
-    put_series(out, results, PARTS)
-}
 
 fn read_content(line: &mut Reader<'_>) -> Result<(Blob, Stat), LineFault>
     ensures { Gives result line.new (answers.content.at line.old) }
@@ -162,6 +62,21 @@ fn put_children(out: &mut Vec<u8>, names: &List<Text>, stat: &Stat) -> Result<()
     put_field(out, Word::Stat, stat)
 }
 
+fn read_created(line: &mut Reader<'_>) -> Result<(Text, Stat), LineFault>
+    ensures { Gives result line.new (answers.created.at line.old) }
+{
+    let path = read_field(line, Word::Path)?;
+    let stat = read_field(line, Word::Stat)?;
+    Ok((path, stat))
+}
+
+fn put_created(out: &mut Vec<u8>, path: &Text, stat: &Stat) -> Result<(), AllocError>
+    ensures { OnOk result (out.new.items ≡ out.old.items ++ answers.created.spell (path.now, stat.now)) }
+{
+    put_field(out, Word::Path, path)?;
+    put_field(out, Word::Stat, stat)
+}
+
 /// What an operation gives, which is next.
 fn read_body(line: &mut Reader<'_>, op: Op) -> Result<Body, LineFault>
     ensures { Gives result line.new (answers.body_at op line.old) }
@@ -200,6 +115,10 @@ fn read_body(line: &mut Reader<'_>, op: Op) -> Result<Body, LineFault>
             Body::GetChildren2 { names, stat }
         }
         Op::Multi => Body::Multi(read_multi(line)?),
+        Op::Create2 => {
+            let (path, stat) = read_created(line)?;
+            Body::Create2 { path, stat }
+        }
         Op::Auth => Body::Auth,
         Op::SetWatches => Body::SetWatches,
         Op::CloseSession => Body::CloseSession,
@@ -220,6 +139,7 @@ fn put_body(out: &mut Vec<u8>, body: &Body) -> Result<(), AllocError>
         Body::Sync { path } => put_field(out, Word::Path, path),
         Body::GetChildren2 { names, stat } => put_children(out, names, stat),
         Body::Multi(results) => put_multi(out, results.as_slice()),
+        Body::Create2 { path, stat } => put_created(out, path, stat),
         Body::Delete | Body::Ping | Body::Auth | Body::SetWatches | Body::CloseSession => Ok(()),
     }
 }

@@ -3,6 +3,7 @@
 
 mod answer;
 mod ask;
+mod done;
 mod ending;
 mod item;
 mod laws;

@@ -3,7 +3,7 @@ ghost use Rattle.std.specs.Prelude.{◌≡◌};
 ghost use Rattle.zk_lines.specs.Asks as asks;
 ghost use Rattle.zk_lines.specs.Answers as answers;
 
-use crate::answer::DoneName;
+use crate::done::DoneName;
 use zk_records::{Op, PartOp};
 
 /// The operation of a name.
@@ -35,6 +35,8 @@ pub fn op_named(name: &[u8]) -> Option<Op>
         Some(Op::GetChildren2)
     } else if name == b"multi".as_slice() {
         Some(Op::Multi)
+    } else if name == b"create2".as_slice() {
+        Some(Op::Create2)
     } else if name == b"auth".as_slice() {
         Some(Op::Auth)
     } else if name == b"setWatches".as_slice() {

@@ -4,7 +4,7 @@ use zk_items::LineReason;
 
 /// Lines of messages: all kinds, and one of each shape that clients of four languages and their
 /// servers were recorded with.
-pub const LINES: [&[u8]; 71] = [
+pub const LINES: [&[u8]; 74] = [
     b"C connect version=0 zxid=0 timeout=30000 session=0 passwd=#00000000000000000000000000000000 ro=0",
     b"S connect version=0 timeout=30000 session=72057594037927937 passwd=#000102030405060708090a0b0c0d0e0f ro=0",
     b"C connect version=0 zxid=0 timeout=30000 session=0 passwd=#00000000000000000000000000000000 ro=-",
@@ -76,10 +76,13 @@ pub const LINES: [&[u8]; 71] = [
     b"S 47 delete zxid=2064 err=-103/BADVERSION",
     b"S 8 multi zxid=1442 err=-5/MARSHALLINGERROR",
     b"S 38 getChildren zxid=16 err=-101/NONODE",
+    b"C 1 create2 path=\"/a\" blob=~ acl=[31:\"world\":\"anyone\"] flags=0",
+    b"S 1 create2 zxid=6 path=\"/a\" stat=(4,4,1000,1000,0,0,0,0,3,0,4)",
+    b"S 1 create2 zxid=6 err=-110/NODEEXISTS",
 ];
 
 /// Lines that are refused: the column, and why.
-pub const FAULTS: [(&[u8], u32, LineReason); 51] = [
+pub const FAULTS: [(&[u8], u32, LineReason); 53] = [
     (b"", 1, LineReason::Word),
     (b"C", 1, LineReason::Word),
     (b"x", 1, LineReason::Word),
@@ -91,6 +94,8 @@ pub const FAULTS: [(&[u8], u32, LineReason); 51] = [
     (b"C 1 event", 5, LineReason::Word),
     (b"S 1 exists zxid=5 stat=4", 24, LineReason::Word),
     (b"S 1 exists zxid=5", 18, LineReason::Word),
+    (b"S 1 create2 zxid=6 path=\"/a\"", 29, LineReason::Word),
+    (b"C 1 multi {create2", 12, LineReason::Word),
     (b"C 1 multi {,", 12, LineReason::Word),
     (
         b"C 1 multi {check path=\"/a\" version=1,",
