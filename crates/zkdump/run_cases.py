@@ -16,7 +16,7 @@ A case NAME is the files
     NAME.err     its standard error         (no file: nothing)
     NAME.status  its exit status            (no file: 0)
 
-A recording is NAME.zkr, and NAME.show is its listing. For check the last line of the listing is
+A recording is NAME.zkr, NAME.show is its listing, and NAME.show35, where it has one, that with --profile 3.5. For check the last line of the listing is
 expected; for show the whole of it; for build that the recording made of the listing's messages shows these
 lines again and, where the conversation is whole, that it has one piece for each message and the bytes of each
 side. The status is 0 where the listing ends in ". whole", else 1. With build, the listings of the cases of
@@ -120,10 +120,10 @@ def build_again(runner, name, options, listing):
     return built
 
 
-def build_whole(runner, name, recording, listing):
+def build_whole(runner, name, options, recording, listing):
     """Builds a whole recording from its listing: one piece for each message, and the bytes of each side."""
-    built = build_again(runner, name, [], listing)
-    runner.expect(f"{name}, with its ending", ["build"], listing, (built, b"", 0))
+    built = build_again(runner, name, options, listing)
+    runner.expect(f"{name}, with its ending", ["build", *options], listing, (built, b"", 0))
     wanted = (sides(recording)[0], listing.count(b"\n") - 1)
     runner.hold(f"{name}, side by side", sides(built) == wanted)
 
@@ -136,20 +136,26 @@ def run_listings(runner, folder):
             build_again(runner, f"{folder.name}/{args.stem}", args.read_text().splitlines()[1:], listing)
 
 
-def run_captures(runner, folder, word):
-    for path in sorted(folder.glob("*.zkr")):
-        recording, listing = path.read_bytes(), path.with_suffix(".show").read_bytes()
-        last = listing.rstrip(b"\n").rsplit(b"\n", 1)[-1] + b"\n"
-        whole = last.startswith(b". whole ")
-        name = f"captures/{path.stem} ({word})"
-        if word == "build":
-            if whole:
-                build_whole(runner, name, recording, listing)
-            else:
-                build_again(runner, name, [], listing)
-            continue
+def run_capture(runner, path, word, options):
+    """Runs a recording against its listing, which is the file PATH."""
+    recording, listing = path.with_suffix(".zkr").read_bytes(), path.read_bytes()
+    last = listing.rstrip(b"\n").rsplit(b"\n", 1)[-1] + b"\n"
+    whole = last.startswith(b". whole ")
+    name = f"captures/{path.name} ({word})"
+    if word != "build":
         wanted = last if word == "check" else listing
-        runner.expect(name, [word], recording, (wanted, b"", 0 if whole else 1))
+        runner.expect(name, [word, *options], recording, (wanted, b"", 0 if whole else 1))
+    elif whole:
+        build_whole(runner, name, options, recording, listing)
+    else:
+        build_again(runner, name, options, listing)
+
+
+def run_captures(runner, folder, word):
+    for path in sorted(folder.glob("*.show")):
+        run_capture(runner, path, word, [])
+    for path in sorted(folder.glob("*.show35")):
+        run_capture(runner, path, word, ["--profile", "3.5"])
 
 
 def main():

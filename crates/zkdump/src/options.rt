@@ -31,7 +31,7 @@ pub struct Settings {
 #[derive(Clone, Copy, Debug, PartialEq, Eq, Error)]
 pub enum UsageFault {
     /// They are no command line of this program, or ask for help.
-    #[error("usage: zkdump show|check|build [--limit N] [--waiting N]")]
+    #[error("usage: zkdump show|check|build [--limit N] [--waiting N] [--profile 3.4|3.5]")]
     Words,
     /// A growth was refused.
     #[error("zkdump: out of memory")]

@@ -33,7 +33,8 @@ C 1 exists path=\"/a\" watch=1
 S 1 exists zxid=5 err=-101/NONODE
 ";
 
-const USAGE: &str = "usage: zkdump show|check|build [--limit N] [--waiting N]\n";
+const USAGE: &str =
+    "usage: zkdump show|check|build [--limit N] [--waiting N] [--profile 3.4|3.5]\n";
 
 fn put_pieces(recording: &mut Vec<u8>, pieces: &[(u8, &[u8])]) -> Result<(), AllocError> {
     for (side, bytes) in pieces {
