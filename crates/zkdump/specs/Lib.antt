@@ -8,6 +8,7 @@ pub mod Following
 pub mod Stopping
 pub mod Running
 pub mod Exits
+pub mod Profiles
 pub mod Building
 pub mod Accepting
 pub mod Commands
