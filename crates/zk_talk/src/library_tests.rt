@@ -7,25 +7,22 @@ use std::test::Fail;
 
 #[test]
 fn a_conversation_is_read(rt: HostRuntime) -> Result<(), Fail> {
-    let mut messages = 0;
     let limits = Limits::new(4_194_304, 4_194_304, 65_536).ok_or("out of range")?;
     let mut talk = Talk::new(rt.alloc(), limits)?;
+    let mut messages = Vec::new(rt.alloc());
     for (side, piece) in [
         (Side::Client, CONNECT),
         (Side::Server, CONNECTED),
         (Side::Client, EXISTS),
     ] {
-        let mut rest = piece;
-        while !rest.is_empty() {
-            let taken = talk.take(side, rest)?;
-            rest = &rest[taken.used..];
-            if let Some(_message) = taken.message {
-                messages += 1;
-            }
+        let taken = talk.take(side, piece)?;
+        assert_eq!(rt; taken.used, piece.len());
+        if let Some(message) = taken.message {
+            messages.push(message)?;
         }
     }
+    assert_eq!(rt; messages.len(), 3);
     assert_eq!(rt; talk.finish(), Ending::Whole { unanswered: 1 });
-    assert_eq!(rt; messages, 3);
     Ok(())
 }
 
