@@ -1,12 +1,17 @@
 use Rattle.std.proofs.Common.{arith, ◌∙◌, [], false, true, refl, length-take, ap, ◌||◌, inl, inr}
 use Rattle.std.proofs.lemmas.Result.{err_from_is_err_and}
-use Rattle.zkdump.proofs.Bytes.{Consumes-none, Consumes-then, Consumes-kept}
+use Rattle.zkdump.proofs.Bytes.{Appends-none, Consumes-none, Consumes-then, Consumes-kept}
 use Rattle.zkdump.proofs.Answered.{if-ok-map, on-err-map, begun-head, built-so_far, begun-so_far, built-at_end, begun-at_end, built-answer, begun-answer}
 use Rattle.zkdump.proofs.build.build_run.Goals as goal
 
+pub returns-in_err-builder-clause-begun : goal.returns-in_err-builder-clause-begun
+returns-in_err-builder-clause-begun g c =
+    let p = err_from_is_err_and c.from_residual.result c.from_residual.ensures.1 in
+    rw p.1 (begun-head c.args.limits _ _ _ (0, Appends-none _))
+
 pub returns-in_err-write_whole-clause-begun : goal.returns-in_err-write_whole-clause-begun
 returns-in_err-write_whole-clause-begun g c =
-    let p = err_from_is_err_and c.from_residual.result c.from_residual.ensures.1 in
+    let p = err_from_is_err_and c.from_residual-in_err-write_whole.result c.from_residual-in_err-write_whole.ensures.1 in
     rw p.1 (begun-head c.args.limits _ _ _ c.in_err-write_whole.ensures.err)
 
 pub loop-turn-init : goal.loop-turn-init
@@ -15,16 +20,17 @@ loop-turn-init g c = record {
   live = c.requires.reader;
   writer_live = c.in_ok-write_whole.ensures.failed;
   count = omega arith;
-  lines = omega (arith, c.new-builder.ensures.count);
-  taken = ([], Consumes-none _, λ before written. c.new-builder.ensures.start before _ written);
+  lines = omega (arith, c.in_ok-builder.ensures.count);
+  taken = ([], Consumes-none _, λ before written. c.in_ok-builder.ensures.start before _ written);
 }
 
 pub returns-in_default-clause-read : goal.returns-in_default-clause-read
 returns-in_default-clause-read g c = λ _.
-    let i = c.loop-turn.invariant.taken in (
-      inl (c.in_default.ensures.failed ∙ ap (λ b. b || true) c.loop-turn.invariant.live),
-      built-so_far c.args.limits _ _ i.0 _ _ (Consumes-kept _ _ _ i.0 i.1 c.in_default.ensures.bytes) _ _ _ _ (i.2 _ c.in_ok-write_whole.ensures.ok),
-    )
+    let i = c.loop-turn.invariant.taken in
+    built-so_far c.args.limits _ _ i.0 _ _ (Consumes-kept _ _ _ i.0 i.1 c.in_default.ensures.bytes) _ _ _ _ (i.2 _ c.in_ok-write_whole.ensures.ok)
+
+pub returns-in_default-clause-spent : goal.returns-in_default-clause-spent
+returns-in_default-clause-spent g c = λ _. inl (c.in_default.ensures.failed ∙ ap (λ b. b || true) c.loop-turn.invariant.live)
 
 pub returns-in_default-clause-begun : goal.returns-in_default-clause-begun
 returns-in_default-clause-begun g c =
@@ -70,7 +76,10 @@ loop-turn-preserved g c =
 pub returns-clause-read : goal.returns-clause-read
 returns-clause-read g c = λ _.
     let i = c.loop-turn.invariant.taken in
-    (inr (omega (arith, c.loop-turn.invariant.count, c.loop-turn-test.false)), built-so_far c.args.limits _ _ i.0 _ _ i.1 _ _ _ _ (i.2 _ c.in_ok-write_whole.ensures.ok))
+    built-so_far c.args.limits _ _ i.0 _ _ i.1 _ _ _ _ (i.2 _ c.in_ok-write_whole.ensures.ok)
+
+pub returns-clause-spent : goal.returns-clause-spent
+returns-clause-spent g c = λ _. inr (omega (arith, c.loop-turn.invariant.count, c.loop-turn-test.false))
 
 pub returns-clause-begun : goal.returns-clause-begun
 returns-clause-begun g c =

@@ -4,8 +4,8 @@ use Rattle.zkdump.proofs.progress.Progress.new.Goals as goal
 pub returns-clause-start : goal.returns-clause-start
 returns-clause-start c = record {
   history = [];
-  sound = c.new.ensures.sound;
-  at = c.new.ensures.start;
-  stands = c.new-2.ensures.stands;
-  limits_are = c.new-2.ensures.limits;
+  sound = c.new-2.ensures.sound;
+  at = c.new-2.ensures.start;
+  stands = c.in_ok-talk.ensures.stands;
+  limits_are = c.in_ok-talk.ensures.limits;
 }
