@@ -1,11 +1,10 @@
 -- Bytes of one side that are given in several calls.
-use Rattle.std.proofs.Common.{◌≡◌, ◌≢◌, ℕ, ◌+◌, List, [], ◌++◌, length, take, drop, Option, refl, sym, ◌∙◌, ap, subst, append_assoc, inl, inr}
+use Rattle.std.proofs.Common.{◌≡◌, ◌≢◌, ℕ, ◌+◌, List, [], ◌++◌, length, take, drop, Option, None, Some, refl, sym, ◌∙◌, ap, subst, append_assoc, inl, inr}
 use Rattle.std.specs.Io.KnownBytes.{Appends}
 use Rattle.std.proofs.lemmas.List.{map-append, take-append-drop, append-nil}
 use Rattle.std.proofs.lemmas.List.Concat.{flat_map-append}
 use Rattle.std.proofs.Math.Seq.{take-add, take-append-add, take-length}
-use Rattle.zk_jute.specs.declared.fault.Reason.{Reason}
-use Rattle.zk_jute.specs.declared.fault.Reason.TheVariants.{Short, BadBool, BadLength, BadText, NoMemory, Trailing, UnknownOp, XidOp, BadPart, EventErr, LengthRange, QueueFull, Unasked, XidOrder, StreamEnd}
+use Rattle.zk_jute.specs.declared.fault.Reason.TheVariants.{NoMemory}
 use Rattle.zk_talk.specs.declared.message.Side.{Side}
 use Rattle.zk_talk.specs.declared.message.Fault.{Fault}
 use Rattle.zk_talk.specs.declared.message.Message.{Message}
@@ -18,8 +17,7 @@ use Rattle.zkdump.specs.declared.listing.Listing.{Listing}
 use Rattle.zkdump.specs.declared.listing.Listing.TheVariants.{All, Last}
 use Rattle.zkdump.specs.Lines.{message_line, text_of}
 use Rattle.zkdump.specs.Outcome.{IsGoodWith, HasGrownIn}
-use Rattle.zkdump.specs.Following.{Takes, Rejects, Begins}
-use Rattle.zkdump.specs.Stopping.{Halts, stop_by}
+use Rattle.zkdump.specs.Following.{Takes}
 use Rattle.zkdump.proofs.Bytes.{Appends-none, Appends-then}
 
 pub on-append : (side : Side) (a b : List ℕ) (h : History) → (h ++ on side a) ++ on side b ≡ h ++ on side (a ++ b)
@@ -59,13 +57,24 @@ pub told-none : (listing : Listing) (contents : Option (List ℕ)) → Appends c
 told-none All contents = Appends-none contents
 told-none Last contents = Appends-none contents
 
-pub takes-none : (listing : Listing) (t : TalkState) (contents : Option (List ℕ)) (side : Side) → Takes listing t contents (on side []) t contents
-takes-none listing t contents side h messages i =
-    ([], subst (λ k. Stands t k (messages ++ [])) (sym (append-nil h)) (subst (Stands t h) (sym (append-nil messages)) i), told-none listing contents)
+-- ---- lines that are appended to a buffer
 
-module _ (listing : Listing) (old mid new : TalkState) (before during after : Option (List ℕ)) (side : Side) (bytes : List ℕ) (at' : ℕ) (taken : Takes listing old before (on side (take at' bytes)) mid during) where
-  pub takes-more : (used : ℕ) (now : List Message) → GoesOn mid side (take used (drop at' bytes)) now new → Appends during after (text_of listing now) →
-      Takes listing old before (on side (take (at' + used) bytes)) new after
+pub listed-none : (listing : Listing) (lines : List ℕ) → lines ≡ lines ++ text_of listing []
+listed-none All lines = sym (append-nil lines)
+listed-none Last lines = sym (append-nil lines)
+
+pub listed-then : (listing : Listing) (before during after : List ℕ) (now more : List Message) → during ≡ before ++ text_of listing now →
+    after ≡ during ++ text_of listing more → after ≡ before ++ text_of listing (now ++ more)
+listed-then listing before during after now more p q =
+    q ∙ ap (λ l. l ++ text_of listing more) p ∙ append_assoc before (text_of listing now) (text_of listing more) ∙ ap (λ l. before ++ l) (sym (text_of-append listing now more))
+
+pub takes-none : (listing : Listing) (t : TalkState) (lines : List ℕ) (side : Side) → Takes listing t lines (on side []) None t lines
+takes-none listing t lines side h messages i =
+    ([], subst (λ k. Stands t k (messages ++ [])) (sym (append-nil h)) (subst (Stands t h) (sym (append-nil messages)) i), listed-none listing lines)
+
+module _ (listing : Listing) (old mid new : TalkState) (before during after : List ℕ) (side : Side) (bytes : List ℕ) (at' : ℕ) (taken : Takes listing old before (on side (take at' bytes)) None mid during) where
+  pub takes-more : (used : ℕ) (now : List Message) → GoesOn mid side (take used (drop at' bytes)) now new → after ≡ during ++ text_of listing now →
+      Takes listing old before (on side (take (at' + used) bytes)) None new after
   takes-more used now goes told h messages i =
       let r = taken h messages i in
       let joined : (h ++ on side (take at' bytes)) ++ on side (take used (drop at' bytes)) ≡ h ++ on side (take (at' + used) bytes) =
@@ -73,68 +82,13 @@ module _ (listing : Listing) (old mid new : TalkState) (before during after : Op
       let s = subst (λ z. Stands new z ((messages ++ r.0) ++ now)) joined (goes (h ++ on side (take at' bytes)) (messages ++ r.0) r.1) in (
         r.0 ++ now,
         subst (Stands new (h ++ on side (take (at' + used) bytes))) (append_assoc messages r.0 now) s,
-        told-then listing before during after r.0 now r.2 told,
+        listed-then listing before during after r.0 now r.2 told,
       )
 
-  -- the next lines were begun
-  pub begins-more : (used : ℕ) (now : List Message) → GoesOn mid side (take used (drop at' bytes)) now new → new.limits ≡ old.limits → HasGrownIn during after (text_of listing now) →
-      Begins listing old before (on side bytes) after
-  begins-more used now goes limits_are told h messages i =
-      let r = taken h messages i in
-      let part = take (at' + used) bytes in
-      let joined : (h ++ on side (take at' bytes)) ++ on side (take used (drop at' bytes)) ≡ h ++ on side part =
-      on-append side (take at' bytes) (take used (drop at' bytes)) h ∙ ap (λ b. h ++ on side b) (sym (take-add at' used bytes)) in
-      let s = subst (λ z. Stands new z ((messages ++ r.0) ++ now)) joined (goes (h ++ on side (take at' bytes)) (messages ++ r.0) r.1) in
-      let split : on side bytes ≡ on side part ++ on side (drop (at' + used) bytes) =
-      sym (ap (on side) (take-append-drop (at' + used) bytes)) ∙ map-append (λ (v : ℕ). (side, v)) part (drop (at' + used) bytes) in (
-        on side part,
-        on side (drop (at' + used) bytes),
-        split,
-        r.0 ++ now,
-        good-here new old.limits (h ++ on side part) (messages ++ (r.0 ++ now)) limits_are (subst (Stands new (h ++ on side part)) (append_assoc messages r.0 now) s),
-        grown-then listing before during after r.0 now r.2 told,
-      )
-
-  -- nothing more was taken
-  pub begins-here : mid.limits ≡ old.limits → Begins listing old before (on side bytes) during
-  begins-here limits_are h messages i =
-      let r = taken h messages i in
-      let part = take at' bytes in
-      let split : on side bytes ≡ on side part ++ on side (drop at' bytes) =
-      sym (ap (on side) (take-append-drop at' bytes)) ∙ map-append (λ (v : ℕ). (side, v)) part (drop at' bytes) in (
-        on side part,
-        on side (drop at' bytes),
-        split,
-        r.0,
-        good-here mid old.limits (h ++ on side part) (messages ++ r.0) limits_are r.1,
-        grown-whole before during (text_of listing r.0) r.2,
-      )
-
-  pub rejects-later : (fault : Fault) → (fault.reason ≡ NoMemory → ⊥) → Fails mid side (drop at' bytes) fault new → Rejects listing old before (on side bytes) fault new during
+  pub rejects-later : (fault : Fault) → (fault.reason ≡ NoMemory → ⊥) → Fails mid side (drop at' bytes) fault new → Takes listing old before (on side bytes) (Some fault) new during
   rejects-later fault known (inl w) h messages i = absurd (known (ap (λ (f : Fault). f.reason) w.0))
   rejects-later fault known (inr r) h messages i =
       let b = taken h messages i in
       let joined : (h ++ on side (take at' bytes)) ++ on side (drop at' bytes) ≡ h ++ on side bytes =
       on-append side (take at' bytes) (drop at' bytes) h ∙ ap (λ b. h ++ on side b) (take-append-drop at' bytes) in
       (b.0, subst (λ z. Refuses new z (messages ++ b.0) fault) joined (r (h ++ on side (take at' bytes)) (messages ++ b.0) b.1), b.2)
-
-  halts-by : (r : Reason) (fault : Fault) → (r ≢ NoMemory → Rejects listing old before (on side bytes) fault new during) → Begins listing old before (on side bytes) during →
-      Halts listing old before (on side bytes) (stop_by r fault) new during
-  halts-by NoMemory fault rejects begins = begins
-  halts-by Short fault rejects begins = rejects (λ e. cc)
-  halts-by BadBool fault rejects begins = rejects (λ e. cc)
-  halts-by BadLength fault rejects begins = rejects (λ e. cc)
-  halts-by BadText fault rejects begins = rejects (λ e. cc)
-  halts-by Trailing fault rejects begins = rejects (λ e. cc)
-  halts-by UnknownOp fault rejects begins = rejects (λ e. cc)
-  halts-by XidOp fault rejects begins = rejects (λ e. cc)
-  halts-by BadPart fault rejects begins = rejects (λ e. cc)
-  halts-by EventErr fault rejects begins = rejects (λ e. cc)
-  halts-by LengthRange fault rejects begins = rejects (λ e. cc)
-  halts-by QueueFull fault rejects begins = rejects (λ e. cc)
-  halts-by Unasked fault rejects begins = rejects (λ e. cc)
-  halts-by (XidOrder expected got) fault rejects begins = rejects (λ e. cc)
-  halts-by StreamEnd fault rejects begins = rejects (λ e. cc)
-
-  pub halts-at : (fault : Fault) → mid.limits ≡ old.limits → Fails mid side (drop at' bytes) fault new → Halts listing old before (on side bytes) (stop_by fault.reason fault) new during
-  halts-at fault limits_are fails = halts-by fault.reason fault (λ known. rejects-later fault known fails) (begins-here limits_are)

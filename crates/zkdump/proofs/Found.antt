@@ -1,24 +1,17 @@
 -- What a run of reads comes to.
-use Rattle.std.proofs.Common.{◌≡◌, ℕ, List, [], ◌++◌, ◌+◌, length, Option, inl, inr, refl, sym, ◌∙◌, ap, subst, append-nil, IfOk, OnErr}
+use Rattle.std.proofs.Common.{◌≡◌, ℕ, List, [], ◌++◌, ◌+◌, length, Option, inl, inr, sym, ◌∙◌, ap, subst, append-nil}
 use Rattle.std.specs.Io.KnownBytes.{Consumes, IsAtEnd, Appends}
 use Rattle.zk_talk.specs.declared.limits.Limits.{Limits}
 use Rattle.zk_talk.specs.declared.message.Message.{Message}
 use Rattle.zk_talk.specs.Stands.{TalkState}
 use Rattle.zkdump.specs.declared.recording.Stage.{Stage}
-use Rattle.zkdump.specs.declared.listing.Listing.{Listing}
 use Rattle.zkdump.specs.declared.summary.Summary.{Summary}
-use Rattle.zkdump.specs.declared.progress.Stop.{Stop}
-use Rattle.zkdump.specs.declared.progress.Stop.TheVariants.{Found, Fails}
 use Rattle.zkdump.specs.Recording.{Recording, Spells, history_of}
-use Rattle.zkdump.specs.Lines.{text_of}
-use Rattle.zkdump.specs.Stopping.{IsStop, IfFound, answer_of}
 use Rattle.zkdump.specs.Outcome.{Reads, IsFound, IsRunning, HasBegun, HasGrownIn, IsGoodWith}
-use Rattle.zkdump.specs.Following.{Follows, Finishes}
+use Rattle.zkdump.specs.Following.{Follows, Finishes, Decides, Opens}
 use Rattle.std.proofs.Math.Seq.{take-append-add, take-append_seam}
-use Rattle.zk_talk.proofs.Start.{start_state, start}
-use Rattle.zkdump.proofs.Any.{any}
-use Rattle.zkdump.proofs.Bytes.{Consumes-none, Consumes-then, Appends-then}
-use Rattle.zkdump.proofs.Feeding.{good-here, grown-then, told-then}
+use Rattle.zkdump.proofs.Bytes.{Consumes-then, Appends-then}
+use Rattle.zkdump.proofs.Feeding.{good-here}
 use Rattle.zkdump.proofs.Outcomes.{outcome-once, outcome-good}
 use Rattle.zkdump.proofs.Stops.{read-at}
 use Rattle.zkdump.proofs.Once.{spells-once}
@@ -62,61 +55,32 @@ running-begun limits before after messages i = record {
   good = i.good;
 }
 
--- nothing was read
-pub begun-none : (limits : Limits) (before : Option (List ℕ)) → HasBegun limits before before []
-begun-none limits before =
-    let nothing = any [] in
-    record {
-      bytes = [];
-      recording = nothing.recording;
-      reads = reads before before [] nothing.recording (Consumes-none before) nothing.spells;
-      front = [];
-      rest = nothing.after;
-      splits = nothing.history;
-      good = good-here (start_state limits) limits [] [] refl (start limits);
-    }
+pub begun-by : (limits : Limits) (before after : Option (List ℕ)) (x : List ℕ) (messages : List Message) → Consumes before after x → Opens limits x messages → HasBegun limits before after messages
+begun-by limits before after x messages p i = record {
+  bytes = x;
+  recording = i.recording;
+  reads = reads before after x i.recording p i.spells;
+  front = i.front;
+  rest = i.rest;
+  splits = i.splits;
+  good = i.good;
+}
 
-module _ (limits : Limits) (before mid after : Option (List ℕ)) (x block : List ℕ) (messages : List Message) (listing : Listing) (contents during contents_now : Option (List ℕ)) (p : Consumes before mid x) (q : Consumes mid after block) (told : Appends contents during (text_of listing messages)) where
-  pub found-answer : (stop : Stop) → IsStop limits (x ++ block) messages listing during stop contents_now →
-      IfOk (answer_of stop) (λ summary. (all : List Message) × IsFound limits before after all summary × Appends contents contents_now (text_of listing all))
-  found-answer (Fails fault) i = tt
-  found-answer (Found summary) i = (
-    messages ++ i.0,
-    record {
-      bytes = x ++ block;
-      recording = i.1.recording;
-      reads = reads before after (x ++ block) i.1.recording (Consumes-then before mid after x block p q) i.1.spells;
-      is = i.1.is;
-      only = λ others other o. outcome-once limits i.1.recording (messages ++ i.0) others summary other i.1.is o;
-      enough = inr i.1.decided;
-    },
-    told-then listing contents during contents_now messages i.0 told i.2,
-  )
+-- what stands whatever follows was found
+pub found-decided : (limits : Limits) (before after : Option (List ℕ)) (x : List ℕ) (messages : List Message) (summary : Summary) →
+    Consumes before after x → Decides limits x messages summary → IsFound limits before after messages summary
+found-decided limits before after x messages summary p i = record {
+  bytes = x;
+  recording = i.recording;
+  reads = reads before after x i.recording p i.spells;
+  is = i.is;
+  only = λ others other o. outcome-once limits i.recording messages others summary other i.is o;
+  enough = inr i.decided;
+}
 
-  pub begun-answer : (stop : Stop) → IsStop limits (x ++ block) messages listing during stop contents_now →
-      OnErr (answer_of stop) ((all : List Message) × HasBegun limits before after all × HasGrownIn contents contents_now (text_of listing all))
-  begun-answer (Found summary) i = tt
-  begun-answer (Fails fault) i = (
-    messages ++ i.0,
-    record {
-      bytes = x ++ block;
-      recording = i.1.recording;
-      reads = reads before after (x ++ block) i.1.recording (Consumes-then before mid after x block p q) i.1.spells;
-      front = i.1.front;
-      rest = i.1.rest;
-      splits = i.1.splits;
-      good = i.1.good;
-    },
-    grown-then listing contents during contents_now messages i.0 told i.2,
-  )
-
-pub if-found : (stop : Stop) (P : Type 0) → P → IfFound stop P
-if-found (Found summary) P p = p
-if-found (Fails fault) P p = tt
-
-pub live-answer : (stop : Stop) (P : Type 0) → IfFound stop P → IfOk (answer_of stop) (λ _. P)
-live-answer (Found summary) P p = p
-live-answer (Fails fault) P p = tt
+-- what stands in the buffer, which held nothing before
+pub appended : (bytes lines before text : List ℕ) → bytes ≡ lines → lines ≡ before ++ text → before ≡ [] → bytes ≡ text
+appended bytes lines before text p q none = p ∙ q ∙ ap (λ l. l ++ text) none
 
 -- nothing, or a front, of what follows a text was written
 pub grown-front : (old new : Option (List ℕ)) (text more : List ℕ) → Appends old new text → HasGrownIn old new (text ++ more)

@@ -10,9 +10,10 @@ pub mod Any
 pub mod Outcomes
 pub mod Stops
 pub mod Found
-pub mod Kept
+pub mod Opened
 pub mod Stopped
 pub mod Once
 pub mod Accepted
 pub mod Taken
 pub mod Answered
+pub mod Spared

@@ -15,7 +15,7 @@ use Rattle.zkdump.specs.declared.built.Built.TheVariants.{Whole, LineRefused, Sa
 use Rattle.zkdump.specs.declared.builder.Halt.{Halt}
 use Rattle.zkdump.specs.declared.builder.Halt.TheVariants.{Refused, Fails}
 use Rattle.zkdump.specs.declared.listing.RunFault.{RunFault}
-use Rattle.zkdump.specs.declared.listing.RunFault.TheVariants.{Memory}
+use Rattle.zkdump.specs.declared.listing.RunFault.TheVariants.{Read, Write, Memory}
 use Rattle.zkdump.specs.Outcome.{HasGrownIn}
 use Rattle.zkdump.specs.Building.{IsLine, fed, AreLines, AreAccepted, AreEnded, IsBuilt, recording_of}
 
@@ -126,3 +126,10 @@ say_halt at fault = Refused (SayRefused at fault)
 abbrev pub answer_of : Halt → Result Built RunFault
 answer_of (Refused built) = Ok built
 answer_of (Fails fault) = Err fault
+
+-- where the run halts by no failed read or write
+abbrev pub IfSpared : Halt → Type 0 → Type 0
+IfSpared (Refused built) P = P
+IfSpared (Fails Memory) P = P
+IfSpared (Fails Read) P = Unit {0}
+IfSpared (Fails Write) P = Unit {0}

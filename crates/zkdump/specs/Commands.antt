@@ -4,6 +4,7 @@ use Rattle.zk_talk.specs.declared.limits.Limits.{Limits}
 use Rattle.zkdump.specs.declared.built.Built.{Built}
 use Rattle.zkdump.specs.declared.listing.Listing.TheVariants.{All, Last}
 use Rattle.zkdump.specs.declared.options.Command.{Command}
+use Rattle.zkdump.specs.declared.options.Settings.{Settings}
 use Rattle.zkdump.specs.declared.options.Command.TheVariants.{Show, Check, Build}
 use Rattle.zkdump.specs.declared.summary.Status.{Status}
 use Rattle.zkdump.specs.Running.{HasListed, HasStopped}
@@ -21,3 +22,10 @@ abbrev pub HasFailed : Command → Limits → Option (List ℕ) → Option (List
 HasFailed Show limits unread unread_now contents contents_now = HasStopped limits All unread unread_now contents contents_now
 HasFailed Check limits unread unread_now contents contents_now = HasStopped limits Last unread unread_now contents contents_now
 HasFailed Build limits unread unread_now contents contents_now = HasBegunBuilding limits unread unread_now contents contents_now
+
+-- what was chosen came to its end, or failed
+abbrev pub IsDone : Settings → Option (List ℕ) → Option (List ℕ) → Option (List ℕ) → Option (List ℕ) → ℕ → Type 0
+IsDone s unread unread_now contents contents_now exit = HasDone s.command s.limits unread unread_now contents contents_now exit
+
+abbrev pub IsFailed : Settings → Option (List ℕ) → Option (List ℕ) → Option (List ℕ) → Option (List ℕ) → Type 0
+IsFailed s unread unread_now contents contents_now = HasFailed s.command s.limits unread unread_now contents contents_now

@@ -5,7 +5,6 @@ pub mod Lines
 pub mod Rebuilding
 pub mod Outcome
 pub mod Following
-pub mod Stopping
 pub mod Running
 pub mod Exits
 pub mod Profiles

@@ -1,5 +1,5 @@
 -- What a run has read and written when it answers.
-use Rattle.std.specs.Prelude.{◌≡◌, ℕ, ◌⊎◌, List, ◌++◌, Option}
+use Rattle.std.specs.Prelude.{◌≡◌, ℕ, ◌+◌, ◌≤◌, ◌⊎◌, List, ◌++◌, Bool, true, Option}
 use Rattle.std.specs.Io.KnownBytes.{IsAtEnd, Appends}
 use Rattle.zk_talk.specs.declared.limits.Limits.{Limits}
 use Rattle.zk_talk.specs.declared.message.Message.{Message}
@@ -9,7 +9,17 @@ use Rattle.zkdump.specs.declared.summary.Summary.{Summary}
 use Rattle.zkdump.specs.declared.summary.Status.{Status}
 use Rattle.zkdump.specs.Lines.{text_of, last_line, status_of}
 use Rattle.zkdump.specs.Recording.{Recording, history_of}
-use Rattle.zkdump.specs.Outcome.{Reads, IsGoodWith, IsOutcome, IsDecided, IsFound, IsRunning, HasGrownIn}
+use Rattle.zkdump.specs.Outcome.{Reads, IsGoodWith, IsOutcome, IsDecided, IsFound, IsRunning, HasBegun, HasGrownIn}
+
+-- the reader failed, or was read as often as a run may
+abbrev pub IsSpent : Bool → ℕ → ℕ → Type 0
+IsSpent failed reads reads_now = (failed ≡ true) ⊎ (reads + 4294967296 ≤ reads_now)
+
+-- the lines of all messages in what was read were written, and it comes to this
+pub record HasFound (limits : Limits) (listing : Listing) (unread unread_now contents contents_now : Option (List ℕ)) (summary : Summary) : Type 0 where
+  pub messages : List Message
+  pub found : IsFound limits unread unread_now messages summary
+  pub written : Appends contents contents_now (text_of listing messages)
 
 -- the listing of what was read was written
 pub record HasListed (limits : Limits) (listing : Listing) (unread unread_now contents contents_now : Option (List ℕ)) (status : Status) : Type 0 where
@@ -24,6 +34,12 @@ pub record HasReached (limits : Limits) (listing : Listing) (unread unread_now c
   pub messages : List Message
   pub running : IsRunning limits unread unread_now messages
   pub written : Appends contents contents_now (text_of listing messages)
+
+-- what was read begins with some messages, and a front of their lines was written
+pub record HasBegunListing (limits : Limits) (listing : Listing) (unread unread_now contents contents_now : Option (List ℕ)) : Type 0 where
+  pub messages : List Message
+  pub begun : HasBegun limits unread unread_now messages
+  pub written : HasGrownIn contents contents_now (text_of listing messages)
 
 -- a front was written of the lines of messages that stand first in a recording, or of its whole listing
 pub data HasWrittenIn (limits : Limits) (listing : Listing) (bytes : List ℕ) (recording : Recording) (unread_now contents contents_now : Option (List ℕ)) : Type 0 where

@@ -1,5 +1,6 @@
 //! The engine that makes a recording of lines.
-ghost use Rattle.std.specs.Prelude.{◌≡◌, ◌+◌, ◌^◌, ◌<◌, ◌≤◌, ◌⊎◌, false, true, IfOk, OnErr, IsErrOf};
+ghost use Rattle.std.specs.Prelude.{◌≡◌, ◌+◌, ◌^◌, ◌<◌, ◌≤◌, false, true, IfOk, OnErr, IsErrOf};
+ghost use Rattle.zkdump.specs.Running.{IsSpent};
 ghost use Rattle.zkdump.specs.Building.{HasBuilt, HasBuiltSoFar, HasBegunBuilding};
 
 use crate::builder::Builder;
@@ -32,9 +33,18 @@ pub fn build_run<R: Source, W: Sink>(
     ensures ok { IfOk result (λ built. HasBuilt limits (R.remaining reader.old) (R.remaining reader.new) (W.contents writer.old) (W.contents writer.new) built) }
 
     // After a failed read, or one too many, the piece of each line that is whole in what was read stands written.
-    ensures read { IsErrOf result RunFault.Read → ((R.has_failed reader.new ≡ true) ⊎ (R.read_count reader.old + 4294967296 ≤ R.read_count reader.new))
-        × HasBuiltSoFar limits (R.remaining reader.old) (R.remaining reader.new) (W.contents writer.old) (W.contents writer.new) }
+    ensures read { IsErrOf result RunFault.Read → HasBuiltSoFar limits (R.remaining reader.old) (R.remaining reader.new) (W.contents writer.old) (W.contents writer.new) }
+    ensures spent { IsErrOf result RunFault.Read → IsSpent (R.has_failed reader.new) (R.read_count reader.old) (R.read_count reader.new) }
+
+    // A failed write, or one that takes nothing, is told as that.
     ensures write { IsErrOf result RunFault.Write → W.has_failed writer.new ≡ true }
+    ensures open { IfOk result (λ _. W.has_failed writer.new ≡ false) }
+    ensures spared { IsErrOf result RunFault.Memory → W.has_failed writer.new ≡ false }
+
+    // A failed read is never passed over, and no more is read than that often.
+    ensures alive { IfOk result (λ _. R.has_failed reader.new ≡ false) }
+    ensures memory { IsErrOf result RunFault.Memory → R.has_failed reader.new ≡ false }
+    ensures bound { R.read_count reader.new ≤ R.read_count reader.old + 4294967296 }
 
     // A run that stops early has written a front of the recording.
     ensures begun { OnErr result (HasBegunBuilding limits (R.remaining reader.old) (R.remaining reader.new) (W.contents writer.old) (W.contents writer.new)) }

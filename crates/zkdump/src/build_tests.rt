@@ -6,9 +6,10 @@ use crate::build::build_run;
 use crate::built::Built;
 use crate::listing::RunFault;
 use crate::memory::{MemorySink, MemorySource};
-use crate::run::run_words;
 use crate::streams::{FromRead, Sink};
-use crate::tests::{CONNECT, CONNECTED, EXISTS, MESSAGES, NO_NODE, recorded, text, words};
+use crate::tests::{
+    CONNECT, CONNECTED, EXISTS, MESSAGES, NO_NODE, recorded, run_words, text, words,
+};
 use std::alloc::{AllocGlobal, Global};
 use std::process::Abort;
 use std::test::Fail;

@@ -9,10 +9,10 @@ ghost use Rattle.zk_talk.specs.Said as said;
 ghost use Rattle.zk_talk.specs.Said.{Says};
 ghost use Rattle.zk_lines.specs.Lines.{Fits, line};
 ghost use Rattle.zkdump.specs.declared.builder.Halt.TheVariants.{Fails};
-ghost use Rattle.zkdump.specs.declared.listing.RunFault.TheVariants.{Read, Write};
+ghost use Rattle.zkdump.specs.declared.listing.RunFault.TheVariants.{Read, Write, Memory};
 ghost use Rattle.zkdump.specs.Recording.{head, piece_bytes, side_byte};
 ghost use Rattle.zkdump.specs.Building.{IsDotted, due_ending};
-ghost use Rattle.zkdump.specs.Accepting.{Took, HasTaken, HaltsAt, HaltsIn, BuildsAll, BeginsAll};
+ghost use Rattle.zkdump.specs.Accepting.{Took, HasTaken, HaltsAt, HaltsIn, IfSpared, BuildsAll, BeginsAll};
 
 use crate::built::Built;
 use crate::listing::RunFault;
@@ -181,6 +181,7 @@ impl Builder {
             Took limits lines before (W.contents writer.old) self.old.lines self.old.ended self.old.speaker →
             HaltsAt limits lines (line message.now) before halt (W.contents writer.new)) }
         ensures live { OnOk result (W.has_failed writer.new ≡ false) }
+        ensures spared { IfErr result (λ halt. IfSpared halt (W.has_failed writer.new ≡ false)) }
         ensures failed { IsErrOf result (Fails Write) → W.has_failed writer.new ≡ true }
         ensures no_read { result ≢ Err (Fails Read) }
     {
@@ -232,6 +233,7 @@ impl Builder {
             Took limits lines before (W.contents writer.old) self.old.lines self.old.ended self.old.speaker →
             HaltsAt limits lines self.old.begun.items before halt (W.contents writer.new)) }
         ensures live { OnOk result (W.has_failed writer.new ≡ false) }
+        ensures spared { IfErr result (λ halt. IfSpared halt (W.has_failed writer.new ≡ false)) }
         ensures failed { IsErrOf result (Fails Write) → W.has_failed writer.new ≡ true }
         ensures no_read { result ≢ Err (Fails Read) }
     {
@@ -267,6 +269,7 @@ impl Builder {
             HasTaken limits x before (W.contents writer.old) self.old.begun.items self.old.lines self.old.ended self.old.speaker →
             HaltsIn limits (x ++ block.now) before halt (W.contents writer.new)) }
         ensures live { OnOk result (W.has_failed writer.new ≡ false) }
+        ensures spared { IfErr result (λ halt. IfSpared halt (W.has_failed writer.new ≡ false)) }
         ensures failed { IsErrOf result (Fails Write) → W.has_failed writer.new ≡ true }
         ensures no_read { result ≢ Err (Fails Read) }
     {
@@ -292,6 +295,7 @@ impl Builder {
             HasTaken limits x before (W.contents writer.old) self.old.begun.items self.old.lines self.old.ended self.old.speaker →
             HaltsIn limits (x ++ block.now) before halt (W.contents writer.new)) }
         ensures live { OnOk result (W.has_failed writer.new ≡ false) }
+        ensures spared { IfErr result (λ halt. IfSpared halt (W.has_failed writer.new ≡ false)) }
         ensures failed { IsErrOf result (Fails Write) → W.has_failed writer.new ≡ true }
         ensures no_read { result ≢ Err (Fails Read) }
     {
@@ -312,6 +316,8 @@ impl Builder {
         ensures begun { OnErr result ((limits : Limits) (x : List ℕ) (before : Option (List ℕ)) →
             HasTaken limits x before (W.contents writer.old) self.old.begun.items self.old.lines self.old.ended self.old.speaker →
             BeginsAll limits x before (W.contents writer.new)) }
+        ensures open { IfOk result (λ _. W.has_failed writer.new ≡ false) }
+        ensures spared { IsErrOf result Memory → W.has_failed writer.new ≡ false }
         ensures failed { IsErrOf result Write → W.has_failed writer.new ≡ true }
         ensures no_read { result ≢ Err Read }
     {

@@ -1,11 +1,7 @@
 //! The engines that read a recording: its listing, and the listing's last line alone.
-ghost use Rattle.std.specs.Prelude.{◌≡◌, ◌≢◌, ◌+◌, ◌^◌, ◌<◌, ◌≤◌, ◌⊎◌, ◌++◌, ℕ, List, [], false, true, IfOk, OnErr, IsErrOf, Err};
-ghost use Rattle.std.specs.Io.KnownBytes.{Appends};
-ghost use Rattle.zk_talk.specs.declared.message.Message.{Message};
+ghost use Rattle.std.specs.Prelude.{◌≡◌, ◌+◌, ◌^◌, ◌<◌, ◌≤◌, false, true, IfOk, OnErr, IsErrOf};
 ghost use Rattle.zkdump.specs.declared.listing.Listing.TheVariants.{All, Last};
-ghost use Rattle.zkdump.specs.Lines.{text_of};
-ghost use Rattle.zkdump.specs.Outcome.{IsFound, IsRunning, HasBegun, HasGrownIn};
-ghost use Rattle.zkdump.specs.Running.{HasListed, HasReached, HasStopped};
+ghost use Rattle.zkdump.specs.Running.{IsSpent, HasFound, HasBegunListing, HasListed, HasReached, HasStopped};
 
 use crate::listing::{Listing, RunFault};
 use crate::progress::Progress;
@@ -20,7 +16,8 @@ pub const MOST_READS: u64 = 4_294_967_296;
 /// How many bytes a run reads at once, at most.
 pub const BLOCK: usize = 65_536;
 
-/// Reads until what the recording comes to stands, or to the end, and writes the lines of its messages.
+/// Reads until what the recording comes to stands, or to the end, and writes the lines of its messages: those of each
+/// read before the next one. They stand in one buffer, which lives as long as the run.
 fn read_on<R: Source, W: Sink>(
     alloc: Global,
     limits: Limits,
@@ -28,20 +25,22 @@ fn read_on<R: Source, W: Sink>(
     reader: &mut R,
     writer: &mut W,
 ) -> Result<Summary, RunFault>
-    requires live { R.has_failed reader.old ≡ false }
+    requires reader { R.has_failed reader.old ≡ false }
     requires reads { R.read_count reader.old < 2 ^ 62 }
     requires writer { W.has_failed writer.old ≡ false }
-    ensures ok { IfOk result (λ summary. (messages : List Message) × IsFound limits (R.remaining reader.old) (R.remaining reader.new) messages summary
-        × Appends (W.contents writer.old) (W.contents writer.new) (text_of listing messages)) }
-    ensures read { IsErrOf result RunFault.Read → ((R.has_failed reader.new ≡ true) ⊎ (R.read_count reader.old + 4294967296 ≤ R.read_count reader.new))
-        × ((messages : List Message) × IsRunning limits (R.remaining reader.old) (R.remaining reader.new) messages
-        × Appends (W.contents writer.old) (W.contents writer.new) (text_of listing messages)) }
-    ensures begun { OnErr result ((messages : List Message) × HasBegun limits (R.remaining reader.old) (R.remaining reader.new) messages
-        × HasGrownIn (W.contents writer.old) (W.contents writer.new) (text_of listing messages)) }
-    ensures live { IfOk result (λ _. W.has_failed writer.new ≡ false) }
-    ensures failed { IsErrOf result RunFault.Write → W.has_failed writer.new ≡ true }
+    ensures ok { IfOk result (HasFound limits listing (R.remaining reader.old) (R.remaining reader.new) (W.contents writer.old) (W.contents writer.new)) }
+    ensures read { IsErrOf result RunFault.Read → HasReached limits listing (R.remaining reader.old) (R.remaining reader.new) (W.contents writer.old) (W.contents writer.new) }
+    ensures spent { IsErrOf result RunFault.Read → IsSpent (R.has_failed reader.new) (R.read_count reader.old) (R.read_count reader.new) }
+    ensures begun { OnErr result (HasBegunListing limits listing (R.remaining reader.old) (R.remaining reader.new) (W.contents writer.old) (W.contents writer.new)) }
+    ensures write { IsErrOf result RunFault.Write → W.has_failed writer.new ≡ true }
+    ensures alive { IfOk result (λ _. R.has_failed reader.new ≡ false) }
+    ensures memory { IsErrOf result RunFault.Memory → R.has_failed reader.new ≡ false }
+    ensures open { IfOk result (λ _. W.has_failed writer.new ≡ false) }
+    ensures spared { IsErrOf result RunFault.Memory → W.has_failed writer.new ≡ false }
+    ensures bound { R.read_count reader.new ≤ R.read_count reader.old + 4294967296 }
 {
     let mut progress = Progress::new(alloc, limits)?;
+    let mut lines = Vec::new(alloc);
     let mut buf = [0; BLOCK];
     for _turn in 0..MOST_READS {
         let Ok(count) = reader.read(&mut buf) else {
@@ -50,8 +49,11 @@ fn read_on<R: Source, W: Sink>(
         if count == 0 {
             return Ok(progress.finish());
         }
-        if let Err(stop) = progress.feed(alloc, &buf[..count], listing, writer) {
-            return stop.answer();
+        let found = progress.feed(&buf[..count], listing, &mut lines)?;
+        write_whole(writer, lines.as_slice())?;
+        lines.clear();
+        if let Some(summary) = found {
+            return Ok(summary);
         }
     }
     Err(RunFault::Read)
@@ -69,9 +71,14 @@ fn run<R: Source, W: Sink>(
     requires reads { R.read_count reader.old < 2 ^ 62 }
     requires writer { W.has_failed writer.old ≡ false }
     ensures ok { IfOk result (λ status. HasListed limits listing (R.remaining reader.old) (R.remaining reader.new) (W.contents writer.old) (W.contents writer.new) status) }
-    ensures read { IsErrOf result RunFault.Read → ((R.has_failed reader.new ≡ true) ⊎ (R.read_count reader.old + 4294967296 ≤ R.read_count reader.new))
-        × HasReached limits listing (R.remaining reader.old) (R.remaining reader.new) (W.contents writer.old) (W.contents writer.new) }
+    ensures read { IsErrOf result RunFault.Read → HasReached limits listing (R.remaining reader.old) (R.remaining reader.new) (W.contents writer.old) (W.contents writer.new) }
+    ensures spent { IsErrOf result RunFault.Read → IsSpent (R.has_failed reader.new) (R.read_count reader.old) (R.read_count reader.new) }
     ensures write { IsErrOf result RunFault.Write → W.has_failed writer.new ≡ true }
+    ensures alive { IfOk result (λ _. R.has_failed reader.new ≡ false) }
+    ensures memory { IsErrOf result RunFault.Memory → R.has_failed reader.new ≡ false }
+    ensures open { IfOk result (λ _. W.has_failed writer.new ≡ false) }
+    ensures spared { IsErrOf result RunFault.Memory → W.has_failed writer.new ≡ false }
+    ensures bound { R.read_count reader.new ≤ R.read_count reader.old + 4294967296 }
     ensures begun { OnErr result (HasStopped limits listing (R.remaining reader.old) (R.remaining reader.new) (W.contents writer.old) (W.contents writer.new)) }
 {
     let summary = read_on(alloc, limits, listing, reader, writer)?;
@@ -99,9 +106,18 @@ pub fn check_run<R: Source, W: Sink>(
     ensures ok { IfOk result (λ status. HasListed limits Last (R.remaining reader.old) (R.remaining reader.new) (W.contents writer.old) (W.contents writer.new) status) }
 
     // A failed read, or one too many, leaves nothing written.
-    ensures read { IsErrOf result RunFault.Read → ((R.has_failed reader.new ≡ true) ⊎ (R.read_count reader.old + 4294967296 ≤ R.read_count reader.new))
-        × HasReached limits Last (R.remaining reader.old) (R.remaining reader.new) (W.contents writer.old) (W.contents writer.new) }
+    ensures read { IsErrOf result RunFault.Read → HasReached limits Last (R.remaining reader.old) (R.remaining reader.new) (W.contents writer.old) (W.contents writer.new) }
+    ensures spent { IsErrOf result RunFault.Read → IsSpent (R.has_failed reader.new) (R.read_count reader.old) (R.read_count reader.new) }
+
+    // A failed write, or one that takes nothing, is told as that.
     ensures write { IsErrOf result RunFault.Write → W.has_failed writer.new ≡ true }
+    ensures open { IfOk result (λ _. W.has_failed writer.new ≡ false) }
+    ensures spared { IsErrOf result RunFault.Memory → W.has_failed writer.new ≡ false }
+
+    // A failed read is never passed over, and no more is read than that often.
+    ensures alive { IfOk result (λ _. R.has_failed reader.new ≡ false) }
+    ensures memory { IsErrOf result RunFault.Memory → R.has_failed reader.new ≡ false }
+    ensures bound { R.read_count reader.new ≤ R.read_count reader.old + 4294967296 }
 
     // A run that stops early has written a front of the last line of every listing of what it read.
     ensures begun { OnErr result (HasStopped limits Last (R.remaining reader.old) (R.remaining reader.new) (W.contents writer.old) (W.contents writer.new)) }
@@ -128,9 +144,18 @@ pub fn show_run<R: Source, W: Sink>(
     ensures ok { IfOk result (λ status. HasListed limits All (R.remaining reader.old) (R.remaining reader.new) (W.contents writer.old) (W.contents writer.new) status) }
 
     // After a failed read, or one too many, the line of each message that is whole in what was read stands written.
-    ensures read { IsErrOf result RunFault.Read → ((R.has_failed reader.new ≡ true) ⊎ (R.read_count reader.old + 4294967296 ≤ R.read_count reader.new))
-        × HasReached limits All (R.remaining reader.old) (R.remaining reader.new) (W.contents writer.old) (W.contents writer.new) }
+    ensures read { IsErrOf result RunFault.Read → HasReached limits All (R.remaining reader.old) (R.remaining reader.new) (W.contents writer.old) (W.contents writer.new) }
+    ensures spent { IsErrOf result RunFault.Read → IsSpent (R.has_failed reader.new) (R.read_count reader.old) (R.read_count reader.new) }
+
+    // A failed write, or one that takes nothing, is told as that.
     ensures write { IsErrOf result RunFault.Write → W.has_failed writer.new ≡ true }
+    ensures open { IfOk result (λ _. W.has_failed writer.new ≡ false) }
+    ensures spared { IsErrOf result RunFault.Memory → W.has_failed writer.new ≡ false }
+
+    // A failed read is never passed over, and no more is read than that often.
+    ensures alive { IfOk result (λ _. R.has_failed reader.new ≡ false) }
+    ensures memory { IsErrOf result RunFault.Memory → R.has_failed reader.new ≡ false }
+    ensures bound { R.read_count reader.new ≤ R.read_count reader.old + 4294967296 }
 
     // A run that stops early has written a front of every listing of what it read.
     ensures begun { OnErr result (HasStopped limits All (R.remaining reader.old) (R.remaining reader.new) (W.contents writer.old) (W.contents writer.new)) }

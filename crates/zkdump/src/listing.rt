@@ -1,14 +1,12 @@
 //! What a run writes: the lines of a listing.
-ghost use Rattle.std.specs.Prelude.{◌≡◌, ◌≢◌, ◌∷◌, [], true, false, OnOk, OnErr, IsErrOf, Err};
-ghost use Rattle.std.specs.Io.KnownBytes.{Appends};
+ghost use Rattle.std.specs.Prelude.{◌≡◌, ◌++◌, OnOk};
 ghost use Rattle.std.specs.Option.{option_to_list};
 ghost use Rattle.zkdump.specs.Lines.{text_of, message_line};
-ghost use Rattle.zkdump.specs.Outcome.{HasGrownIn};
 
-use crate::streams::{Failed, Sink, write_whole};
-use std::alloc::{AllocError, AllocFailed, Global};
+use crate::streams::Failed;
+use std::alloc::AllocError;
 use thiserror::Error;
-use zk_lines::line_of;
+use zk_lines::put_line;
 use zk_talk::Message;
 
 /// Why a run came to no answer.
@@ -35,16 +33,6 @@ impl From<AllocError> for RunFault {
     }
 }
 
-impl<T: Drop> From<AllocFailed<T>> for RunFault {
-    ghost use Rattle.zkdump.specs.declared.listing.RunFault.TheVariants.{Memory};
-
-    ghost from_gives = { λ _ fault. fault ≡ Memory };
-
-    fn from(_error: AllocFailed<T>) -> RunFault {
-        RunFault::Memory
-    }
-}
-
 impl From<Failed> for RunFault {
     ghost use Rattle.zkdump.specs.declared.listing.RunFault.TheVariants.{Write};
 
@@ -62,41 +50,24 @@ pub enum Listing {
     Last,
 }
 
-/// Writes the line of a message, with its line feed.
-fn write_line<W: Sink>(alloc: Global, message: &Message, writer: &mut W) -> Result<(), RunFault>
-    requires { W.has_failed writer.old ≡ false }
-    ensures ok { OnOk result (Appends (W.contents writer.old) (W.contents writer.new) (message_line message.now)) }
-    ensures err { OnErr result (HasGrownIn (W.contents writer.old) (W.contents writer.new) (message_line message.now)) }
-    ensures live { OnOk result (W.has_failed writer.new ≡ false) }
-    ensures failed { IsErrOf result RunFault.Write → W.has_failed writer.new ≡ true }
-    ensures no_read { result ≢ Err RunFault.Read }
+/// Appends the line of a message, with its line feed.
+fn put_message(message: &Message, lines: &mut Vec<u8>) -> Result<(), AllocError>
+    ensures { OnOk result (lines.new.items ≡ lines.old.items ++ message_line message.now) }
 {
-    let mut line = line_of(alloc, message)?;
-    line.push(b'\n')?;
-    write_whole(writer, &line)?;
-    Ok(())
+    put_line(lines, message)?;
+    lines.extend_from_slice(b"\n")
 }
 
 impl Listing {
-    /// Writes the line of a message where there is one, and it belongs to the listing.
-    pub fn tell<W: Sink>(
-        self,
-        alloc: Global,
-        message: Option<Message>,
-        writer: &mut W,
-    ) -> Result<(), RunFault>
-        requires { W.has_failed writer.old ≡ false }
-        ensures ok { OnOk result (Appends (W.contents writer.old) (W.contents writer.new) (text_of self (option_to_list message))) }
-        ensures err { OnErr result (HasGrownIn (W.contents writer.old) (W.contents writer.new) (text_of self (option_to_list message))) }
-        ensures live { OnOk result (W.has_failed writer.new ≡ false) }
-        ensures failed { IsErrOf result RunFault.Write → W.has_failed writer.new ≡ true }
-        ensures no_read { result ≢ Err RunFault.Read }
+    /// Appends the line of a message, with its line feed, where there is one and it belongs to the listing.
+    pub fn tell(self, message: Option<Message>, lines: &mut Vec<u8>) -> Result<(), AllocError>
+        ensures { OnOk result (lines.new.items ≡ lines.old.items ++ text_of self (option_to_list message)) }
     {
         let Some(message) = message else {
             return Ok(());
         };
         match self {
-            Listing::All => write_line(alloc, &message, writer),
+            Listing::All => put_message(&message, lines),
             Listing::Last => Ok(()),
         }
     }

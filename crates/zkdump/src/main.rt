@@ -8,9 +8,10 @@ pub mod build;
 mod build_tests;
 pub mod builder;
 pub mod built;
+#[cfg(test)]
+mod device_tests;
 pub mod engines;
 pub mod laws;
-mod lines;
 pub mod listing;
 #[cfg(test)]
 mod memory;
@@ -24,12 +25,13 @@ pub mod summary;
 mod tests;
 pub mod words;
 
-use options::UsageFault;
-use run::{refuse, run_words};
+use options::{Settings, UsageFault};
+use run::run_settings;
 use std::process::ExitCode;
 use std::rt::Env;
 use std::{env, io};
 use streams::{FromRead, FromWrite};
+use words::settings;
 
 /// The words of the command line.
 fn arguments(rt: &(impl Env + AllocGlobal)) -> Result<Vec<String>, UsageFault> {
@@ -42,13 +44,16 @@ fn arguments(rt: &(impl Env + AllocGlobal)) -> Result<Vec<String>, UsageFault> {
     }
 }
 
+/// What they ask for.
+fn chosen(rt: &(impl Env + AllocGlobal)) -> Result<Settings, UsageFault> {
+    settings(rt.alloc(), arguments(rt)?)
+}
+
 fn main(rt: HostRuntime) -> ExitCode {
     let mut reader = FromRead::new(rt.stdin());
     let mut writer = FromWrite::new(rt.stdout());
     let mut faults = FromWrite::new(rt.stderr());
-    let status = match arguments(&rt) {
-        Ok(words) => run_words(rt.alloc(), words, &mut reader, &mut writer, &mut faults),
-        Err(fault) => refuse(fault, &mut faults),
-    };
+    let chosen = chosen(&rt);
+    let status = run_settings(rt.alloc(), chosen, &mut reader, &mut writer, &mut faults);
     ExitCode::from(status)
 }

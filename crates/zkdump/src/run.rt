@@ -1,8 +1,6 @@
 //! The whole program, over a reader and two writers.
-ghost use Rattle.std.specs.Prelude.{◌≡◌, ◌^◌, ◌<◌, ◌≤◌, ◌⊎◌, false, IfOk, OnErr};
-ghost use Rattle.zk_talk.specs.declared.limits.Limits.{Limits};
-ghost use Rattle.zkdump.specs.declared.options.Command.{Command};
-ghost use Rattle.zkdump.specs.Commands.{HasDone, HasFailed};
+ghost use Rattle.std.specs.Prelude.{◌≡◌, ◌^◌, ◌<◌, ◌≤◌, false, IfOk, IfErr, OnErr};
+ghost use Rattle.zkdump.specs.Commands.{IsDone, IsFailed};
 ghost use Rattle.zkdump.specs.Exits.{exit_of, exit_of_built, refusal_of};
 
 use crate::build::build_run;
@@ -12,7 +10,6 @@ use crate::listing::RunFault;
 use crate::options::{Command, Settings, UsageFault};
 use crate::streams::{Sink, Source, write_whole};
 use crate::summary::Status;
-use crate::words::settings;
 use std::alloc::Global;
 use std::fmt;
 use std::fmt::{Display, Write};
@@ -42,7 +39,7 @@ fn tell<F: Sink>(faults: &mut F, fault: &(impl Display)) {
 }
 
 /// Tells why a command line is refused, and gives the status for it.
-pub fn refuse<F: Sink>(fault: UsageFault, faults: &mut F) -> u8
+fn refuse<F: Sink>(fault: UsageFault, faults: &mut F) -> u8
     ensures { result ≡ refusal_of fault }
 {
     tell(faults, &fault);
@@ -87,9 +84,9 @@ fn obey<R: Source, W: Sink, F: Sink>(
     requires reader { R.has_failed reader.old ≡ false }
     requires reads { R.read_count reader.old < 2 ^ 62 }
     requires writer { W.has_failed writer.old ≡ false }
-    ensures ok { IfOk result (λ exit. HasDone chosen.command chosen.limits (R.remaining reader.old) (R.remaining reader.new) (W.contents writer.old) (W.contents writer.new) exit) }
+    ensures ok { IfOk result (IsDone chosen (R.remaining reader.old) (R.remaining reader.new) (W.contents writer.old) (W.contents writer.new)) }
     ensures small { IfOk result (λ exit. exit < 2) }
-    ensures err { OnErr result (HasFailed chosen.command chosen.limits (R.remaining reader.old) (R.remaining reader.new) (W.contents writer.old) (W.contents writer.new)) }
+    ensures err { OnErr result (IsFailed chosen (R.remaining reader.old) (R.remaining reader.new) (W.contents writer.old) (W.contents writer.new)) }
 {
     match chosen.command {
         Command::Show => Ok(exit_code(show_run(alloc, chosen.limits, reader, writer)?)),
@@ -98,10 +95,10 @@ fn obey<R: Source, W: Sink, F: Sink>(
     }
 }
 
-/// Does what the words say, and gives the status of the process.
-pub fn run_words<R: Source, W: Sink, F: Sink>(
+/// Does what the words of the command line were read as, and gives the status of the process.
+pub fn run_settings<R: Source, W: Sink, F: Sink>(
     alloc: Global,
-    words: Vec<String>,
+    chosen: Result<Settings, UsageFault>,
     reader: &mut R,
     writer: &mut W,
     faults: &mut F,
@@ -112,18 +109,18 @@ pub fn run_words<R: Source, W: Sink, F: Sink>(
     requires faults { F.has_failed faults.old ≡ false }
     ensures known { result ≤ 3 }
 
-    // What was read is listed, or made a recording, as far as one of the commands does it.
-    ensures done { result < 2 → (command : Command) × (limits : Limits)
-        × HasDone command limits (R.remaining reader.old) (R.remaining reader.new) (W.contents writer.old) (W.contents writer.new) result }
+    // The command that was chosen is done, under its limits: what was read is listed, or made a recording.
+    ensures done { IfOk chosen (λ s. result < 2 →
+        IsDone s (R.remaining reader.old) (R.remaining reader.new) (W.contents writer.old) (W.contents writer.new) result) }
 
     // Words that are refused leave everything unread and unwritten.
-    ensures words { result ≡ 2 → (reader.new ≡ reader.old) × (writer.new ≡ writer.old) }
+    ensures refused { IfErr chosen (λ fault. (result ≡ refusal_of fault) × (reader.new ≡ reader.old) × (writer.new ≡ writer.old)) }
 
-    // A failure comes before all of it, or after a front of what a command writes.
-    ensures stopped { result ≡ 3 → ((reader.new ≡ reader.old) × (writer.new ≡ writer.old))
-        ⊎ ((command : Command) × (limits : Limits) × HasFailed command limits (R.remaining reader.old) (R.remaining reader.new) (W.contents writer.old) (W.contents writer.new)) }
+    // A failure comes after a front of what the command writes.
+    ensures stopped { IfOk chosen (λ s. 2 ≤ result →
+        (result ≡ 3) × IsFailed s (R.remaining reader.old) (R.remaining reader.new) (W.contents writer.old) (W.contents writer.new)) }
 {
-    let chosen = match settings(alloc, words) {
+    let chosen = match chosen {
         Ok(chosen) => chosen,
         Err(fault) => return refuse(fault, faults),
     };

@@ -1,14 +1,15 @@
 //! Runs of the whole program over memory.
-ghost use Rattle.std.specs.Prelude.{List, ℕ, [], Option, Some, IfOk};
+ghost use Rattle.std.specs.Prelude.{◌≡◌, ◌<◌, ◌^◌, false, List, ℕ, [], Option, Some, IfOk};
 ghost use Rattle.zkdump.specs.declared.listing.Listing.TheVariants.{Last};
 ghost use Rattle.zkdump.specs.Running.{HasListed};
 
 use crate::engines::check_run;
 use crate::listing::RunFault;
 use crate::memory::{MemorySink, MemorySource};
-use crate::run::run_words;
-use crate::streams::{FromRead, Sink};
+use crate::run::run_settings;
+use crate::streams::{FromRead, Sink, Source};
 use crate::summary::Status;
+use crate::words::settings;
 use std::alloc::{AllocError, AllocGlobal, Global};
 use std::process::Abort;
 use std::test::Fail;
@@ -67,6 +68,23 @@ pub fn words(rt: &impl AllocGlobal, line: &str) -> Result<Vec<String>, Fail> {
         words.push(String::from_str(rt.alloc(), word)?)?;
     }
     Ok(words)
+}
+
+/// Reads the words, and does what they say.
+pub fn run_words<R: Source, W: Sink, F: Sink>(
+    alloc: Global,
+    words: Vec<String>,
+    reader: &mut R,
+    writer: &mut W,
+    faults: &mut F,
+) -> u8
+    requires reader { R.has_failed reader.old ≡ false }
+    requires reads { R.read_count reader.old < 2 ^ 62 }
+    requires writer { W.has_failed writer.old ≡ false }
+    requires faults { F.has_failed faults.old ≡ false }
+{
+    let chosen = settings(alloc, words);
+    run_settings(alloc, chosen, reader, writer, faults)
 }
 
 pub fn text(rt: &impl AllocGlobal, sink: &MemorySink) -> Result<String, Fail> {

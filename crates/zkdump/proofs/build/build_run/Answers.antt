@@ -26,10 +26,11 @@ loop-turn-init g c = record {
 
 pub returns-in_default-clause-read : goal.returns-in_default-clause-read
 returns-in_default-clause-read g c = λ _.
-    let i = c.loop-turn.invariant.taken in (
-      inl (c.in_default.ensures.failed ∙ ap (λ b. b || true) c.loop-turn.invariant.live),
-      built-so_far c.args.limits _ _ i.0 _ _ (Consumes-kept _ _ _ i.0 i.1 c.in_default.ensures.bytes) _ _ _ _ (i.2 _ c.in_ok-write_whole.ensures.ok),
-    )
+    let i = c.loop-turn.invariant.taken in
+    built-so_far c.args.limits _ _ i.0 _ _ (Consumes-kept _ _ _ i.0 i.1 c.in_default.ensures.bytes) _ _ _ _ (i.2 _ c.in_ok-write_whole.ensures.ok)
+
+pub returns-in_default-clause-spent : goal.returns-in_default-clause-spent
+returns-in_default-clause-spent g c = λ _. inl (c.in_default.ensures.failed ∙ ap (λ b. b || true) c.loop-turn.invariant.live)
 
 pub returns-in_default-clause-begun : goal.returns-in_default-clause-begun
 returns-in_default-clause-begun g c =
@@ -75,7 +76,10 @@ loop-turn-preserved g c =
 pub returns-clause-read : goal.returns-clause-read
 returns-clause-read g c = λ _.
     let i = c.loop-turn.invariant.taken in
-    (inr (omega (arith, c.loop-turn.invariant.count, c.loop-turn-test.false)), built-so_far c.args.limits _ _ i.0 _ _ i.1 _ _ _ _ (i.2 _ c.in_ok-write_whole.ensures.ok))
+    built-so_far c.args.limits _ _ i.0 _ _ i.1 _ _ _ _ (i.2 _ c.in_ok-write_whole.ensures.ok)
+
+pub returns-clause-spent : goal.returns-clause-spent
+returns-clause-spent g c = λ _. inr (omega (arith, c.loop-turn.invariant.count, c.loop-turn-test.false))
 
 pub returns-clause-begun : goal.returns-clause-begun
 returns-clause-begun g c =

@@ -1,4 +1,4 @@
-use Rattle.std.proofs.Common.{◌≡◌, ◌+◌, ◌*◌, ◌≤◌, List, ℕ, false, length}
+use Rattle.std.proofs.Common.{◌≡◌, ◌+◌, ◌*◌, ◌≤◌, List, [], ℕ, false, length}
 use Rattle.std.specs.Io.KnownBytes.{Consumes, Appends}
 use Rattle.zk_talk.specs.declared.message.Message.{Message}
 use Rattle.zkdump.specs.Lines.{text_of}
@@ -9,6 +9,7 @@ use Rattle.zkdump.proofs.engines.read_on.Given as goal
 abbrev pub invariant-loop-turn : goal.invariant-loop-turn
 invariant-loop-turn g l = record {
   block : length l.buf ≡ 65536;
+  empty : l.lines.items ≡ [];
   live : g.R.Source.has_failed l.reader ≡ false;
   writer_live : g.W.Sink.has_failed l.writer ≡ false;
   count : g.R.Source.read_count l.reader ≡ g.R.Source.read_count l.initial.reader + l._turn;

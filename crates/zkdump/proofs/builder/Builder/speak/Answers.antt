@@ -8,6 +8,7 @@ use Rattle.zkdump.specs.Outcome.{HasGrownIn}
 use Rattle.zkdump.specs.Building.{piece_of}
 use Rattle.zkdump.specs.Accepting.{Took}
 use Rattle.zkdump.proofs.Accepted.{fails-before, fails-within, took-message, halts-unsaid, piece-is}
+use Rattle.zkdump.proofs.Spared.{spared-halt}
 use Rattle.zkdump.proofs.builder.Builder.speak.Goals as goal
 
 pub returns-in-Err-clause-halts : goal.returns-in-Err-clause-halts
@@ -37,3 +38,6 @@ returns-clause-goes_on g c = λ limits lines before t.
     subst (λ ended. Took limits (lines ++ line c.args.message.now ∷ []) before (g.W.Sink.contents c.write_whole.new.writer) (c.args.self.now.lines + 1) ended c.say.new.self) (sym c.requires.going)
     (took-message limits lines before _ _ _ (rw c.requires.going at t) c.args.message.now c.requires.fits _ c.in_default.ensures.limits c.in_default.ensures.said _
     (subst (Appends (g.W.Sink.contents c.args.writer.now) (g.W.Sink.contents c.write_whole.new.writer)) piece c.in_ok-write_whole.ensures.ok))
+
+pub returns-in-Err-clause-spared : goal.returns-in-Err-clause-spared
+returns-in-Err-clause-spared g c = spared-halt c.at_message.result _ c.requires.live

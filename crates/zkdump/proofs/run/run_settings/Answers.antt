@@ -1,0 +1,1 @@
+use Rattle.zkdump.proofs.run.run_settings.Goals as goal
