@@ -19,7 +19,7 @@ none_high (x ∷ xs) e (suc i) = none_high xs (omega arith) i
 pub low_of_mask : (xs : List ℕ) → length xs ≡ 16 → eqb (mask_l (map (top 7) (zip2 at_least (replicate 16 128) xs)) % 2 ^ 64) 0 ≡ true → (i : ℕ) → get_or xs i 0 < 128
 low_of_mask xs long e =
     none_high xs (ap (λ n. mask_l (map (top 7) (zip2 at_least (replicate n 128) xs))) long
-      ∙ sym (mask_l-mod _ 64 (omega (arith, length-map (zip2 at_least (replicate 16 128) xs) (top 7), length-zip2 at_least (replicate 16 128) xs (sym long)))) ∙ eqb-true _ _ e)
+    ∙ sym (mask_l-mod _ 64 (omega (arith, length-map (zip2 at_least (replicate 16 128) xs) (top 7), length-zip2 at_least (replicate 16 128) xs (sym long)))) ∙ eqb-true _ _ e)
 
 -- low bytes in front, and low bytes at the end that meet them
 pub low_ends : (bytes : List ℕ) (at n : ℕ) → IsAscii (take at bytes) → IsAscii (take n (drop (length bytes - n) bytes)) → length bytes ≤ at + n → n ≤ length bytes → IsAscii bytes
@@ -27,12 +27,12 @@ low_ends bytes at n front last meet some i =
     elim (cases_lt i at) [
       | inl less ↦ rw (get_or-take at bytes i 0 less) at (front i)
       | inr far ↦ elim (cases_lt i (length bytes)) [
-          | inl within ↦
-              let k : ℕ = i - (length bytes - n) in
-              let e : length bytes - n + k ≡ i = omega arith in
-              let same : get_or (take n (drop (length bytes - n) bytes)) k 0 ≡ get_or bytes i 0 =
-                  get_or-take n (drop (length bytes - n) bytes) k 0 (omega arith) ∙ get_or-drop (length bytes - n) bytes k 0 ∙ ap (λ j. get_or bytes j 0) e in
-              subst (λ b. b < 128) same (last k)
-          | inr past ↦ rw (get_or_past bytes i 0 past) (omega arith)
-        ]
+        | inl within ↦
+            let k : ℕ = i - (length bytes - n) in
+            let e : length bytes - n + k ≡ i = omega arith in
+            let same : get_or (take n (drop (length bytes - n) bytes)) k 0 ≡ get_or bytes i 0 =
+            get_or-take n (drop (length bytes - n) bytes) k 0 (omega arith) ∙ get_or-drop (length bytes - n) bytes k 0 ∙ ap (λ j. get_or bytes j 0) e in
+            subst (λ b. b < 128) same (last k)
+        | inr past ↦ rw (get_or_past bytes i 0 past) (omega arith)
+      ]
     ]

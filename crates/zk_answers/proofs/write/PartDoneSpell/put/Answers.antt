@@ -14,15 +14,15 @@ returns-in-PartFailed-clause-ok g c =
     let err = c.in-PartFailed.err in
     let put = c.put-in-PartFailed in
     rw c.in-PartFailed.is (on_ok_map put.result (λ p.
-        let fits = (have_parts (marked c.error_header.result) (AnInt err ∷ []) p.0).1.0 in
-        let same = c.error_header.ensures ∙ ap error_header (to_z-of_z w32 err fits) in
-        subst (λ (x : MultiHeader). HaveBytes (marked x ++ (AnInt err ∷ [])) × g.O.Output.takes c.args.out.now (bytes_of (marked x ++ (AnInt err ∷ []))) put.new.out) same p) put.ensures.ok)
+    let fits = (have_parts (marked c.error_header.result) (AnInt err ∷ []) p.0).1.0 in
+    let same = c.error_header.ensures ∙ ap error_header (to_z-of_z w32 err fits) in
+    subst (λ (x : MultiHeader). HaveBytes (marked x ++ (AnInt err ∷ [])) × g.O.Output.takes c.args.out.now (bytes_of (marked x ++ (AnInt err ∷ []))) put.new.out) same p) put.ensures.ok)
 
 pub returns-in-PartFailed-clause-err : goal.returns-in-PartFailed-clause-err
 returns-in-PartFailed-clause-err g c =
     let err = c.in-PartFailed.err in
     let put = c.put-in-PartFailed in
     rw c.in-PartFailed.is (on_err_map put.result (λ stops have.
-        let fits = (have_parts (marked (error_header err)) (AnInt err ∷ []) have).1.0 in
-        let same = c.error_header.ensures ∙ ap error_header (to_z-of_z w32 err fits) in
-        subst (λ (x : MultiHeader). HaveBytes (marked x ++ (AnInt err ∷ [])) → g.O.Output.stops c.args.out.now (bytes_of (marked x ++ (AnInt err ∷ []))) put.new.out) same stops have) put.ensures.err)
+    let fits = (have_parts (marked (error_header err)) (AnInt err ∷ []) have).1.0 in
+    let same = c.error_header.ensures ∙ ap error_header (to_z-of_z w32 err fits) in
+    subst (λ (x : MultiHeader). HaveBytes (marked x ++ (AnInt err ∷ [])) → g.O.Output.stops c.args.out.now (bytes_of (marked x ++ (AnInt err ∷ []))) put.new.out) same stops have) put.ensures.err)
