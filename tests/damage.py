@@ -87,10 +87,10 @@ def front(pieces, size):
 
 # Fields: int, long, boolean, text or data, list of texts, list of access rights, Stat.
 SIZES = {"i": 4, "l": 8, "o": 1, "S": 68}
-ASKS = {1: "ttAi", 2: "ti", 3: "to", 4: "to", 5: "tti", 6: "t", 7: "tAi", 8: "to", 9: "t", 11: "", 12: "to", 100: "itt",
-        101: "lLLL", -11: ""}
-REPLIES = {1: "t", 2: "", 3: "S", 4: "tS", 5: "S", 6: "AS", 7: "S", 8: "L", 9: "t", 11: "", 12: "LS", 100: "", 101: "",
-           -11: ""}
+ASKS = {1: "ttAi", 2: "ti", 3: "to", 4: "to", 5: "tti", 6: "t", 7: "tAi", 8: "to", 9: "t", 11: "", 12: "to", 15: "ttAi",
+        100: "itt", 101: "lLLL", -11: ""}
+REPLIES = {1: "t", 2: "", 3: "S", 4: "tS", 5: "S", 6: "AS", 7: "S", 8: "L", 9: "t", 11: "", 12: "LS", 15: "tS", 100: "",
+           101: "", -11: ""}
 PARTS = {1: "ttAi", 2: "ti", 5: "tti", 13: "ti"}
 RESULTS = {1: "t", 2: "", 5: "S", 13: "", -1: "i"}
 MULTI = 14

@@ -27,7 +27,7 @@ class Wrapper(ToolCase):
         for crate in ("low", "zkdump"):
             (self.top / "crates" / crate / "src").mkdir(parents=True)
             (self.top / "crates" / crate / "src" / "lib.rt").write_text("")
-        (self.top / "crates.txt").write_text("# crates\nlow:\nzkdump: low clap\n")
+        (self.top / "crates.txt").write_text("# crates\nlow:\nother: low\nzkdump: low clap\n")
         shutil.copy(TOP / "zkdump", self.top)
         (self.folder / "bin").mkdir()
         (self.folder / "bin" / "rt").write_text(RT)

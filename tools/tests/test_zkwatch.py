@@ -191,8 +191,10 @@ class Zkwatch(ToolCase):
         watcher, address = self.watch(player.stdout.readline().split()[-1], "--once", program=PROGRAM)
         client_bytes, server_bytes = sides(RUN.read_bytes())
         with socket.create_connection(address, SECONDS) as client:
-            client.sendall(client_bytes)
-            self.assertEqual(receive(client, 61), server_bytes)
+            client.sendall(client_bytes[:49])
+            welcome = receive(client, 41)
+            client.sendall(client_bytes[49:])
+            self.assertEqual(welcome + receive(client, 20), server_bytes)
         self.assertEqual([line for _, line in self.lines(watcher)[1:]], LISTING.splitlines())
 
     def test_words(self):
