@@ -40,7 +40,16 @@ fn again(
 
 /// What a later payload asks, and its xid.
 fn asked(rt: &impl Abort, alloc: Global, payload: &[u8]) -> Result<(i32, Ask), Fail> {
-    let frame = read_ask(alloc, Profile::V34, payload)?;
+    asked_under(rt, alloc, Profile::V34, payload)
+}
+
+fn asked_under(
+    rt: &impl Abort,
+    alloc: Global,
+    profile: Profile,
+    payload: &[u8],
+) -> Result<(i32, Ask), Fail> {
+    let frame = read_ask(alloc, profile, payload)?;
     match again(rt, alloc, frame, payload)? {
         ClientFrame::Ask { xid, ask } => Ok((xid, ask)),
         ClientFrame::Connect { .. } => Err("a connect request")?,
@@ -242,11 +251,8 @@ fn create2(rt: HostRuntime) -> Result<(), Fail> {
     let alloc = rt.alloc();
     let payload =
         b"\0\0\0\x01\0\0\0\x0f\0\0\0\x02/a\xff\xff\xff\xff\0\0\0\x01\0\0\0\x1f\0\0\0\x05world\0\0\0\x06anyone\0\0\0\0";
-    let frame = read_ask(alloc, Profile::V35, payload)?;
-    let ClientFrame::Ask { xid, ask } = again(&rt, alloc, frame, payload)? else {
-        return Err("a connect request")?;
-    };
-    assert_eq!(rt; (xid, ask.op()), (1, Op::Create2));
+    let (xid, ask) = asked_under(&rt, alloc, Profile::V35, payload)?;
+    assert_eq!(rt; xid, 1);
     let Ask::Create2(body) = ask else {
         return Err("no create2")?;
     };
