@@ -84,7 +84,12 @@ fn begin(alloc: Global, speaker: &mut Speaker) -> Result<(), Fail> {
 
 /// The message is said.
 fn said(speaker: &mut Speaker, message: Message, out: &mut Vec<u8>) -> Result<(), Fail> {
-    match speaker.say(&message, out) {
+    named(speaker.say(&message, out))
+}
+
+/// A refusal by its name.
+fn named(answer: Result<(), SayFault>) -> Result<(), Fail> {
+    match answer {
         Ok(()) => Ok(()),
         Err(fault) => Err(say_name(&fault))?,
     }
