@@ -63,6 +63,7 @@ impl Sink for Counted<'_> {
 #[derive(Drop)]
 struct Watching<'a> {
     blocks: &'a [&'a [u8]],
+    next: usize,
     written: &'a Cell<u64>,
     seen: Vec<u64>,
     reads: u64,
@@ -82,12 +83,12 @@ impl Source for Watching<'_> {
             self.failed = true;
             return Err(Failed);
         }
-        let Some((block, rest)) = self.blocks.split_first() else {
+        let Some(block) = self.blocks.get(self.next) else {
             return Ok(0);
         };
+        self.next = self.next.saturating_add(1);
         let count = block.len().min(buf.len());
         buf[..count].copy_from_slice(&block[..count]);
-        self.blocks = rest;
         Ok(count)
     }
 
@@ -116,6 +117,7 @@ fn lines_before_the_next_read(rt: HostRuntime) -> Result<(), Fail> {
     let written = Cell::new(0);
     let mut reader = Watching {
         blocks: blocks.as_slice(),
+        next: 0,
         written: &written,
         seen: Vec::new(rt.alloc()),
         reads: 0,
