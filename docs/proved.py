@@ -26,6 +26,7 @@ HEADLINES = (
     ("Speaker::say", (("zk_talk", "say"),)),
     ("show_run and check_run", (("zkdump", "show_run"), ("zkdump", "check_run"))),
     ("build_run", (("zkdump", "build_run"),)),
+    ("migrate_run", (("zkdump", "migrate_run"),)),
 )
 
 WORD = re.compile(r"[^\s(){}\[\],;:`]+")

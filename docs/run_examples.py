@@ -5,17 +5,28 @@
 
 A command is a line of four blanks, "$ " and the command; "> " in place of "$ " goes on with it. The lines of four
 blanks behind it are what it prints, on standard output and standard error together. Where such a line has " .. " or
-ends with " ..", any text may stand there; a line of ".." alone stands for any lines.
+ends with " ..", any text may stand there; a line of ".." alone stands for any lines. A time of day with its date, and
+a client's port at 127.0.0.1, stand for any.
 
 The commands of a page run one after another with sh, in a new folder that has links to what lies at the repository's
-top, so that files which they make are there for the next. There ./zkdump, and zkdump on the PATH, are the script of
-that name, or what --program names.
+top, so that files which they make are there for the next. The folder is their HOME, too, and has an empty folder bin.
+There ./zkdump, and zkdump on the PATH, are the script of that name, or what --program names.
 
-Each block of a page that begins with "```rust FILE" must stand in that file, line for line, but for how far it is
-indented.
+There is no ZooKeeper and no client of one, so tools/zkplay.py stands for both. It plays a recording: that of the stored
+run, or the one that a line `<!-- played: FILE -->` before the block names.
 
-It prints what differs and one last line, N passed, M failed. The status is 0 where nothing differs, 1 where
-something does, 2 where the words are not understood or a page cannot be read.
+- localhost:2181 in a command is a server that plays it.
+- Where 2181 or 2182 is a word by itself, the command is one that listens. A client connects to that port and plays the
+  recording, and then Ctrl-C ends the command, unless it has ended by itself.
+- Both ports are replaced by free ones, and in what is printed these by them again.
+- port.pcap in the folder is what tcpdump would have captured of the stored run.
+
+What isn't run is marked with a line `<!-- not run: WHY -->` before its block. Any other block of four blanks that
+does not begin with a command fails, and so does any block of code but for those of Rust: a block that begins with
+"```rust FILE" must stand in that file, line for line, but for how far it is indented.
+
+It prints what differs, what is marked, and one last line, N passed, M failed. The status is 0 where nothing differs, 1
+where something does, 2 where the words are not understood or a page cannot be read.
 """
 
 import argparse
@@ -23,42 +34,70 @@ import os
 import pathlib
 import re
 import signal
+import socket
 import subprocess
 import sys
 import tempfile
 import textwrap
+import time
 
 TOP = pathlib.Path(__file__).resolve().parent.parent
 INDENT = "    "
+FENCE = re.compile(r"^```(rust \S)?.*?^```$", re.M | re.S)
+MARK = re.compile(r"<!-- (not run|played): (.*) -->")
+STORED_RUN = "crates/zkdump/stdin"
+PLAYER = TOP / "tools" / "zkplay.py"
+SERVER, LISTENS = "localhost:2181", re.compile(r"(?<= )218[12](?= |$)")
+ANY = (re.compile(r"\b\d{4}-\d\d-\d\dT\d\d:\d\d:\d\d\.\d{3}Z"), re.compile(r"(?<=\b127\.0\.0\.1:)(?!218[12]\b)\d+"))
 
 
 class Example:
-    """A command, the line that it stands in, and the lines that it prints."""
+    """A command, the line that it stands in, the lines that it prints, and the recording that is played to it."""
 
-    def __init__(self, at, command):
-        self.at = at
-        self.command = command
+    def __init__(self, at, command, played):
+        self.at, self.command, self.played = at, command, played
         self.lines = []
 
 
-def examples(text):
-    """The commands of a page, in order."""
-    found, open_now = [], None
-    for at, line in enumerate(text.splitlines(), 1):
-        if line.startswith(INDENT + "$ "):
-            open_now = Example(at, line[len(INDENT) + 2:])
-            found.append(open_now)
-        elif open_now and line.startswith(INDENT + "> ") and not open_now.lines:
-            open_now.command += "\n" + line[len(INDENT) + 2:]
-        elif open_now and line.startswith(INDENT):
-            open_now.lines.append(line[len(INDENT):])
-        else:
-            open_now = None
-    return found
+class Page:
+    """The commands of a page, in order; the blocks that are marked as not run, each with its line and why; and the
+    lines of those that are neither."""
+
+    def __init__(self, text):
+        self.examples, self.marked, self.unmarked = [], [], []
+        for fence in re.finditer(FENCE, text):
+            if not fence[1]:
+                self.unmarked.append(text.count("\n", 0, fence.start()) + 1)
+        marks, inside = {}, False
+        for at, line in enumerate(FENCE.sub(lambda fence: "\n" * fence[0].count("\n"), text).splitlines(), 1):
+            mark = MARK.fullmatch(line)
+            if mark:
+                marks[mark[1]] = mark[2]
+            elif line.startswith(INDENT):
+                self.take(at, line[len(INDENT):], not inside, marks)
+            elif line or inside:
+                marks = {}
+            inside = line.startswith(INDENT)
+
+    def take(self, at, line, begins, marks):
+        """Takes a line of a block."""
+        if "not run" in marks:
+            if begins:
+                self.marked.append((at, line, marks["not run"]))
+        elif line.startswith("$ "):
+            self.examples.append(Example(at, line[2:], marks.get("played", STORED_RUN)))
+        elif begins:
+            self.unmarked.append(at)
+        elif self.examples and line.startswith("> ") and not self.examples[-1].lines:
+            self.examples[-1].command += "\n" + line[2:]
+        elif self.examples:
+            self.examples[-1].lines.append(line)
 
 
 def fits_line(wanted, found):
-    """Whether the line is the wanted one, where ".." stands for any text."""
+    """Whether the line is the wanted one, where ".." and what is in ANY stand for any text."""
+    for each in ANY:
+        wanted, found = each.sub("..", wanted), each.sub("..", found)
     parts = re.split(r"(?<= )\.\.(?= |$)", wanted)
     return re.fullmatch(".*".join(map(re.escape, parts)), found) is not None
 
@@ -72,6 +111,21 @@ def fits(wanted, found):
     return bool(found) and fits_line(wanted[0], found[0]) and fits(wanted[1:], found[1:])
 
 
+def free_port():
+    """A port that nobody listens on."""
+    with socket.create_server(("127.0.0.1", 0)) as listener:
+        return listener.getsockname()[1]
+
+
+def capture(path):
+    """The capture of the stored run."""
+    sys.path.insert(0, str(TOP / "tools" / "tests"))
+    import wire
+    from support import pieces
+    sent = wire.conversation(pieces((TOP / STORED_RUN).read_bytes()))
+    path.write_bytes(wire.pcap((each.milliseconds, wire.packet(each)) for each in sent))
+
+
 class Folder:
     """A folder to run commands in; what is still running is ended with it."""
 
@@ -83,21 +137,54 @@ class Folder:
             if entry.name not in (".git", "zkdump"):
                 (self.path / entry.name).symlink_to(entry)
         (self.path / "zkdump").symlink_to(program)
-        self.environment = dict(os.environ, PATH=f"{self.path}{os.pathsep}{os.environ['PATH']}", LC_ALL="C.UTF-8")
+        (self.path / "bin").mkdir()
+        capture(self.path / "port.pcap")
+        self.environment = dict(os.environ, PATH=f"{self.path}{os.pathsep}{os.environ['PATH']}", LC_ALL="C.UTF-8",
+                                HOME=str(self.path))
 
-    def run(self, command):
+    def begin(self, command, output, **more):
+        """Begins a command with this standard output."""
+        process = subprocess.Popen(command, cwd=self.path, env=self.environment, stdin=subprocess.DEVNULL,
+                                   stdout=output, start_new_session=True, **more)
+        self.begun.append(process.pid)
+        return process
+
+    def run(self, example):
         """The lines that the command prints; None where it did not end in time."""
+        command, ports = example.command, {}
+        if SERVER in command:
+            server = self.begin([PLAYER, "0", example.played], subprocess.PIPE, text=True)
+            ports["2181"] = server.stdout.readline().rpartition(":")[2].strip()
+            command = command.replace(SERVER, f"localhost:{ports['2181']}")
+        listens = LISTENS.search(command)
+        if listens:
+            ports[listens[0]] = str(free_port())
+            command = "exec " + LISTENS.sub(ports[listens[0]], command)
         with tempfile.TemporaryFile() as output:
-            process = subprocess.Popen(["sh", "-c", command], cwd=self.path, env=self.environment,
-                                       stdin=subprocess.DEVNULL, stdout=output, stderr=output,
-                                       start_new_session=True)
-            self.begun.append(process.pid)
+            process = self.begin(["sh", "-c", command], output, stderr=output)
             try:
+                if listens:
+                    self.play(ports[listens[0]], example.played, process)
                 process.wait(self.seconds)
             except subprocess.TimeoutExpired:
                 return None
             output.seek(0)
-            return output.read().decode(errors="replace").splitlines()
+            found = output.read().decode(errors="replace")
+        for port, free in ports.items():
+            found = re.sub(rf"\b{free}\b", port, found)
+        return found.splitlines()
+
+    def play(self, port, played, process):
+        """Plays a client to the command that listens on this port, once it does, and then ends it."""
+        until = time.monotonic() + self.seconds
+        refused = 3
+        while refused == 3 and process.poll() is None and time.monotonic() < until:
+            refused = self.begin([PLAYER, "--client", f"127.0.0.1:{port}", played], subprocess.DEVNULL,
+                                 stderr=subprocess.DEVNULL).wait(self.seconds)
+        try:
+            process.wait(1)
+        except subprocess.TimeoutExpired:
+            process.send_signal(signal.SIGINT)
 
     def close(self):
         for group in self.begun:
@@ -111,19 +198,25 @@ def shown(lines):
     return "".join(f"\n        {line}" for line in lines)
 
 
-def run_commands(page, text, program, seconds):
+def run_commands(name, text, program, seconds):
     """Runs the page's commands; gives how many print what is wanted, and how many don't."""
     passed = failed = 0
+    page = Page(text)
+    for at, line, why in page.marked:
+        print(f"{name}:{at}: not run, as the page says ({why}): {line}")
+    for at in page.unmarked:
+        failed += 1
+        print(f"{name}:{at}: this block is not run, and the page doesn't say why")
     with tempfile.TemporaryDirectory(prefix="examples-") as path:
         folder = Folder(path, program, seconds)
-        for example in examples(text):
-            found = folder.run(example.command)
+        for example in page.examples:
+            found = folder.run(example)
             if found is not None and fits(example.lines, found):
                 passed += 1
                 continue
             failed += 1
             told = "did not end in time" if found is None else "prints" + shown(found)
-            print(f"{page}:{example.at}: $ {example.command}\n    {told}\n    wanted{shown(example.lines)}")
+            print(f"{name}:{example.at}: $ {example.command}\n    {told}\n    wanted{shown(example.lines)}")
         folder.close()
     return passed, failed
 

@@ -3,7 +3,7 @@
 
     fuzz.py [--seed N] [--first N] [--program PATH] [--keep FOLDER] COUNT
 
-The recordings are those of captures/ and of the worked examples. Each mutant has one to four changes: bits and bytes
+The recordings are those of captures/ and of the worked examples that are of the first format. Each mutant has one to four changes: bits and bytes
 flipped, bytes cut out or doubled, another recording's end or middle put in, pieces swapped, dropped or doubled, and
 lengths changed. A mutant is fixed by the seed and its number, so --first N and COUNT 1 give the mutant N again. Of each
 
@@ -11,6 +11,7 @@ lengths changed. A mutant is fixed by the seed and its number, so --first N and 
 - what `show` ends with is what `check` says of the same bytes cut into other pieces, but for the offset of a damage,
   which moves with the heads of pieces before it;
 - the status is 0 where that line is whole, and else 1;
+- where it is undamaged, `migrate` gives its pieces in the second format, and `check` says the same of that;
 - where it is whole, `build` of the listing gives each side's bytes again, one message a piece, and `show` of that
   gives the listing.
 
@@ -164,6 +165,14 @@ def cut_again(chance, data):
     return again_cut, len(again_cut) - len(data)
 
 
+def second(pieces, options):
+    """These pieces in the second format, which has the options in its head; each with the time 0."""
+    numbers = {"--limit": 4_194_304, "--waiting": 65_536, **dict(zip(options[::2], map(int, options[1::2])))}
+    head = (numbers["--limit"], numbers["--limit"], numbers["--waiting"], 34)
+    return b"ZKR2" + b"".join(number.to_bytes(4, "big") for number in head) + b"".join(
+        side + bytes(8) + len(content).to_bytes(4, "big") + content for side, content in pieces)
+
+
 def moved(line, growth):
     """The line of a damage at an offset that has moved."""
     found = re.fullmatch(rb"\. recording offset=(\d+) (.*)", line)
@@ -183,6 +192,14 @@ def trouble(program, chance, data, options):
     wanted = (moved(line, growth) + b"\n", b"", status)
     if found != wanted:
         return f"check of other pieces: {found} in place of {wanted}", line
+    pieces, rest = split(data)
+    if data.startswith(HEAD) and not rest:
+        migrated = second(pieces, options)
+        if program.run(["migrate", *options], data) != (migrated, b"", 0):
+            return "migrate gives other bytes", line
+        found = program.run(["check"], migrated)
+        if found != (line + b"\n", b"", status):
+            return f"check of the second format: {found} in place of {line}", line
     if status:
         return None, line
     built, errors, status = program.run(["build", *options], listing)
@@ -211,7 +228,7 @@ def main():
     options = parser.parse_args()
     if not os.access(options.program, os.X_OK):
         parser.error(f"{options.program} is no program; ./zkdump builds it")
-    recordings = [data for _, _, data, _ in stored()]
+    recordings = [data for _, _, data, _ in stored() if data.startswith(HEAD)]
     program, kinds, failed = Program(options.program, SECONDS), collections.Counter(), 0
     begin = time.monotonic()
     for each in range(options.first, options.first + options.count):

@@ -20,6 +20,7 @@ class Program:
         self.seconds = seconds
         self.runs = 0
         self.peak = 0
+        self.environment = {}
         self.files = [tempfile.TemporaryFile() for _ in range(3)]
         self.actions = [(os.POSIX_SPAWN_DUP2, file.fileno(), number) for number, file in enumerate(self.files)]
 
@@ -31,7 +32,7 @@ class Program:
             os.ftruncate(number, 0)
             os.lseek(number, 0, os.SEEK_SET)
             os.pwrite(number, content, 0)
-        process = os.posix_spawn(self.path, [self.path, *words], {}, file_actions=self.actions)
+        process = os.posix_spawn(self.path, [self.path, *words], self.environment, file_actions=self.actions)
         late = []
         signal.signal(signal.SIGALRM, lambda *_: (late.append(1), os.kill(process, signal.SIGKILL)))
         signal.setitimer(signal.ITIMER_REAL, self.seconds)

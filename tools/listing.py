@@ -1,7 +1,6 @@
 """Reads the listings that `zkdump show` writes (docs/FORMATS.md, sections 9 and 11): what zkjson and zkstat share."""
 
 import collections
-import itertools
 import json
 import os
 import re
@@ -9,21 +8,17 @@ import sys
 
 import zkr
 
-STAT = ("czxid", "mzxid", "ctime", "mtime", "version", "cversion", "aversion", "ephemeralOwner", "dataLength",
-        "numChildren", "pzxid")
-HEXADECIMAL = {"session", "zxid"}
-HEXADECIMAL_OF_STAT = {"czxid", "mzxid", "ephemeralOwner", "pzxid"}
-BITS = {"watch", "ro"}
-OWN_LANES = {None, -2, -4, -8}
+BLOCK = 1 << 16
+LETTERS = {zkr.CLIENT: "C", zkr.SERVER: "S"}
+OWN_LANES = {None, "-2", "-4", "-8"}
+NOT_DONE = ("OK", "RUNTIMEINCONSISTENCY")   # the results of a failed multi's parts that did not fail themselves
 
 TEXT = r'~|"[^"]*"'
-HEAD = re.compile(r"([CS]) (?:(-?\d+) )?([A-Za-z]\w*)")
-FIELD = re.compile(rf" (\w+)=(?:({TEXT})|#([0-9a-f]*)|\((-?\d+(?:,-?\d+){{10}})\)|(-?\d+)(?:/(\w+))?|(-)|(\[\]?))")
-IS_TEXT, IS_BLOB, IS_STAT, IS_NUMBER, IS_NAMED_NUMBER, IS_ABSENT, IS_LIST = range(2, 9)
-ELEMENT = re.compile(rf"[\[,](?:(-?\d+):({TEXT}):)?({TEXT})")
-PART = re.compile(r"[{;](\w+)")
-OUTLINE = re.compile(rf"([CS]) (-?\d+) (?!multi)(\w+)"
-                     rf"(?: path=({TEXT})| zxid=-?\d+(?: err=(-?\d+)(?:/(\w+))?)?)?(?= |$)")
+# How a message's line begins: its side, xid and operation, and its path, its error or an event's kind.
+BEGINNING = re.compile(rf"([CS]) (?:(-?\d+) )?([A-Za-z]\w*)"
+                       rf"(?: path=({TEXT})(?= |$)| zxid=-?\d+ (?:err|kind)=(-?\d+)(?:/(\w+))?(?= |$))?")
+FAILED_PART = re.compile(r"[{;]fail err=(-?\d+)(?:/(\w+))?")
+QUOTED = re.compile('"[^"]*"')
 ESCAPE = re.compile(rb"\\(..)")
 
 
@@ -31,90 +26,60 @@ class NoListing(ValueError):
     """A line that `zkdump show` doesn't write, or doesn't write there."""
 
 
-def no_line(at):
-    return NoListing(f"this is no line of a listing from column {at + 1} on")
+def no_line(n, at):
+    return NoListing(f"line {n}: this is no line of a listing from column {at + 1} on")
+
+
+class Message:
+    """How a message's line begins: its number, its side, and its xid, operation and path as the line has them; None for
+    what it has not.
+
+    `error` is the name of a reply's error, or its number: of a failed multi, that of the part that failed; and of an
+    event, its kind. `at` is the message's time as it is spelled, and `ms` how long a reply took. `end` is the place
+    behind the operation, and `parts` are the paths of a multi's parts, both for who reads the rest of the line.
+    """
+
+    __slots__ = ("n", "side", "xid", "op", "path", "error", "end", "at", "ms", "parts")
+
+    def __init__(self, n, side, xid, op, path, error, end=0, at=None, ms=None):
+        self.n, self.side, self.xid, self.op, self.path, self.error = n, side, xid, op, path, error
+        self.end, self.at, self.ms, self.parts = end, at, ms, ()
 
 
 def message(line, n):
-    """The message of line n: its side, its xid where it has one, its operation, and its fields under their names."""
-    found = HEAD.match(line)
+    """The message of line n."""
+    found = BEGINNING.match(line)
     if not found:
-        raise no_line(0)
-    side, xid, operation = found.groups()
-    made = {"n": n, "side": side}
-    if xid is not None:
-        made["xid"] = int(xid)
-    made["op"] = operation
-    at = fields(line, found.end(), made)
-    if line.startswith(" {", at):
-        made["parts"], at = elements(line, at + 1, PART, "}", part)
-    if at != len(line):
-        raise no_line(at)
-    return made
+        raise no_line(n, 0)
+    side, xid, op, path, number, name = found.groups()
+    error = name or number
+    if op == "multi" and side == "S" and not error:
+        error = error_of_parts([name or number for number, name in FAILED_PART.findall(QUOTED.sub("", line))])
+    return Message(n, side, xid, op, path, error, found.end(3))
 
 
-def outline(line, n):
-    """What a message's line begins with, which is read sooner than all of it: its side, xid, operation, path, error."""
-    found = OUTLINE.match(line)
-    if not found:
-        return message(line, n)
-    side, xid, operation, path, error, name = found.groups()
-    made = {"n": n, "side": side, "xid": int(xid), "op": operation}
-    if path is not None:
-        made["path"] = text(path)
-    if error is not None:
-        made["err"] = int(error)
-    if name is not None:
-        made["errName"] = name
-    return made
+def message_of(made, n):
+    """The message of line n, of which zkjson has made this object."""
+    try:
+        error, xid = error_of(made), made.get("xid")
+        if made["op"] == "event":
+            error = made.get("kindName", str(made["kind"]))
+        elif "parts" in made:
+            error = error_of_parts([error_of(part) for part in made["parts"] if "err" in part])
+        return Message(made.get("n", n), made["side"], None if xid is None else str(xid), made["op"],
+                       spelled(made.get("path")), error, at=made.get("at"), ms=made.get("ms"))
+    except KeyError as lacking:
+        raise ValueError(f"this object has no {lacking}") from None
 
 
-def fields(line, at, into):
-    """Reads all fields that stand at this place, and gives the place after them."""
-    while found := FIELD.match(line, at):
-        name, kind, at = found[1], found.lastindex, found.end()
-        value = found[kind]
-        if kind == IS_TEXT:
-            into[name] = text(value)
-        elif kind == IS_NUMBER:
-            into[name] = number(name, value)
-        elif kind == IS_STAT:
-            into[name] = stat(value)
-        elif kind == IS_BLOB:
-            into[name] = {"hex": value} if name == "passwd" else data(value)
-        elif kind == IS_NAMED_NUMBER:
-            into[name], into[name + "Name"] = number(name, found[IS_NUMBER]), value
-        elif kind == IS_LIST:
-            into[name], at = elements(line, found.start(kind), ELEMENT, "]", element)
-        else:
-            into[name] = None
-    return at
+def error_of(made):
+    """The name of the error that an object of zkjson's has, or its number; None where it has none."""
+    return made.get("errName", str(made["err"])) if "err" in made else None
 
 
-def elements(line, at, form, end, read):
-    """Reads what is listed from an opening sign at this place to the closing one, and gives the place after that."""
-    found = []
-    if line.startswith(end, at + 1):
-        return found, at + 2
-    while each := form.match(line, at):
-        value, at = read(line, each)
-        found.append(value)
-    if not line.startswith(end, at):
-        raise no_line(at)
-    return found, at + 1
-
-
-def element(_, found):
-    """An element of a list: a text, or an entry of an access list."""
-    perms, scheme, last = found.groups()
-    value = text(last) if perms is None else {"perms": int(perms), "scheme": text(scheme), "id": text(last)}
-    return value, found.end()
-
-
-def part(line, found):
-    """A part of a multi, or its result."""
-    made = {"op": found[1]}
-    return made, fields(line, found.end(), made)
+def error_of_parts(names):
+    """The error of a multi, of the names of its parts' errors: that of the part that failed itself."""
+    return next((name for name in names if name not in NOT_DONE), names[-1] if names else None)
 
 
 def text(spelled):
@@ -126,37 +91,12 @@ def text(spelled):
     return spelled[1:-1]
 
 
-def data(digits):
-    """The bytes of a blob: as a text where they are UTF-8 that can be printed, else as hexadecimal digits."""
-    try:
-        found = bytes.fromhex(digits).decode()
-    except UnicodeDecodeError:
-        return {"hex": digits}
-    return found if found.translate({9: " ", 10: " ", 13: " "}).isprintable() else {"hex": digits}
+def spelled(value):
+    """A text as a line has it, with no more escapes than `text` needs; None for null."""
+    return None if value is None else '"' + value.replace("\\", "\\5c").replace('"', "\\22") + '"'
 
 
-def number(name, digits):
-    """The value of a field that is a number."""
-    value = int(digits)
-    if name in HEXADECIMAL:
-        return hexadecimal(value)
-    return value == 1 if name in BITS else value
-
-
-def stat(numbers):
-    """A Stat: its numbers under their names."""
-    found = dict(zip(STAT, map(int, numbers.split(","))))
-    for name in HEXADECIMAL_OF_STAT:
-        found[name] = hexadecimal(found[name])
-    return found
-
-
-def hexadecimal(value):
-    """A session or a zxid as ZooKeeper's logs print it."""
-    return f"0x{value & 0xffff_ffff_ffff_ffff:x}"
-
-
-def ending(line):
+def ending_of(line):
     """An ending line, its numbers as numbers."""
     word, *rest = line[2:].split(" ")
     made = {"ending": word}
@@ -173,80 +113,106 @@ class Waiting:
 
     def take(self, made):
         """Takes the next message, and gives the request that it answers: None for a request and for an event."""
-        if made["op"] == "event":
+        if made.op == "event":
             return None
-        xid = made.get("xid")
-        lane = self.lanes[xid if xid in OWN_LANES else "plain"]
-        if made["side"] == "C":
+        lane = self.lanes[made.xid if made.xid in OWN_LANES else "plain"]
+        if made.side == "C":
             lane.append(made)
             return None
-        if not lane or lane[0].get("xid") != xid:
-            raise NoListing("a reply without its request")
+        if not lane or lane[0].xid != made.xid:
+            raise ValueError("a reply without its request")
         return lane.popleft()
 
     def left(self):
         """The requests that still wait, in the order in which they came."""
-        return sorted((made for lane in self.lanes.values() for made in lane), key=lambda made: made["n"])
+        return sorted((made for lane in self.lanes.values() for made in lane), key=lambda made: made.n)
+
+
+def lines_of(stream, before_read):
+    """The lines of a stream of bytes, each as soon as it is there. Before each read `before_read` is called."""
+    begun = []
+    while before_read() or (block := stream.read1(BLOCK)):
+        *lines, rest = block.split(b"\n")
+        if lines:
+            lines[0] = b"".join([*begun, lines[0]])
+            begun.clear()
+        begun.append(rest)
+        for line in lines:
+            yield line.decode(errors="replace")
+    if any(begun):
+        yield b"".join(begun).decode(errors="replace")
 
 
 class Conversation:
-    """A listing, or the lines that zkjson makes of one, message by message; `waiting` are the requests that wait.
+    """A listing, message by message.
 
-    Iterating gives each message with the request that it answers, or None; and then the ending line. A message has
-    its number under "n" and, where there are times, its own under "at"; a reply then has under "ms" how long it took.
-    `read` is `message` or `outline`; `times` gives the side and the time of each message, or is None; `progress` is
-    told how far it is, unless it is None.
+    Iterating gives the line of each message, the message, and the request that it answers, or None. `waiting` are the
+    requests that wait, and `ending` is the ending line, once it has come. `objects` says whether lines of zkjson are
+    read, too; `times` gives the side and the time of each message, or is None; `progress` is told how far it is.
     """
 
-    def __init__(self, lines, read, times, progress):
-        self.lines, self.read, self.times, self.progress = lines, read, times, progress
-        self.waiting = Waiting()
+    def __init__(self, lines, objects, times, progress):
+        self.lines, self.objects, self.times, self.progress = lines, objects, times, progress
+        self.waiting, self.ending = Waiting(), None
 
     def __iter__(self):
         for n, line in enumerate(self.lines, 1):
             try:
-                yield self.take(n, line.removesuffix("\n"))
+                made = self.message(line, n)
+                if made:
+                    if self.times:
+                        self.tell_time(made)
+                    asked = self.waiting.take(made)
+                    if asked and asked.at and made.at:
+                        made.ms = round(float(made.at) - float(asked.at), 3)
+                    yield line, made, asked
+            except NoListing:
+                raise
             except ValueError as error:
                 raise NoListing(f"line {n}: {error}") from None
-            except KeyError as error:
-                raise NoListing(f"line {n}: this object has no {error}") from None
-            if self.progress and n % 1000 == 0:
+            if n % 1000 == 0:
                 self.progress.tell(f"{n:,} lines")
-        if self.progress:
-            self.progress.end()
+        self.progress.end()
 
-    def take(self, n, line):
-        """The message of a line, and the request that it answers."""
+    def message(self, line, n):
+        """The message of a line; None of the ending line."""
+        if self.ending:
+            raise ValueError("a line behind the ending line")
         if line.startswith("."):
-            return ending(line), None
-        made = json.loads(line) if line.startswith("{") else self.read(line, n)
+            self.ending = ending_of(line)
+            return None
+        if not (self.objects and line.startswith("{")):
+            return message(line, n)
+        made = json.loads(line)
         if "ending" in made:
-            return made, None
-        made.setdefault("n", n)
-        if self.times:
-            side, at = next(self.times, (made["side"], None))
-            if side != made["side"]:
-                raise NoListing("the recording has another message there")
-            if at is not None:
-                made["at"] = at
-        asked = self.waiting.take(made)
-        if asked and "at" in asked and "at" in made:
-            made["ms"] = round(made["at"] - asked["at"], 3)
-        return made, asked
+            self.ending = made
+            return None
+        return message_of(made, n)
+
+    def tell_time(self, made):
+        """Gives the message its time, where it has one."""
+        side, at = next(self.times, (made.side, None))
+        if side != made.side:
+            raise ValueError("the recording has another message there")
+        made.at = at
 
 
 def last_bytes(pieces, times):
-    """Of each frame of a recording, in the order of their last bytes, its side and the time of its last byte, or None.
+    """Of each frame of a recording, in the order of their last bytes, its side and the time of its last byte as it is
+    spelled, or None.
 
     `times` are those of the pieces, one each; where it is None, those that the pieces have. There 0 is no time.
     """
     cutter = zkr.Cutter(zkr.LARGEST_FRAMES)
-    times = times and itertools.chain(times, itertools.repeat(None))
     try:
         for piece in pieces:
-            at = next(times) if times else piece.milliseconds or None
-            for frame in cutter.take(piece):
-                yield frame.side.decode(), at
+            at = next(times, None) if times else str(piece.milliseconds or "") or None
+            letter = LETTERS[piece.side]
+            if cutter.is_one_frame(piece):
+                yield letter, at
+                continue
+            for _ in cutter.take(piece):
+                yield letter, at
     except zkr.Damaged:
         return      # the listing ends there, too
 
@@ -258,16 +224,13 @@ def add_words(words):
     words.add_argument("--times", metavar="FILE", help="the times of its pieces (RECORDING.times)")
 
 
-def conversation(parser, words, read, progress):
-    """The conversation that these words name."""
+def conversation(parser, words, objects, progress, before_read=lambda: None):
+    """The conversation that these words name; the rest is told at Conversation and at lines_of."""
     if words.times and not words.recording:
         parser.error("--times goes with --recording alone")
-    if words.listing:
-        lines = open(words.listing, encoding="utf-8", errors="replace", newline="\n")
-    else:
-        lines = sys.stdin
-        lines.reconfigure(encoding="utf-8", errors="replace", newline="\n")
-    return Conversation(lines, read, words.recording and times_of(parser, words), progress)
+    stream = open(words.listing, "rb") if words.listing else sys.stdin.buffer
+    times = times_of(parser, words) if words.recording else None
+    return Conversation(lines_of(stream, before_read), objects, times, progress)
 
 
 def times_of(parser, words):

@@ -12,6 +12,7 @@ milliseconds since 1970 in decimal, with a fraction. All times in this module ar
 import argparse
 import datetime
 import os
+import re
 import resource
 import struct
 import sys
@@ -20,9 +21,13 @@ from typing import NamedTuple, Optional
 
 CLIENT, SERVER = b"C", b"S"
 LARGEST_PIECE = 16_777_220
+TIME = re.compile(r"\d+(?:\.\d+)?\n?", re.ASCII)
 LIMITS, USUAL_LIMIT = range(64, 16_777_217), 4_194_304
 WAITINGS, USUAL_WAITING = range(1, 1_048_577), 65_536
 PROFILES = {"3.4": 34, "3.5": 35}
+RELEASES = {number: release for release, number in PROFILES.items()}
+# What stands before a piece's bytes: the side, the time in a ZKR2 recording, and the number of bytes.
+PIECE_HEADS = {"zkr1": struct.Struct(">ci"), "zkr2": struct.Struct(">cqi")}
 
 
 class Damaged(ValueError):
@@ -94,22 +99,29 @@ class Reader:
         return found
 
     def __iter__(self):
-        while side := self.stream.read(1):
-            if side not in (CLIENT, SERVER):
-                raise Damaged(self.offset, "BadSide")
-            self.offset += 1
-            milliseconds = self.number(">q") if self.head.form == "zkr2" else None
-            if milliseconds is not None and milliseconds < 0:
-                raise Damaged(self.offset - 8, "BadTime")
-            size = self.number(">i")
-            if not 1 <= size <= LARGEST_PIECE:
-                raise Damaged(self.offset - 4, "BadSize")
-            data = self.stream.read(size)
+        form, stream = PIECE_HEADS[self.head.form], self.stream
+        while begin := stream.read(form.size):
+            side, *times, size = form.unpack(begin) if len(begin) == form.size else (None, 0)
+            if side not in (CLIENT, SERVER) or times and times[0] < 0 or not 1 <= size <= LARGEST_PIECE:
+                raise self.damage(begin)
+            self.offset += form.size
+            data = stream.read(size)
             if data:
-                yield Piece(side, milliseconds, data)
+                yield Piece(side, times[0] if times else None, data)
             if len(data) < size:
                 raise Damaged(self.offset, "Short")
             self.offset += size
+
+    def damage(self, begin):
+        """The damage of what stands before a piece's bytes, as far as it is there."""
+        if begin[:1] not in (CLIENT, SERVER):
+            return Damaged(self.offset, "BadSide")
+        at = 1
+        if self.head.form == "zkr2" and len(begin) >= 9:
+            if begin[1] & 0x80:
+                return Damaged(self.offset + 1, "BadTime")
+            at = 9
+        return Damaged(self.offset + at, "Short" if len(begin) < PIECE_HEADS[self.head.form].size else "BadSize")
 
 
 def times_path(path):
@@ -118,17 +130,12 @@ def times_path(path):
 
 
 def read_times(path):
-    """The times in a file of times, one for each piece of its recording."""
+    """The times in a file of times, one for each piece of its recording, as they stand there."""
     with open(path, encoding="ascii") as lines:
-        for line in lines:
-            yield float(line)
-
-
-def with_times(pieces, times):
-    """These pieces with these times, as far as there are times."""
-    times = iter(times)
-    for piece in pieces:
-        yield piece._replace(milliseconds=next(times, piece.milliseconds))
+        for number, line in enumerate(lines, 1):
+            if not TIME.fullmatch(line):
+                raise ValueError(f"{path}: line {number} is no time")
+            yield line.removesuffix("\n")
 
 
 class Frame(NamedTuple):
@@ -152,8 +159,17 @@ class Cutter:
         self.count = {CLIENT: 0, SERVER: 0}
         self.broken = set()
 
+    def is_one_frame(self, piece):
+        """Whether the next piece is just one whole frame, as most pieces are."""
+        side, _, data = piece
+        if self.held[side] or side in self.broken:
+            return False
+        return int.from_bytes(data[:4], "big") == len(data) - 4 <= self.limits[side]
+
     def take(self, piece):
         """The frames that are whole with this piece."""
+        if self.is_one_frame(piece):
+            return [self.frame(piece, piece.data[4:])]
         side, held, at, frames = piece.side, self.held[piece.side], 0, []
         held += piece.data
         while side not in self.broken and len(held) - at >= 4:
@@ -163,11 +179,16 @@ class Cutter:
             elif len(held) - at < 4 + size:
                 break
             else:
-                frames.append(Frame(side, self.count[side], bytes(held[at + 4:at + 4 + size]), piece.milliseconds))
-                self.count[side] += 1
+                frames.append(self.frame(piece, bytes(held[at + 4:at + 4 + size])))
                 at += 4 + size
         del held[:at]
         return frames
+
+    def frame(self, piece, payload):
+        """The next frame of the piece's side."""
+        number = self.count[piece.side]
+        self.count[piece.side] = number + 1
+        return Frame(piece.side, number, payload, piece.milliseconds)
 
 
 class NewFile:
@@ -324,11 +345,12 @@ def tool(main):
 
 
 class Progress:
-    """Tells on standard error how far long work is, where a person looks on: on a terminal alone."""
+    """Tells on standard error how far long work is, where a person looks on: on a terminal alone, and only where it
+    `may` be told there."""
 
-    def __init__(self, what):
+    def __init__(self, what, may=True):
         self.what, self.shown = what, False
-        self.due = time.monotonic() + 1 if sys.stderr.isatty() else float("inf")
+        self.due = time.monotonic() + 1 if may and sys.stderr.isatty() else float("inf")
 
     def tell(self, amount):
         """Tells the amount that is done, once a second; `amount` is a text, or a function that gives it."""

@@ -132,9 +132,11 @@ def rest(cutter, side, head, milliseconds, out):
 
 def main():
     parser = zkr.Words(__doc__)
-    parser.add_argument("--profile", choices=OF_PROFILE, default="3.4", help="the release whose operations stay (3.4)")
-    skipping = Skipping(OF_PROFILE[parser.parse_args().profile])
+    parser.add_argument("--profile", choices=OF_PROFILE,
+                        help="the release whose operations stay (that in the head of a ZKR2 recording, else 3.4)")
+    words = parser.parse_args()
     recording = zkr.Reader(sys.stdin.buffer)
+    skipping = Skipping(OF_PROFILE[words.profile or zkr.RELEASES[recording.head.profile]])
     try:
         skip(recording, sys.stdout.buffer, skipping)
     finally:

@@ -17,7 +17,6 @@ import listing
 import zkr
 
 QUANTILES = {"p50": 0.5, "p95": 0.95}
-NOT_DONE = ("OK", "RUNTIMEINCONSISTENCY")   # the results of a failed multi's parts that did not fail themselves
 SHOWN = 10
 
 
@@ -56,42 +55,40 @@ class Operation:
 
     def add(self, made):
         """Counts a request or a reply."""
-        if made["side"] == "C":
+        if made.side == "C":
             self.asked += 1
             return
         self.answered += 1
-        error = error_of(made)
-        if error:
-            self.errors[error] += 1
-        if "ms" in made:
-            self.latencies.add(made["ms"])
+        if made.error:
+            self.errors[made.error] += 1
+        if made.ms is not None:
+            self.latencies.add(made.ms)
 
     def summary(self):
         return {"asked": self.asked, "answered": self.answered, "failed": sum(self.errors.values()),
                 "errors": dict(self.errors.most_common()), "ms": self.latencies.summary()}
 
 
-def error_of(made):
-    """The name of a reply's error, or its number; of a failed multi, that of the part that failed."""
-    names = [part.get("errName", str(part["err"])) for part in [made, *made.get("parts", ())] if "err" in part]
-    return next((name for name in names if name not in NOT_DONE), names[-1] if names else None)
-
-
 def summary(talk):
     """Everything that is counted of a conversation."""
-    operations, events, ending = collections.defaultdict(Operation), collections.Counter(), None
-    for made, _ in talk:
-        if "ending" in made:
-            ending = {name: value for name, value in made.items() if name != "waiting"}
-        elif made["op"] == "event":
-            events[made.get("kindName", str(made.get("kind")))] += 1
+    operations, events = collections.defaultdict(Operation), collections.Counter()
+    for _, made, _ in talk:
+        if made.op == "event":
+            events[made.error] += 1
         else:
-            operations[made["op"]].add(made)
+            operations[made.op].add(made)
     ordered = sorted(operations.items(), key=lambda item: -item[1].asked)
-    waiting = [{name: made[name] for name in ("n", "xid", "op", "path") if name in made}
-               for made in talk.waiting.left()]
+    ending = talk.ending and {name: value for name, value in talk.ending.items() if name != "waiting"}
     return {"operations": {name: operation.summary() for name, operation in ordered},
-            "events": dict(events.most_common()), "unanswered": waiting, "ending": ending}
+            "events": dict(events.most_common()), "unanswered": [request(made) for made in talk.waiting.left()],
+            "ending": ending}
+
+
+def request(made):
+    """What is told of a request that was never answered."""
+    path = made.path and listing.text(made.path)
+    told = {"n": made.n, "xid": made.xid and int(made.xid), "op": made.op, "path": path}
+    return {name: value for name, value in told.items() if value is not None}
 
 
 def table(found):
@@ -124,7 +121,7 @@ def main():
     listing.add_words(parser)
     parser.add_argument("--json", action="store_true", help="write one object of JSON, with every unanswered request")
     words = parser.parse_args()
-    found = summary(listing.conversation(parser, words, listing.outline, zkr.Progress("zkstat")))
+    found = summary(listing.conversation(parser, words, True, zkr.Progress("zkstat")))
     if words.json:
         print(json.dumps(found))
     else:

@@ -1,7 +1,7 @@
 #!/usr/bin/env python3
 """Runs the program over stored cases and recordings, and compares every byte that it writes.
 
-    run_cases.py [--program PATH] [--minutes N] check|show|build ..
+    run_cases.py [--program PATH] [--minutes N] check|show|build|migrate ..
 
 For each word given, the cases of the folder cases/WORD beside this file, and then the recordings of
 the folder captures/ at the top of the repository. The program is the script zkdump at the top, unless
@@ -19,7 +19,8 @@ A case NAME is the files
 A recording is NAME.zkr, NAME.show is its listing, and NAME.show35, where it has one, that with --profile 3.5. For check the last line of the listing is
 expected; for show the whole of it; for build that the recording made of the listing's messages shows these
 lines again and, where the conversation is whole, that it has one piece for each message and the bytes of each
-side. The status is 0 where the listing ends in ". whole", else 1. With build, the listings of the cases of
+side; for migrate that the recording that it makes shows the same listing under no options, and is itself again
+when it is migrated. The status of check and show is 0 where the listing ends in ". whole", else 1. With build, the listings of the cases of
 show are built and shown again, too.
 """
 
@@ -30,7 +31,7 @@ import sys
 
 HERE = pathlib.Path(__file__).resolve().parent
 TOP = HERE.parent.parent
-WORDS = ("check", "show", "build")
+WORDS = ("check", "show", "build", "migrate")
 
 
 class Runner:
@@ -136,13 +137,25 @@ def run_listings(runner, folder):
             build_again(runner, f"{folder.name}/{args.stem}", args.read_text().splitlines()[1:], listing)
 
 
+def migrate_again(runner, name, options, recording, listing, status):
+    """Migrates an undamaged recording: it is listed as it was, and migrated to itself, whatever the options."""
+    made = runner.run(["migrate", *options], recording)
+    migrated = made[0] if made else b""
+    if runner.expect(name, ["migrate", *options], recording, (migrated, b"", 0)):
+        runner.hold(f"{name}, its head", migrated.startswith(b"ZKR2"))
+        runner.expect(f"{name}, shown", ["show"], migrated, (listing, b"", status))
+        runner.expect(f"{name}, again", ["migrate", "--limit", "64"], migrated, (migrated, b"", 0))
+
+
 def run_capture(runner, path, word, options):
     """Runs a recording against its listing, which is the file PATH."""
     recording, listing = path.with_suffix(".zkr").read_bytes(), path.read_bytes()
     last = listing.rstrip(b"\n").rsplit(b"\n", 1)[-1] + b"\n"
     whole = last.startswith(b". whole ")
     name = f"captures/{path.name} ({word})"
-    if word != "build":
+    if word == "migrate":
+        migrate_again(runner, name, options, recording, listing, 0 if whole else 1)
+    elif word != "build":
         wanted = last if word == "check" else listing
         runner.expect(name, [word, *options], recording, (wanted, b"", 0 if whole else 1))
     elif whole:

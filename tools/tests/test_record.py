@@ -212,7 +212,7 @@ class Files(RecordCase):
         after = time.time() * 1000
         found = pieces(self.recording())
         self.assertEqual(self.recording()[:20], b"ZKR2" + struct.pack(">iiii", 1000, 1000, 9, 35))
-        times = list(zkr.read_times(self.prefix.with_name("r-1.zkr.times")))
+        times = list(map(float, zkr.read_times(self.prefix.with_name("r-1.zkr.times"))))
         self.assertEqual([int(moment) for moment in times], [piece.milliseconds for piece in found])
         self.assertEqual((len(found), times), (6, sorted(times)))
         self.assertTrue(int(before) <= times[0] and times[-1] <= after and times[4] - times[0] > 19)

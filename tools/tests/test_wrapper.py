@@ -51,6 +51,12 @@ class Wrapper(ToolCase):
         self.assertFalse((self.top / "crates" / "zkdump" / "build.log").exists())
         self.assertEqual(self.zkdump("check"), (7, "ran check\ninput", "", []))
 
+    def test_it_tells_how_long_it_took_the_last_time(self):
+        self.assertRegex(self.zkdump()[2], r"(?m)^zkdump: all of it took \d+ s\.$")
+        os.utime(self.top / "crates" / "low" / "src" / "lib.rt", (2**31, 2**31))
+        self.assertRegex(self.zkdump()[2],
+                         r"(?m)^zkdump: The last time this took \d+ s \(\d{4}-\d\d-\d\d, .*\d cores\); ")
+
     def test_through_a_symbolic_link(self):
         links = self.folder / "links"
         links.mkdir()

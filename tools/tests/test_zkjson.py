@@ -1,8 +1,10 @@
 """Tests of zkjson: what each line becomes, what is paired, and whose times a message has."""
 
 import json
+import subprocess
+import sys
 
-from support import CAPTURES, ToolCase, zkr
+from support import CAPTURES, TOOLS, ToolCase, zkr
 
 CONNECT = "C connect version=0 zxid=0 timeout=30000 session=0 passwd=#00000000000000000000000000000000 ro=0"
 CONNECTED = ("S connect version=0 timeout=30000 session=72057594037927937 passwd=#000102030405060708090a0b0c0d0e0f "
@@ -122,12 +124,39 @@ class Zkjson(ToolCase):
         for line, told in (("", "column 1 on"), ("C 1", "column 1 on"),
                            ("S 1 exists zxid=5", "a reply without its request"),
                            ('C 1 exists path="/a', "column 11 on"), ("C 1 ping\r", "column 9 on"),
-                           ('C 1 delete path="/a" version=1 stat=(1,2)', "column 31 on"), ('{"side": "C"}', "no 'op'"),
-                           ("C 1 multi {delete", "column 18 on"), ('C 1 setACL path="/a" acl=[1:"a"]', "column 26 on")):
+                           ('C 1 delete path="/a" version=1 stat=(1,2)', "column 31 on"),
+                           ('{"side": "C"}', "column 1 on"), ("C 1 multi {delete", "column 18 on"),
+                           ("C 1 ping}", "column 9 on"), ("C 1 ping  x=1", "column 9 on"),
+                           ('C 1 setACL path="/a" acl=[1:"a"]', "column 21 on"),
+                           ('C 1 getData path="/a"watch=0', "column 12 on"),
+                           ('C 1 setData path="/a" blob=#6', "column 22 on"), (". whole x", "invalid literal")):
             with self.subTest(line=line):
                 status, out, err = self.run_tool("zkjson.py", stdin=f"C -2 ping\n{line}\n".encode())
                 self.assertEqual((status, out.count("\n"), err.count("\n")), (1, 1, 1))
                 self.assertTrue(err.startswith("zkjson.py: line 2: ") and told in err, err)
+
+    def test_lines_behind_the_ending_line_and_of_zkjson(self):
+        lines = "C -2 ping\n. whole unanswered=1\nS -2 ping zxid=5\n"
+        status, out, err = self.run_tool("zkjson.py", stdin=lines.encode())
+        self.assertEqual((status, out.count("\n"), err), (1, 1, "zkjson.py: line 3: a line behind the ending line\n"))
+
+    def test_lists_of_texts(self):
+        texts = ["", ",", "a", '","', "~", "]", "a b", "\\"]
+        spelled = ",".join('"' + text.replace("\\", "\\5c").replace('"', "\\22") + '"' for text in texts)
+        for names, wanted in (("~", None), ("[]", []), ('[",",",",""]', [",", ",", ""]), ('["","a",""]', ["", "a", ""]),
+                              ('[~,"~",~]', [None, "~", None]), (f"[{spelled}]", texts)):
+            with self.subTest(names=names):
+                found = self.json_of(['C 1 getChildren path="/" watch=0', f"S 1 getChildren zxid=5 names={names}"])
+                self.assertEqual(found[1]["names"], wanted)
+
+    def test_lines_come_when_they_are_there(self):
+        tool = subprocess.Popen([sys.executable, TOOLS / "zkjson.py"], stdin=subprocess.PIPE, stdout=subprocess.PIPE)
+        self.addCleanup(tool.kill)
+        for line in (b"C -2 ping\n", b"S -2 ping zxid=5\n"):
+            tool.stdin.write(line)
+            tool.stdin.flush()
+            self.assertEqual(json.loads(tool.stdout.readline())["side"], line[:1].decode())
+        tool.communicate()
 
     def test_every_capture(self):
         for capture in CAPTURES:

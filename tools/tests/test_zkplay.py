@@ -51,6 +51,15 @@ class Zkplay(ToolCase):
                 self.assertEqual(receive(client, len(answer)), answer)
         self.assertEqual(self.ended(player), (0, "played: 68 bytes of the client, 61 of the server\n", ""))
 
+    def test_a_recording_of_the_second_format(self):
+        head, path = zkr.Head("zkr2"), self.folder / "two.zkr"
+        path.write_bytes(head.to_bytes() + b"".join(head.piece(piece.side, 1000 + n, piece.data)
+                                                    for n, piece in enumerate(pieces(RUN.read_bytes()))))
+        player, address = self.play(path)
+        client, _ = self.play(path, "--client", address=f"{address[0]}:{address[1]}")
+        for process in (client, player):
+            self.assertEqual(self.ended(process), (0, "played: 68 bytes of the client, 61 of the server\n", ""))
+
     def test_all_at_once_over_ipv6(self):
         if not socket.has_ipv6:
             self.skipTest("this machine has no IPv6")

@@ -70,8 +70,15 @@ class Writing(ToolCase):
             self.assertEqual(reader.head, head)
             self.assertEqual([(side, data) for side, _, data in reader], [(side, data) for side, _, data in source])
             self.assertEqual(list(zkr.read_times(zkr.times_path(path))),
-                             [1_700_000_000_000.25 + number for number in range(len(source))])
+                             [f"{1_700_000_000_000 + number}.250" for number in range(len(source))])
             self.assertEqual(stat.S_IMODE(path.stat().st_mode), 0o600)
+
+    def test_what_is_no_file_of_times(self):
+        path = self.folder / "times"
+        for line in ("", "-1", "1e3", "nan", "1.", ".5", "1 "):
+            path.write_bytes(f"1\n2.5\n{line}\n".encode())
+            with self.subTest(line=line), self.assertRaisesRegex(ValueError, "line 3 is no time$"):
+                list(zkr.read_times(path))
 
     def test_large_data_is_several_pieces(self):
         writer = zkr.Writer(self.folder / "large", zkr.Head(), True)

@@ -97,6 +97,14 @@ class Zkskip(ToolCase):
         self.assertEqual(found[:20], head.to_bytes())
         self.assertEqual([piece.milliseconds for piece in pieces(found)], [0, 1, 4])
 
+    def test_the_second_format_tells_the_profile(self):
+        frames = [request(1, 15, CREATE), reply(1)]
+        for profile, words, kept in ((34, [], []), (35, [], frames), (35, ["--profile=3.4"], []),
+                                     (34, ["--profile=3.5"], frames)):
+            head = zkr.Head("zkr2", profile=profile)
+            found, _ = self.skip(recording(frames, head), *words)
+            self.assertEqual(sides(found), sides(recording(kept, head)))
+
     def test_however_the_pieces_are_cut(self):
         frames = [request(1, 15, CREATE), request(2, 3, PATH + b"\0"), reply(1, 0, PATH), reply(2, -101)]
         whole, expected = pieces(recording(frames)), recording(frames[1::2])

@@ -75,6 +75,13 @@ class Zkstat(ToolCase):
         _, out, _ = self.run_tool("zkjson.py", stdin=LISTING.encode())
         self.assertEqual(self.stat(stdin=out.encode()), TABLE)
 
+    def test_what_is_no_object_of_zkjson(self):
+        for line, told in (('{"side": "C"}', "this object has no 'op'"),
+                           ('{"op": "ping"}', "this object has no 'side'"), ("{", "")):
+            status, out, err = self.run_tool("zkstat.py", stdin=f"C -2 ping\n{line}\n".encode())
+            self.assertEqual((status, out, err.count("\n")), (1, "", 1))
+            self.assertTrue(err.startswith(f"zkstat.py: line 2: {told}"), err)
+
     def test_many_unanswered_and_no_ending_line(self):
         listing = "".join(f'C {n} getData path="/a" watch=0\n' for n in range(1, 13)).encode()
         self.assertEqual(self.stat(stdin=listing).splitlines()[2:], [

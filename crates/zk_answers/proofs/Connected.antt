@@ -7,7 +7,7 @@ use Rattle.zk_jute.specs.Flagged.{flag_items}
 use Rattle.zk_jute.proofs.Layouts.{have_parts}
 use Rattle.zk_jute.proofs.Sequels.{Same}
 use Rattle.zk_jute.proofs.Flagged.{flagged_unique, flagged_excludes, flagged_injective}
-use Rattle.zk_records.specs.declared.connect.ConnectResponse.{ConnectResponse}
+use Rattle.zk_records.specs.Held.{ConnectResponse}
 use Rattle.zk_records.specs.Records.{connect_response}
 use Rattle.zk_answers.specs.declared.frame.ServerFrame.{ServerFrame}
 use Rattle.zk_answers.specs.declared.frame.ServerFrame.TheVariants as frame

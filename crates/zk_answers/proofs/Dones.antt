@@ -4,7 +4,7 @@ use Rattle.std.specs.Prelude.{ℤ, pos, negsuc}
 use Rattle.std.specs.List.{flat_map}
 use Rattle.std.proofs.lemmas.Int.{ints}
 use Rattle.std.proofs.lemmas.List.{append-nil}
-use Rattle.zk_jute.specs.declared.value.Text.{Text}
+use Rattle.zk_jute.specs.Held.{Text}
 use Rattle.zk_jute.specs.Item.{Item, AnInt, bytes_of, HaveBytes}
 use Rattle.zk_jute.specs.Layout.{IsValueOf, Unfolds, One, End}
 use Rattle.zk_jute.specs.Item.{Int}

@@ -9,7 +9,7 @@ use Rattle.zk_jute.specs.Layout.{IsValueOf}
 use Rattle.zk_jute.proofs.Layouts.{bytes_only, have_parts}
 use Rattle.zk_jute.proofs.Sequels.{Same}
 use Rattle.zk_records.specs.declared.header.ReplyHeader.{ReplyHeader}
-use Rattle.zk_records.specs.declared.event.WatcherEvent.{WatcherEvent}
+use Rattle.zk_records.specs.Held.{WatcherEvent}
 use Rattle.zk_records.specs.Records.{reply_header, watcher_event}
 use Rattle.zk_answers.specs.declared.frame.ServerFrame.{ServerFrame}
 use Rattle.zk_answers.specs.declared.frame.ServerFrame.TheVariants as frame
@@ -18,10 +18,10 @@ use Rattle.zk_answers.specs.Faults.{Fields, IsHead, IsRestFault, IsEventFault, i
 use Rattle.zk_answers.proofs.Heads.{Headed, headed_unique, headed_excludes, head_unique, stands_head}
 use Rattle.zk_answers.proofs.Rests.{rest_unique, rest_excludes}
 
-abbrev Judged : ReplyHeader → List ℕ → ℕ → Reason → Type 0
+abbrev pub Judged : ReplyHeader → List ℕ → ℕ → Reason → Type 0
 Judged header rest p r = ((header.err ≢ pos 0) × (p ≡ 12) × (r ≡ EventErr)) ⊎ ((header.err ≡ pos 0) × (behind : ℕ) × (p ≡ 16 + behind) × IsRestFault (Fields watcher_event.layout) rest behind r)
 
-headed : {bytes : List ℕ} {p : ℕ} {r : Reason} → IsEventFault bytes p r → Headed Judged bytes p r
+pub headed : {bytes : List ℕ} {p : ℕ} {r : Reason} → IsEventFault bytes p r → Headed Judged bytes p r
 headed (in_header bytes place reason f) = inl f
 headed (bad_err bytes rest header h not) = inr (header, rest, h, inl (not, refl, refl))
 headed (in_event bytes rest header behind reason h is f) = inr (header, rest, h, inr (is, behind, refl, f))

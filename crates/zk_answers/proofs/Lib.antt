@@ -8,6 +8,7 @@ pub mod Events
 pub mod Bodies
 pub mod Replies
 pub mod Outcomes
+pub mod Formed
 pub mod Forms
 pub mod Refusals
 pub mod Shorts

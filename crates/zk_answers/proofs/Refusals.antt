@@ -16,7 +16,7 @@ use Rattle.zk_records.specs.declared.header.ReplyHeader.{ReplyHeader}
 use Rattle.zk_records.specs.declared.op.Op.{Op}
 use Rattle.zk_records.specs.declared.op.PartOp.{PartOp}
 use Rattle.zk_records.specs.Records.{reply_header, watcher_event}
-use Rattle.zk_records.specs.declared.event.WatcherEvent.{WatcherEvent}
+use Rattle.zk_records.specs.Held.{WatcherEvent}
 use Rattle.zk_answers.specs.declared.frame.Outcome.{Outcome}
 use Rattle.zk_answers.specs.declared.frame.ServerFrame.{ServerFrame}
 use Rattle.zk_answers.specs.declared.frame.ServerFrame.TheVariants as frame

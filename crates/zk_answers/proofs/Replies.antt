@@ -21,10 +21,10 @@ use Rattle.zk_answers.proofs.Heads.{Headed, headed_unique, headed_excludes, head
 use Rattle.zk_answers.proofs.Rests.{rest_unique, rest_excludes}
 use Rattle.zk_answers.proofs.Bodies.{body_is, body_same}
 
-abbrev Judged : Op → List PartOp → ReplyHeader → List ℕ → ℕ → Reason → Type 0
+abbrev pub Judged : Op → List PartOp → ReplyHeader → List ℕ → ℕ → Reason → Type 0
 Judged op parts header rest p r = (behind : ℕ) × (p ≡ 16 + behind) × IsRestFault (rest_shape op parts header.err) rest behind r
 
-headed : {op : Op} {parts : List PartOp} {bytes : List ℕ} {p : ℕ} {r : Reason} → IsReplyFault op parts bytes p r → Headed (Judged op parts) bytes p r
+pub headed : {op : Op} {parts : List PartOp} {bytes : List ℕ} {p : ℕ} {r : Reason} → IsReplyFault op parts bytes p r → Headed (Judged op parts) bytes p r
 headed (in_head bytes place reason f) = inl f
 headed (in_rest bytes rest header behind reason h f) = inr (header, rest, h, (behind, refl, f))
 

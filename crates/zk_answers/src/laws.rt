@@ -3,13 +3,28 @@ ghost use Rattle.std.specs.Prelude.{◌≡◌, ◌↔◌, ℕ, List};
 ghost use Rattle.zk_asks.specs.Openings.{IsFlaggedOpeningFault};
 ghost use Rattle.zk_records.specs.Records.{connect_response};
 ghost use Rattle.zk_answers.specs.Openings.{IsReplyOpening, IsEventOpening};
+ghost use Rattle.zk_jute.specs.Item.{Item, bytes_of};
 ghost use Rattle.zk_jute.specs.declared.fault.Reason.{Reason};
 ghost use Rattle.zk_records.specs.declared.header.ReplyHeader.{ReplyHeader};
 ghost use Rattle.zk_records.specs.declared.op.Op.{Op};
 ghost use Rattle.zk_records.specs.declared.op.PartOp.{PartOp};
 ghost use Rattle.zk_answers.specs.declared.frame.ServerFrame.{ServerFrame};
-ghost use Rattle.zk_answers.specs.Frames.{IsConnected, IsEvent, IsReplyTo, IsSent, payload};
+ghost use Rattle.zk_answers.specs.Frames.{frame_items, IsConnected, IsEvent, IsReplyTo, IsSent, payload};
+ghost use Rattle.zk_answers.specs.Forms.{IsConnectedForm, IsReplyForm, IsEventForm};
 ghost use Rattle.zk_answers.specs.Faults.{IsConnectedFault, IsHead, IsHeadFault, IsReplyFault, IsEventFault};
+
+/// A payload is read exactly when it has a form: each frame's items are of a form, and bytes of a
+/// form have no fault.
+pub fn form_laws()
+    ensures connected { (s : ServerFrame) → IsConnected s → IsSent s → IsConnectedForm (frame_items s) }
+    // The form of a reply is given by its request.
+    ensures reply { (op : Op) (parts : List PartOp) (s : ServerFrame) → IsReplyTo op parts s → IsSent s → IsReplyForm op parts (frame_items s) }
+    ensures event { (s : ServerFrame) → IsEvent s → IsSent s → IsEventForm (frame_items s) }
+    ensures connected_read { (items : List Item) (place : ℕ) (reason : Reason) → IsConnectedForm items → IsConnectedFault (bytes_of items) place reason → ⊥ }
+    ensures reply_read { (op : Op) (parts : List PartOp) (items : List Item) (place : ℕ) (reason : Reason) →
+        IsReplyForm op parts items → IsReplyFault op parts (bytes_of items) place reason → ⊥ }
+    ensures event_read { (items : List Item) (place : ℕ) (reason : Reason) → IsEventForm items → IsEventFault (bytes_of items) place reason → ⊥ }
+{}
 
 /// The laws of the first payload.
 pub fn connected_laws()

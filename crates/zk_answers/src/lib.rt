@@ -14,7 +14,7 @@ mod write;
 pub use fit::fits;
 pub use form::{Form, form_of};
 pub use frame::{Body, Failure, Outcome, PartDone, Reply, ServerFrame};
-pub use laws::{connected_laws, event_laws, head_laws, opening_laws, reply_laws};
+pub use laws::{connected_laws, event_laws, form_laws, head_laws, opening_laws, reply_laws};
 pub use layout::Layout;
 pub use read::{read_connected, read_event, read_reply, reply_head};
 pub use write::write_server;

@@ -9,7 +9,7 @@ use Rattle.zk_jute.proofs.Layouts.{have_parts}
 use Rattle.zk_jute.proofs.Flagged.{flagged_unique, flagged_excludes, flagged_injective}
 use Rattle.zk_jute.proofs.Sequels.{Same}
 use Rattle.zk_records.specs.Records.{connect_request}
-use Rattle.zk_records.specs.declared.connect.ConnectRequest.{ConnectRequest}
+use Rattle.zk_records.specs.Held.{ConnectRequest}
 use Rattle.zk_asks.specs.declared.frame.ClientFrame.{ClientFrame}
 use Rattle.zk_asks.specs.declared.frame.ClientFrame.TheVariants as frame
 use Rattle.zk_asks.specs.Faults.{IsFirstFault}

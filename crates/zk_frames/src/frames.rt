@@ -1,5 +1,5 @@
 //! The frame that one direction is at.
-ghost use Rattle.std.specs.Prelude.{◌≡◌, ◌≤◌, ◌+◌, ◌-◌, ℕ, List, [], ◌++◌, length, take, drop, IfOk, IfErr, OnOk, Err};
+ghost use Rattle.std.specs.Prelude.{◌≡◌, ◌≤◌, ◌+◌, ◌-◌, ℕ, List, [], ◌++◌, ◌↔◌, length, take, drop, IfOk, IfErr, OnOk, IsTrue, Err};
 ghost use Rattle.std.specs.Prelude.{vec_capacity};
 ghost use Rattle.zk_frames.specs.declared.frames.FrameFault.TheVariants.{LengthRange};
 ghost use Rattle.zk_frames.specs.Framing.{frame, IsCut};
@@ -97,6 +97,17 @@ impl Frames {
         ensures { self.now.bytes ≡ frame result.now }
     {
         after_header(&self.bytes)
+    }
+
+    /// Whether a frame is whole.
+    pub fn is_whole(&self) -> bool
+        ensures { IsTrue result ↔ IsWhole self.now }
+    {
+        match self.standing {
+            Standing::Whole => true,
+            Standing::Open => false,
+            Standing::Refused => false,
+        }
     }
 
     /// The number of bytes that are held, those of the length included.

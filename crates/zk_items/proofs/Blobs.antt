@@ -10,11 +10,12 @@ use Rattle.hex.specs.declared.error.FromHexError.{FromHexError}
 use Rattle.hex.specs.declared.error.FromHexError.TheVariants.{OddLength}
 use Rattle.std.proofs.lemmas.Bool.{and_parts, cases_lt}
 use Rattle.hex.proofs.HexLemmas.{decode_of-encode_lower}
-use Rattle.zk_jute.specs.declared.value.Blob.{Blob}
-use Rattle.zk_jute.specs.declared.value.Blob.TheVariants as blobs
+use Rattle.zk_jute.specs.Held.{Blob}
+use Rattle.zk_jute.specs.declared.value.Nullable.TheVariants as nullable
 use Rattle.zk_items.specs.Form.{Read, stops, goes_on}
 use Rattle.zk_items.specs.Leaf.{in_hex, hex_digit, decoded, blob_at, blob_spell, blob_fits, blob}
-use Rattle.zk_items.proofs.Forms.{Lawful, some_is}
+use Rattle.zk_items.specs.Laws.{Lawful}
+use Rattle.zk_items.proofs.Forms.{some_is}
 use Rattle.zk_items.proofs.Runs.{run_is, run_passes, stops_ends}
 
 hex_goes_on : (b : ℕ) → in_hex b ≡ true → goes_on b ≡ true
@@ -114,8 +115,8 @@ lower_again run bytes h e = pick (length run % 2 == 1) e where
 
 pub blob_again : (x : Blob) (rest : List ℕ) → blob_fits x → stops rest ≡ true → blob_at (blob_spell x ++ rest) ≡ Some (x, rest)
 unfolding blob_at
-blob_again blobs.Null rest fit stop = refl
-blob_again (blobs.Full bytes) rest fit stop =
+blob_again nullable.Null rest fit stop = refl
+blob_again (nullable.Full bytes) rest fit stop =
     let len : prefix_len in_hex (encode_lower bytes ++ rest) ≡ length (encode_lower bytes) = run_is in_hex (encode_lower bytes) rest (all_hex bytes fit) (stops_ends in_hex hex_goes_on rest stop) in
     ap (λ (n : ℕ). decoded (decode_of (take n (encode_lower bytes ++ rest))) (drop n (encode_lower bytes ++ rest))) len
     ∙ ap (λ (r : List ℕ). decoded (decode_of r) (drop (length (encode_lower bytes)) (encode_lower bytes ++ rest))) (take-append_seam (encode_lower bytes) rest)
@@ -130,7 +131,7 @@ blob_sound (c ∷ bytes) x rest e = first (c == 126) refl e where
   third (Err f) is e = absurd cc
   third (Ok b) is e =
       let n = prefix_len in_hex bytes in
-      let ends = some_is (blobs.Full b, drop n bytes) (x, rest) e in
+      let ends = some_is (nullable.Full b, drop n bytes) (x, rest) e in
       let s = lower_again (take n bytes) b (run_passes in_hex bytes) is in
       subst (λ (x : Blob). (35 ∷ bytes ≡ blob_spell x ++ rest) × blob_fits x) ends.0
       (ap (λ (r : List ℕ). 35 ∷ r) (sym (take-append-drop n bytes) ∙ ap (λ (r : List ℕ). r ++ drop n bytes) s.0 ∙ ap (λ (r : List ℕ). encode_lower b ++ r) ends.1), s.1)
@@ -139,10 +140,10 @@ blob_sound (c ∷ bytes) x rest e = first (c == 126) refl e where
   second false is e = absurd cc
   second true is e = let s = third (decode_of (take (prefix_len in_hex bytes) bytes)) refl e in (ap (λ (c : ℕ). c ∷ bytes) (eqb-true c 35 is) ∙ s.0, s.1)
 
-  first : (t : Bool) → (c == 126) ≡ t → cond {A = Read Blob} t (Some (blobs.Null, bytes)) (cond {A = Read Blob} (c == 35) (decoded (decode_of (take (prefix_len in_hex bytes) bytes)) (drop (prefix_len in_hex bytes) bytes)) None) ≡ Some (x, rest) → (c ∷ bytes ≡ blob_spell x ++ rest) × blob_fits x
+  first : (t : Bool) → (c == 126) ≡ t → cond {A = Read Blob} t (Some (nullable.Null, bytes)) (cond {A = Read Blob} (c == 35) (decoded (decode_of (take (prefix_len in_hex bytes) bytes)) (drop (prefix_len in_hex bytes) bytes)) None) ≡ Some (x, rest) → (c ∷ bytes ≡ blob_spell x ++ rest) × blob_fits x
   first false is e = second (c == 35) refl e
   first true is e =
-      let ends = some_is (blobs.Null, bytes) (x, rest) e in
+      let ends = some_is (nullable.Null, bytes) (x, rest) e in
       subst (λ (x : Blob). (c ∷ bytes ≡ blob_spell x ++ rest) × blob_fits x) ends.0 (ap (λ (c : ℕ). c ∷ bytes) (eqb-true c 126 is) ∙ ap (λ (b : List ℕ). 126 ∷ b) ends.1, tt)
 
 pub blob_is : Lawful blob

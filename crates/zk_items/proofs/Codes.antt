@@ -5,7 +5,8 @@ use Rattle.std.specs.Fmt.{signed_decimal}
 use Rattle.zk_items.specs.Form.{Read, ◌>>=◌, stops, word_at}
 use Rattle.zk_items.specs.Leaf.{num_at, in_range, in_number}
 use Rattle.zk_items.specs.Codes.{name_spell, name_at, code, other_code, is_zero, is_next}
-use Rattle.zk_items.proofs.Forms.{Lawful, bind_some, some_is, if_not, word_again, word_sound}
+use Rattle.zk_items.specs.Laws.{Lawful}
+use Rattle.zk_items.proofs.Forms.{bind_some, some_is, if_not, word_again, word_sound}
 use Rattle.zk_items.proofs.Numbers.{int_is, num_again, number_goes_on}
 use Rattle.zk_items.proofs.Runs.{ends, stops_ends}
 

@@ -1,17 +1,7 @@
--- The laws of a form, and that the forms of forms have them.
+-- The forms of forms have the laws of a form.
 use Rattle.std.proofs.Common.{◌≡◌, ℕ, List, [], ◌∷◌, ◌++◌, Option, Some, None, Bool, true, false, ◌==◌, refl, ap, sym, subst, ◌∙◌, append_assoc, cond, eq-eqb, eqb-true}
 use Rattle.zk_items.specs.Form.{Form, Read, ◌>>=◌, stops, word_at, led, closed, fields, ◌and◌}
-
--- the laws, where what stands behind the form is of a kind
-pub record LawfulBefore {X : Type 0} (behind : List ℕ → Bool) (f : Form X) : Type 0 where
-  -- a spelling is read again, whatever of the kind follows it
-  pub again : (x : X) (rest : List ℕ) → f.fits x → behind rest ≡ true → f.at (f.spell x ++ rest) ≡ Some (x, rest)
-  -- what is read was spelled
-  pub sound : (bytes : List ℕ) (x : X) (rest : List ℕ) → f.at bytes ≡ Some (x, rest) → (bytes ≡ f.spell x ++ rest) × f.fits x
-
--- the laws of an item
-abbrev pub Lawful : {X : Type 0} → Form X → Type 0
-Lawful f = LawfulBefore stops f
+use Rattle.zk_items.specs.Laws.{LawfulBefore, Lawful}
 
 -- ---- options
 

@@ -1,5 +1,7 @@
 pub mod Forms
 pub mod Runs
+pub mod Kept
+pub mod Small
 pub mod Numbers
 pub mod Flags
 pub mod Many

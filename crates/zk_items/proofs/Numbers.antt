@@ -13,7 +13,8 @@ use Rattle.std.proofs.lemmas.Str.Parse.{digit_from_value}
 use Rattle.std.proofs.lemmas.Slice.Eq.{bytes_eq-Decides}
 use Rattle.zk_items.specs.Form.{Read, goes_on}
 use Rattle.zk_items.specs.Leaf.{in_number, in_range, num_of, num_at, int, long}
-use Rattle.zk_items.proofs.Forms.{Lawful, if_some, some_is}
+use Rattle.zk_items.specs.Laws.{Lawful}
+use Rattle.zk_items.proofs.Forms.{if_some, some_is}
 use Rattle.zk_items.proofs.Runs.{run_is, ends, stops_ends}
 
 pub all_digits : (ds : List ℕ) → AllDigits 10 ds → AllByRecursion (λ b. in_number b ≡ true) ds

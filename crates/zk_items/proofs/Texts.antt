@@ -4,12 +4,13 @@ use Rattle.std.specs.List.{flat_map, prefix_len, AllByRecursion}
 use Rattle.std.specs.Str.{is_utf8}
 use Rattle.std.proofs.Common.{ap, ap₂, sym, ◌∙◌, append_assoc, cond, arith, subst, eqb-true}
 use Rattle.std.proofs.lemmas.Str.{IsUtf8-from_is_utf8, is_utf8-from_IsUtf8}
-use Rattle.zk_jute.specs.declared.value.Text.{Text}
-use Rattle.zk_jute.specs.declared.value.Text.TheVariants as texts
+use Rattle.zk_jute.specs.Held.{Text}
+use Rattle.zk_jute.specs.declared.value.Nullable.TheVariants as nullable
 use Rattle.zk_items.specs.Form.{Read, ◌>>=◌, stops}
 use Rattle.zk_items.specs.Many.{many_at, then_more, with_first}
 use Rattle.zk_items.specs.Leaf.{is_plain, hex_digit, hex_value, symbol_spell, text_spell, text_fits, symbol_at, text_at, text, checked, escape_at}
-use Rattle.zk_items.proofs.Forms.{Lawful, bind_some, some_is, if_some, if_not}
+use Rattle.zk_items.specs.Laws.{Lawful}
+use Rattle.zk_items.proofs.Forms.{bind_some, some_is, if_some, if_not}
 use Rattle.zk_items.proofs.Many.{many_again, many_sound, with_front, no_front, step_some}
 
 hex_back : (n : ℕ) → n < 16 → hex_value (hex_digit n) ≡ Some n
@@ -118,12 +119,12 @@ many_symbols t rest fit = many_again symbol_at symbol_spell (λ b. b < 256) 34 (
 
 pub text_again : (x : Text) (rest : List ℕ) → text_fits x → stops rest ≡ true → text_at (text_spell x ++ rest) ≡ Some (x, rest)
 unfolding text_at
-text_again texts.Null rest fit stop = refl
-text_again (texts.Full t) rest fit stop =
+text_again nullable.Null rest fit stop = refl
+text_again (nullable.Full t) rest fit stop =
     let regroup : (flat_map symbol_spell t ++ (34 ∷ [])) ++ rest ≡ flat_map symbol_spell t ++ (34 ∷ rest) = append_assoc (flat_map symbol_spell t) (34 ∷ []) rest in
     ap (λ (b : List ℕ). many_at symbol_at (length b) b >>= checked) regroup
     ∙ ap (λ (r : Read (List ℕ)). r >>= checked) (many_symbols t rest fit.1)
-    ∙ ap (λ (b : Bool). cond b (Some (texts.Full t, rest)) None) (is_utf8-from_IsUtf8 t fit.0)
+    ∙ ap (λ (b : Bool). cond b (Some (nullable.Full t, rest)) None) (is_utf8-from_IsUtf8 t fit.0)
 
 pub text_sound : (bytes : List ℕ) (x : Text) (rest : List ℕ) → text_at bytes ≡ Some (x, rest) → (bytes ≡ text_spell x ++ rest) × text_fits x
 unfolding text_at
@@ -134,8 +135,8 @@ text_sound (c ∷ bytes) x rest e = first (c == 126) refl e where
   second true is e =
       let a = bind_some (many_at symbol_at (length bytes) bytes) checked (x, rest) e in
       let s = many_sound symbol_at symbol_spell (λ b. b < 256) 34 symbol_sound symbol_end (length bytes) bytes a.0.0 a.0.1 a.1 in
-      let k = if_some (is_utf8 a.0.0) (Some (texts.Full a.0.0, a.0.1)) (x, rest) a.2 in
-      let ends = some_is (texts.Full a.0.0, a.0.1) (x, rest) k.1 in
+      let k = if_some (is_utf8 a.0.0) (Some (nullable.Full a.0.0, a.0.1)) (x, rest) a.2 in
+      let ends = some_is (nullable.Full a.0.0, a.0.1) (x, rest) k.1 in
       let same : c ≡ 34 = eqb-true c 34 is in
       subst (λ (x : Text). (c ∷ bytes ≡ text_spell x ++ rest) × text_fits x) ends.0 (
         ap (λ (c : ℕ). c ∷ bytes) same
@@ -143,10 +144,10 @@ text_sound (c ∷ bytes) x rest e = first (c == 126) refl e where
         (IsUtf8-from_is_utf8 a.0.0 k.0, s.1),
       )
 
-  first : (t : Bool) → (c == 126) ≡ t → cond t (Some (texts.Null, bytes)) (cond (c == 34) (many_at symbol_at (length bytes) bytes >>= checked) None) ≡ Some (x, rest) → (c ∷ bytes ≡ text_spell x ++ rest) × text_fits x
+  first : (t : Bool) → (c == 126) ≡ t → cond t (Some (nullable.Null, bytes)) (cond (c == 34) (many_at symbol_at (length bytes) bytes >>= checked) None) ≡ Some (x, rest) → (c ∷ bytes ≡ text_spell x ++ rest) × text_fits x
   first false is e = second (c == 34) refl e
   first true is e =
-      let ends = some_is (texts.Null, bytes) (x, rest) e in
+      let ends = some_is (nullable.Null, bytes) (x, rest) e in
       let same : c ≡ 126 = eqb-true c 126 is in
       subst (λ (x : Text). (c ∷ bytes ≡ text_spell x ++ rest) × text_fits x) ends.0 (ap (λ (c : ℕ). c ∷ bytes) same ∙ ap (λ (b : List ℕ). 126 ∷ b) ends.1, tt)
 

@@ -5,7 +5,8 @@ use Rattle.zk_items.specs.declared.word.Word.TheVariants as words
 use Rattle.zk_items.specs.Form.{stops}
 use Rattle.zk_items.specs.Form.{Form}
 use Rattle.zk_items.specs.Words.{word_of, field}
-use Rattle.zk_items.proofs.Forms.{Lawful, IsField, led_is, led_opens}
+use Rattle.zk_items.specs.Laws.{Lawful}
+use Rattle.zk_items.proofs.Forms.{IsField, led_is, led_opens}
 
 pub word_stops : (w : Word) (rest : List ℕ) → stops (word_of w ++ rest) ≡ true
 unfolding word_of

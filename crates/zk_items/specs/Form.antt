@@ -1,5 +1,6 @@
 -- Forms: which values of a type are spelled, how, and how a spelling is read from the left.
 use Rattle.std.specs.Prelude.{◌≡◌, ◌≢◌, ℕ, List, [], ◌∷◌, ◌++◌, Option, Some, None, Result, Ok, Err, Bool, true, false, ◌==◌, ◌&&◌, ◌||◌, nat_le, if◌then◌else◌}
+use Rattle.std.specs.Io.{StartsWith}
 use Rattle.zk_items.specs.declared.fault.LineFault.{LineFault}
 use Rattle.zk_items.specs.declared.fault.LineReason.TheVariants.{NoMemory}
 
@@ -62,6 +63,12 @@ Passes (Err e) rest read = Fails e read
 abbrev pub Answers : {X : Type 0} → Result X LineFault → Option X → Type 0
 Answers (Ok x) read = read ≡ Some x
 Answers (Err e) read = Fails e read
+
+-- ---- what a writer leaves
+
+-- whatever the bytes began with, they begin with
+abbrev pub Keeps : List ℕ → List ℕ → Type 0
+Keeps old new = (front : List ℕ) → StartsWith old front → StartsWith new front
 
 -- ---- forms of forms
 

@@ -6,10 +6,8 @@ use Rattle.std.specs.Str.{is_utf8}
 use Rattle.std.specs.Str.Parse.{signed_digits_value}
 use Rattle.hex.specs.Hex.{encode_lower, decode_of}
 use Rattle.hex.specs.declared.error.FromHexError.{FromHexError}
-use Rattle.zk_jute.specs.declared.value.Text.{Text}
-use Rattle.zk_jute.specs.declared.value.Text.TheVariants as texts
-use Rattle.zk_jute.specs.declared.value.Blob.{Blob}
-use Rattle.zk_jute.specs.declared.value.Blob.TheVariants as blobs
+use Rattle.zk_jute.specs.Held.{Text, Blob}
+use Rattle.zk_jute.specs.declared.value.Nullable.TheVariants as nullable
 use Rattle.zk_items.specs.Form.{Form, Read, ◌>>=◌}
 use Rattle.zk_items.specs.Many.{many_at}
 
@@ -81,12 +79,12 @@ abbrev pub symbol_spell : ℕ → List ℕ
 symbol_spell b = if is_plain b then b ∷ [] else 92 ∷ hex_digit (b / 16) ∷ hex_digit (b % 16) ∷ []
 
 abbrev pub text_spell : Text → List ℕ
-text_spell texts.Null = codes "~"
-text_spell (texts.Full t) = 34 ∷ (flat_map symbol_spell t ++ (34 ∷ []))
+text_spell nullable.Null = codes "~"
+text_spell (nullable.Full t) = 34 ∷ (flat_map symbol_spell t ++ (34 ∷ []))
 
 abbrev pub text_fits : Text → Type 0
-text_fits texts.Null = Unit {0}
-text_fits (texts.Full t) = IsUtf8 t × AllByRecursion (λ b. b < 256) t
+text_fits nullable.Null = Unit {0}
+text_fits (nullable.Full t) = IsUtf8 t × AllByRecursion (λ b. b < 256) t
 
 abbrev pub escape_at : List ℕ → Read (Option ℕ)
 escape_at [] = None
@@ -99,11 +97,11 @@ symbol_at [] = None
 symbol_at (c ∷ rest) = if c == 34 then Some (None, rest) else if c == 92 then escape_at rest else if is_plain c then Some (Some c, rest) else None
 
 abbrev pub checked : List ℕ × List ℕ → Read Text
-checked x = if is_utf8 x.0 then Some (texts.Full x.0, x.1) else None
+checked x = if is_utf8 x.0 then Some (nullable.Full x.0, x.1) else None
 
 unfoldable pub text_at : List ℕ → Read Text
 text_at [] = None
-text_at (c ∷ rest) = if c == 126 then Some (texts.Null, rest) else if c == 34 then many_at symbol_at (length rest) rest >>= checked else None
+text_at (c ∷ rest) = if c == 126 then Some (nullable.Null, rest) else if c == 34 then many_at symbol_at (length rest) rest >>= checked else None
 
 abbrev pub text : Form Text
 text = record { fits = text_fits; spell = text_spell; at = text_at }
@@ -111,23 +109,23 @@ text = record { fits = text_fits; spell = text_spell; at = text_at }
 -- ---- blob
 
 abbrev pub blob_spell : Blob → List ℕ
-blob_spell blobs.Null = codes "~"
-blob_spell (blobs.Full bytes) = 35 ∷ encode_lower bytes
+blob_spell nullable.Null = codes "~"
+blob_spell (nullable.Full bytes) = 35 ∷ encode_lower bytes
 
 abbrev pub blob_fits : Blob → Type 0
-blob_fits blobs.Null = Unit {0}
-blob_fits (blobs.Full bytes) = AllByRecursion (λ b. b < 256) bytes
+blob_fits nullable.Null = Unit {0}
+blob_fits (nullable.Full bytes) = AllByRecursion (λ b. b < 256) bytes
 
 abbrev pub in_hex : ℕ → Bool
 in_hex b = (nat_le 48 b && nat_le b 57) || (nat_le 97 b && nat_le b 102)
 
 abbrev pub decoded : Result (List ℕ) FromHexError → List ℕ → Read Blob
-decoded (Ok bytes) rest = Some (blobs.Full bytes, rest)
+decoded (Ok bytes) rest = Some (nullable.Full bytes, rest)
 decoded (Err e) rest = None
 
 unfoldable pub blob_at : List ℕ → Read Blob
 blob_at [] = None
-blob_at (c ∷ rest) = if c == 126 then Some (blobs.Null, rest) else if c == 35 then decoded (decode_of (take (prefix_len in_hex rest) rest)) (drop (prefix_len in_hex rest) rest) else None
+blob_at (c ∷ rest) = if c == 126 then Some (nullable.Null, rest) else if c == 35 then decoded (decode_of (take (prefix_len in_hex rest) rest)) (drop (prefix_len in_hex rest) rest) else None
 
 abbrev pub blob : Form Blob
 blob = record { fits = blob_fits; spell = blob_spell; at = blob_at }

@@ -1,4 +1,5 @@
 pub mod Form
+pub mod Laws
 pub mod Many
 pub mod Words
 pub mod Leaf

@@ -1,6 +1,6 @@
 //! Numbers with names: errors and types of events.
 ghost use Rattle.std.specs.Prelude.{◌≡◌, ◌++◌, Some, None, OnOk, option_copied};
-ghost use Rattle.zk_items.specs.Form.{Gives, Passes};
+ghost use Rattle.zk_items.specs.Form.{Gives, Keeps, Passes};
 ghost use Rattle.zk_items.specs.Codes.{name_at, name_spell};
 ghost use Rattle.zk_items.specs.Codes as codes;
 
@@ -111,14 +111,16 @@ pub fn read_event_code(line: &mut Reader<'_>) -> Result<i32, LineFault>
 }
 
 fn put_name(out: &mut Vec<u8>, name: &str) -> Result<(), AllocError>
-    ensures { OnOk result (out.new.items ≡ out.old.items ++ name_spell (Some name.now)) }
+    ensures spelled { OnOk result (out.new.items ≡ out.old.items ++ name_spell (Some name.now)) }
+    ensures keeps { Keeps out.old.items out.new.items }
 {
     out.extend_from_slice(b"/")?;
     out.extend_from_slice(name.as_bytes())
 }
 
 fn put_error_name(out: &mut Vec<u8>, number: i32) -> Result<(), AllocError>
-    ensures { OnOk result (out.new.items ≡ out.old.items ++ name_spell (codes.error_name number)) }
+    ensures spelled { OnOk result (out.new.items ≡ out.old.items ++ name_spell (codes.error_name number)) }
+    ensures keeps { Keeps out.old.items out.new.items }
 {
     match error_name(number) {
         Some(name) => put_name(out, name),
@@ -127,7 +129,8 @@ fn put_error_name(out: &mut Vec<u8>, number: i32) -> Result<(), AllocError>
 }
 
 fn put_type_name(out: &mut Vec<u8>, number: i32) -> Result<(), AllocError>
-    ensures { OnOk result (out.new.items ≡ out.old.items ++ name_spell (codes.type_name number)) }
+    ensures spelled { OnOk result (out.new.items ≡ out.old.items ++ name_spell (codes.type_name number)) }
+    ensures keeps { Keeps out.old.items out.new.items }
 {
     match type_name(number) {
         Some(name) => put_name(out, name),
@@ -137,7 +140,9 @@ fn put_type_name(out: &mut Vec<u8>, number: i32) -> Result<(), AllocError>
 
 /// Appends the number of an error, and `/` and its name where it has one.
 pub fn put_error_code(out: &mut Vec<u8>, number: i32) -> Result<(), AllocError>
-    ensures { OnOk result (out.new.items ≡ out.old.items ++ codes.error_code.spell number) }
+    ensures spelled { OnOk result (out.new.items ≡ out.old.items ++ codes.error_code.spell number) }
+    ensures fits { OnOk result (codes.error_code.fits number) }
+    ensures keeps { Keeps out.old.items out.new.items }
 {
     put_int(out, number)?;
     put_error_name(out, number)
@@ -145,7 +150,9 @@ pub fn put_error_code(out: &mut Vec<u8>, number: i32) -> Result<(), AllocError>
 
 /// Appends the number of an event's type, and `/` and its name where it has one.
 pub fn put_event_code(out: &mut Vec<u8>, number: i32) -> Result<(), AllocError>
-    ensures { OnOk result (out.new.items ≡ out.old.items ++ codes.event_code.spell number) }
+    ensures spelled { OnOk result (out.new.items ≡ out.old.items ++ codes.event_code.spell number) }
+    ensures fits { OnOk result (codes.event_code.fits number) }
+    ensures keeps { Keeps out.old.items out.new.items }
 {
     put_int(out, number)?;
     put_type_name(out, number)

@@ -3,6 +3,7 @@
 
 mod code;
 mod fault;
+mod laws;
 mod number;
 mod plain;
 mod reader;
@@ -14,6 +15,7 @@ pub use code::{
     put_error_code, put_event_code, read_error_code, read_event_code, read_failure_code,
 };
 pub use fault::{LineFault, LineReason, line_reason_name};
+pub use laws::item_laws;
 pub use reader::Reader;
 pub use word::{Word, word_bytes};
 pub use write::{put_bit, put_blob, put_int, put_long, put_read_only, put_text, put_word};

@@ -2,7 +2,8 @@
 ghost use Rattle.std.specs.Prelude.{◌≡◌, ◌++◌, OnOk, false};
 ghost use Rattle.std.specs.Fmt.{signed_decimal};
 ghost use Rattle.std.specs.List.{flat_map};
-ghost use Rattle.zk_items.specs.Leaf.{is_plain, text_spell, blob_spell, symbol_spell, bit_spell, ro_spell};
+ghost use Rattle.zk_items.specs.Form.{Keeps};
+ghost use Rattle.zk_items.specs.Leaf.{int, long, is_plain, text_fits, text_spell, blob_fits, blob_spell, symbol_spell, bit_spell, ro_spell};
 ghost use Rattle.hex.specs.Hex.{encode_lower};
 ghost use Rattle.zk_items.specs.Words.{word_of};
 
@@ -16,35 +17,42 @@ use zk_jute::{Blob, Text};
 /// Appends a fixed word.
 #[inline(always)]
 pub fn put_word(out: &mut Vec<u8>, word: Word) -> Result<(), AllocError>
-    ensures { OnOk result (out.new.items ≡ out.old.items ++ word_of word) }
+    ensures spelled { OnOk result (out.new.items ≡ out.old.items ++ word_of word) }
+    ensures keeps { Keeps out.old.items out.new.items }
 {
     out.extend_from_slice(word_bytes(word))
 }
 
 /// Appends an int.
 pub fn put_int(out: &mut Vec<u8>, n: i32) -> Result<(), AllocError>
-    ensures { OnOk result (out.new.items ≡ out.old.items ++ signed_decimal n) }
+    ensures spelled { OnOk result (out.new.items ≡ out.old.items ++ signed_decimal n) }
+    ensures fits { OnOk result (int.fits n) }
+    ensures keeps { Keeps out.old.items out.new.items }
 {
     out.extend_from_slice(Buffer::new().format(n).as_bytes())
 }
 
 /// Appends a long.
 pub fn put_long(out: &mut Vec<u8>, n: i64) -> Result<(), AllocError>
-    ensures { OnOk result (out.new.items ≡ out.old.items ++ signed_decimal n) }
+    ensures spelled { OnOk result (out.new.items ≡ out.old.items ++ signed_decimal n) }
+    ensures fits { OnOk result (long.fits n) }
+    ensures keeps { Keeps out.old.items out.new.items }
 {
     out.extend_from_slice(Buffer::new().format(n).as_bytes())
 }
 
 /// Appends a bit: `0` or `1`.
 pub fn put_bit(out: &mut Vec<u8>, bit: bool) -> Result<(), AllocError>
-    ensures { OnOk result (out.new.items ≡ out.old.items ++ bit_spell bit) }
+    ensures spelled { OnOk result (out.new.items ≡ out.old.items ++ bit_spell bit) }
+    ensures keeps { Keeps out.old.items out.new.items }
 {
     out.extend_from_slice(if bit { b"1" } else { b"0" })
 }
 
 /// Appends a bit, or `-` where there is none.
 pub fn put_read_only(out: &mut Vec<u8>, bit: Option<bool>) -> Result<(), AllocError>
-    ensures { OnOk result (out.new.items ≡ out.old.items ++ ro_spell bit) }
+    ensures spelled { OnOk result (out.new.items ≡ out.old.items ++ ro_spell bit) }
+    ensures keeps { Keeps out.old.items out.new.items }
 {
     match bit {
         None => out.extend_from_slice(b"-"),
@@ -54,7 +62,9 @@ pub fn put_read_only(out: &mut Vec<u8>, bit: Option<bool>) -> Result<(), AllocEr
 
 /// Appends a blob: `~`, or `#` and its bytes' digits.
 pub fn put_blob(out: &mut Vec<u8>, blob: &Blob) -> Result<(), AllocError>
-    ensures { OnOk result (out.new.items ≡ out.old.items ++ blob_spell blob.now) }
+    ensures spelled { OnOk result (out.new.items ≡ out.old.items ++ blob_spell blob.now) }
+    ensures fits { OnOk result (blob_fits blob.now) }
+    ensures keeps { Keeps out.old.items out.new.items }
 {
     match blob {
         Blob::Null => out.extend_from_slice(b"~"),
@@ -67,7 +77,8 @@ pub fn put_blob(out: &mut Vec<u8>, blob: &Blob) -> Result<(), AllocError>
 
 /// Appends two lower-case digits for each byte.
 fn put_digits(out: &mut Vec<u8>, bytes: &[u8]) -> Result<(), AllocError>
-    ensures { OnOk result (out.new.items ≡ out.old.items ++ encode_lower bytes.now) }
+    ensures spelled { OnOk result (out.new.items ≡ out.old.items ++ encode_lower bytes.now) }
+    ensures keeps { Keeps out.old.items out.new.items }
 {
     let start = out.len();
     let room = bytes.len().saturating_mul(2);
@@ -81,14 +92,16 @@ fn put_digits(out: &mut Vec<u8>, bytes: &[u8]) -> Result<(), AllocError>
 /// Appends a byte that doesn't stand for itself.
 fn put_escape(out: &mut Vec<u8>, b: u8) -> Result<(), AllocError>
     requires { is_plain b ≡ false }
-    ensures { OnOk result (out.new.items ≡ out.old.items ++ symbol_spell b) }
+    ensures spelled { OnOk result (out.new.items ≡ out.old.items ++ symbol_spell b) }
+    ensures keeps { Keeps out.old.items out.new.items }
 {
     out.extend_from_slice(&[b'\\', hex_digit(b / 16), hex_digit(b % 16)])
 }
 
 /// Appends a text's bytes, a run of plain ones at a time.
 fn put_symbols(out: &mut Vec<u8>, bytes: &[u8]) -> Result<(), AllocError>
-    ensures { OnOk result (out.new.items ≡ out.old.items ++ flat_map symbol_spell bytes.now) }
+    ensures spelled { OnOk result (out.new.items ≡ out.old.items ++ flat_map symbol_spell bytes.now) }
+    ensures keeps { Keeps out.old.items out.new.items }
 {
     let mut ahead = bytes;
     while let Some((first, rest)) = ahead.split_first() {
@@ -106,7 +119,9 @@ fn put_symbols(out: &mut Vec<u8>, bytes: &[u8]) -> Result<(), AllocError>
 
 /// Appends a text: `~`, or its bytes between quotation marks.
 pub fn put_text(out: &mut Vec<u8>, text: &Text) -> Result<(), AllocError>
-    ensures { OnOk result (out.new.items ≡ out.old.items ++ text_spell text.now) }
+    ensures spelled { OnOk result (out.new.items ≡ out.old.items ++ text_spell text.now) }
+    ensures fits { OnOk result (text_fits text.now) }
+    ensures keeps { Keeps out.old.items out.new.items }
 {
     match text {
         Text::Null => out.extend_from_slice(b"~"),

@@ -1,5 +1,5 @@
 -- What an output was given, part by part.
-use Rattle.std.specs.Prelude.{◌≡◌, ℕ, List, ◌++◌, Result, Ok, Err, OnOk, OnErr}
+use Rattle.std.specs.Prelude.{Result, Ok, Err, OnOk, OnErr}
 use Rattle.zk_jute.proofs.Layouts.{have_both, have_parts, bytes_both}
 
 pub on_err : {T E P : Type 0} (r : Result T E) → P → OnErr r P

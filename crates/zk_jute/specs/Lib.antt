@@ -10,3 +10,6 @@ pub mod Wired
 pub mod Outputs
 pub mod Told
 pub mod Flagged
+pub mod Held
+pub mod Standing
+pub mod Shown

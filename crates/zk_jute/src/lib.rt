@@ -9,6 +9,10 @@ mod output;
 mod pair;
 mod payload;
 mod run;
+mod series;
+mod shown;
+mod source;
+mod stands;
 mod text;
 mod value;
 mod wire;
@@ -17,7 +21,12 @@ pub use fault::{ItemFault, Reason, reason_name};
 pub use number::{bool_at, int_at, long_at};
 pub use output::Output;
 pub use payload::read_flagged;
-pub use value::{Blob, Bytes, Chars, Items, List, Text};
+pub use series::{Element, Series, TextList};
+pub use source::{Kept, Payload, Source};
+pub use stands::{Form, Stands};
+pub use value::{
+    Blob, BlobRef, Bytes, BytesRef, Chars, CharsRef, Items, List, Nullable, Text, TextRef,
+};
 pub use wire::{Spell, Wire, laws};
 
 #[cfg(test)]

@@ -7,7 +7,6 @@ use std::test::Fail;
 fn whole<T: Wire>(rt: &impl Abort, alloc: Global, bytes: &[u8]) -> Result<T, Fail> {
     let (value, end) = T::read(alloc, bytes, 0)?;
     assert_eq!(rt; end, bytes.len());
-    assert_eq!(rt; T::scan(bytes, 0)?, end);
     let mut out = Vec::new(alloc);
     let Some(size) = value.size_within(i32::MAX as u32) else {
         return Err("no size")?;
@@ -22,7 +21,7 @@ fn whole<T: Wire>(rt: &impl Abort, alloc: Global, bytes: &[u8]) -> Result<T, Fai
     Ok(value)
 }
 
-/// The faults of bytes, which a scan meets too.
+/// The faults of bytes.
 fn refused<T: Wire>(
     rt: &impl Abort,
     alloc: Global,
@@ -34,7 +33,6 @@ fn refused<T: Wire>(
             reason: *reason,
         };
         assert_eq!(rt; T::read(alloc, bytes, 0).err().ok_or("read")?, fault);
-        assert_eq!(rt; T::scan(bytes, 0), Err(fault));
     }
     Ok(())
 }
@@ -162,6 +160,40 @@ fn flags(rt: HostRuntime) -> Result<(), Fail> {
         assert_eq!(rt; fault, ItemFault { place, reason });
     }
     laws::<Text>();
+    Ok(())
+}
+
+/// What lies in a payload is told without memory.
+#[test]
+fn borrowed(rt: HostRuntime) -> Result<(), Fail> {
+    let src = Payload {
+        bytes: b"\0\0\0\x02\0\0\0\x02/a\xff\xff\xff\xff",
+    };
+    let (list, end) = TextList::read_in(&src, 0)?;
+    assert_eq!(rt; (list.is_null(), list.count(), end), (false, 2, 14));
+    let (text, end) = TextRef::read_in(&src, 4)?;
+    let TextRef::Full(text) = text else {
+        return Err("null")?;
+    };
+    assert_eq!(rt; (text.as_str(), end), ("/a", 10));
+    let (blob, end) = BlobRef::read_in(&src, 4)?;
+    let BlobRef::Full(blob) = blob else {
+        return Err("null")?;
+    };
+    assert_eq!(rt; (blob.as_slice(), end), (b"/a".as_slice(), 10));
+    let (null, end) = TextList::read_in(&src, 10)?;
+    assert_eq!(rt; (null.is_null(), null.count(), end), (true, 0, 14));
+    let fault = ItemFault {
+        place: 6,
+        reason: Reason::Short,
+    };
+    let cut = Payload {
+        bytes: b"\0\x01\0\0\0\x02\0\0\0\x02/",
+    };
+    assert_eq!(rt;
+        <(bool, (bool, TextList)) as Stands<Payload>>::read_in(&cut, 0).err(),
+        Some(fault)
+    );
     Ok(())
 }
 

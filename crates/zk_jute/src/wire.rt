@@ -7,7 +7,7 @@ ghost use Rattle.zk_jute.specs.Faults.{IsFault};
 ghost use Rattle.zk_jute.specs.Item.{Item, bytes_of, HaveBytes, Fit, Keeps, IsSizeWithin};
 ghost use Rattle.zk_jute.specs.Layout.{Layout, Unfolds, IsValueOf, HasFields, takes_none};
 ghost use Rattle.zk_jute.specs.Told.{StandsAt, IsReadAs, HasToldFault, IsToldFault};
-ghost use Rattle.zk_jute.specs.Reading.{Fails, Gives, Scans, items_at};
+ghost use Rattle.zk_jute.specs.Reading.{Fails, Gives, items_at};
 
 use crate::fault::ItemFault;
 use crate::output::{Full, Output, Room};
@@ -77,12 +77,6 @@ pub trait Wire: Spell + Sized + Drop {
     {
         Self::decode(alloc, src, place)
     }
-
-    /// The place after the value that stands at `place`; takes no memory.
-    fn scan(src: &[u8], place: usize) -> Result<usize, ItemFault>
-        requires { place ≤ length src.now }
-        ensures exact { Scans result (items_at layout src.now place) }
-        ensures within { IfOk result (λ after. after ≤ length src.now) };
 
     /// A value's items are of the layout.
     ghost unfolds: { (x : Self) → Unfolds layout (Self.items x) };

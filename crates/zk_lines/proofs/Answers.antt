@@ -15,7 +15,8 @@ use Rattle.zk_items.specs.Leaf.{int, long, ro, text, blob, in_name}
 use Rattle.zk_items.specs.Codes.{error_code, failure_code, event_code, error_name, type_name}
 use Rattle.zk_items.specs.Words.{field, word_of}
 use Rattle.zk_items.specs.declared.word.Word.TheVariants as words
-use Rattle.zk_items.proofs.Forms.{Lawful, LawfulBefore, IsField, record_is, fields_is, and_is, led_is, bind_some, some_is, word_again, word_sound, ◌with◌}
+use Rattle.zk_items.specs.Laws.{Lawful, LawfulBefore}
+use Rattle.zk_items.proofs.Forms.{IsField, record_is, fields_is, and_is, led_is, bind_some, some_is, word_again, word_sound, ◌with◌}
 use Rattle.zk_items.proofs.Numbers.{int_is, long_is}
 use Rattle.zk_items.proofs.Flags.{ro_is}
 use Rattle.zk_items.proofs.Texts.{text_is}

@@ -14,7 +14,8 @@ use Rattle.zk_items.specs.Form.{read_map, stops, word_at}
 use Rattle.zk_items.specs.Leaf.{int, long, bit, ro, text, blob, in_name}
 use Rattle.zk_items.specs.Words.{field}
 use Rattle.zk_items.specs.declared.word.Word.TheVariants as words
-use Rattle.zk_items.proofs.Forms.{Lawful, IsField, record_is, and_is, some_is, ◌with◌}
+use Rattle.zk_items.specs.Laws.{Lawful}
+use Rattle.zk_items.proofs.Forms.{IsField, record_is, and_is, some_is, ◌with◌}
 use Rattle.zk_items.proofs.Numbers.{int_is, long_is}
 use Rattle.zk_items.proofs.Flags.{bit_is, ro_is}
 use Rattle.zk_items.proofs.Texts.{text_is}

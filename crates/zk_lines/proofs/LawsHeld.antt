@@ -1,33 +1,17 @@
 -- What may be said can be held: items that have bytes are those of values that fit.
-use Rattle.std.proofs.Common.{◌≡◌, ℕ, ◌+◌, ◌/◌, ◌%◌, ◌^◌, ◌<◌, List, [], ◌∷◌, ◌++◌, Bool, true, false, Option, inl, inr, refl, ap, subst, cond, arith, lt-ltb, ltb-true, ne_eqb, FitsSigned, w32, w64}
-use Rattle.std.specs.Prelude.{ℤ, pos, negsuc, ◌≢◌, IsUtf8, nat_lt}
+use Rattle.std.proofs.Common.{◌≡◌, ◌^◌, List, [], ◌∷◌, ◌++◌, Bool, true, false, Option, refl, ap, lt-ltb, ne_eqb, FitsSigned, w32, w64}
+use Rattle.std.specs.Prelude.{ℤ, pos, negsuc, ◌≢◌}
 use Rattle.std.specs.List.{flat_map, AllByRecursion}
-use Rattle.std.proofs.Math.Utf8.{encode, encodes, scalar, scalars, scalar_cases}
-use Rattle.std.proofs.lemmas.Bool.{and_parts}
-use Rattle.zk_jute.specs.declared.value.Text.{Text}
-use Rattle.zk_jute.specs.declared.value.Text.TheVariants as texts
-use Rattle.zk_jute.specs.declared.value.Blob.{Blob}
-use Rattle.zk_jute.specs.declared.value.Blob.TheVariants as blobs
-use Rattle.zk_jute.specs.declared.value.List.{List as Vector}
-use Rattle.zk_jute.specs.declared.value.List.TheVariants as list
+use Rattle.zk_jute.specs.Held.{Text, Blob, Vector}
+use Rattle.zk_jute.specs.declared.value.Nullable.TheVariants as nullable
 use Rattle.zk_jute.specs.Item.{Item, HasBytes, HaveBytes}
 use Rattle.zk_jute.specs.Flagged.{flag_items}
 use Rattle.zk_jute.specs.Wired.{Wired}
 use Rattle.zk_jute.specs.Wired as wired
 use Rattle.zk_records.specs.Records as records
 use Rattle.zk_records.specs.declared.stat.Stat.{Stat}
-use Rattle.zk_records.specs.declared.connect.ConnectRequest.{ConnectRequest}
-use Rattle.zk_records.specs.declared.connect.ConnectResponse.{ConnectResponse}
+use Rattle.zk_records.specs.Held.{ConnectRequest, ConnectResponse, CreateAsk, DeleteAsk, SetDataAsk, SetAclAsk, CheckAsk, WatchAsk, PathAsk, AuthAsk, SetWatchesAsk}
 use Rattle.zk_records.specs.declared.profile.Profile.{Profile}
-use Rattle.zk_records.specs.declared.ask.CreateAsk.{CreateAsk}
-use Rattle.zk_records.specs.declared.ask.DeleteAsk.{DeleteAsk}
-use Rattle.zk_records.specs.declared.ask.SetDataAsk.{SetDataAsk}
-use Rattle.zk_records.specs.declared.ask.SetAclAsk.{SetAclAsk}
-use Rattle.zk_records.specs.declared.ask.CheckAsk.{CheckAsk}
-use Rattle.zk_records.specs.declared.query.WatchAsk.{WatchAsk}
-use Rattle.zk_records.specs.declared.query.PathAsk.{PathAsk}
-use Rattle.zk_records.specs.declared.session.AuthAsk.{AuthAsk}
-use Rattle.zk_records.specs.declared.session.SetWatchesAsk.{SetWatchesAsk}
 use Rattle.zk_asks.specs.declared.frame.Part.{Part}
 use Rattle.zk_asks.specs.declared.frame.Part.TheVariants as part
 use Rattle.zk_asks.specs.declared.frame.Ask.{Ask}
@@ -51,6 +35,7 @@ use Rattle.zk_items.specs.Form.{Form}
 use Rattle.zk_items.specs.Form as form
 use Rattle.zk_items.specs.Leaf as leaf
 use Rattle.zk_items.specs.Codes.{is_zero}
+use Rattle.zk_items.proofs.Small.{text_small}
 use Rattle.zk_talk.specs.declared.message.Message.{Message}
 use Rattle.zk_talk.specs.declared.message.Message.TheVariants as message
 use Rattle.zk_talk.specs.declared.limits.Limits.{Limits}
@@ -68,49 +53,9 @@ pub both : {X : Type 0} (P : X → Type 0) (xs ys : List X) → AllByRecursion P
 both P [] ys h = (tt, h)
 both P (x ∷ xs) ys h = let r = both P xs ys h.1 in ((h.0, r.0), r.1)
 
-joined : {X : Type 0} (P : X → Type 0) (xs ys : List X) → AllByRecursion P xs → AllByRecursion P ys → AllByRecursion P (xs ++ ys)
-joined P [] ys h k = k
-joined P (x ∷ xs) ys h k = (h.0, joined P xs ys h.1 k)
-
 -- the items of either have bytes
 parted : (xs ys : List Item) → HaveBytes (xs ++ ys) → HaveBytes xs × HaveBytes ys
 parted xs ys h = both HasBytes xs ys h
-
--- ---- the bytes of a text
-
-abbrev Small : List ℕ → Type 0
-Small bytes = AllByRecursion (λ b. b < 256) bytes
-
-either : (t : Bool) (xs ys : List ℕ) → (t ≡ true → Small xs) → Small ys → Small (cond t xs ys)
-either true xs ys f g = f refl
-either false xs ys f g = g
-
-scalar_top : (c : ℕ) → scalar c ≡ true → c < 1114112
-scalar_top c ok = elim (scalar_cases c ok) [ inl low ↦ omega arith | inr high ↦ high.1 ]
-
-char_small : (c : ℕ) → scalar c ≡ true → Small (encode c)
-unfolding encode
-char_small c ok =
-    let top : c < 1114112 = scalar_top c ok in
-    either (nat_lt c 128) _ _ (λ e. one (ltb-true c 128 e)) (either (nat_lt c 2048) _ _ (λ e. two (ltb-true c 2048 e)) (either (nat_lt c 65536) _ _ (λ e. three (ltb-true c 65536 e)) (four top))) where
-      one : c < 128 → Small (c ∷ [])
-      one h = (omega arith, tt)
-
-      two : c < 2048 → Small ((192 + c / 64) ∷ (128 + c % 64) ∷ [])
-      two h = (omega arith, (omega arith, tt))
-
-      three : c < 65536 → Small ((224 + c / 4096) ∷ (128 + c / 64 % 64) ∷ (128 + c % 64) ∷ [])
-      three h = (omega arith, (omega arith, (omega arith, tt)))
-
-      four : c < 1114112 → Small ((240 + c / 262144) ∷ (128 + c / 4096 % 64) ∷ (128 + c / 64 % 64) ∷ (128 + c % 64) ∷ [])
-      four h = (omega arith, (omega arith, (omega arith, (omega arith, tt))))
-
-chars_small : (cs : List ℕ) → scalars cs ≡ true → Small (encodes cs)
-chars_small [] ok = tt
-chars_small (c ∷ cs) ok = let p = and_parts (scalar c) (scalars cs) ok in joined (λ b. b < 256) (encode c) (encodes cs) (char_small c p.0) (chars_small cs p.1)
-
-pub text_small : (bytes : List ℕ) → IsUtf8 bytes → Small bytes
-text_small bytes h = subst (λ (b : List ℕ). Small b) h.1.1 (chars_small h.0 h.1.0)
 
 -- ---- items
 
@@ -142,14 +87,14 @@ bit_held = record { held = λ b h. tt }
 text_held : Held wired.ustring leaf.text
 text_held = record { held = fits } where
   fits : (t : Text) → HaveBytes (wired.ustring.items t) → leaf.text_fits t
-  fits texts.Null h = tt
-  fits (texts.Full t) h = (h.0.0, text_small t h.0.0)
+  fits nullable.Null h = tt
+  fits (nullable.Full t) h = (h.0.0, text_small t h.0.0)
 
 blob_held : Held wired.buffer leaf.blob
 blob_held = record { held = fits } where
   fits : (b : Blob) → HaveBytes (wired.buffer.items b) → leaf.blob_fits b
-  fits blobs.Null h = tt
-  fits (blobs.Full b) h = h.0.0
+  fits nullable.Null h = tt
+  fits (nullable.Full b) h = h.0.0
 
 list_held : {X : Type 0} (w : Wired X) (f : Form X) → Held w f → Held (wired.vector w) (list_of f)
 list_held {X} w f is = record { held = fits } where
@@ -158,8 +103,8 @@ list_held {X} w f is = record { held = fits } where
   each (x ∷ xs) h = let r = parted (w.items x) (flat_map w.items xs) h in (is.held x r.0, each xs r.1)
 
   fits : (v : Vector X) → HaveBytes ((wired.vector w).items v) → (list_of f).fits v
-  fits list.Null h = tt
-  fits (list.Full xs) h = each xs h.1
+  fits nullable.Null h = tt
+  fits (nullable.Full xs) h = each xs h.1
 
 names_held : Held (wired.vector wired.ustring) (list_of leaf.text)
 names_held = list_held wired.ustring leaf.text text_held

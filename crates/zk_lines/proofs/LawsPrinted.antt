@@ -7,10 +7,8 @@ use Rattle.std.specs.Ordering.{int_eq}
 use Rattle.std.specs.Fmt.{signed_decimal, decimal, digits, digits_onto, digit_glyph}
 use Rattle.std.proofs.lemmas.Bool.{and_parts, agree_below_at}
 use Rattle.hex.specs.Hex.{encode_lower, encode_with, lower_digits}
-use Rattle.zk_jute.specs.declared.value.Text.{Text}
-use Rattle.zk_jute.specs.declared.value.Text.TheVariants as texts
-use Rattle.zk_jute.specs.declared.value.Blob.{Blob}
-use Rattle.zk_jute.specs.declared.value.Blob.TheVariants as blobs
+use Rattle.zk_jute.specs.Held.{Text, Blob}
+use Rattle.zk_jute.specs.declared.value.Nullable.TheVariants as nullable
 use Rattle.zk_records.specs.Names.{op_name, part_name, errors, events}
 use Rattle.zk_records.specs.declared.op.Op.{Op}
 use Rattle.zk_records.specs.declared.op.Op.TheVariants as ops
@@ -91,8 +89,8 @@ symbols_printed [] h = tt
 symbols_printed (b ∷ t) h = joined (symbol_spell b) (flat_map symbol_spell t) (symbol_printed b h.0) (symbols_printed t h.1)
 
 pub text_printed : (t : Text) → text_fits t → Printed (text_spell t)
-text_printed texts.Null fit = (refl, tt)
-text_printed (texts.Full t) fit = (refl, joined (flat_map symbol_spell t) (34 ∷ []) (symbols_printed t fit.1) (refl, tt))
+text_printed nullable.Null fit = (refl, tt)
+text_printed (nullable.Full t) fit = (refl, joined (flat_map symbol_spell t) (34 ∷ []) (symbols_printed t fit.1) (refl, tt))
 
 digit_printed : (n : ℕ) → n < 16 → is_printed (slice_index lower_digits n) ≡ true
 digit_printed n small = agree_below_at (λ n. is_printed (slice_index lower_digits n)) (λ _. true) 16 n refl small
@@ -105,8 +103,8 @@ digits_printed (b ∷ bytes) h =
     (digit_printed (b / 16) (omega arith), (digit_printed (b % 16) (omega arith), digits_printed bytes h.1))
 
 pub blob_printed : (b : Blob) → blob_fits b → Printed (blob_spell b)
-blob_printed blobs.Null fit = (refl, tt)
-blob_printed (blobs.Full b) fit = (refl, digits_printed b fit)
+blob_printed nullable.Null fit = (refl, tt)
+blob_printed (nullable.Full b) fit = (refl, digits_printed b fit)
 
 -- ---- words and names
 

@@ -3,8 +3,8 @@ use Rattle.std.proofs.Common.{◌≡◌, ℕ, ◌≤◌, List, [], ◌∷◌, �
 use Rattle.std.specs.Prelude.{ℤ, codes}
 use Rattle.std.specs.List.{flat_map, AllByRecursion}
 use Rattle.std.specs.Fmt.{signed_decimal}
-use Rattle.zk_jute.specs.declared.value.List.{List as Vector}
-use Rattle.zk_jute.specs.declared.value.List.TheVariants as list
+use Rattle.zk_jute.specs.Held.{Vector}
+use Rattle.zk_jute.specs.declared.value.Nullable.TheVariants as nullable
 use Rattle.zk_records.specs.Names.{op_name, part_name}
 use Rattle.zk_records.specs.declared.stat.Stat.{Stat}
 use Rattle.zk_asks.specs.declared.frame.Part.{Part}
@@ -103,8 +103,8 @@ module _ {X : Type 0} (sep close : ℕ) (parts : is_printed sep ≡ true) (ends 
 list_shown : {X : Type 0} (f : Form X) → Shown f → Shown (list_of f)
 list_shown {X} f is = record { shown = printed } where
   printed : (v : Vector X) → list_fits f.fits v → Printed (list_spell f.spell v)
-  printed list.Null fit = (refl, tt)
-  printed (list.Full xs) fit = (refl, series_printed 44 93 refl refl f is xs fit)
+  printed nullable.Null fit = (refl, tt)
+  printed (nullable.Full xs) fit = (refl, series_printed 44 93 refl refl f is xs fit)
 
 -- ---- records
 

@@ -16,9 +16,7 @@ use Rattle.zk_items.specs.declared.fault.LineFault.{LineFault}
 use Rattle.zk_items.specs.declared.fault.LineReason.{LineReason}
 use Rattle.zk_items.specs.declared.fault.LineReason.TheVariants as reasons
 use Rattle.zk_items.specs.Words.{word_of}
-use Rattle.zk_records.specs.declared.connect.ConnectRequest.{ConnectRequest}
-use Rattle.zk_records.specs.declared.connect.ConnectResponse.{ConnectResponse}
-use Rattle.zk_records.specs.declared.event.WatcherEvent.{WatcherEvent}
+use Rattle.zk_records.specs.Held.{ConnectRequest, ConnectResponse, WatcherEvent}
 use Rattle.zk_items.specs.Form.{Read, ◌>>=◌, read_map, led, word_at, Answers}
 use Rattle.zk_items.specs.Leaf.{in_word, in_number, in_range}
 use Rattle.zk_items.proofs.Forms.{led_is, bind_some, word_sound}

@@ -2,14 +2,14 @@
 use Rattle.std.proofs.Common.{◌≡◌, ℕ, List, [], ◌∷◌, ◌++◌, Some, None, Bool, true, false, ◌==◌, refl, ap, ◌∙◌, append_assoc, cond, arith}
 use Rattle.std.specs.Fmt.{signed_decimal}
 use Rattle.std.specs.List.{AllByRecursion}
-use Rattle.zk_jute.specs.declared.value.Text.{Text}
-use Rattle.zk_jute.specs.declared.value.Text.TheVariants as texts
-use Rattle.zk_records.specs.declared.acl.Acl.{Acl}
+use Rattle.zk_jute.specs.Held.{Text}
+use Rattle.zk_jute.specs.declared.value.Nullable.TheVariants as nullable
+use Rattle.zk_records.specs.Held.{Acl}
 use Rattle.zk_items.specs.Form.{word_at, ◌and◌}
 use Rattle.zk_items.specs.Words.{word_of, field}
 use Rattle.zk_items.specs.declared.word.Word.TheVariants.{Colon}
 use Rattle.zk_items.specs.Leaf.{text, text_fits, text_spell, in_number}
-use Rattle.zk_items.proofs.Forms.{Lawful}
+use Rattle.zk_items.specs.Laws.{Lawful}
 use Rattle.zk_items.proofs.Numbers.{wide, written_value}
 use Rattle.zk_items.proofs.Texts.{text_is}
 use Rattle.zk_lines.specs.Series.{list_of}
@@ -19,8 +19,8 @@ use Rattle.zk_lines.proofs.Series.{list_is}
 
 text_begins : (x : Text) (rest : List ℕ) → text_fits x → word_at (93 ∷ []) (text_spell x ++ rest) ≡ None
 unfolding word_at
-text_begins texts.Null rest fit = refl
-text_begins (texts.Full t) rest fit = refl
+text_begins nullable.Null rest fit = refl
+text_begins (nullable.Full t) rest fit = refl
 
 pub texts_is : Lawful (list_of text)
 texts_is = list_is text text_is text_begins

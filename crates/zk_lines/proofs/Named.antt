@@ -6,7 +6,8 @@ use Rattle.std.proofs.lemmas.Slice.Eq.{bytes_eq-Decides}
 use Rattle.std.proofs.Math.Seq.{take-append_seam, drop-append_seam}
 use Rattle.zk_items.specs.Form.{Form, ◌>>=◌, read_map, stops, goes_on}
 use Rattle.zk_items.specs.Leaf.{in_name}
-use Rattle.zk_items.proofs.Forms.{LawfulBefore, bind_some, some_is}
+use Rattle.zk_items.specs.Laws.{LawfulBefore}
+use Rattle.zk_items.proofs.Forms.{bind_some, some_is}
 use Rattle.zk_items.proofs.Runs.{run_is, stops_ends}
 use Rattle.zk_lines.specs.Named.{Bodies, named, first_named}
 

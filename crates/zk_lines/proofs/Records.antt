@@ -5,7 +5,8 @@ use Rattle.zk_items.specs.Leaf.{int, long, text}
 use Rattle.zk_items.specs.Words.{field}
 use Rattle.zk_lines.specs.Records.{acl, stat, times, versions, sizes}
 use Rattle.zk_items.specs.declared.word.Word.TheVariants.{Close, Colon, Comma, Open}
-use Rattle.zk_items.proofs.Forms.{Lawful, IsField, closed_is, and_is, fields_is, ◌with◌}
+use Rattle.zk_items.specs.Laws.{Lawful}
+use Rattle.zk_items.proofs.Forms.{IsField, closed_is, and_is, fields_is, ◌with◌}
 use Rattle.zk_items.proofs.Numbers.{int_is, long_is}
 use Rattle.zk_items.proofs.Texts.{text_is}
 use Rattle.zk_items.proofs.Words.{word_stops, field_is}

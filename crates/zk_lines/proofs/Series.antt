@@ -2,12 +2,13 @@
 use Rattle.std.proofs.Common.{◌≡◌, ℕ, suc, ◌<◌, List, [], ◌∷◌, ◌++◌, length, Option, Some, None, Bool, true, refl, ap, sym, subst, ◌∙◌, append_assoc, cond, arith, ne_eqb, length-append}
 use Rattle.std.specs.Prelude.{codes, ◌≢◌}
 use Rattle.std.specs.List.{flat_map, AllByRecursion}
-use Rattle.zk_jute.specs.declared.value.List.{List as Vector}
-use Rattle.zk_jute.specs.declared.value.List.TheVariants as list
+use Rattle.zk_jute.specs.Held.{Vector}
+use Rattle.zk_jute.specs.declared.value.Nullable.TheVariants as nullable
 use Rattle.zk_items.specs.Form.{Form, Read, ◌>>=◌, read_map, stops, word_at}
 use Rattle.zk_lines.specs.Series.{series, series_at, series_spell, element_at, if_passed, list_of, list_at, list_spell, list_fits}
 use Rattle.zk_items.specs.Many.{many_at, with_first}
-use Rattle.zk_items.proofs.Forms.{Lawful, bind_some, some_is, word_again, word_sound}
+use Rattle.zk_items.specs.Laws.{Lawful}
+use Rattle.zk_items.proofs.Forms.{bind_some, some_is, word_again, word_sound}
 use Rattle.zk_items.proofs.Many.{many_again, many_sound}
 
 -- no value's spelling begins with the sign
@@ -116,8 +117,8 @@ module _ {X : Type 0} (f : Form X) (is : Lawful f) (begins : NeverBegins f 93) w
 
   list_again : (x : Vector X) (rest : List ℕ) → list_fits f.fits x → stops rest ≡ true → list_at f.at (list_spell f.spell x ++ rest) ≡ Some (x, rest)
   unfolding list_at word_at
-  list_again list.Null rest fit stop = refl
-  list_again (list.Full xs) rest fit stop = ap (read_map list.Full) (inner.again xs rest fit stop)
+  list_again nullable.Null rest fit stop = refl
+  list_again (nullable.Full xs) rest fit stop = ap (read_map nullable.Full) (inner.again xs rest fit stop)
 
   list_sound : (bytes : List ℕ) (x : Vector X) (rest : List ℕ) → list_at f.at bytes ≡ Some (x, rest) → (bytes ≡ list_spell f.spell x ++ rest) × list_fits f.fits x
   unfolding list_at
@@ -125,14 +126,14 @@ module _ {X : Type 0} (f : Form X) (is : Lawful f) (begins : NeverBegins f 93) w
     Spelled : Vector X → Type 0
     Spelled x = (bytes ≡ list_spell f.spell x ++ rest) × list_fits f.fits x
 
-    pick : (o : Option (List ℕ)) → word_at (codes "~") bytes ≡ o → if_passed {A = Vector X × List ℕ} o (λ rest. Some (list.Null, rest)) (word_at (codes "[") bytes >>= λ rest. read_map list.Full (series_at 44 93 f.at rest)) ≡ Some (x, rest) → Spelled x
+    pick : (o : Option (List ℕ)) → word_at (codes "~") bytes ≡ o → if_passed {A = Vector X × List ℕ} o (λ rest. Some (nullable.Null, rest)) (word_at (codes "[") bytes >>= λ rest. read_map nullable.Full (series_at 44 93 f.at rest)) ≡ Some (x, rest) → Spelled x
     pick (Some behind) is e =
-        let h = some_is (list.Null, behind) (x, rest) e in
+        let h = some_is (nullable.Null, behind) (x, rest) e in
         subst Spelled h.0 (word_sound (codes "~") bytes behind is ∙ ap (λ (r : List ℕ). 126 ∷ r) h.1, tt)
     pick None none e =
-        let a = bind_some (word_at (codes "[") bytes) (λ rest. read_map list.Full (series_at 44 93 f.at rest)) (x, rest) e in
-        let b = bind_some (series_at 44 93 f.at a.0) (λ q. Some (list.Full q.0, q.1)) (x, rest) a.2 in
-        let h = some_is (list.Full b.0.0, b.0.1) (x, rest) b.2 in
+        let a = bind_some (word_at (codes "[") bytes) (λ rest. read_map nullable.Full (series_at 44 93 f.at rest)) (x, rest) e in
+        let b = bind_some (series_at 44 93 f.at a.0) (λ q. Some (nullable.Full q.0, q.1)) (x, rest) a.2 in
+        let h = some_is (nullable.Full b.0.0, b.0.1) (x, rest) b.2 in
         let s = inner.sound a.0 b.0.0 b.0.1 b.1 in
         subst Spelled h.0 (word_sound (codes "[") bytes a.0 a.1 ∙ ap (λ (r : List ℕ). 91 ∷ r) (s.0 ∙ ap (λ (r : List ℕ). series_spell 44 93 f.spell b.0.0 ++ r) h.1), s.1)
 

@@ -1,12 +1,8 @@
 -- The lines of what a server sends.
 use Rattle.std.specs.Prelude.{ℕ, ℤ, List, [], ◌∷◌, ◌++◌, Option, Some, Bool, codes}
-use Rattle.zk_jute.specs.declared.value.Text.{Text}
-use Rattle.zk_jute.specs.declared.value.Blob.{Blob}
-use Rattle.zk_jute.specs.declared.value.List.{List as Vector}
-use Rattle.zk_records.specs.declared.acl.Acl.{Acl}
+use Rattle.zk_jute.specs.Held.{Text, Blob, Vector}
+use Rattle.zk_records.specs.Held.{Acl, ConnectResponse, WatcherEvent}
 use Rattle.zk_records.specs.declared.stat.Stat.{Stat}
-use Rattle.zk_records.specs.declared.connect.ConnectResponse.{ConnectResponse}
-use Rattle.zk_records.specs.declared.event.WatcherEvent.{WatcherEvent}
 use Rattle.zk_records.specs.declared.op.Op.{Op}
 use Rattle.zk_records.specs.declared.op.Op.TheVariants as ops
 use Rattle.zk_records.specs.Names.{op_name}

@@ -1,15 +1,6 @@
 -- The lines of what a client sends.
 use Rattle.std.specs.Prelude.{ℕ, ℤ, List, [], ◌∷◌, Option, Some, Bool}
-use Rattle.zk_records.specs.declared.connect.ConnectRequest.{ConnectRequest}
-use Rattle.zk_records.specs.declared.ask.CreateAsk.{CreateAsk}
-use Rattle.zk_records.specs.declared.ask.DeleteAsk.{DeleteAsk}
-use Rattle.zk_records.specs.declared.ask.SetDataAsk.{SetDataAsk}
-use Rattle.zk_records.specs.declared.ask.SetAclAsk.{SetAclAsk}
-use Rattle.zk_records.specs.declared.ask.CheckAsk.{CheckAsk}
-use Rattle.zk_records.specs.declared.query.WatchAsk.{WatchAsk}
-use Rattle.zk_records.specs.declared.query.PathAsk.{PathAsk}
-use Rattle.zk_records.specs.declared.session.AuthAsk.{AuthAsk}
-use Rattle.zk_records.specs.declared.session.SetWatchesAsk.{SetWatchesAsk}
+use Rattle.zk_records.specs.Held.{ConnectRequest, CreateAsk, DeleteAsk, SetDataAsk, SetAclAsk, CheckAsk, WatchAsk, PathAsk, AuthAsk, SetWatchesAsk}
 use Rattle.zk_records.specs.declared.op.Op.{Op}
 use Rattle.zk_records.specs.declared.op.Op.TheVariants as ops
 use Rattle.zk_records.specs.declared.op.PartOp.{PartOp}

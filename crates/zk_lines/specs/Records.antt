@@ -1,6 +1,6 @@
 -- The records that are items: an entry of an access list, and what is known of a node.
 use Rattle.std.specs.Prelude.{ℤ}
-use Rattle.zk_records.specs.declared.acl.Acl.{Acl}
+use Rattle.zk_records.specs.Held.{Acl}
 use Rattle.zk_records.specs.declared.stat.Stat.{Stat}
 use Rattle.zk_items.specs.Form.{Form, closed, fields, ◌and◌}
 use Rattle.zk_items.specs.Leaf.{int, long, text}

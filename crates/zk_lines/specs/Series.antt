@@ -1,8 +1,8 @@
 -- Items one after another, parted by a sign, up to a sign that ends them.
 use Rattle.std.specs.Prelude.{ℕ, List, [], ◌∷◌, ◌++◌, length, Option, Some, None, codes}
 use Rattle.std.specs.List.{flat_map, AllByRecursion}
-use Rattle.zk_jute.specs.declared.value.List.{List as Vector}
-use Rattle.zk_jute.specs.declared.value.List.TheVariants as list
+use Rattle.zk_jute.specs.Held.{Vector}
+use Rattle.zk_jute.specs.declared.value.Nullable.TheVariants as nullable
 use Rattle.zk_items.specs.Many.{many_at, with_first}
 use Rattle.zk_items.specs.Form.{Form, Read, ◌>>=◌, read_map, word_at}
 
@@ -33,15 +33,15 @@ series sep close f = record {
 -- ---- list of X: null, or items joined by commas between brackets
 
 abbrev pub list_spell : {X : Type 0} → (X → List ℕ) → Vector X → List ℕ
-list_spell spell list.Null = codes "~"
-list_spell spell (list.Full xs) = codes "[" ++ series_spell 44 93 spell xs
+list_spell spell nullable.Null = codes "~"
+list_spell spell (nullable.Full xs) = codes "[" ++ series_spell 44 93 spell xs
 
 abbrev pub list_fits : {X : Type 0} → (X → Type 0) → Vector X → Type 0
-list_fits fits list.Null = Unit {0}
-list_fits fits (list.Full xs) = AllByRecursion fits xs
+list_fits fits nullable.Null = Unit {0}
+list_fits fits (nullable.Full xs) = AllByRecursion fits xs
 
 unfoldable pub list_at : {X : Type 0} → (List ℕ → Read X) → List ℕ → Read (Vector X)
-list_at at bytes = if_passed (word_at (codes "~") bytes) (λ rest. Some (list.Null, rest)) (word_at (codes "[") bytes >>= λ rest. read_map list.Full (series_at 44 93 at rest))
+list_at at bytes = if_passed (word_at (codes "~") bytes) (λ rest. Some (nullable.Null, rest)) (word_at (codes "[") bytes >>= λ rest. read_map nullable.Full (series_at 44 93 at rest))
 
 abbrev pub list_of : {X : Type 0} → Form X → Form (Vector X)
 list_of f = record { fits = list_fits f.fits; spell = list_spell f.spell; at = list_at f.at }

@@ -1,6 +1,6 @@
 //! What a server sends, as a line shows it.
 ghost use Rattle.std.specs.Prelude.{◌≡◌, ◌≢◌, ◌++◌, OnOk, pos};
-ghost use Rattle.zk_items.specs.Form.{Gives};
+ghost use Rattle.zk_items.specs.Form.{Gives, Keeps};
 ghost use Rattle.zk_items.specs.Codes.{failure_code};
 ghost use Rattle.zk_lines.specs.Answers as answers;
 ghost use Rattle.zk_lines.specs.Lines as lines;
@@ -26,7 +26,9 @@ fn read_content(line: &mut Reader<'_>) -> Result<(Blob, Stat), LineFault>
 }
 
 fn put_content(out: &mut Vec<u8>, blob: &Blob, stat: &Stat) -> Result<(), AllocError>
-    ensures { OnOk result (out.new.items ≡ out.old.items ++ answers.content.spell (blob.now, stat.now)) }
+    ensures spelled { OnOk result (out.new.items ≡ out.old.items ++ answers.content.spell (blob.now, stat.now)) }
+    ensures fits { OnOk result (answers.content.fits (blob.now, stat.now)) }
+    ensures keeps { Keeps out.old.items out.new.items }
 {
     put_field(out, Word::Blob, blob)?;
     put_field(out, Word::Stat, stat)
@@ -41,7 +43,9 @@ fn read_acls(line: &mut Reader<'_>) -> Result<(List<Acl>, Stat), LineFault>
 }
 
 fn put_acls(out: &mut Vec<u8>, acl: &List<Acl>, stat: &Stat) -> Result<(), AllocError>
-    ensures { OnOk result (out.new.items ≡ out.old.items ++ answers.acls.spell (acl.now, stat.now)) }
+    ensures spelled { OnOk result (out.new.items ≡ out.old.items ++ answers.acls.spell (acl.now, stat.now)) }
+    ensures fits { OnOk result (answers.acls.fits (acl.now, stat.now)) }
+    ensures keeps { Keeps out.old.items out.new.items }
 {
     put_field(out, Word::Acl, acl)?;
     put_field(out, Word::Stat, stat)
@@ -56,7 +60,9 @@ fn read_children(line: &mut Reader<'_>) -> Result<(List<Text>, Stat), LineFault>
 }
 
 fn put_children(out: &mut Vec<u8>, names: &List<Text>, stat: &Stat) -> Result<(), AllocError>
-    ensures { OnOk result (out.new.items ≡ out.old.items ++ answers.children.spell (names.now, stat.now)) }
+    ensures spelled { OnOk result (out.new.items ≡ out.old.items ++ answers.children.spell (names.now, stat.now)) }
+    ensures fits { OnOk result (answers.children.fits (names.now, stat.now)) }
+    ensures keeps { Keeps out.old.items out.new.items }
 {
     put_field(out, Word::Names, names)?;
     put_field(out, Word::Stat, stat)
@@ -71,7 +77,9 @@ fn read_created(line: &mut Reader<'_>) -> Result<(Text, Stat), LineFault>
 }
 
 fn put_created(out: &mut Vec<u8>, path: &Text, stat: &Stat) -> Result<(), AllocError>
-    ensures { OnOk result (out.new.items ≡ out.old.items ++ answers.created.spell (path.now, stat.now)) }
+    ensures spelled { OnOk result (out.new.items ≡ out.old.items ++ answers.created.spell (path.now, stat.now)) }
+    ensures fits { OnOk result (answers.created.fits (path.now, stat.now)) }
+    ensures keeps { Keeps out.old.items out.new.items }
 {
     put_field(out, Word::Path, path)?;
     put_field(out, Word::Stat, stat)
@@ -126,7 +134,9 @@ fn read_body(line: &mut Reader<'_>, op: Op) -> Result<Body, LineFault>
 }
 
 fn put_body(out: &mut Vec<u8>, body: &Body) -> Result<(), AllocError>
-    ensures { OnOk result (out.new.items ≡ out.old.items ++ answers.body_spell body.now) }
+    ensures spelled { OnOk result (out.new.items ≡ out.old.items ++ answers.body_spell body.now) }
+    ensures fits { OnOk result (answers.body_fits body.now) }
+    ensures keeps { Keeps out.old.items out.new.items }
 {
     match body {
         Body::Create { path } => put_field(out, Word::Path, path),
@@ -167,7 +177,9 @@ fn read_outcome(line: &mut Reader<'_>, op: Op) -> Result<Outcome, LineFault>
 }
 
 fn put_outcome(out: &mut Vec<u8>, outcome: &Outcome) -> Result<(), AllocError>
-    ensures { OnOk result (out.new.items ≡ out.old.items ++ answers.outcome_spell outcome.now) }
+    ensures spelled { OnOk result (out.new.items ≡ out.old.items ++ answers.outcome_spell outcome.now) }
+    ensures fits { OnOk result (answers.outcome_fits outcome.now) }
+    ensures keeps { Keeps out.old.items out.new.items }
 {
     match outcome {
         Outcome::Done(body) => put_body(out, body),
@@ -201,7 +213,9 @@ fn read_reply(line: &mut Reader<'_>) -> Result<Reply, LineFault>
 }
 
 fn put_reply(out: &mut Vec<u8>, reply: &Reply) -> Result<(), AllocError>
-    ensures { OnOk result (out.new.items ≡ out.old.items ++ answers.reply.spell reply.now) }
+    ensures spelled { OnOk result (out.new.items ≡ out.old.items ++ answers.reply.spell reply.now) }
+    ensures fits { OnOk result (answers.reply.fits reply.now) }
+    ensures keeps { Keeps out.old.items out.new.items }
 {
     put_int(out, reply.xid)?;
     put_word(out, Word::Blank)?;
@@ -232,7 +246,9 @@ fn put_connected(
     hello: &ConnectResponse,
     read_only: &Option<bool>,
 ) -> Result<(), AllocError>
-    ensures { OnOk result (out.new.items ≡ out.old.items ++ answers.connected.spell (hello.now, read_only.now)) }
+    ensures spelled { OnOk result (out.new.items ≡ out.old.items ++ answers.connected.spell (hello.now, read_only.now)) }
+    ensures fits { OnOk result (answers.connected.fits (hello.now, read_only.now)) }
+    ensures keeps { Keeps out.old.items out.new.items }
 {
     put_field(out, Word::Version, &hello.protocol_version)?;
     put_field(out, Word::Timeout, &hello.time_out)?;
@@ -253,7 +269,9 @@ fn read_event(line: &mut Reader<'_>) -> Result<(i64, WatcherEvent), LineFault>
 }
 
 fn put_event(out: &mut Vec<u8>, zxid: &i64, event: &WatcherEvent) -> Result<(), AllocError>
-    ensures { OnOk result (out.new.items ≡ out.old.items ++ answers.event.spell (zxid.now, event.now)) }
+    ensures spelled { OnOk result (out.new.items ≡ out.old.items ++ answers.event.spell (zxid.now, event.now)) }
+    ensures fits { OnOk result (answers.event.fits (zxid.now, event.now)) }
+    ensures keeps { Keeps out.old.items out.new.items }
 {
     put_field(out, Word::Zxid, zxid)?;
     put_word(out, Word::Kind)?;
@@ -281,7 +299,9 @@ pub fn read_server(line: &mut Reader<'_>) -> Result<ServerFrame, LineFault>
 
 /// Appends a server's line.
 pub fn put_server(out: &mut Vec<u8>, frame: &ServerFrame) -> Result<(), AllocError>
-    ensures { OnOk result (out.new.items ≡ out.old.items ++ lines.server_line frame.now) }
+    ensures spelled { OnOk result (out.new.items ≡ out.old.items ++ lines.server_line frame.now) }
+    ensures fits { OnOk result (lines.ServerFits frame.now) }
+    ensures keeps { Keeps out.old.items out.new.items }
 {
     match frame {
         ServerFrame::Connected { hello, read_only } => {

@@ -1,6 +1,6 @@
 //! What a client sends, as a line shows it.
 ghost use Rattle.std.specs.Prelude.{◌≡◌, ◌++◌, OnOk};
-ghost use Rattle.zk_items.specs.Form.{Gives};
+ghost use Rattle.zk_items.specs.Form.{Gives, Keeps};
 ghost use Rattle.zk_lines.specs.Asks as asks;
 ghost use Rattle.zk_lines.specs.Lines as lines;
 
@@ -32,7 +32,9 @@ fn read_part(line: &mut Reader<'_>, op: PartOp) -> Result<Part, LineFault>
 }
 
 fn put_part(out: &mut Vec<u8>, part: &Part) -> Result<(), AllocError>
-    ensures { OnOk result (out.new.items ≡ out.old.items ++ asks.part_spell part.now) }
+    ensures spelled { OnOk result (out.new.items ≡ out.old.items ++ asks.part_spell part.now) }
+    ensures fits { OnOk result (asks.part_fits part.now) }
+    ensures keeps { Keeps out.old.items out.new.items }
 {
     match part {
         Part::Create(ask) => ask.put(out),
@@ -44,6 +46,8 @@ fn put_part(out: &mut Vec<u8>, part: &Part) -> Result<(), AllocError>
 
 impl Item for Part {
     ghost use Rattle.zk_lines.specs.Asks.{part_form};
+
+    ghost fits = { part_form.fits };
 
     ghost spell = { part_form.spell };
 
@@ -71,7 +75,9 @@ fn read_multi(line: &mut Reader<'_>) -> Result<Items<Part>, LineFault>
 }
 
 fn put_multi(out: &mut Vec<u8>, parts: &[Part]) -> Result<(), AllocError>
-    ensures { OnOk result (out.new.items ≡ out.old.items ++ asks.multi.spell parts.now) }
+    ensures spelled { OnOk result (out.new.items ≡ out.old.items ++ asks.multi.spell parts.now) }
+    ensures fits { OnOk result (asks.multi.fits parts.now) }
+    ensures keeps { Keeps out.old.items out.new.items }
 {
     put_word(out, Word::Parts)?;
     put_series(out, parts, PARTS)
@@ -102,7 +108,9 @@ fn read_body(line: &mut Reader<'_>, op: Op) -> Result<Ask, LineFault>
 }
 
 fn put_body(out: &mut Vec<u8>, ask: &Ask) -> Result<(), AllocError>
-    ensures { OnOk result (out.new.items ≡ out.old.items ++ asks.ask_spell ask.now) }
+    ensures spelled { OnOk result (out.new.items ≡ out.old.items ++ asks.ask_spell ask.now) }
+    ensures fits { OnOk result (asks.ask_fits ask.now) }
+    ensures keeps { Keeps out.old.items out.new.items }
 {
     match ask {
         Ask::Create(ask) => ask.put(out),
@@ -125,6 +133,8 @@ fn put_body(out: &mut Vec<u8>, ask: &Ask) -> Result<(), AllocError>
 
 impl Item for Ask {
     ghost use Rattle.zk_lines.specs.Asks.{ask_form};
+
+    ghost fits = { ask_form.fits };
 
     ghost spell = { ask_form.spell };
 
@@ -169,7 +179,9 @@ fn put_connect(
     hello: &ConnectRequest,
     read_only: &Option<bool>,
 ) -> Result<(), AllocError>
-    ensures { OnOk result (out.new.items ≡ out.old.items ++ asks.connect.spell (hello.now, read_only.now)) }
+    ensures spelled { OnOk result (out.new.items ≡ out.old.items ++ asks.connect.spell (hello.now, read_only.now)) }
+    ensures fits { OnOk result (asks.connect.fits (hello.now, read_only.now)) }
+    ensures keeps { Keeps out.old.items out.new.items }
 {
     put_field(out, Word::Version, &hello.protocol_version)?;
     put_field(out, Word::Zxid, &hello.last_zxid_seen)?;
@@ -196,7 +208,9 @@ pub fn read_client(line: &mut Reader<'_>) -> Result<ClientFrame, LineFault>
 
 /// Appends a client's line.
 pub fn put_client(out: &mut Vec<u8>, frame: &ClientFrame) -> Result<(), AllocError>
-    ensures { OnOk result (out.new.items ≡ out.old.items ++ lines.client_line frame.now) }
+    ensures spelled { OnOk result (out.new.items ≡ out.old.items ++ lines.client_line frame.now) }
+    ensures fits { OnOk result (lines.ClientFits frame.now) }
+    ensures keeps { Keeps out.old.items out.new.items }
 {
     match frame {
         ClientFrame::Connect { hello, read_only } => {

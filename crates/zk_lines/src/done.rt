@@ -1,6 +1,6 @@
 //! The results of a multi, as a line shows them.
 ghost use Rattle.std.specs.Prelude.{◌≡◌, ◌++◌, OnOk};
-ghost use Rattle.zk_items.specs.Form.{Gives};
+ghost use Rattle.zk_items.specs.Form.{Gives, Keeps};
 ghost use Rattle.zk_lines.specs.Answers as answers;
 
 use crate::ask::PARTS;
@@ -63,7 +63,9 @@ fn read_done(line: &mut Reader<'_>, name: DoneName) -> Result<PartDone, LineFaul
 }
 
 fn put_done(out: &mut Vec<u8>, done: &PartDone) -> Result<(), AllocError>
-    ensures { OnOk result (out.new.items ≡ out.old.items ++ answers.done_spell done.now) }
+    ensures spelled { OnOk result (out.new.items ≡ out.old.items ++ answers.done_spell done.now) }
+    ensures fits { OnOk result (answers.done_fits done.now) }
+    ensures keeps { Keeps out.old.items out.new.items }
 {
     match done {
         PartDone::Created(path) => put_field(out, Word::Path, path),
@@ -78,6 +80,8 @@ fn put_done(out: &mut Vec<u8>, done: &PartDone) -> Result<(), AllocError>
 
 impl Item for PartDone {
     ghost use Rattle.zk_lines.specs.Answers.{done_form};
+
+    ghost fits = { done_form.fits };
 
     ghost spell = { done_form.spell };
 
@@ -107,7 +111,9 @@ pub fn read_multi(line: &mut Reader<'_>) -> Result<Items<PartDone>, LineFault>
 
 /// Appends results.
 pub fn put_multi(out: &mut Vec<u8>, results: &[PartDone]) -> Result<(), AllocError>
-    ensures { OnOk result (out.new.items ≡ out.old.items ++ answers.multi.spell results.now) }
+    ensures spelled { OnOk result (out.new.items ≡ out.old.items ++ answers.multi.spell results.now) }
+    ensures fits { OnOk result (answers.multi.fits results.now) }
+    ensures keeps { Keeps out.old.items out.new.items }
 {
     put_word(out, Word::Parts)?;
     put_series(out, results, PARTS)

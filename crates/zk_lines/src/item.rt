@@ -1,6 +1,6 @@
 //! An item of a line, and a field: a word and an item.
 ghost use Rattle.std.specs.Prelude.{◌≡◌, ◌++◌, List, ℕ, OnOk};
-ghost use Rattle.zk_items.specs.Form.{Gives, Read};
+ghost use Rattle.zk_items.specs.Form.{Gives, Keeps, Read};
 ghost use Rattle.zk_items.specs.Words.{field_at, word_of};
 
 use std::alloc::AllocError;
@@ -12,6 +12,9 @@ use zk_jute::{Blob, Text};
 
 /// A value that is an item of a line.
 pub trait Item: Sized + Drop {
+    /// What a value in memory is.
+    ghost fits: { Self → Type 0 };
+
     ghost spell: { Self → List ℕ };
 
     ghost at: { List ℕ → Read Self };
@@ -22,7 +25,9 @@ pub trait Item: Sized + Drop {
 
     /// Appends the item.
     fn put(&self, out: &mut Vec<u8>) -> Result<(), AllocError>
-        ensures { OnOk result (out.new.items ≡ out.old.items ++ spell self.now) };
+        ensures spelled { OnOk result (out.new.items ≡ out.old.items ++ spell self.now) }
+        ensures fits { OnOk result (fits self.now) }
+        ensures keeps { Keeps out.old.items out.new.items };
 }
 
 /// The field that is next: the word, and then the value.
@@ -36,7 +41,9 @@ pub fn read_field<T: Item>(line: &mut Reader<'_>, word: Word) -> Result<T, LineF
 /// Appends the field: the word, and then the value.
 #[inline(always)]
 pub fn put_field<T: Item>(out: &mut Vec<u8>, word: Word, value: &T) -> Result<(), AllocError>
-    ensures { OnOk result (out.new.items ≡ out.old.items ++ (word_of word ++ T.spell value.now)) }
+    ensures spelled { OnOk result (out.new.items ≡ out.old.items ++ (word_of word ++ T.spell value.now)) }
+    ensures fits { OnOk result (T.fits value.now) }
+    ensures keeps { Keeps out.old.items out.new.items }
 {
     put_word(out, word)?;
     value.put(out)
@@ -44,6 +51,8 @@ pub fn put_field<T: Item>(out: &mut Vec<u8>, word: Word, value: &T) -> Result<()
 
 impl Item for i32 {
     ghost use Rattle.zk_items.specs.Leaf.{int};
+
+    ghost fits = { int.fits };
 
     ghost spell = { int.spell };
 
@@ -61,6 +70,8 @@ impl Item for i32 {
 impl Item for i64 {
     ghost use Rattle.zk_items.specs.Leaf.{long};
 
+    ghost fits = { long.fits };
+
     ghost spell = { long.spell };
 
     ghost at = { long.at };
@@ -76,6 +87,8 @@ impl Item for i64 {
 
 impl Item for bool {
     ghost use Rattle.zk_items.specs.Leaf.{bit};
+
+    ghost fits = { bit.fits };
 
     ghost spell = { bit.spell };
 
@@ -93,6 +106,8 @@ impl Item for bool {
 impl Item for Option<bool> {
     ghost use Rattle.zk_items.specs.Leaf.{ro};
 
+    ghost fits = { ro.fits };
+
     ghost spell = { ro.spell };
 
     ghost at = { ro.at };
@@ -109,6 +124,8 @@ impl Item for Option<bool> {
 impl Item for Text {
     ghost use Rattle.zk_items.specs.Leaf.{text};
 
+    ghost fits = { text.fits };
+
     ghost spell = { text.spell };
 
     ghost at = { text.at };
@@ -124,6 +141,8 @@ impl Item for Text {
 
 impl Item for Blob {
     ghost use Rattle.zk_items.specs.Leaf.{blob};
+
+    ghost fits = { blob.fits };
 
     ghost spell = { blob.spell };
 

@@ -1,5 +1,5 @@
 //! The line of a message, and back.
-ghost use Rattle.std.specs.Prelude.{◌≡◌, ◌++◌, IfOk, OnOk};
+ghost use Rattle.std.specs.Prelude.{◌≡◌, ◌++◌, IfOk, OnErr, OnOk};
 ghost use Rattle.zk_items.specs.Form.{Answers};
 ghost use Rattle.zk_lines.specs.Lines as lines;
 ghost use Rattle.zk_lines.specs.Lines.{Fits, Reads, whole, client_at, server_at, message_at};
@@ -17,18 +17,33 @@ use zk_talk::Message;
 const USUAL: usize = 256;
 
 /// Appends the message's line, without line feed. Every message has one, also one that no conversation has.
+///
+/// # Errors
+///
+/// A growth was refused: `out` then holds what it held before.
 pub fn put_line(out: &mut Vec<u8>, message: &Message) -> Result<(), AllocError>
-    ensures { OnOk result (out.new.items ≡ out.old.items ++ lines.line message.now) }
+    ensures line { OnOk result (out.new.items ≡ out.old.items ++ lines.line message.now) }
+    // Two messages that fit have two lines.
+    ensures fits { OnOk result (Fits message.now) }
+    // Nothing of a line that isn't whole is left.
+    ensures unchanged { OnErr result (out.new.items ≡ out.old.items) }
 {
-    match message {
+    let before = out.len();
+    let put = match message {
         Message::Client(frame) => put_client(out, frame),
         Message::Server(frame) => put_server(out, frame),
+    };
+    if put.is_err() {
+        out.truncate(before);
     }
+    put
 }
 
 /// The message's line, without line feed.
 pub fn line_of(alloc: Global, message: &Message) -> Result<Vec<u8>, AllocError>
-    ensures { IfOk result (λ line. line.items ≡ lines.line message.now) }
+    ensures line { IfOk result (λ line. line.items ≡ lines.line message.now) }
+    // Two messages that fit have two lines.
+    ensures fits { OnOk result (Fits message.now) }
 {
     let mut line = Vec::with_capacity(alloc, USUAL)?;
     put_line(&mut line, message)?;

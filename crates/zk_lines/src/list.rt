@@ -1,8 +1,8 @@
 //! Lists of items.
 ghost use Rattle.std.specs.Prelude.{◌≡◌, ◌++◌, ◌∷◌, [], length, OnOk};
-ghost use Rattle.std.specs.List.{flat_map};
-ghost use Rattle.zk_items.specs.Form.{Gives, GivesSeen};
-ghost use Rattle.zk_lines.specs.Series.{element_at, list_at, series_at, list_spell, series_spell};
+ghost use Rattle.std.specs.List.{flat_map, AllByRecursion};
+ghost use Rattle.zk_items.specs.Form.{Gives, GivesSeen, Keeps};
+ghost use Rattle.zk_lines.specs.Series.{element_at, list_at, series_at, list_fits, list_spell, series_spell};
 ghost use Rattle.zk_items.specs.Many.{many_at, with_first};
 
 use crate::item::Item;
@@ -58,7 +58,9 @@ pub fn read_series<T: Item>(line: &mut Reader<'_>, signs: Signs) -> Result<Items
 }
 
 fn put_elements<T: Item>(out: &mut Vec<u8>, items: &[T], sign: u8) -> Result<(), AllocError>
-    ensures { OnOk result (out.new.items ≡ out.old.items ++ flat_map (λ y. sign ∷ T.spell y) items.now) }
+    ensures spelled { OnOk result (out.new.items ≡ out.old.items ++ flat_map (λ y. sign ∷ T.spell y) items.now) }
+    ensures fits { OnOk result (AllByRecursion T.fits items.now) }
+    ensures keeps { Keeps out.old.items out.new.items }
 {
     for item in items {
         out.push(sign)?;
@@ -69,7 +71,9 @@ fn put_elements<T: Item>(out: &mut Vec<u8>, items: &[T], sign: u8) -> Result<(),
 
 /// Appends the items behind the first.
 fn put_others<T: Item>(out: &mut Vec<u8>, items: &[T], signs: Signs) -> Result<(), AllocError>
-    ensures { OnOk result (out.new.items ≡ out.old.items ++ (flat_map (λ y. signs.between ∷ T.spell y) items.now ++ (signs.behind ∷ []))) }
+    ensures spelled { OnOk result (out.new.items ≡ out.old.items ++ (flat_map (λ y. signs.between ∷ T.spell y) items.now ++ (signs.behind ∷ []))) }
+    ensures fits { OnOk result (AllByRecursion T.fits items.now) }
+    ensures keeps { Keeps out.old.items out.new.items }
 {
     put_elements(out, items, signs.between)?;
     out.extend_from_slice(&[signs.behind])
@@ -77,7 +81,9 @@ fn put_others<T: Item>(out: &mut Vec<u8>, items: &[T], signs: Signs) -> Result<(
 
 /// Appends the items, with a sign between two and one behind the last.
 pub fn put_series<T: Item>(out: &mut Vec<u8>, items: &[T], signs: Signs) -> Result<(), AllocError>
-    ensures { OnOk result (out.new.items ≡ out.old.items ++ series_spell signs.between signs.behind T.spell items.now) }
+    ensures spelled { OnOk result (out.new.items ≡ out.old.items ++ series_spell signs.between signs.behind T.spell items.now) }
+    ensures fits { OnOk result (AllByRecursion T.fits items.now) }
+    ensures keeps { Keeps out.old.items out.new.items }
 {
     match items.split_first() {
         None => out.extend_from_slice(&[signs.behind]),
@@ -94,6 +100,8 @@ const COMMAS: Signs = Signs {
 };
 
 impl<T: Item> Item for List<T> {
+    ghost fits = { list_fits T.fits };
+
     ghost spell = { list_spell T.spell };
 
     ghost at = { list_at T.at };

@@ -1,6 +1,6 @@
 //! The records that are items of a line: an entry of an access list, and what is known of a node.
 ghost use Rattle.std.specs.Prelude.{◌≡◌, ◌++◌, OnOk};
-ghost use Rattle.zk_items.specs.Form.{Gives};
+ghost use Rattle.zk_items.specs.Form.{Gives, Keeps};
 ghost use Rattle.zk_lines.specs.Records as records;
 
 use crate::item::{Item, put_field, read_field};
@@ -10,6 +10,8 @@ use zk_records::{Acl, Id, Stat};
 
 impl Item for Acl {
     ghost use Rattle.zk_lines.specs.Records.{acl};
+
+    ghost fits = { acl.fits };
 
     ghost spell = { acl.spell };
 
@@ -34,6 +36,8 @@ impl Item for Acl {
 
 impl Item for Stat {
     ghost use Rattle.zk_lines.specs.Records.{stat};
+
+    ghost fits = { stat.fits };
 
     ghost spell = { stat.spell };
 
@@ -100,7 +104,9 @@ fn sizes(line: &mut Reader<'_>) -> Result<(i64, (i32, (i32, i64))), LineFault>
 }
 
 fn put_times(out: &mut Vec<u8>, stat: &Stat) -> Result<(), AllocError>
-    ensures { OnOk result (out.new.items ≡ out.old.items ++ records.times.spell (stat.now.czxid, (stat.now.mzxid, (stat.now.ctime, stat.now.mtime)))) }
+    ensures spelled { OnOk result (out.new.items ≡ out.old.items ++ records.times.spell (stat.now.czxid, (stat.now.mzxid, (stat.now.ctime, stat.now.mtime)))) }
+    ensures fits { OnOk result (records.times.fits (stat.now.czxid, (stat.now.mzxid, (stat.now.ctime, stat.now.mtime)))) }
+    ensures keeps { Keeps out.old.items out.new.items }
 {
     put_field(out, Word::Open, &stat.czxid)?;
     put_field(out, Word::Comma, &stat.mzxid)?;
@@ -109,7 +115,9 @@ fn put_times(out: &mut Vec<u8>, stat: &Stat) -> Result<(), AllocError>
 }
 
 fn put_versions(out: &mut Vec<u8>, stat: &Stat) -> Result<(), AllocError>
-    ensures { OnOk result (out.new.items ≡ out.old.items ++ records.versions.spell (stat.now.version, (stat.now.cversion, stat.now.aversion))) }
+    ensures spelled { OnOk result (out.new.items ≡ out.old.items ++ records.versions.spell (stat.now.version, (stat.now.cversion, stat.now.aversion))) }
+    ensures fits { OnOk result (records.versions.fits (stat.now.version, (stat.now.cversion, stat.now.aversion))) }
+    ensures keeps { Keeps out.old.items out.new.items }
 {
     put_field(out, Word::Comma, &stat.version)?;
     put_field(out, Word::Comma, &stat.cversion)?;
@@ -117,7 +125,9 @@ fn put_versions(out: &mut Vec<u8>, stat: &Stat) -> Result<(), AllocError>
 }
 
 fn put_sizes(out: &mut Vec<u8>, stat: &Stat) -> Result<(), AllocError>
-    ensures { OnOk result (out.new.items ≡ out.old.items ++ records.sizes.spell (stat.now.ephemeral_owner, (stat.now.data_length, (stat.now.num_children, stat.now.pzxid)))) }
+    ensures spelled { OnOk result (out.new.items ≡ out.old.items ++ records.sizes.spell (stat.now.ephemeral_owner, (stat.now.data_length, (stat.now.num_children, stat.now.pzxid)))) }
+    ensures fits { OnOk result (records.sizes.fits (stat.now.ephemeral_owner, (stat.now.data_length, (stat.now.num_children, stat.now.pzxid)))) }
+    ensures keeps { Keeps out.old.items out.new.items }
 {
     put_field(out, Word::Comma, &stat.ephemeral_owner)?;
     put_field(out, Word::Comma, &stat.data_length)?;

@@ -11,6 +11,8 @@ use zk_records::{
 impl Item for CreateAsk {
     ghost use Rattle.zk_lines.specs.Asks.{create};
 
+    ghost fits = { create.fits };
+
     ghost spell = { create.spell };
 
     ghost at = { create.at };
@@ -39,6 +41,8 @@ impl Item for CreateAsk {
 impl Item for DeleteAsk {
     ghost use Rattle.zk_lines.specs.Asks.{delete};
 
+    ghost fits = { delete.fits };
+
     ghost spell = { delete.spell };
 
     ghost at = { delete.at };
@@ -58,6 +62,8 @@ impl Item for DeleteAsk {
 impl Item for WatchAsk {
     ghost use Rattle.zk_lines.specs.Asks.{watch};
 
+    ghost fits = { watch.fits };
+
     ghost spell = { watch.spell };
 
     ghost at = { watch.at };
@@ -76,6 +82,8 @@ impl Item for WatchAsk {
 
 impl Item for SetDataAsk {
     ghost use Rattle.zk_lines.specs.Asks.{set_data};
+
+    ghost fits = { set_data.fits };
 
     ghost spell = { set_data.spell };
 
@@ -102,6 +110,8 @@ impl Item for SetDataAsk {
 impl Item for PathAsk {
     ghost use Rattle.zk_lines.specs.Asks.{path};
 
+    ghost fits = { path.fits };
+
     ghost spell = { path.spell };
 
     ghost at = { path.at };
@@ -118,6 +128,8 @@ impl Item for PathAsk {
 
 impl Item for SetAclAsk {
     ghost use Rattle.zk_lines.specs.Asks.{set_acl};
+
+    ghost fits = { set_acl.fits };
 
     ghost spell = { set_acl.spell };
 
@@ -140,6 +152,8 @@ impl Item for SetAclAsk {
 impl Item for AuthAsk {
     ghost use Rattle.zk_lines.specs.Asks.{auth};
 
+    ghost fits = { auth.fits };
+
     ghost spell = { auth.spell };
 
     ghost at = { auth.at };
@@ -160,6 +174,8 @@ impl Item for AuthAsk {
 
 impl Item for SetWatchesAsk {
     ghost use Rattle.zk_lines.specs.Asks.{set_watches};
+
+    ghost fits = { set_watches.fits };
 
     ghost spell = { set_watches.spell };
 
@@ -188,6 +204,8 @@ impl Item for SetWatchesAsk {
 
 impl Item for CheckAsk {
     ghost use Rattle.zk_lines.specs.Asks.{check};
+
+    ghost fits = { check.fits };
 
     ghost spell = { check.spell };
 

@@ -2,3 +2,5 @@ pub mod Listed
 pub mod Codes
 pub mod Names
 pub mod Records
+pub mod Held
+pub mod Shown

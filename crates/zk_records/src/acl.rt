@@ -1,18 +1,27 @@
 //! Who may do what: the records `Id` and `ACL` of zookeeper.jute.
-ghost use Rattle.zk_records.specs.Records.{id, acl};
+ghost use Rattle.zk_records.specs.Records.{id, acl, id_of, acl_of};
+ghost use Rattle.zk_records.specs.Shown.{acl_value, acl_is_value};
 
 use crate::fields::{decode, fields};
 use std::alloc::Global;
-use zk_jute::{ItemFault, Output, Spell, Text, Wire};
+use zk_jute::{
+    Element, Form, ItemFault, Kept, Output, Series, Source, Spell, Stands, Text, TextRef, Wire,
+};
 
 /// Who someone is under a scheme: `Id`.
 #[derive(Debug, Drop)]
-pub struct Id {
+pub struct IdOf<T> {
     /// As `world`, `auth`, `digest`, `ip`.
-    pub scheme: Text,
+    pub scheme: T,
     /// `id` in jute.
-    pub ident: Text,
+    pub ident: T,
 }
+
+/// Id with memory of its own.
+pub type Id = IdOf<Text>;
+
+/// Id where it lies in a payload.
+pub type IdRef<'a> = IdOf<TextRef<'a>>;
 
 impl Spell for Id {
     ghost items = { id.items };
@@ -22,15 +31,21 @@ impl Spell for Id {
     }
 }
 
+impl<T: Form> Form for IdOf<T> {
+    ghost wired = { id_of T.wired };
+}
+
+impl<P: Source, T: Stands<P>> Stands<P> for IdOf<T> {
+    fn decode(src: &P, place: usize) -> Result<(Self, usize), ItemFault> {
+        decode!(src, place => IdOf { scheme, ident })
+    }
+}
+
 impl Wire for Id {
     ghost layout = { id.layout };
 
     fn decode(alloc: Global, src: &[u8], place: usize) -> Result<(Self, usize), ItemFault> {
-        decode!(alloc, src, place => Id { scheme, ident })
-    }
-
-    fn scan(src: &[u8], place: usize) -> Result<usize, ItemFault> {
-        <fields!(Text, Text)>::scan(src, place)
+        Stands::decode(&Kept { alloc, bytes: src }, place)
     }
 
     ghost unfolds = { id.unfolds };
@@ -42,12 +57,18 @@ impl Wire for Id {
 
 /// What someone may do: `ACL`.
 #[derive(Debug, Drop)]
-pub struct Acl {
+pub struct AclOf<W> {
     /// A sum of read 1, write 2, create 4, delete 8 and admin 16; any number is taken.
     pub perms: i32,
     /// `id` in jute.
-    pub who: Id,
+    pub who: W,
 }
+
+/// Acl with memory of its own.
+pub type Acl = AclOf<Id>;
+
+/// Acl where it lies in a payload.
+pub type AclRef<'a> = AclOf<IdRef<'a>>;
 
 impl Spell for Acl {
     ghost items = { acl.items };
@@ -57,15 +78,21 @@ impl Spell for Acl {
     }
 }
 
+impl<W: Form> Form for AclOf<W> {
+    ghost wired = { acl_of W.wired };
+}
+
+impl<P: Source, W: Stands<P>> Stands<P> for AclOf<W> {
+    fn decode(src: &P, place: usize) -> Result<(Self, usize), ItemFault> {
+        decode!(src, place => AclOf { perms, who })
+    }
+}
+
 impl Wire for Acl {
     ghost layout = { acl.layout };
 
     fn decode(alloc: Global, src: &[u8], place: usize) -> Result<(Self, usize), ItemFault> {
-        decode!(alloc, src, place => Acl { perms, who })
-    }
-
-    fn scan(src: &[u8], place: usize) -> Result<usize, ItemFault> {
-        <fields!(i32, Id)>::scan(src, place)
+        Stands::decode(&Kept { alloc, bytes: src }, place)
     }
 
     ghost unfolds = { acl.unfolds };
@@ -74,3 +101,12 @@ impl Wire for Acl {
 
     ghost has_fields = { acl.has_fields };
 }
+
+impl<'a> Element for AclRef<'a> {
+    ghost value = { acl_value };
+
+    ghost is_value = { acl_is_value };
+}
+
+/// A list of access rights where it lies in a payload.
+pub type AclList<'a> = Series<'a, AclRef<'a>>;

@@ -1,22 +1,30 @@
 //! The bodies of requests that change a node, and of a check: `CreateRequest`, `DeleteRequest`,
 //! `SetDataRequest`, `SetACLRequest` and `CheckVersionRequest` of zookeeper.jute.
-ghost use Rattle.zk_records.specs.Records.{create_ask, delete_ask, set_data_ask, set_acl_ask, check_ask};
+ghost use Rattle.zk_records.specs.Records.{create_ask, delete_ask, set_data_ask, set_acl_ask, check_ask, create_ask_of, delete_ask_of, set_data_ask_of, set_acl_ask_of, check_ask_of};
 
-use crate::acl::Acl;
+use crate::acl::{Acl, AclList};
 use crate::fields::{decode, fields};
 use std::alloc::Global;
-use zk_jute::{Blob, ItemFault, List, Output, Spell, Text, Wire};
+use zk_jute::{
+    Blob, BlobRef, Form, ItemFault, Kept, List, Output, Source, Spell, Stands, Text, TextRef, Wire,
+};
 
 /// A node is to be made: `CreateRequest`.
 #[derive(Debug, Drop)]
-pub struct CreateAsk {
-    pub path: Text,
+pub struct CreateAskOf<T, B, A> {
+    pub path: T,
     /// `data` in jute.
-    pub blob: Blob,
-    pub acl: List<Acl>,
+    pub blob: B,
+    pub acl: A,
     /// 0 persistent, 1 ephemeral, 2 and 3 the same with a sequence number; any number is taken.
     pub flags: i32,
 }
+
+/// CreateAsk with memory of its own.
+pub type CreateAsk = CreateAskOf<Text, Blob, List<Acl>>;
+
+/// CreateAsk where it lies in a payload.
+pub type CreateAskRef<'a> = CreateAskOf<TextRef<'a>, BlobRef<'a>, AclList<'a>>;
 
 impl Spell for CreateAsk {
     ghost items = { create_ask.items };
@@ -26,15 +34,21 @@ impl Spell for CreateAsk {
     }
 }
 
+impl<T: Form, B: Form, A: Form> Form for CreateAskOf<T, B, A> {
+    ghost wired = { create_ask_of T.wired B.wired A.wired };
+}
+
+impl<P: Source, T: Stands<P>, B: Stands<P>, A: Stands<P>> Stands<P> for CreateAskOf<T, B, A> {
+    fn decode(src: &P, place: usize) -> Result<(Self, usize), ItemFault> {
+        decode!(src, place => CreateAskOf { path, blob, acl, flags })
+    }
+}
+
 impl Wire for CreateAsk {
     ghost layout = { create_ask.layout };
 
     fn decode(alloc: Global, src: &[u8], place: usize) -> Result<(Self, usize), ItemFault> {
-        decode!(alloc, src, place => CreateAsk { path, blob, acl, flags })
-    }
-
-    fn scan(src: &[u8], place: usize) -> Result<usize, ItemFault> {
-        <fields!(Text, Blob, List<Acl>, i32)>::scan(src, place)
+        Stands::decode(&Kept { alloc, bytes: src }, place)
     }
 
     ghost unfolds = { create_ask.unfolds };
@@ -46,11 +60,17 @@ impl Wire for CreateAsk {
 
 /// A node is to be removed: `DeleteRequest`.
 #[derive(Debug, Drop)]
-pub struct DeleteAsk {
-    pub path: Text,
+pub struct DeleteAskOf<T> {
+    pub path: T,
     /// The data's version that is wanted, -1 for any.
     pub version: i32,
 }
+
+/// DeleteAsk with memory of its own.
+pub type DeleteAsk = DeleteAskOf<Text>;
+
+/// DeleteAsk where it lies in a payload.
+pub type DeleteAskRef<'a> = DeleteAskOf<TextRef<'a>>;
 
 impl Spell for DeleteAsk {
     ghost items = { delete_ask.items };
@@ -60,15 +80,21 @@ impl Spell for DeleteAsk {
     }
 }
 
+impl<T: Form> Form for DeleteAskOf<T> {
+    ghost wired = { delete_ask_of T.wired };
+}
+
+impl<P: Source, T: Stands<P>> Stands<P> for DeleteAskOf<T> {
+    fn decode(src: &P, place: usize) -> Result<(Self, usize), ItemFault> {
+        decode!(src, place => DeleteAskOf { path, version })
+    }
+}
+
 impl Wire for DeleteAsk {
     ghost layout = { delete_ask.layout };
 
     fn decode(alloc: Global, src: &[u8], place: usize) -> Result<(Self, usize), ItemFault> {
-        decode!(alloc, src, place => DeleteAsk { path, version })
-    }
-
-    fn scan(src: &[u8], place: usize) -> Result<usize, ItemFault> {
-        <fields!(Text, i32)>::scan(src, place)
+        Stands::decode(&Kept { alloc, bytes: src }, place)
     }
 
     ghost unfolds = { delete_ask.unfolds };
@@ -80,13 +106,19 @@ impl Wire for DeleteAsk {
 
 /// A node's data is to be set: `SetDataRequest`.
 #[derive(Debug, Drop)]
-pub struct SetDataAsk {
-    pub path: Text,
+pub struct SetDataAskOf<T, B> {
+    pub path: T,
     /// `data` in jute.
-    pub blob: Blob,
+    pub blob: B,
     /// The data's version that is wanted, -1 for any.
     pub version: i32,
 }
+
+/// SetDataAsk with memory of its own.
+pub type SetDataAsk = SetDataAskOf<Text, Blob>;
+
+/// SetDataAsk where it lies in a payload.
+pub type SetDataAskRef<'a> = SetDataAskOf<TextRef<'a>, BlobRef<'a>>;
 
 impl Spell for SetDataAsk {
     ghost items = { set_data_ask.items };
@@ -96,15 +128,21 @@ impl Spell for SetDataAsk {
     }
 }
 
+impl<T: Form, B: Form> Form for SetDataAskOf<T, B> {
+    ghost wired = { set_data_ask_of T.wired B.wired };
+}
+
+impl<P: Source, T: Stands<P>, B: Stands<P>> Stands<P> for SetDataAskOf<T, B> {
+    fn decode(src: &P, place: usize) -> Result<(Self, usize), ItemFault> {
+        decode!(src, place => SetDataAskOf { path, blob, version })
+    }
+}
+
 impl Wire for SetDataAsk {
     ghost layout = { set_data_ask.layout };
 
     fn decode(alloc: Global, src: &[u8], place: usize) -> Result<(Self, usize), ItemFault> {
-        decode!(alloc, src, place => SetDataAsk { path, blob, version })
-    }
-
-    fn scan(src: &[u8], place: usize) -> Result<usize, ItemFault> {
-        <fields!(Text, Blob, i32)>::scan(src, place)
+        Stands::decode(&Kept { alloc, bytes: src }, place)
     }
 
     ghost unfolds = { set_data_ask.unfolds };
@@ -116,12 +154,18 @@ impl Wire for SetDataAsk {
 
 /// A node's access list is to be set: `SetACLRequest`.
 #[derive(Debug, Drop)]
-pub struct SetAclAsk {
-    pub path: Text,
-    pub acl: List<Acl>,
+pub struct SetAclAskOf<T, A> {
+    pub path: T,
+    pub acl: A,
     /// The access list's version that is wanted, -1 for any.
     pub version: i32,
 }
+
+/// SetAclAsk with memory of its own.
+pub type SetAclAsk = SetAclAskOf<Text, List<Acl>>;
+
+/// SetAclAsk where it lies in a payload.
+pub type SetAclAskRef<'a> = SetAclAskOf<TextRef<'a>, AclList<'a>>;
 
 impl Spell for SetAclAsk {
     ghost items = { set_acl_ask.items };
@@ -131,15 +175,21 @@ impl Spell for SetAclAsk {
     }
 }
 
+impl<T: Form, A: Form> Form for SetAclAskOf<T, A> {
+    ghost wired = { set_acl_ask_of T.wired A.wired };
+}
+
+impl<P: Source, T: Stands<P>, A: Stands<P>> Stands<P> for SetAclAskOf<T, A> {
+    fn decode(src: &P, place: usize) -> Result<(Self, usize), ItemFault> {
+        decode!(src, place => SetAclAskOf { path, acl, version })
+    }
+}
+
 impl Wire for SetAclAsk {
     ghost layout = { set_acl_ask.layout };
 
     fn decode(alloc: Global, src: &[u8], place: usize) -> Result<(Self, usize), ItemFault> {
-        decode!(alloc, src, place => SetAclAsk { path, acl, version })
-    }
-
-    fn scan(src: &[u8], place: usize) -> Result<usize, ItemFault> {
-        <fields!(Text, List<Acl>, i32)>::scan(src, place)
+        Stands::decode(&Kept { alloc, bytes: src }, place)
     }
 
     ghost unfolds = { set_acl_ask.unfolds };
@@ -151,11 +201,17 @@ impl Wire for SetAclAsk {
 
 /// A node's version is to be checked, within a multi: `CheckVersionRequest`.
 #[derive(Debug, Drop)]
-pub struct CheckAsk {
-    pub path: Text,
+pub struct CheckAskOf<T> {
+    pub path: T,
     /// The data's version that is wanted, -1 for any.
     pub version: i32,
 }
+
+/// CheckAsk with memory of its own.
+pub type CheckAsk = CheckAskOf<Text>;
+
+/// CheckAsk where it lies in a payload.
+pub type CheckAskRef<'a> = CheckAskOf<TextRef<'a>>;
 
 impl Spell for CheckAsk {
     ghost items = { check_ask.items };
@@ -165,15 +221,21 @@ impl Spell for CheckAsk {
     }
 }
 
+impl<T: Form> Form for CheckAskOf<T> {
+    ghost wired = { check_ask_of T.wired };
+}
+
+impl<P: Source, T: Stands<P>> Stands<P> for CheckAskOf<T> {
+    fn decode(src: &P, place: usize) -> Result<(Self, usize), ItemFault> {
+        decode!(src, place => CheckAskOf { path, version })
+    }
+}
+
 impl Wire for CheckAsk {
     ghost layout = { check_ask.layout };
 
     fn decode(alloc: Global, src: &[u8], place: usize) -> Result<(Self, usize), ItemFault> {
-        decode!(alloc, src, place => CheckAsk { path, version })
-    }
-
-    fn scan(src: &[u8], place: usize) -> Result<usize, ItemFault> {
-        <fields!(Text, i32)>::scan(src, place)
+        Stands::decode(&Kept { alloc, bytes: src }, place)
     }
 
     ghost unfolds = { check_ask.unfolds };

@@ -1,20 +1,29 @@
 //! The bodies of replies of more than one field: `GetDataResponse`, `GetACLResponse`,
 //! `GetChildren2Response` and `Create2Response` of zookeeper.jute.
-ghost use Rattle.zk_records.specs.Records.{data_body, acl_body, children_body, create_body};
+ghost use Rattle.zk_records.specs.Records.{data_body, acl_body, children_body, create_body, data_body_of, acl_body_of, children_body_of, create_body_of};
 
-use crate::acl::Acl;
+use crate::acl::{Acl, AclList};
 use crate::fields::{decode, fields};
 use crate::stat::Stat;
 use std::alloc::Global;
-use zk_jute::{Blob, ItemFault, List, Output, Spell, Text, Wire};
+use zk_jute::{
+    Blob, BlobRef, Form, ItemFault, Kept, List, Output, Source, Spell, Stands, Text, TextList,
+    TextRef, Wire,
+};
 
 /// What a node holds: `GetDataResponse`.
 #[derive(Debug, Drop)]
-pub struct DataBody {
+pub struct DataBodyOf<B> {
     /// `data` in jute.
-    pub blob: Blob,
+    pub blob: B,
     pub stat: Stat,
 }
+
+/// DataBody with memory of its own.
+pub type DataBody = DataBodyOf<Blob>;
+
+/// DataBody where it lies in a payload.
+pub type DataBodyRef<'a> = DataBodyOf<BlobRef<'a>>;
 
 impl Spell for DataBody {
     ghost items = { data_body.items };
@@ -24,15 +33,21 @@ impl Spell for DataBody {
     }
 }
 
+impl<B: Form> Form for DataBodyOf<B> {
+    ghost wired = { data_body_of B.wired };
+}
+
+impl<P: Source, B: Stands<P>> Stands<P> for DataBodyOf<B> {
+    fn decode(src: &P, place: usize) -> Result<(Self, usize), ItemFault> {
+        decode!(src, place => DataBodyOf { blob, stat })
+    }
+}
+
 impl Wire for DataBody {
     ghost layout = { data_body.layout };
 
     fn decode(alloc: Global, src: &[u8], place: usize) -> Result<(Self, usize), ItemFault> {
-        decode!(alloc, src, place => DataBody { blob, stat })
-    }
-
-    fn scan(src: &[u8], place: usize) -> Result<usize, ItemFault> {
-        <fields!(Blob, Stat)>::scan(src, place)
+        Stands::decode(&Kept { alloc, bytes: src }, place)
     }
 
     ghost unfolds = { data_body.unfolds };
@@ -44,10 +59,16 @@ impl Wire for DataBody {
 
 /// Who may do what with a node: `GetACLResponse`.
 #[derive(Debug, Drop)]
-pub struct AclBody {
-    pub acl: List<Acl>,
+pub struct AclBodyOf<A> {
+    pub acl: A,
     pub stat: Stat,
 }
+
+/// AclBody with memory of its own.
+pub type AclBody = AclBodyOf<List<Acl>>;
+
+/// AclBody where it lies in a payload.
+pub type AclBodyRef<'a> = AclBodyOf<AclList<'a>>;
 
 impl Spell for AclBody {
     ghost items = { acl_body.items };
@@ -57,15 +78,21 @@ impl Spell for AclBody {
     }
 }
 
+impl<A: Form> Form for AclBodyOf<A> {
+    ghost wired = { acl_body_of A.wired };
+}
+
+impl<P: Source, A: Stands<P>> Stands<P> for AclBodyOf<A> {
+    fn decode(src: &P, place: usize) -> Result<(Self, usize), ItemFault> {
+        decode!(src, place => AclBodyOf { acl, stat })
+    }
+}
+
 impl Wire for AclBody {
     ghost layout = { acl_body.layout };
 
     fn decode(alloc: Global, src: &[u8], place: usize) -> Result<(Self, usize), ItemFault> {
-        decode!(alloc, src, place => AclBody { acl, stat })
-    }
-
-    fn scan(src: &[u8], place: usize) -> Result<usize, ItemFault> {
-        <fields!(List<Acl>, Stat)>::scan(src, place)
+        Stands::decode(&Kept { alloc, bytes: src }, place)
     }
 
     ghost unfolds = { acl_body.unfolds };
@@ -77,11 +104,17 @@ impl Wire for AclBody {
 
 /// The names below a node: `GetChildren2Response`.
 #[derive(Debug, Drop)]
-pub struct ChildrenBody {
+pub struct ChildrenBodyOf<L> {
     /// `children` in jute.
-    pub names: List<Text>,
+    pub names: L,
     pub stat: Stat,
 }
+
+/// ChildrenBody with memory of its own.
+pub type ChildrenBody = ChildrenBodyOf<List<Text>>;
+
+/// ChildrenBody where it lies in a payload.
+pub type ChildrenBodyRef<'a> = ChildrenBodyOf<TextList<'a>>;
 
 impl Spell for ChildrenBody {
     ghost items = { children_body.items };
@@ -91,15 +124,21 @@ impl Spell for ChildrenBody {
     }
 }
 
+impl<L: Form> Form for ChildrenBodyOf<L> {
+    ghost wired = { children_body_of L.wired };
+}
+
+impl<P: Source, L: Stands<P>> Stands<P> for ChildrenBodyOf<L> {
+    fn decode(src: &P, place: usize) -> Result<(Self, usize), ItemFault> {
+        decode!(src, place => ChildrenBodyOf { names, stat })
+    }
+}
+
 impl Wire for ChildrenBody {
     ghost layout = { children_body.layout };
 
     fn decode(alloc: Global, src: &[u8], place: usize) -> Result<(Self, usize), ItemFault> {
-        decode!(alloc, src, place => ChildrenBody { names, stat })
-    }
-
-    fn scan(src: &[u8], place: usize) -> Result<usize, ItemFault> {
-        <fields!(List<Text>, Stat)>::scan(src, place)
+        Stands::decode(&Kept { alloc, bytes: src }, place)
     }
 
     ghost unfolds = { children_body.unfolds };
@@ -111,10 +150,16 @@ impl Wire for ChildrenBody {
 
 /// A new node's name, and its `Stat`: `Create2Response`.
 #[derive(Debug, Drop)]
-pub struct CreateBody {
-    pub path: Text,
+pub struct CreateBodyOf<T> {
+    pub path: T,
     pub stat: Stat,
 }
+
+/// CreateBody with memory of its own.
+pub type CreateBody = CreateBodyOf<Text>;
+
+/// CreateBody where it lies in a payload.
+pub type CreateBodyRef<'a> = CreateBodyOf<TextRef<'a>>;
 
 impl Spell for CreateBody {
     ghost items = { create_body.items };
@@ -124,15 +169,21 @@ impl Spell for CreateBody {
     }
 }
 
+impl<T: Form> Form for CreateBodyOf<T> {
+    ghost wired = { create_body_of T.wired };
+}
+
+impl<P: Source, T: Stands<P>> Stands<P> for CreateBodyOf<T> {
+    fn decode(src: &P, place: usize) -> Result<(Self, usize), ItemFault> {
+        decode!(src, place => CreateBodyOf { path, stat })
+    }
+}
+
 impl Wire for CreateBody {
     ghost layout = { create_body.layout };
 
     fn decode(alloc: Global, src: &[u8], place: usize) -> Result<(Self, usize), ItemFault> {
-        decode!(alloc, src, place => CreateBody { path, stat })
-    }
-
-    fn scan(src: &[u8], place: usize) -> Result<usize, ItemFault> {
-        <fields!(Text, Stat)>::scan(src, place)
+        Stands::decode(&Kept { alloc, bytes: src }, place)
     }
 
     ghost unfolds = { create_body.unfolds };

@@ -1,13 +1,13 @@
 //! The first payload of each side: `ConnectRequest` and `ConnectResponse` of zookeeper.jute.
-ghost use Rattle.zk_records.specs.Records.{connect_request, connect_response};
+ghost use Rattle.zk_records.specs.Records.{connect_request, connect_response, connect_request_of, connect_response_of};
 
 use crate::fields::{decode, fields};
 use std::alloc::Global;
-use zk_jute::{Blob, ItemFault, Output, Spell, Wire};
+use zk_jute::{Blob, BlobRef, Form, ItemFault, Kept, Output, Source, Spell, Stands, Wire};
 
 /// A client asks for a session: `ConnectRequest`.
 #[derive(Debug, Drop)]
-pub struct ConnectRequest {
+pub struct ConnectRequestOf<B> {
     /// 0 in every release.
     pub protocol_version: i32,
     /// The newest transaction that the client has seen.
@@ -17,8 +17,14 @@ pub struct ConnectRequest {
     /// 0 for a new session.
     pub session_id: i64,
     /// The session's password, usually 16 bytes.
-    pub passwd: Blob,
+    pub passwd: B,
 }
+
+/// ConnectRequest with memory of its own.
+pub type ConnectRequest = ConnectRequestOf<Blob>;
+
+/// ConnectRequest where it lies in a payload.
+pub type ConnectRequestRef<'a> = ConnectRequestOf<BlobRef<'a>>;
 
 impl Spell for ConnectRequest {
     ghost items = { connect_request.items };
@@ -28,15 +34,21 @@ impl Spell for ConnectRequest {
     }
 }
 
+impl<B: Form> Form for ConnectRequestOf<B> {
+    ghost wired = { connect_request_of B.wired };
+}
+
+impl<P: Source, B: Stands<P>> Stands<P> for ConnectRequestOf<B> {
+    fn decode(src: &P, place: usize) -> Result<(Self, usize), ItemFault> {
+        decode!(src, place => ConnectRequestOf { protocol_version, last_zxid_seen, time_out, session_id, passwd })
+    }
+}
+
 impl Wire for ConnectRequest {
     ghost layout = { connect_request.layout };
 
     fn decode(alloc: Global, src: &[u8], place: usize) -> Result<(Self, usize), ItemFault> {
-        decode!(alloc, src, place => ConnectRequest { protocol_version, last_zxid_seen, time_out, session_id, passwd })
-    }
-
-    fn scan(src: &[u8], place: usize) -> Result<usize, ItemFault> {
-        <fields!(i32, i64, i32, i64, Blob)>::scan(src, place)
+        Stands::decode(&Kept { alloc, bytes: src }, place)
     }
 
     ghost unfolds = { connect_request.unfolds };
@@ -48,15 +60,21 @@ impl Wire for ConnectRequest {
 
 /// A server grants a session: `ConnectResponse`.
 #[derive(Debug, Drop)]
-pub struct ConnectResponse {
+pub struct ConnectResponseOf<B> {
     /// 0 in every release.
     pub protocol_version: i32,
     /// Milliseconds; 0 or below where the session has expired.
     pub time_out: i32,
     pub session_id: i64,
     /// The session's password, usually 16 bytes.
-    pub passwd: Blob,
+    pub passwd: B,
 }
+
+/// ConnectResponse with memory of its own.
+pub type ConnectResponse = ConnectResponseOf<Blob>;
+
+/// ConnectResponse where it lies in a payload.
+pub type ConnectResponseRef<'a> = ConnectResponseOf<BlobRef<'a>>;
 
 impl Spell for ConnectResponse {
     ghost items = { connect_response.items };
@@ -66,15 +84,21 @@ impl Spell for ConnectResponse {
     }
 }
 
+impl<B: Form> Form for ConnectResponseOf<B> {
+    ghost wired = { connect_response_of B.wired };
+}
+
+impl<P: Source, B: Stands<P>> Stands<P> for ConnectResponseOf<B> {
+    fn decode(src: &P, place: usize) -> Result<(Self, usize), ItemFault> {
+        decode!(src, place => ConnectResponseOf { protocol_version, time_out, session_id, passwd })
+    }
+}
+
 impl Wire for ConnectResponse {
     ghost layout = { connect_response.layout };
 
     fn decode(alloc: Global, src: &[u8], place: usize) -> Result<(Self, usize), ItemFault> {
-        decode!(alloc, src, place => ConnectResponse { protocol_version, time_out, session_id, passwd })
-    }
-
-    fn scan(src: &[u8], place: usize) -> Result<usize, ItemFault> {
-        <fields!(i32, i32, i64, Blob)>::scan(src, place)
+        Stands::decode(&Kept { alloc, bytes: src }, place)
     }
 
     ghost unfolds = { connect_response.unfolds };

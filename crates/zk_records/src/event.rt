@@ -1,19 +1,25 @@
 //! What a watcher is told: `WatcherEvent` of zookeeper.jute.
-ghost use Rattle.zk_records.specs.Records.{watcher_event};
+ghost use Rattle.zk_records.specs.Records.{watcher_event, watcher_event_of};
 
 use crate::fields::{decode, fields};
 use std::alloc::Global;
-use zk_jute::{ItemFault, Output, Spell, Text, Wire};
+use zk_jute::{Form, ItemFault, Kept, Output, Source, Spell, Stands, Text, TextRef, Wire};
 
 /// What a watch saw: `WatcherEvent`.
 #[derive(Debug, Drop)]
-pub struct WatcherEvent {
+pub struct WatcherEventOf<T> {
     /// `type` in jute: a number of `Watcher.Event.EventType`.
     pub kind: i32,
     /// A number of `Watcher.Event.KeeperState`.
     pub state: i32,
-    pub path: Text,
+    pub path: T,
 }
+
+/// WatcherEvent with memory of its own.
+pub type WatcherEvent = WatcherEventOf<Text>;
+
+/// WatcherEvent where it lies in a payload.
+pub type WatcherEventRef<'a> = WatcherEventOf<TextRef<'a>>;
 
 impl Spell for WatcherEvent {
     ghost items = { watcher_event.items };
@@ -23,15 +29,21 @@ impl Spell for WatcherEvent {
     }
 }
 
+impl<T: Form> Form for WatcherEventOf<T> {
+    ghost wired = { watcher_event_of T.wired };
+}
+
+impl<P: Source, T: Stands<P>> Stands<P> for WatcherEventOf<T> {
+    fn decode(src: &P, place: usize) -> Result<(Self, usize), ItemFault> {
+        decode!(src, place => WatcherEventOf { kind, state, path })
+    }
+}
+
 impl Wire for WatcherEvent {
     ghost layout = { watcher_event.layout };
 
     fn decode(alloc: Global, src: &[u8], place: usize) -> Result<(Self, usize), ItemFault> {
-        decode!(alloc, src, place => WatcherEvent { kind, state, path })
-    }
-
-    fn scan(src: &[u8], place: usize) -> Result<usize, ItemFault> {
-        <fields!(i32, i32, Text)>::scan(src, place)
+        Stands::decode(&Kept { alloc, bytes: src }, place)
     }
 
     ghost unfolds = { watcher_event.unfolds };

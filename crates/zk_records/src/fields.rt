@@ -11,10 +11,10 @@ macro_rules! fields {
     ($first:ty, $($rest:ty),+) => { ($first, fields!($($rest),+)) };
 }
 
-/// `decode!(alloc, src, place => R { a, b, c })` is the body of `decode` for the record `R`.
+/// `decode!(src, place => R { a, b, c })` is the body of `decode` for the record `R`.
 macro_rules! decode {
-    ($alloc:ident, $src:ident, $place:ident => $record:ident { $($field:ident),+ }) => {{
-        let (fields!(let $($field),+), place) = Wire::decode($alloc, $src, $place)?;
+    ($src:ident, $place:ident => $record:ident { $($field:ident),+ }) => {{
+        let (fields!(let $($field),+), place) = Stands::decode($src, $place)?;
         Ok(($record { $($field),+ }, place))
     }};
 }

@@ -4,7 +4,7 @@ ghost use Rattle.zk_records.specs.Records.{request_header, reply_header, multi_h
 
 use crate::fields::{decode, fields};
 use std::alloc::Global;
-use zk_jute::{ItemFault, Output, Spell, Wire};
+use zk_jute::{Form, ItemFault, Kept, Output, Source, Spell, Stands, Wire};
 
 /// What stands before each request: `RequestHeader`, 8 bytes.
 #[derive(Debug, Drop)]
@@ -23,15 +23,21 @@ impl Spell for RequestHeader {
     }
 }
 
+impl Form for RequestHeader {
+    ghost wired = { request_header };
+}
+
+impl<P: Source> Stands<P> for RequestHeader {
+    fn decode(src: &P, place: usize) -> Result<(Self, usize), ItemFault> {
+        decode!(src, place => RequestHeader { xid, kind })
+    }
+}
+
 impl Wire for RequestHeader {
     ghost layout = { request_header.layout };
 
     fn decode(alloc: Global, src: &[u8], place: usize) -> Result<(Self, usize), ItemFault> {
-        decode!(alloc, src, place => RequestHeader { xid, kind })
-    }
-
-    fn scan(src: &[u8], place: usize) -> Result<usize, ItemFault> {
-        <fields!(i32, i32)>::scan(src, place)
+        Stands::decode(&Kept { alloc, bytes: src }, place)
     }
 
     ghost unfolds = { request_header.unfolds };
@@ -60,15 +66,21 @@ impl Spell for ReplyHeader {
     }
 }
 
+impl Form for ReplyHeader {
+    ghost wired = { reply_header };
+}
+
+impl<P: Source> Stands<P> for ReplyHeader {
+    fn decode(src: &P, place: usize) -> Result<(Self, usize), ItemFault> {
+        decode!(src, place => ReplyHeader { xid, zxid, err })
+    }
+}
+
 impl Wire for ReplyHeader {
     ghost layout = { reply_header.layout };
 
     fn decode(alloc: Global, src: &[u8], place: usize) -> Result<(Self, usize), ItemFault> {
-        decode!(alloc, src, place => ReplyHeader { xid, zxid, err })
-    }
-
-    fn scan(src: &[u8], place: usize) -> Result<usize, ItemFault> {
-        <fields!(i32, i64, i32)>::scan(src, place)
+        Stands::decode(&Kept { alloc, bytes: src }, place)
     }
 
     ghost unfolds = { reply_header.unfolds };
@@ -97,15 +109,21 @@ impl Spell for MultiHeader {
     }
 }
 
+impl Form for MultiHeader {
+    ghost wired = { multi_header };
+}
+
+impl<P: Source> Stands<P> for MultiHeader {
+    fn decode(src: &P, place: usize) -> Result<(Self, usize), ItemFault> {
+        decode!(src, place => MultiHeader { kind, done, err })
+    }
+}
+
 impl Wire for MultiHeader {
     ghost layout = { multi_header.layout };
 
     fn decode(alloc: Global, src: &[u8], place: usize) -> Result<(Self, usize), ItemFault> {
-        decode!(alloc, src, place => MultiHeader { kind, done, err })
-    }
-
-    fn scan(src: &[u8], place: usize) -> Result<usize, ItemFault> {
-        <fields!(i32, bool, i32)>::scan(src, place)
+        Stands::decode(&Kept { alloc, bytes: src }, place)
     }
 
     ghost unfolds = { multi_header.unfolds };

@@ -1,19 +1,25 @@
 //! The bodies of requests that look at a node: `ExistsRequest`, `GetDataRequest`,
 //! `GetChildrenRequest`, `GetChildren2Request`, `GetACLRequest` and `SyncRequest` of zookeeper.jute.
-ghost use Rattle.zk_records.specs.Records.{watch_ask, path_ask};
+ghost use Rattle.zk_records.specs.Records.{watch_ask, path_ask, watch_ask_of, path_ask_of};
 
 use crate::fields::{decode, fields};
 use std::alloc::Global;
-use zk_jute::{ItemFault, Output, Spell, Text, Wire};
+use zk_jute::{Form, ItemFault, Kept, Output, Source, Spell, Stands, Text, TextRef, Wire};
 
 /// A node is looked at, and may be watched: `ExistsRequest`, `GetDataRequest`, `GetChildrenRequest`
 /// and `GetChildren2Request`.
 #[derive(Debug, Drop)]
-pub struct WatchAsk {
-    pub path: Text,
+pub struct WatchAskOf<T> {
+    pub path: T,
     /// Whether the client wants to be told of a change.
     pub watch: bool,
 }
+
+/// WatchAsk with memory of its own.
+pub type WatchAsk = WatchAskOf<Text>;
+
+/// WatchAsk where it lies in a payload.
+pub type WatchAskRef<'a> = WatchAskOf<TextRef<'a>>;
 
 impl Spell for WatchAsk {
     ghost items = { watch_ask.items };
@@ -23,15 +29,21 @@ impl Spell for WatchAsk {
     }
 }
 
+impl<T: Form> Form for WatchAskOf<T> {
+    ghost wired = { watch_ask_of T.wired };
+}
+
+impl<P: Source, T: Stands<P>> Stands<P> for WatchAskOf<T> {
+    fn decode(src: &P, place: usize) -> Result<(Self, usize), ItemFault> {
+        decode!(src, place => WatchAskOf { path, watch })
+    }
+}
+
 impl Wire for WatchAsk {
     ghost layout = { watch_ask.layout };
 
     fn decode(alloc: Global, src: &[u8], place: usize) -> Result<(Self, usize), ItemFault> {
-        decode!(alloc, src, place => WatchAsk { path, watch })
-    }
-
-    fn scan(src: &[u8], place: usize) -> Result<usize, ItemFault> {
-        <fields!(Text, bool)>::scan(src, place)
+        Stands::decode(&Kept { alloc, bytes: src }, place)
     }
 
     ghost unfolds = { watch_ask.unfolds };
@@ -43,9 +55,15 @@ impl Wire for WatchAsk {
 
 /// A path alone: `GetACLRequest` and `SyncRequest`.
 #[derive(Debug, Drop)]
-pub struct PathAsk {
-    pub path: Text,
+pub struct PathAskOf<T> {
+    pub path: T,
 }
+
+/// PathAsk with memory of its own.
+pub type PathAsk = PathAskOf<Text>;
+
+/// PathAsk where it lies in a payload.
+pub type PathAskRef<'a> = PathAskOf<TextRef<'a>>;
 
 impl Spell for PathAsk {
     ghost items = { path_ask.items };
@@ -55,15 +73,21 @@ impl Spell for PathAsk {
     }
 }
 
+impl<T: Form> Form for PathAskOf<T> {
+    ghost wired = { path_ask_of T.wired };
+}
+
+impl<P: Source, T: Stands<P>> Stands<P> for PathAskOf<T> {
+    fn decode(src: &P, place: usize) -> Result<(Self, usize), ItemFault> {
+        decode!(src, place => PathAskOf { path })
+    }
+}
+
 impl Wire for PathAsk {
     ghost layout = { path_ask.layout };
 
     fn decode(alloc: Global, src: &[u8], place: usize) -> Result<(Self, usize), ItemFault> {
-        decode!(alloc, src, place => PathAsk { path })
-    }
-
-    fn scan(src: &[u8], place: usize) -> Result<usize, ItemFault> {
-        Text::scan(src, place)
+        Stands::decode(&Kept { alloc, bytes: src }, place)
     }
 
     ghost unfolds = { path_ask.unfolds };

@@ -1,20 +1,29 @@
 //! The bodies of requests about the session: `AuthPacket` and `SetWatches` of zookeeper.jute.
-ghost use Rattle.zk_records.specs.Records.{auth_ask, set_watches_ask};
+ghost use Rattle.zk_records.specs.Records.{auth_ask, set_watches_ask, auth_ask_of, set_watches_ask_of};
 
 use crate::fields::{decode, fields};
 use std::alloc::Global;
-use zk_jute::{Blob, ItemFault, List, Output, Spell, Text, Wire};
+use zk_jute::{
+    Blob, BlobRef, Form, ItemFault, Kept, List, Output, Source, Spell, Stands, Text, TextList,
+    TextRef, Wire,
+};
 
 /// Who the client is: `AuthPacket`.
 #[derive(Debug, Drop)]
-pub struct AuthAsk {
+pub struct AuthAskOf<T, B> {
     /// `type` in jute: 0 in every release.
     pub kind: i32,
     /// As `digest`.
-    pub scheme: Text,
+    pub scheme: T,
     /// What the scheme wants.
-    pub auth: Blob,
+    pub auth: B,
 }
+
+/// AuthAsk with memory of its own.
+pub type AuthAsk = AuthAskOf<Text, Blob>;
+
+/// AuthAsk where it lies in a payload.
+pub type AuthAskRef<'a> = AuthAskOf<TextRef<'a>, BlobRef<'a>>;
 
 impl Spell for AuthAsk {
     ghost items = { auth_ask.items };
@@ -24,15 +33,21 @@ impl Spell for AuthAsk {
     }
 }
 
+impl<T: Form, B: Form> Form for AuthAskOf<T, B> {
+    ghost wired = { auth_ask_of T.wired B.wired };
+}
+
+impl<P: Source, T: Stands<P>, B: Stands<P>> Stands<P> for AuthAskOf<T, B> {
+    fn decode(src: &P, place: usize) -> Result<(Self, usize), ItemFault> {
+        decode!(src, place => AuthAskOf { kind, scheme, auth })
+    }
+}
+
 impl Wire for AuthAsk {
     ghost layout = { auth_ask.layout };
 
     fn decode(alloc: Global, src: &[u8], place: usize) -> Result<(Self, usize), ItemFault> {
-        decode!(alloc, src, place => AuthAsk { kind, scheme, auth })
-    }
-
-    fn scan(src: &[u8], place: usize) -> Result<usize, ItemFault> {
-        <fields!(i32, Text, Blob)>::scan(src, place)
+        Stands::decode(&Kept { alloc, bytes: src }, place)
     }
 
     ghost unfolds = { auth_ask.unfolds };
@@ -44,16 +59,22 @@ impl Wire for AuthAsk {
 
 /// Watches are to be set again after a reconnect: `SetWatches`.
 #[derive(Debug, Drop)]
-pub struct SetWatchesAsk {
+pub struct SetWatchesAskOf<L> {
     /// `relativeZxid` in jute: the newest transaction that the client has seen.
     pub zxid: i64,
     /// Paths.
-    pub data_watches: List<Text>,
+    pub data_watches: L,
     /// Paths.
-    pub exist_watches: List<Text>,
+    pub exist_watches: L,
     /// Paths.
-    pub child_watches: List<Text>,
+    pub child_watches: L,
 }
+
+/// SetWatchesAsk with memory of its own.
+pub type SetWatchesAsk = SetWatchesAskOf<List<Text>>;
+
+/// SetWatchesAsk where it lies in a payload.
+pub type SetWatchesAskRef<'a> = SetWatchesAskOf<TextList<'a>>;
 
 impl Spell for SetWatchesAsk {
     ghost items = { set_watches_ask.items };
@@ -63,15 +84,21 @@ impl Spell for SetWatchesAsk {
     }
 }
 
+impl<L: Form> Form for SetWatchesAskOf<L> {
+    ghost wired = { set_watches_ask_of L.wired };
+}
+
+impl<P: Source, L: Stands<P>> Stands<P> for SetWatchesAskOf<L> {
+    fn decode(src: &P, place: usize) -> Result<(Self, usize), ItemFault> {
+        decode!(src, place => SetWatchesAskOf { zxid, data_watches, exist_watches, child_watches })
+    }
+}
+
 impl Wire for SetWatchesAsk {
     ghost layout = { set_watches_ask.layout };
 
     fn decode(alloc: Global, src: &[u8], place: usize) -> Result<(Self, usize), ItemFault> {
-        decode!(alloc, src, place => SetWatchesAsk { zxid, data_watches, exist_watches, child_watches })
-    }
-
-    fn scan(src: &[u8], place: usize) -> Result<usize, ItemFault> {
-        <fields!(i64, List<Text>, List<Text>, List<Text>)>::scan(src, place)
+        Stands::decode(&Kept { alloc, bytes: src }, place)
     }
 
     ghost unfolds = { set_watches_ask.unfolds };

@@ -3,7 +3,7 @@ ghost use Rattle.zk_records.specs.Records.{stat};
 
 use crate::fields::{decode, fields};
 use std::alloc::Global;
-use zk_jute::{ItemFault, Output, Spell, Wire};
+use zk_jute::{Form, ItemFault, Kept, Output, Source, Spell, Stands, Wire};
 
 /// What is known of a node: `Stat`, 68 bytes.
 #[derive(Debug, Drop)]
@@ -41,16 +41,21 @@ impl Spell for Stat {
     }
 }
 
+impl Form for Stat {
+    ghost wired = { stat };
+}
+
+impl<P: Source> Stands<P> for Stat {
+    fn decode(src: &P, place: usize) -> Result<(Self, usize), ItemFault> {
+        decode!(src, place => Stat { czxid, mzxid, ctime, mtime, version, cversion, aversion, ephemeral_owner, data_length, num_children, pzxid })
+    }
+}
+
 impl Wire for Stat {
     ghost layout = { stat.layout };
 
     fn decode(alloc: Global, src: &[u8], place: usize) -> Result<(Self, usize), ItemFault> {
-        decode!(alloc, src, place => Stat { czxid, mzxid, ctime, mtime, version, cversion, aversion,
-            ephemeral_owner, data_length, num_children, pzxid })
-    }
-
-    fn scan(src: &[u8], place: usize) -> Result<usize, ItemFault> {
-        <fields!(i64, i64, i64, i64, i32, i32, i32, i64, i32, i32, i64)>::scan(src, place)
+        Stands::decode(&Kept { alloc, bytes: src }, place)
     }
 
     ghost unfolds = { stat.unfolds };

@@ -1,6 +1,6 @@
 use super::*;
 use std::test::Fail;
-use zk_jute::{ItemFault, Reason, Spell, Text, Wire, read_flagged};
+use zk_jute::{ItemFault, Payload, Reason, Spell, Stands, Text, TextRef, Wire, read_flagged};
 
 mod vectors;
 
@@ -137,7 +137,15 @@ fn created(rt: HostRuntime) -> Result<(), Fail> {
     let bytes =
         b"\0\0\0\x02/a\0\0\0\0\0\0\0\x04\0\0\0\0\0\0\0\x04\0\0\0\0\0\0\x03\xe8\0\0\0\0\0\0\x03\xe8\0\0\0\0\0\0\0\0\0\0\0\0\0\0\0\0\0\0\0\0\0\0\0\x03\0\0\0\0\0\0\0\0\0\0\0\x04";
     let (body, end) = CreateBody::read(rt.alloc(), bytes, 0)?;
-    assert_eq!(rt; (end, CreateBody::scan(bytes, 0)?), (74, 74));
+    let (shown, after) = CreateBodyRef::read_in(&Payload { bytes }, 0)?;
+    assert_eq!(rt; (end, after), (74, 74));
+    assert_eq!(rt;
+        (
+            matches!(&shown.path, TextRef::Full(_)),
+            shown.stat.data_length
+        ),
+        (true, 3)
+    );
     let Text::Full(path) = &body.path else {
         return Err("null")?;
     };

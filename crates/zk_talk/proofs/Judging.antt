@@ -45,7 +45,7 @@ none_of : {X : Type 0} (n : ℕ) (xs : List X) → n ≡ length xs → n ≡ 0 �
 none_of n [] e h = refl
 none_of n (x ∷ xs) e h = absurd (omega arith)
 
-front_none : {X : Type 0} (xs : List X) → slice_get xs 0 ≡ None → xs ≡ []
+pub front_none : {X : Type 0} (xs : List X) → slice_get xs 0 ≡ None → xs ≡ []
 front_none [] e = refl
 front_none (x ∷ xs) e = absurd (cc)
 

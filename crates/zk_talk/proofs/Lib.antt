@@ -19,6 +19,7 @@ pub mod OrderOnce
 pub mod Replays
 pub mod FirstMessages
 pub mod Start
+pub mod Empty
 pub mod Endings
 pub mod Feeding
 pub mod Pieces
@@ -32,3 +33,5 @@ pub mod Framed
 pub mod Saying
 pub mod Speaking
 pub mod Spoken
+pub mod Bodies
+pub mod Refusing

@@ -64,15 +64,15 @@ go_whole_client t part n p f w e l is fits size judged queues h M st =
 
 -- ---- Refusals
 pub fail_client_here : (t : TalkState) (held : List ℕ) (place told : ℕ) → told ≡ told_place place → (reason : Reason) (part more : List ℕ) (n : ℕ) → n ≡ length part → 0 < length part → t.client_size + n < 2 ^ 62 →
-    (p : List ℕ) → t.client_held ++ part ≡ frame p → length p ≤ t.limits.client → (h : History) (M : List Message) (st : Stands t h M) → IsClientFault t.limits st.conversation p place reason →
+    (p : List ℕ) → t.client_held ++ part ≡ frame p → held ≡ t.client_held ++ part → length p ≤ t.limits.client → (h : History) (M : List Message) (st : Stands t h M) → IsClientFault t.limits st.conversation p place reason →
     Refuses (record t { client_held = held; fault = Some (fault_of Client t.client_frames (t.client_size + n) told reason) }) (h ++ on Client (part ++ more)) M (fault_of Client t.client_frames (t.client_size + n) told reason)
-fail_client_here t held place told is_told reason part more n e l size p is fits h M st judged =
+fail_client_here t held place told is_told reason part more n e l size p is kept fits h M st judged =
     let q = last_of part l in
     let whole : (t.client_held ++ q.init) ++ q.last ∷ [] ≡ frame p = append_assoc t.client_held q.init (q.last ∷ []) ∙ ap (λ z. t.client_held ++ z) (sym q.is) ∙ is in
     let long : length part ≡ length q.init + 1 = ap length q.is ∙ length_push q.init q.last in
     let small : t.client_size + length q.init < 2 ^ 62 = omega (arith, e, long, size) in
     let cause = payload_fault (omega (arith, e, long, size)) p whole fits judged in
-    let r = fault_client t h M st held place told is_told reason q.init q.last more (frame_front t.limits.client (t.client_held ++ q.init) [] p q.last fits whole) small cause in
+    let r = fault_client t h M st held place told is_told reason q.init q.last more (frame_front t.limits.client (t.client_held ++ q.init) [] p q.last fits whole) small (λ _. kept ∙ is ∙ sym whole) cause in
     let size' : t.client_size + length q.init + 1 ≡ t.client_size + n = omega (arith, e, long) in
     let bytes : q.init ++ q.last ∷ more ≡ part ++ more = sym (append_assoc q.init (q.last ∷ []) more) ∙ ap (λ z. z ++ more) (sym q.is) in
     subst (λ z. Refuses (record t { client_held = held; fault = Some (fault_of Client t.client_frames z told reason) }) (h ++ on Client (part ++ more)) M (fault_of Client t.client_frames z told reason)) size'
@@ -88,7 +88,7 @@ fail_length_client t held part more n e l size few bad h M st =
     let small : t.client_size + length q.init < 2 ^ 62 = omega (arith, e, long, size) in
     let begin : IsBeginning t.limits.client (t.client_held ++ q.init) = inl (omega (arith, bad.0, ap length whole, length_push (t.client_held ++ q.init) q.last)) in
     let cause = length_range (omega (arith, e, long, size)) (subst (IsBadLength t.limits.client) (sym whole) bad) refl refl in
-    let r = fault_client t h M st held 0 0 refl LengthRange q.init q.last more begin small cause in
+    let r = fault_client t h M st held 0 0 refl LengthRange q.init q.last more begin small (λ i. absurd cc) cause in
     let size' : t.client_size + length q.init + 1 ≡ t.client_size + n = omega (arith, e, long) in
     let bytes : q.init ++ q.last ∷ more ≡ part ++ more = sym (append_assoc q.init (q.last ∷ []) more) ∙ ap (λ z. z ++ more) (sym q.is) in
     subst (λ z. Refuses (record t { client_held = held; fault = Some (fault_of Client t.client_frames z 0 LengthRange) }) (h ++ on Client (part ++ more)) M (fault_of Client t.client_frames z 0 LengthRange)) size'
@@ -101,7 +101,7 @@ fail_end_client t held piece k l full begin h M st =
     let n = length-take-le k piece (omega arith) in
     let cut = sym (take-append-drop k piece) ∙ ap (λ z. take k piece ++ z) (drop_more piece k 0 l) in
     let cause = stream_end (omega (arith, n, full)) refl refl in
-    let r = fault_client t h M st held 0 0 refl StreamEnd (take k piece) (get_or piece k 0) (drop (k + 1) piece) begin (omega (arith, n, full)) cause in
+    let r = fault_client t h M st held 0 0 refl StreamEnd (take k piece) (get_or piece k 0) (drop (k + 1) piece) begin (omega (arith, n, full)) (λ i. absurd cc) cause in
     let size' : t.client_size + length (take k piece) + 1 ≡ t.client_size + (k + 1) = omega (arith, n) in
     subst (λ z. Refuses (record t { client_held = held; fault = Some (fault_of Client t.client_frames z 0 StreamEnd) }) (h ++ on Client piece) M (fault_of Client t.client_frames z 0 StreamEnd)) size'
     (subst (λ z. Refuses (record t { client_held = held; fault = Some (fault_of Client t.client_frames (t.client_size + length (take k piece) + 1) 0 StreamEnd) }) (h ++ on Client z) M (fault_of Client t.client_frames (t.client_size + length (take k piece) + 1) 0 StreamEnd)) (sym cut) r)
@@ -130,15 +130,15 @@ go_whole_server t part n p f w e l is fits size judged queues h M st =
     (subst (λ z. Stands (record t { server_held = []; server_size = t.server_size + (length q.init + 1); server_frames = t.server_frames + 1; waiting = w }) (h ++ on Server z) (M ++ FromServer f ∷ [])) (sym q.is) r)
 
 pub fail_server_here : (t : TalkState) (held : List ℕ) (place told : ℕ) → told ≡ told_place place → (reason : Reason) (part more : List ℕ) (n : ℕ) → n ≡ length part → 0 < length part → t.server_size + n < 2 ^ 62 →
-    (p : List ℕ) → t.server_held ++ part ≡ frame p → length p ≤ t.limits.server → (h : History) (M : List Message) (st : Stands t h M) → IsServerFault st.conversation p place reason →
+    (p : List ℕ) → t.server_held ++ part ≡ frame p → held ≡ t.server_held ++ part → length p ≤ t.limits.server → (h : History) (M : List Message) (st : Stands t h M) → IsServerFault st.conversation p place reason →
     Refuses (record t { server_held = held; fault = Some (fault_of Server t.server_frames (t.server_size + n) told reason) }) (h ++ on Server (part ++ more)) M (fault_of Server t.server_frames (t.server_size + n) told reason)
-fail_server_here t held place told is_told reason part more n e l size p is fits h M st judged =
+fail_server_here t held place told is_told reason part more n e l size p is kept fits h M st judged =
     let q = last_of part l in
     let whole : (t.server_held ++ q.init) ++ q.last ∷ [] ≡ frame p = append_assoc t.server_held q.init (q.last ∷ []) ∙ ap (λ z. t.server_held ++ z) (sym q.is) ∙ is in
     let long : length part ≡ length q.init + 1 = ap length q.is ∙ length_push q.init q.last in
     let small : t.server_size + length q.init < 2 ^ 62 = omega (arith, e, long, size) in
     let cause = payload_fault (omega (arith, e, long, size)) p whole fits judged in
-    let r = fault_server t h M st held place told is_told reason q.init q.last more (frame_front t.limits.server (t.server_held ++ q.init) [] p q.last fits whole) small cause in
+    let r = fault_server t h M st held place told is_told reason q.init q.last more (frame_front t.limits.server (t.server_held ++ q.init) [] p q.last fits whole) small (λ _. kept ∙ is ∙ sym whole) cause in
     let size' : t.server_size + length q.init + 1 ≡ t.server_size + n = omega (arith, e, long) in
     let bytes : q.init ++ q.last ∷ more ≡ part ++ more = sym (append_assoc q.init (q.last ∷ []) more) ∙ ap (λ z. z ++ more) (sym q.is) in
     subst (λ z. Refuses (record t { server_held = held; fault = Some (fault_of Server t.server_frames z told reason) }) (h ++ on Server (part ++ more)) M (fault_of Server t.server_frames z told reason)) size'
@@ -154,7 +154,7 @@ fail_length_server t held part more n e l size few bad h M st =
     let small : t.server_size + length q.init < 2 ^ 62 = omega (arith, e, long, size) in
     let begin : IsBeginning t.limits.server (t.server_held ++ q.init) = inl (omega (arith, bad.0, ap length whole, length_push (t.server_held ++ q.init) q.last)) in
     let cause = length_range (omega (arith, e, long, size)) (subst (IsBadLength t.limits.server) (sym whole) bad) refl refl in
-    let r = fault_server t h M st held 0 0 refl LengthRange q.init q.last more begin small cause in
+    let r = fault_server t h M st held 0 0 refl LengthRange q.init q.last more begin small (λ i. absurd cc) cause in
     let size' : t.server_size + length q.init + 1 ≡ t.server_size + n = omega (arith, e, long) in
     let bytes : q.init ++ q.last ∷ more ≡ part ++ more = sym (append_assoc q.init (q.last ∷ []) more) ∙ ap (λ z. z ++ more) (sym q.is) in
     subst (λ z. Refuses (record t { server_held = held; fault = Some (fault_of Server t.server_frames z 0 LengthRange) }) (h ++ on Server (part ++ more)) M (fault_of Server t.server_frames z 0 LengthRange)) size'
@@ -167,7 +167,7 @@ fail_end_server t held piece k l full begin h M st =
     let n = length-take-le k piece (omega arith) in
     let cut = sym (take-append-drop k piece) ∙ ap (λ z. take k piece ++ z) (drop_more piece k 0 l) in
     let cause = stream_end (omega (arith, n, full)) refl refl in
-    let r = fault_server t h M st held 0 0 refl StreamEnd (take k piece) (get_or piece k 0) (drop (k + 1) piece) begin (omega (arith, n, full)) cause in
+    let r = fault_server t h M st held 0 0 refl StreamEnd (take k piece) (get_or piece k 0) (drop (k + 1) piece) begin (omega (arith, n, full)) (λ i. absurd cc) cause in
     let size' : t.server_size + length (take k piece) + 1 ≡ t.server_size + (k + 1) = omega (arith, n) in
     subst (λ z. Refuses (record t { server_held = held; fault = Some (fault_of Server t.server_frames z 0 StreamEnd) }) (h ++ on Server piece) M (fault_of Server t.server_frames z 0 StreamEnd)) size'
     (subst (λ z. Refuses (record t { server_held = held; fault = Some (fault_of Server t.server_frames (t.server_size + length (take k piece) + 1) 0 StreamEnd) }) (h ++ on Server z) M (fault_of Server t.server_frames (t.server_size + length (take k piece) + 1) 0 StreamEnd)) (sym cut) r)

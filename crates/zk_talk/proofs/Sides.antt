@@ -80,7 +80,7 @@ module _ (t : TalkState) (piece after : List ℕ) where
           let j = judged t.limits t.server_frames st.conversation (sym max) refl (described t h M st) in
           let cause = subst (λ z. IsClientFault t.limits st.conversation z j.0 e.reason) (sym same) j.1 in
           subst (λ z. Refuses (record t { client_held = after; fault = Some (fault_of Client t.client_frames (t.client_size + used) e.place e.reason) }) (h ++ on Client z) M (fault_of Client t.client_frames (t.client_size + used) e.place e.reason)) (take-append-drop used piece)
-          (fail_client_here t after j.0 e.place j.2 e.reason (take used piece) (drop used piece) used n (omega (arith, n, a.0)) a.2 whole.0 (sym a.3 ∙ whole.1) whole.2 h M st cause)
+          (fail_client_here t after j.0 e.place j.2 e.reason (take used piece) (drop used piece) used n (omega (arith, n, a.0)) a.2 whole.0 (sym a.3 ∙ whole.1) a.3 whole.2 h M st cause)
 
 -- ---- the server
 
@@ -131,4 +131,4 @@ module _ (t : TalkState) (piece after : List ℕ) where
           let j = judged st.conversation (described t h M st) in
           let cause = subst (λ z. IsServerFault st.conversation z j.0 e.reason) (sym same) j.1 in
           subst (λ z. Refuses (record t { server_held = after; fault = Some (fault_of Server t.server_frames (t.server_size + used) e.place e.reason) }) (h ++ on Server z) M (fault_of Server t.server_frames (t.server_size + used) e.place e.reason)) (take-append-drop used piece)
-          (fail_server_here t after j.0 e.place j.2 e.reason (take used piece) (drop used piece) used n (omega (arith, n, a.0)) a.2 whole.0 (sym a.3 ∙ whole.1) whole.2 h M st cause)
+          (fail_server_here t after j.0 e.place j.2 e.reason (take used piece) (drop used piece) used n (omega (arith, n, a.0)) a.2 whole.0 (sym a.3 ∙ whole.1) a.3 whole.2 h M st cause)

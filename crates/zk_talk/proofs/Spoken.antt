@@ -1,10 +1,10 @@
 -- What was said is a good history, and is read as it was said.
-use Rattle.std.proofs.Common.{◌≡◌, ℕ, ◌+◌, ◌<◌, ◌≤◌, ◌^◌, ◌⊎◌, inl, inr, List, [], ◌∷◌, ◌++◌, length, refl, sym, ap, ◌∙◌, subst, arith, append_assoc}
-use Rattle.std.proofs.lemmas.List.{append-nil, length_push}
+use Rattle.std.proofs.Common.{Option, Some, None, ◌≡◌, ℕ, ◌+◌, ◌<◌, ◌≤◌, ◌^◌, ◌⊎◌, inl, inr, List, [], ◌∷◌, ◌++◌, length, refl, sym, ap, ◌∙◌, subst, arith, append_assoc}
+use Rattle.std.proofs.lemmas.List.{append-nil, append_cancel_left, length_push}
 use Rattle.std.proofs.lemmas.List.Concat.{flat_map-append}
 use Rattle.zk_asks.specs.declared.frame.ClientFrame.{ClientFrame}
 use Rattle.zk_answers.specs.declared.frame.ServerFrame.{ServerFrame}
-use Rattle.zk_frames.specs.Framing.{frame}
+use Rattle.zk_frames.specs.Framing.{frame, AreWithin}
 use Rattle.zk_frames.proofs.Cuts.{length-frame}
 use Rattle.zk_talk.specs.declared.limits.Limits.{Limits}
 use Rattle.zk_talk.specs.declared.message.Side.{Side}
@@ -16,7 +16,7 @@ use Rattle.zk_talk.specs.declared.message.Ending.TheVariants.{Whole}
 use Rattle.zk_talk.specs.Payloads.{client_payload, server_payload}
 use Rattle.zk_talk.specs.History.{History, side_bytes, on}
 use Rattle.zk_talk.specs.Conversation.{Conversation, with_client, with_server}
-use Rattle.zk_talk.specs.Good.{Good, IsGood, IsOrder, clients, servers}
+use Rattle.zk_talk.specs.Good.{Good, IsGood, IsOrder, client_payloads, server_payloads, clients, servers}
 use Rattle.zk_talk.specs.Ending.{IsEnding, unanswered}
 use Rattle.zk_talk.specs.Answer.{AreMessages}
 use Rattle.zk_talk.specs.Said.{AreSaid, AreSized, AreFrames, IsWithin, MaySay, IsSaidClient, IsSaidServer, said, side_of, payload_of, conversation_of}
@@ -207,3 +207,63 @@ said_again limits h v M frames g o =
     let order' = subst (λ z. IsOrder limits h z n.0) one.0 order in
     let messages : n.0 ≡ M = order_once limits (small_limits limits) h v n.0 M order' o [] [] g.whole in
     (subst (AreSaid limits) messages n.1, ap said (sym messages) ∙ same)
+
+-- ---- Messages whose frames, one after another, are a good history of them may be said.
+unfoldable sent : List Message → List (Side × List ℕ)
+sent [] = []
+sent (m ∷ M) = (side_of m, payload_of m) ∷ sent M
+
+said_framed : (M : List Message) → said M ≡ framed (sent M)
+unfolding framed sent
+said_framed [] = refl
+said_framed (m ∷ M) = ap (λ z. on (side_of m) (frame (payload_of m)) ++ z) (said_framed M)
+
+within_limits : (limits : Limits) (M : List Message) → AreWithin limits.client (client_payloads (clients M)) → AreWithin limits.server (server_payloads (servers M)) → AllByRecursion (IsWithin limits) (sent M)
+unfolding sent
+within_limits limits [] c s = tt
+within_limits limits (FromClient f ∷ M) c s = (c.0, within_limits limits M c.1 s)
+within_limits limits (FromServer f ∷ M) c s = (s.0, within_limits limits M c s.1)
+
+-- the side that sent the first byte
+first_side : History → Option Side
+first_side [] = None
+first_side (x ∷ h) = Some x.0
+
+first_on : (side : Side) (bytes : List ℕ) (h : History) → 0 < length bytes → first_side (on side bytes ++ h) ≡ Some side
+unfolding first_side
+first_on side [] h l = absurd (omega arith)
+first_on side (b ∷ bytes) h l = refl
+
+first_said : (m : Message) (M : List Message) → first_side (said (m ∷ M)) ≡ Some (side_of m)
+first_said m M = first_on (side_of m) (frame (payload_of m)) (said M) (omega (arith, length-frame (payload_of m)))
+
+-- the frames of the sides, and the sides in turn, are all of the messages
+same_messages : (M N : List Message) → said M ≡ said N → clients M ≡ clients N → servers M ≡ servers N → M ≡ N
+same_messages [] [] e c s = refl
+same_messages [] (FromClient f ∷ N) e c s = absurd cc
+same_messages [] (FromServer f ∷ N) e c s = absurd cc
+same_messages (FromClient f ∷ M) [] e c s = absurd cc
+same_messages (FromServer f ∷ M) [] e c s = absurd cc
+same_messages (FromClient f ∷ M) (FromServer g ∷ N) e c s = absurd (let x : Some Client ≡ Some Server = sym (first_said (FromClient f) M) ∙ ap first_side e ∙ first_said (FromServer g) N in cc)
+same_messages (FromServer f ∷ M) (FromClient g ∷ N) e c s = absurd (let x : Some Server ≡ Some Client = sym (first_said (FromServer f) M) ∙ ap first_side e ∙ first_said (FromClient g) N in cc)
+same_messages (FromClient f ∷ M) (FromClient g ∷ N) e c s =
+    let head : f ≡ g = cc in
+    let rest : clients M ≡ clients N = cc in
+    let later = append_cancel_left (on Client (frame (client_payload f))) (said M) (said N) (e ∙ ap (λ x. on Client (frame (client_payload x)) ++ said N) (sym head)) in
+    ap (λ x. FromClient x ∷ M) head ∙ ap (λ X. FromClient g ∷ X) (same_messages M N later rest s)
+same_messages (FromServer f ∷ M) (FromServer g ∷ N) e c s =
+    let head : f ≡ g = cc in
+    let rest : servers M ≡ servers N = cc in
+    let later = append_cancel_left (on Server (frame (server_payload f))) (said M) (said N) (e ∙ ap (λ x. on Server (frame (server_payload x)) ++ said N) (sym head)) in
+    ap (λ x. FromServer x ∷ M) head ∙ ap (λ X. FromServer g ∷ X) (same_messages M N later c rest)
+
+pub good_said : (limits : Limits) (M : List Message) → Good limits (said M) (conversation_of M) [] [] → AreSaid limits M
+good_said limits M g =
+    let within = within_limits limits M g.whole.client_cut.within g.whole.server_cut.within in
+    let good = subst (λ z. Good limits z (conversation_of M) [] []) (said_framed M) g in
+    let n = said_from limits [] (sent M) (none_spoken limits) (EachAfter-nil (MaySay limits)) within (conversation_of M, [], [], good) in
+    let same : said n.0 ≡ said M = n.3 ∙ sym (said_framed M) in
+    let again = subst (λ z. Good limits z (conversation_of n.0) [] []) same n.2.good in
+    let one = same_good limits (small_limits limits) (said M) (conversation_of n.0) (conversation_of M) [] [] [] [] again g in
+    let messages = same_messages n.0 M same (ap (λ (v : Conversation). v.client) one.0) (ap (λ (v : Conversation). v.server) one.0) in
+    subst (AreSaid limits) messages n.1

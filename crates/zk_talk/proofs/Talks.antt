@@ -16,7 +16,7 @@ use Rattle.zk_talk.specs.declared.message.Message.{Message}
 use Rattle.zk_talk.specs.declared.message.Message.TheVariants.{Client as FromClient, Server as FromServer}
 use Rattle.zk_talk.specs.History.{on}
 use Rattle.zk_talk.specs.Good.{clients, servers, IsOrder}
-use Rattle.zk_talk.specs.Fault.{IsCause, fault_of}
+use Rattle.zk_talk.specs.Fault.{IsCause, IsOfItems, fault_of}
 use Rattle.zk_waiting.specs.Waiting.{Lanes, queue_on}
 use Rattle.zk_talk.specs.Queues.{IsQueue}
 use Rattle.zk_talk.specs.Stands.{TalkState, Stands, Refuses}
@@ -70,9 +70,9 @@ module _ (t : TalkState) (h : History) (M : List Message) (st : Stands t h M) wh
       }
 
   pub fault_client : (held : List ℕ) (place told : ℕ) → told ≡ told_place place → (reason : Reason) (bs : List ℕ) (b : ℕ) (more : List ℕ) → IsBeginning t.limits.client (t.client_held ++ bs) → t.client_size + length bs < 2 ^ 62 →
-      IsCause t.limits st.conversation Client (t.client_size + length bs) (t.client_held ++ bs) b place reason →
+      (IsOfItems reason → held ≡ (t.client_held ++ bs) ++ b ∷ []) → IsCause t.limits st.conversation Client (t.client_size + length bs) (t.client_held ++ bs) b place reason →
       Refuses (record t { client_held = held; fault = Some (fault_of Client t.client_frames (t.client_size + length bs + 1) told reason) }) (h ++ on Client (bs ++ b ∷ more)) M (fault_of Client t.client_frames (t.client_size + length bs + 1) told reason)
-  fault_client held place told is reason bs b more begin size cause =
+  fault_client held place told is reason bs b more begin size kept cause =
       let v = st.conversation in
       let r = runs_client t.limits (small_limits t.limits) v M bs h t.client_held t.server_held (record { good = st.good; order = st.order }) begin (omega (arith, size, st.client_size)) in
       let h' = h ++ on Client bs in
@@ -98,7 +98,9 @@ module _ (t : TalkState) (h : History) (M : List Message) (st : Stands t h M) wh
           cause = cause';
         };
         order = r.order;
+        queues = st.queues;
         load = weight_is_load v t.waiting st.queues;
+        held = kept;
       }
 
   -- ---- The server's pieces
@@ -144,9 +146,9 @@ module _ (t : TalkState) (h : History) (M : List Message) (st : Stands t h M) wh
       }
 
   pub fault_server : (held : List ℕ) (place told : ℕ) → told ≡ told_place place → (reason : Reason) (bs : List ℕ) (b : ℕ) (more : List ℕ) → IsBeginning t.limits.server (t.server_held ++ bs) → t.server_size + length bs < 2 ^ 62 →
-      IsCause t.limits st.conversation Server (t.server_size + length bs) (t.server_held ++ bs) b place reason →
+      (IsOfItems reason → held ≡ (t.server_held ++ bs) ++ b ∷ []) → IsCause t.limits st.conversation Server (t.server_size + length bs) (t.server_held ++ bs) b place reason →
       Refuses (record t { server_held = held; fault = Some (fault_of Server t.server_frames (t.server_size + length bs + 1) told reason) }) (h ++ on Server (bs ++ b ∷ more)) M (fault_of Server t.server_frames (t.server_size + length bs + 1) told reason)
-  fault_server held place told is reason bs b more begin size cause =
+  fault_server held place told is reason bs b more begin size kept cause =
       let v = st.conversation in
       let r = runs_server t.limits (small_limits t.limits) v M bs h t.client_held t.server_held (record { good = st.good; order = st.order }) begin (omega (arith, size, st.server_size)) in
       let h' = h ++ on Server bs in
@@ -172,5 +174,7 @@ module _ (t : TalkState) (h : History) (M : List Message) (st : Stands t h M) wh
           cause = cause';
         };
         order = r.order;
+        queues = st.queues;
         load = weight_is_load v t.waiting st.queues;
+        held = kept;
       }

@@ -1,6 +1,7 @@
 -- The fault of a history: the first byte with which it is no longer good, and why.
-use Rattle.std.specs.Prelude.{◌≡◌, ◌≢◌, ℕ, ◌≤◌, ◌<◌, ◌+◌, ◌^◌, List, [], ◌∷◌, ◌++◌, length, ℤ}
+use Rattle.std.specs.Prelude.{◌≡◌, ◌≢◌, Bool, true, false, IsTrue, ℕ, ◌≤◌, ◌<◌, ◌+◌, ◌^◌, List, [], ◌∷◌, ◌++◌, length, ℤ}
 use Rattle.zk_jute.specs.declared.fault.Reason.{Reason}
+use Rattle.zk_jute.specs.declared.fault.Reason.TheVariants as reasons
 use Rattle.zk_jute.specs.declared.fault.Reason.TheVariants.{StreamEnd, LengthRange, QueueFull, Unasked, XidOrder}
 use Rattle.zk_jute.specs.Reading.{told_place}
 use Rattle.zk_records.specs.declared.header.ReplyHeader.{ReplyHeader}
@@ -91,3 +92,24 @@ pub record IsFaultOf (limits : Limits) (h : History) (fault : Fault) : Type 0 wh
 
 abbrev pub fault_of : Side → ℕ → ℕ → ℕ → Reason → Fault
 fault_of side frame offset place reason = record { side = side; frame = frame; offset = offset; place = place; reason = reason }
+
+-- whether a body's items give this reason
+abbrev pub of_items : Reason → Bool
+of_items reasons.Short = true
+of_items reasons.BadBool = true
+of_items reasons.BadLength = true
+of_items reasons.BadText = true
+of_items reasons.NoMemory = false
+of_items reasons.Trailing = true
+of_items reasons.UnknownOp = false
+of_items reasons.XidOp = false
+of_items reasons.BadPart = true
+of_items reasons.EventErr = false
+of_items reasons.LengthRange = false
+of_items reasons.QueueFull = false
+of_items reasons.Unasked = false
+of_items (reasons.XidOrder expected got) = false
+of_items reasons.StreamEnd = false
+
+abbrev pub IsOfItems : Reason → Type 0
+IsOfItems reason = IsTrue (of_items reason)

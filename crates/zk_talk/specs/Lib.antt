@@ -6,6 +6,7 @@ pub mod Conversation
 pub mod Good
 pub mod Fault
 pub mod Ending
+pub mod Refused
 pub mod Queues
 pub mod Stands
 pub mod Describes

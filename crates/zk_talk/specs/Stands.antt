@@ -1,5 +1,5 @@
 -- Which history a talk stands for.
-use Rattle.std.specs.Prelude.{◌≡◌, ℕ, List, length, Option, Some, None}
+use Rattle.std.specs.Prelude.{◌≡◌, ℕ, List, [], ◌∷◌, ◌++◌, length, Option, Some, None}
 use Rattle.zk_waiting.specs.declared.lane.Lane.{Lane}
 use Rattle.zk_waiting.specs.Waiting.{Lanes, queue_on, weight_of}
 use Rattle.zk_talk.specs.declared.message.Side.{Side}
@@ -10,7 +10,7 @@ use Rattle.zk_talk.specs.declared.limits.Limits.{Limits}
 use Rattle.zk_talk.specs.History.{History, side_bytes}
 use Rattle.zk_talk.specs.Conversation.{Conversation, load}
 use Rattle.zk_talk.specs.Good.{Good, IsOrder}
-use Rattle.zk_talk.specs.Fault.{IsFaultOf}
+use Rattle.zk_talk.specs.Fault.{IsFaultOf, IsOfItems, rest_on}
 use Rattle.zk_talk.specs.Queues.{IsQueue}
 
 -- what is known of a talk
@@ -25,6 +25,10 @@ pub record TalkState : Type 0 where
   pub server_size : ℕ
   pub fault : Option Fault
 
+abbrev pub held_on : Side → TalkState → List ℕ
+held_on Client t = t.client_held
+held_on Server t = t.server_held
+
 -- The talk has come through this history, and has given these messages.
 pub record Stands (t : TalkState) (h : History) (messages : List Message) : Type 0 where
   pub conversation : Conversation
@@ -37,16 +41,15 @@ pub record Stands (t : TalkState) (h : History) (messages : List Message) : Type
   pub queues : (lane : Lane) → IsQueue lane conversation (queue_on lane t.waiting)
   pub no_fault : t.fault ≡ None
 
--- The talk has refused this history, after these messages; what waits is what waited before the byte that decided it.
+-- The talk has refused this history, after these messages. What waits is what waited before the byte that decided it,
+-- and where that byte made a frame whole whose items are bad, the frame is still held.
 pub record Refuses (t : TalkState) (h : History) (messages : List Message) (fault : Fault) : Type 0 where
   pub kept : t.fault ≡ Some fault
   pub is : IsFaultOf t.limits h fault
   pub order : IsOrder t.limits is.before is.conversation messages
+  pub queues : (lane : Lane) → IsQueue lane is.conversation (queue_on lane t.waiting)
   pub load : weight_of t.waiting ≡ load is.conversation.client is.conversation.server
-
-abbrev pub held_on : Side → TalkState → List ℕ
-held_on Client t = t.client_held
-held_on Server t = t.server_held
+  pub held : IsOfItems fault.reason → held_on fault.side t ≡ rest_on fault.side is.client_rest is.server_rest ++ is.byte ∷ []
 
 abbrev pub frames_on : Side → TalkState → ℕ
 frames_on Client t = t.client_frames

@@ -4,9 +4,11 @@
 mod frame;
 mod fronts;
 mod judge;
+mod laws;
 mod limits;
 mod message;
 mod read;
+mod refused;
 mod round;
 mod say;
 mod speaker;
@@ -14,6 +16,7 @@ mod stream;
 mod talk;
 
 pub use fronts::front_comes_first;
+pub use laws::history_laws;
 pub use limits::Limits;
 pub use message::{Ended, Ending, Fault, Message, Side};
 pub use read::read_all;

@@ -32,7 +32,10 @@ pub fn said_is_read()
 /// What was read may be said again: where a history of whole frames, one after another, is good and
 /// ends whole, its messages, said in their order, give its bytes.
 pub fn read_is_said()
-    ensures { (limits : Limits) (h : History) (v : Conversation) (messages : List Message) → AreFrames limits h → Good limits h v [] [] → IsOrder limits h v messages → AreSaid limits messages × (said messages ≡ h) }
+    // Where the frames of messages are a good history of them, the messages may be said.
+    ensures messages { (limits : Limits) (messages : List Message) → Good limits (said messages) (conversation_of messages) [] [] → AreSaid limits messages }
+    // The messages of a history of whole frames, said in their order, give its bytes.
+    ensures again { (limits : Limits) (h : History) (v : Conversation) (messages : List Message) → AreFrames limits h → Good limits h v [] [] → IsOrder limits h v messages → AreSaid limits messages × (said messages ≡ h) }
 {}
 
 /// Whatever was read whole may be said: the messages of a good history that ends whole, however its

@@ -7,7 +7,7 @@ use zk_asks::{Ask, ClientFrame};
 use zk_jute::{Blob, Chars, Text};
 use zk_records::{ConnectRequest, ConnectResponse, Op, WatchAsk, WatcherEvent};
 
-pub fn connect() -> Message {
+pub(crate) fn connect() -> Message {
     Message::Client(ClientFrame::Connect {
         hello: ConnectRequest {
             protocol_version: 0,
@@ -43,7 +43,7 @@ fn event() -> Message {
     })
 }
 
-pub fn ping(xid: i32) -> Message {
+pub(crate) fn ping(xid: i32) -> Message {
     Message::Client(ClientFrame::Ask {
         xid,
         ask: Ask::Ping,

@@ -1,5 +1,5 @@
 //! The conversation, as it comes.
-ghost use Rattle.std.specs.Prelude.{◌≡◌, ◌≤◌, ◌<◌, ◌+◌, ◌^◌, ℕ, List, [], length, take, Some, None, Err, IfOk, IfErr, MatchOption};
+ghost use Rattle.std.specs.Prelude.{◌≡◌, ◌≢◌, ◌≤◌, ◌<◌, ◌+◌, ◌^◌, ℕ, List, [], length, take, Some, None, Err, IsOk, IfOk, IfErr, IfSome, MatchOption};
 ghost use Rattle.std.specs.Option.{option_to_list};
 ghost use Rattle.zk_jute.specs.declared.fault.Reason.TheVariants.{NoMemory};
 ghost use Rattle.zk_jute.specs.Reading.{no_memory};
@@ -13,14 +13,20 @@ ghost use Rattle.zk_talk.specs.Good.{Good};
 ghost use Rattle.zk_talk.specs.Fault.{fault_of, side_limit, rest_on};
 ghost use Rattle.zk_talk.specs.Ending.{IsEnding};
 ghost use Rattle.zk_talk.specs.Stands.{held_on, Stands, Refuses};
+ghost use Rattle.zk_talk.specs.Refused.{IsRefusedBody};
+ghost use Rattle.zk_records.specs.declared.op.Op.TheVariants as ops;
+ghost use Rattle.zk_answers.specs.declared.layout.Layout.{Layout as Kind};
+ghost use Rattle.zk_answers.specs.declared.layout.Layout.TheVariants as layouts;
 ghost use Rattle.zk_talk.specs.Taking.{GoesOn, Fails};
 
 use crate::frame::{client_frame, is_no_memory, server_frame};
 use crate::limits::Limits;
 use crate::message::{Ending, Fault, Message, Side};
+use crate::refused::{answered_body, asked_body, is_in_body, whole_payload};
 use crate::stream::{Advance, Stream};
 use std::alloc::{AllocError, Global};
 use std::marker::Model;
+use zk_answers::Layout;
 use zk_jute::{ItemFault, Reason};
 use zk_waiting::Waiting;
 
@@ -126,6 +132,7 @@ impl Talk {
         ensures ok { IfOk result (λ t. (t.used ≤ length piece.now) × (0 < length piece.now → 0 < t.used) × GoesOn self.old Client (take t.used piece.now) (option_to_list t.message) self.new) }
         ensures exact { IfOk result (λ t. MatchOption t.message (t.used ≡ length piece.now) (λ m. self.new.client_held ≡ [])) }
         ensures err { IfErr result (λ e. Fails self.old Client piece.now e self.new) }
+        ensures empty { length piece.now ≡ 0 → IsOk result }
     {
         match self.client.take(piece) {
             Advance::Within => {
@@ -167,6 +174,7 @@ impl Talk {
         ensures ok { IfOk result (λ t. (t.used ≤ length piece.now) × (0 < length piece.now → 0 < t.used) × GoesOn self.old Server (take t.used piece.now) (option_to_list t.message) self.new) }
         ensures exact { IfOk result (λ t. MatchOption t.message (t.used ≡ length piece.now) (λ m. self.new.server_held ≡ [])) }
         ensures err { IfErr result (λ e. Fails self.old Server piece.now e self.new) }
+        ensures empty { length piece.now ≡ 0 → IsOk result }
     {
         match self.server.take(piece) {
             Advance::Within => {
@@ -201,7 +209,8 @@ impl Talk {
     /// # Errors
     ///
     /// The fault of the history so far with the piece: it is kept, and each later call answers it
-    /// and uses nothing. NoMemory where a growth was refused: the talk is then as before the call.
+    /// and uses nothing. NoMemory where a growth was refused: the talk is then as before the call,
+    /// and the piece isn't empty.
     pub fn take(&mut self, side: Side, piece: &[u8]) -> Result<Taken, Fault>
         ensures limits { self.new.limits ≡ self.old.limits }
         // What is used goes on with the history, and what it makes whole is the newest message.
@@ -210,6 +219,8 @@ impl Talk {
         ensures exact { IfOk result (λ t. MatchOption t.message (t.used ≡ length piece.now) (λ m. held_on side self.new ≡ [])) }
         // Want of memory changes nothing; another refusal is the history's fault.
         ensures err { IfErr result (λ e. Fails self.old side piece.now e self.new) }
+        // No memory is wanted of an empty piece.
+        ensures empty { length piece.now ≡ 0 → self.old.fault ≡ None → IsOk result }
         // A fault is kept.
         ensures kept { (f : Fault) → self.old.fault ≡ Some f → (result ≡ Err f) × (self.new ≡ self.old) }
     {
@@ -255,6 +266,25 @@ impl Talk {
             }
         } else {
             Ending::Whole { unanswered: asks }
+        }
+    }
+
+    /// The layout and the bytes of the body in which the kept fault lies: those behind the header
+    /// of a request, of an event, or of a reply with err 0 to another operation than multi. None
+    /// where it lies elsewhere, in a side's frame 0, or where no fault is kept.
+    pub fn refused_body(&self) -> Option<(Layout, &[u8])>
+        ensures stands { (h : History) (M : List Message) → Stands self.now h M → result ≡ None }
+        ensures refuses { (h : History) (M : List Message) (f : Fault) (r : Refuses self.now h M f) → MatchOption result ((layout : Kind) (body : List ℕ) → IsRefusedBody self.now.limits h f r.is layout body → ⊥) (λ b. IsRefusedBody self.now.limits h f r.is b.0 b.1.now) }
+        ensures small { IfSome result (λ b. length b.1.now ≤ 16777216) }
+        ensures known { IfSome result (λ b. b.0 ≢ layouts.Answered ops.Multi) }
+    {
+        let fault = self.fault?;
+        if !is_in_body(fault) {
+            return None;
+        }
+        match fault.side {
+            Side::Client => asked_body(whole_payload(&self.client.frames)?),
+            Side::Server => answered_body(whole_payload(&self.server.frames)?, &self.waiting),
         }
     }
 

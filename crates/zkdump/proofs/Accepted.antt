@@ -25,24 +25,25 @@ use Rattle.zk_frames.proofs.Cuts.{length-frame}
 use Rattle.zkdump.specs.declared.built.Built.TheVariants.{Whole, LineRefused, SayRefused}
 use Rattle.zkdump.specs.declared.builder.Halt.TheVariants.{Fails}
 use Rattle.zkdump.specs.declared.listing.RunFault.{RunFault}
-use Rattle.zkdump.specs.Recording.{head, piece_bytes}
+use Rattle.zkdump.specs.Building.{head, built_bytes}
+use Rattle.zkdump.specs.Recording.{no_time}
 use Rattle.zkdump.specs.Outcome.{HasGrownIn}
 use Rattle.zkdump.specs.Building.{IsDotted, AreAccepted, AreEnded, IsNextLine, IsBuilt, without_ending, with_ending, behind_ending, other_ending, no_message, not_said, ending_fault, due_ending, piece_of, recording_of}
 use Rattle.zkdump.specs.Accepting.{AreGood, Took, Refuses, Begins, HaltsAt, line_halt, line_halt_by, say_halt}
 use Rattle.zkdump.proofs.Bytes.{Appends-then}
 use Rattle.zkdump.proofs.Feeding.{grown-whole}
 use Rattle.zkdump.proofs.Found.{grown-further}
-use Rattle.zkdump.proofs.Stages.{flat_map-snoc}
+use Rattle.zkdump.proofs.Lists.{flat_map-snoc}
 
 pub all-snoc : {X : Type 0} (P : X → Type 0) (xs : List X) (x : X) → AllByRecursion P xs → P x → AllByRecursion P (xs ++ x ∷ [])
 all-snoc P [] x all p = (p, tt)
 all-snoc P (y ∷ ys) x all p = (all.0, all-snoc P ys x all.1 p)
 
-pub recording-more : (messages : List Message) (m : Message) → recording_of (messages ++ m ∷ []) ≡ recording_of messages ++ piece_bytes (piece_of m)
+pub recording-more : (messages : List Message) (m : Message) → recording_of (messages ++ m ∷ []) ≡ recording_of messages ++ built_bytes (piece_of m)
 recording-more messages m =
-    ap (λ ps. head ++ flat_map piece_bytes ps) (map-append piece_of messages (m ∷ []))
-    ∙ ap (λ l. head ++ l) (flat_map-snoc piece_bytes (map piece_of messages) (piece_of m))
-    ∙ sym (append_assoc head (flat_map piece_bytes (map piece_of messages)) (piece_bytes (piece_of m)))
+    ap (λ ps. head ++ flat_map built_bytes ps) (map-append piece_of messages (m ∷ []))
+    ∙ ap (λ l. head ++ l) (flat_map-snoc built_bytes (map piece_of messages) (piece_of m))
+    ∙ sym (append_assoc head (flat_map built_bytes (map piece_of messages)) (built_bytes (piece_of m)))
 
 accepted-more : (limits : Limits) (lines : List (List ℕ)) (messages : List Message) (m : Message) →
     AreAccepted limits lines messages → Fits m → AreSaid limits (messages ++ m ∷ []) → AreAccepted limits (lines ++ line m ∷ []) (messages ++ m ∷ [])
@@ -64,7 +65,7 @@ short-frame limits before (Server s) may = omega (arith, length-frame (server_pa
 -- the piece of a message: what was written, from the frame that was appended to nothing
 pub piece-is : (limits : Limits) (before : List Message) (m : Message) (side : Side) (written piece content out none : List ℕ) → MaySay limits before m →
     written ≡ piece → side ≡ side_of m → content ≡ out → out ≡ none ++ frame (payload_of m) → none ≡ [] →
-    (length content < 4294967296 → piece ≡ piece_bytes (record { side = side; size = to_be_bytes w32 (length content); content = content })) → written ≡ piece_bytes (piece_of m)
+    (length content < 4294967296 → piece ≡ built_bytes (record { side = side; time = no_time; size = to_be_bytes w32 (length content); content = content })) → written ≡ built_bytes (piece_of m)
 piece-is limits before m side written piece content out none may written_is side_is content_is out_is none_is is =
     let frame_is : content ≡ frame (payload_of m) = content_is ∙ out_is ∙ ap (λ l. l ++ frame (payload_of m)) none_is in
     written_is ∙ is (omega (arith, ap length frame_is, short-frame limits before m may)) ∙ rw (side_is, frame_is) refl
@@ -107,7 +108,7 @@ module _ (limits : Limits) (lines : List (List ℕ)) (before now : Option (List 
     said-more = subst (λ l. AreSaid l (t.messages ++ m ∷ [])) (limits_are ∙ t.knows.limits_are) ((says t.messages t.knows.says).1).said
 
     -- the message was said, and its piece written
-    pub took-message : (after : Option (List ℕ)) → Appends now after (piece_bytes (piece_of m)) → Took limits (lines ++ line m ∷ []) before after (count + 1) false new
+    pub took-message : (after : Option (List ℕ)) → Appends now after (built_bytes (piece_of m)) → Took limits (lines ++ line m ∷ []) before after (count + 1) false new
     took-message after written = record {
       messages = t.messages ++ m ∷ [];
       knows = record {
@@ -120,7 +121,7 @@ module _ (limits : Limits) (lines : List (List ℕ)) (before now : Option (List 
     }
 
     -- a front of its piece
-    pub fails-within : (after : Option (List ℕ)) (fault : RunFault) → HasGrownIn now after (piece_bytes (piece_of m)) → HaltsAt limits lines (line m) before (Fails fault) after
+    pub fails-within : (after : Option (List ℕ)) (fault : RunFault) → HasGrownIn now after (built_bytes (piece_of m)) → HaltsAt limits lines (line m) before (Fails fault) after
     fails-within after fault written = inr (record {
       messages = t.messages ++ m ∷ [];
       accepted = accepted-more limits lines t.messages m t.knows.good fits said-more;

@@ -1,5 +1,5 @@
 -- What a run that builds has read and written when it answers.
-use Rattle.std.proofs.Common.{◌≡◌, ℕ, List, [], ◌++◌, Option, Result, Ok, Err, IfOk, OnErr, refl, ap, ◌∙◌, sym, subst, append-nil, Bool}
+use Rattle.std.proofs.Common.{◌≡◌, ℕ, List, [], ◌++◌, Option, Result, Ok, Err, IfOk, IfErr, IsErrOf, OnErr, refl, ap, ◌∙◌, sym, subst, append-nil, Bool}
 use Rattle.std.specs.Io.KnownBytes.{Consumes, IsAtEnd}
 use Rattle.zk_talk.specs.declared.limits.Limits.{Limits}
 use Rattle.zk_talk.specs.Said.{SpeakerState}
@@ -7,11 +7,11 @@ use Rattle.zkdump.specs.declared.built.Built.{Built}
 use Rattle.zkdump.specs.declared.built.Built.TheVariants.{Whole, LineRefused, SayRefused}
 use Rattle.zkdump.specs.declared.builder.Halt.{Halt}
 use Rattle.zkdump.specs.declared.builder.Halt.TheVariants.{Refused, Fails}
-use Rattle.zkdump.specs.declared.listing.RunFault.TheVariants.{Memory}
-use Rattle.zkdump.specs.Recording.{head}
+use Rattle.zkdump.specs.declared.listing.RunFault.TheVariants.{Read, Write, Memory}
+use Rattle.zkdump.specs.Building.{head}
 use Rattle.zkdump.specs.Outcome.{HasGrownIn}
 use Rattle.zkdump.specs.Building.{AreLines, StandFirst, fed_in, all_of, Covers, HasBuilt, HasBuiltSoFar, HasBegunBuilding}
-use Rattle.zkdump.specs.Accepting.{HasTaken, IsRefused, HaltsIn, BeginsIn, BuildsAll, BeginsAll, StandIn, some, all, answer_of}
+use Rattle.zkdump.specs.Accepting.{HasTaken, IsRefused, HaltsIn, BeginsIn, BuildsAll, BeginsAll, StandIn, some, all, answer_of, IfSpared}
 use Rattle.zkdump.proofs.Bytes.{Consumes-none, Consumes-then}
 use Rattle.zkdump.proofs.Accepted.{built-good, nothing-accepted}
 use Rattle.zkdump.proofs.Taken.{halts-here}
@@ -37,6 +37,28 @@ if-ok-map (Err e) P Q f p = tt
 pub on-err-map : {T E : Type 0} (r : Result T E) (P Q : Type 0) → (P → Q) → OnErr r P → OnErr r Q
 on-err-map (Ok x) P Q f p = tt
 on-err-map (Err e) P Q f p = f p
+
+-- ---- why no failed read or write is behind a halt
+
+pub spared-halt : (halt : Halt) (P : Type 0) → P → IfSpared halt P
+spared-halt (Refused built) P p = p
+spared-halt (Fails Memory) P p = p
+spared-halt (Fails Read) P p = tt
+spared-halt (Fails Write) P p = tt
+
+pub spared-result : {T : Type 0} (r : Result T Halt) (P : Type 0) → P → IfErr r (λ halt. IfSpared halt P)
+spared-result (Ok x) P p = tt
+spared-result (Err halt) P p = spared-halt halt P p
+
+pub open-answer : (halt : Halt) (P : Type 0) → IfSpared halt P → IfOk (answer_of halt) (λ _. P)
+open-answer (Refused built) P p = p
+open-answer (Fails fault) P p = tt
+
+pub spared-answer : (halt : Halt) (P : Type 0) → IfSpared halt P → IsErrOf (answer_of halt) Memory → P
+spared-answer (Refused built) P p e = absurd cc
+spared-answer (Fails Memory) P p e = p
+spared-answer (Fails Read) P p e = absurd cc
+spared-answer (Fails Write) P p e = absurd cc
 
 module _ (limits : Limits) (unread mid : Option (List ℕ)) (x : List ℕ) (before now : Option (List ℕ)) (p : Consumes unread mid x) where
   -- what was read so far

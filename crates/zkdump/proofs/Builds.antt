@@ -10,7 +10,8 @@ use Rattle.zk_talk.specs.declared.message.Message.{Message}
 use Rattle.zk_lines.specs.Lines.{line}
 use Rattle.zkdump.specs.declared.built.Built.{Built}
 use Rattle.zkdump.specs.declared.built.Built.TheVariants.{Whole, LineRefused, SayRefused}
-use Rattle.zkdump.specs.Recording.{front, head, piece_bytes}
+use Rattle.zkdump.specs.Building.{head, built_bytes}
+use Rattle.zkdump.specs.Recording.{First, InPieces, front}
 use Rattle.zkdump.specs.Outcome.{HasGrownIn}
 use Rattle.zkdump.specs.Building.{AreLines, StandFirst, recording_of, piece_of, AreAccepted, IsNextLine, IsBuilt, without_ending, with_ending, behind_ending, other_ending, no_message, not_said, Covers, HasBuilt, HasBegunBuilding}
 use Rattle.zkdump.specs.Rebuilding.{AreAlike}
@@ -87,11 +88,11 @@ take_less k xs ys = take-append-le (min k (length xs)) xs ys (omega arith) ∙ t
 grown_less : (before after : Option (List ℕ)) (xs ys : List ℕ) → HasGrownIn before after xs → HasGrownIn before after (xs ++ ys)
 grown_less before after xs ys g = (min g.0 (length xs), subst (Appends before after) (sym (take_less g.0 xs ys)) g.1)
 
-recording-append : (M N : List Message) → recording_of (M ++ N) ≡ recording_of M ++ flat_map piece_bytes (map piece_of N)
+recording-append : (M N : List Message) → recording_of (M ++ N) ≡ recording_of M ++ flat_map built_bytes (map piece_of N)
 recording-append M N =
-    ap front (map-append piece_of M N)
-    ∙ ap (λ z. head ++ z) (flat_map-append piece_bytes (map piece_of M) (map piece_of N))
-    ∙ sym (append_assoc head (flat_map piece_bytes (map piece_of M)) (flat_map piece_bytes (map piece_of N)))
+    ap (λ ps. front (InPieces First ps)) (map-append piece_of M N)
+    ∙ ap (λ z. head ++ z) (flat_map-append built_bytes (map piece_of M) (map piece_of N))
+    ∙ sym (append_assoc head (flat_map built_bytes (map piece_of M)) (flat_map built_bytes (map piece_of N)))
 
 module _ (limits : Limits) (all : List (List ℕ)) (others : List Message) (built : Built) (is : IsBuilt limits all others built) (before after : Option (List ℕ)) where
   grown_first : (lines more : List (List ℕ)) (messages : List Message) → AreAccepted limits lines messages → all ≡ lines ++ more →
@@ -99,7 +100,7 @@ module _ (limits : Limits) (all : List (List ℕ)) (others : List Message) (buil
   grown_first lines more messages a e g =
       let f = accepted_first limits all others built is lines more messages a e in
       subst (HasGrownIn before after) (sym (ap recording_of f.1 ∙ recording-append messages f.0))
-      (grown_less before after (recording_of messages) (flat_map piece_bytes (map piece_of f.0)) g)
+      (grown_less before after (recording_of messages) (flat_map built_bytes (map piece_of f.0)) g)
 
 -- whose bytes are known
 pub begun_of_known : (limits : Limits) (x : List ℕ) (all : List (List ℕ)) (others : List Message) (built : Built) → AreLines x all → IsBuilt limits all others built →

@@ -19,9 +19,7 @@ use Rattle.zkdump.specs.Lines.{message_line, text_of}
 use Rattle.zkdump.specs.Outcome.{IsGoodWith, HasGrownIn}
 use Rattle.zkdump.specs.Following.{Takes}
 use Rattle.zkdump.proofs.Bytes.{Appends-none, Appends-then}
-
-pub on-append : (side : Side) (a b : List ℕ) (h : History) → (h ++ on side a) ++ on side b ≡ h ++ on side (a ++ b)
-on-append side a b h = append_assoc h (on side a) (on side b) ∙ ap (λ t. h ++ t) (sym (map-append (λ (v : ℕ). (side, v)) a b))
+use Rattle.zkdump.proofs.Lists.{on-append}
 
 pub text_of-append : (listing : Listing) (a b : List Message) → text_of listing (a ++ b) ≡ text_of listing a ++ text_of listing b
 text_of-append All a b = flat_map-append message_line a b
@@ -52,10 +50,6 @@ grown-whole before after text p = (length text, subst (Appends before after) (sy
 pub told-then : (listing : Listing) (before during after : Option (List ℕ)) (now more : List Message) → Appends before during (text_of listing now) →
     Appends during after (text_of listing more) → Appends before after (text_of listing (now ++ more))
 told-then listing before during after now more p q = subst (Appends before after) (sym (text_of-append listing now more)) (Appends-then before during after _ _ p q)
-
-pub told-none : (listing : Listing) (contents : Option (List ℕ)) → Appends contents contents (text_of listing [])
-told-none All contents = Appends-none contents
-told-none Last contents = Appends-none contents
 
 -- ---- lines that are appended to a buffer
 

@@ -3,20 +3,18 @@ use Rattle.std.proofs.Common.{◌≡◌, ℕ, List, [], ◌++◌, ◌+◌, lengt
 use Rattle.std.specs.Io.KnownBytes.{Consumes, IsAtEnd, Appends}
 use Rattle.zk_talk.specs.declared.limits.Limits.{Limits}
 use Rattle.zk_talk.specs.declared.message.Message.{Message}
-use Rattle.zk_talk.specs.Stands.{TalkState}
-use Rattle.zkdump.specs.declared.recording.Stage.{Stage}
+use Rattle.zkdump.specs.declared.progress.Progress.{Progress}
 use Rattle.zkdump.specs.declared.summary.Summary.{Summary}
-use Rattle.zkdump.specs.Recording.{Recording, Spells, history_of}
+use Rattle.zkdump.specs.Recording.{Recording, Spells, history_of, limits_of}
 use Rattle.zkdump.specs.Outcome.{Reads, IsFound, IsRunning, HasBegun, HasGrownIn, IsGoodWith}
 use Rattle.zkdump.specs.Following.{Follows, Finishes, Decides, Opens}
 use Rattle.std.proofs.Math.Seq.{take-append-add, take-append_seam}
 use Rattle.zkdump.proofs.Bytes.{Consumes-then, Appends-then}
-use Rattle.zkdump.proofs.Feeding.{good-here}
+use Rattle.zkdump.proofs.Talking.{has-good}
 use Rattle.zkdump.proofs.Outcomes.{outcome-once, outcome-good}
-use Rattle.zkdump.proofs.Stops.{read-at}
 use Rattle.zkdump.proofs.Once.{spells-once}
 
-reads : (before after : Option (List ℕ)) (x : List ℕ) (r : Recording) → Consumes before after x → Spells x r → Reads before after x r
+pub reads : (before after : Option (List ℕ)) (x : List ℕ) (r : Recording) → Consumes before after x → Spells x r → Reads before after x r
 reads before after x r p i = record { consumed = p; just = record { spells = i; only = λ s j. spells-once x r s i j } }
 
 pub found-at_end : (limits : Limits) (before mid after : Option (List ℕ)) (x none : List ℕ) (messages : List Message) (summary : Summary) →
@@ -31,17 +29,17 @@ found-at_end limits before mid after x none messages summary p q nothing end i =
 }
 
 -- what was read has these messages and no fault
-pub running : (limits : Limits) (before after : Option (List ℕ)) (x : List ℕ) (messages : List Message) (s : Stage) (t : TalkState) →
-    Consumes before after x → Follows limits x messages s t → IsRunning limits before after messages
-running limits before after x messages s t p i =
-    let r = read-at s x i.history i.sound i.at in
-    let good = subst (λ k. IsGoodWith limits k messages) r.1.content (good-here t limits i.history messages i.limits_are i.stands) in
+pub running : (limits : Limits) (before after : Option (List ℕ)) (x : List ℕ) (messages : List Message) (now : Progress) →
+    Consumes before after x → Follows limits x messages now → IsRunning limits before after messages
+running limits before after x messages now p i =
+    let r = i.recording in
+    let good = has-good (limits_of limits r) now.talk (history_of r) messages i.talks.has in
     record {
       bytes = x;
-      recording = r.1.recording;
-      reads = reads before after x r.1.recording p r.1.spells;
+      recording = r;
+      reads = reads before after x r p i.at.spells;
       good = good;
-      only = λ others summary o. outcome-good limits r.1.recording messages others summary good o;
+      only = λ others summary o. outcome-good limits r messages others summary good o;
     }
 
 pub running-begun : (limits : Limits) (before after : Option (List ℕ)) (messages : List Message) → IsRunning limits before after messages → HasBegun limits before after messages

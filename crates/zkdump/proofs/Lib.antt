@@ -4,11 +4,16 @@ pub mod Verdicts
 pub mod Builds
 pub mod Rebuilds
 pub mod Bytes
+pub mod Lists
+pub mod Walks
 pub mod Stages
+pub mod Accepts
 pub mod Feeding
+pub mod Talking
 pub mod Any
 pub mod Outcomes
 pub mod Stops
+pub mod Steps
 pub mod Found
 pub mod Opened
 pub mod Stopped
@@ -17,3 +22,6 @@ pub mod Accepted
 pub mod Taken
 pub mod Answered
 pub mod Spared
+pub mod Lasting
+pub mod Moves
+pub mod Migrates

@@ -1,197 +1,153 @@
--- bytes are one recording at most: the same history and the same damage
-use Rattle.std.proofs.Common.{◌≡◌, ◌≢◌, ℕ, ◌+◌, ◌<◌, ◌≤◌, List, [], ◌∷◌, ◌++◌, length, take, drop, Option, None, Some, Bool, true, false, cond, nat_lt, nat_le, ◌==◌, ◌&&◌, refl, sym, ◌∙◌, ap, append_assoc, arith, length-append}
-use Rattle.std.proofs.lemmas.Bool.Decides.{nat_tests}
-use Rattle.std.proofs.Math.Seq.{take-append_seam, drop-append_seam}
-use Rattle.std.proofs.lemmas.List.{take_at, drop_at}
-use Rattle.std.proofs.lemmas.List.Elements.{All-head, All-tail}
+-- Bytes are one recording at most: the one that is read from them.
+use Rattle.std.proofs.Common.{◌≡◌, ℕ, ◌+◌, ◌<◌, ◌≤◌, zero, suc, List, [], ◌∷◌, ◌++◌, length, take, drop, Bool, true, false, cond, nat_lt, refl, sym, ◌∙◌, ap, subst, append_assoc, append-nil, arith, length-append}
 use Rattle.std.specs.List.{All, flat_map}
+use Rattle.std.specs.Str.{bytes_eq}
+use Rattle.std.proofs.lemmas.List.Elements.{All-head, All-tail}
+use Rattle.std.proofs.Math.Seq.{take-append_seam, drop-append_seam}
 use Rattle.zk_talk.specs.declared.message.Side.{Side}
 use Rattle.zk_talk.specs.declared.message.Side.TheVariants.{Client, Server}
-use Rattle.zk_talk.specs.History.{History, on}
-use Rattle.zkdump.specs.declared.recording.Damage.{Damage}
-use Rattle.zkdump.specs.declared.recording.DamageReason.TheVariants.{BadSide, BadSize, Short}
-use Rattle.zkdump.specs.Recording.{Piece, IsPiece, IsSize, Recording, Headless, Pieces, Tail, Nothing, NoSide, CutSize, NoSize, CutContent, IsTail, IsNoSide, Spells, head, front, number, piece_bytes, piece_history, side_byte, tail_bytes, tail_history, tail_damage, history_of, damage_of}
+use Rattle.zkdump.specs.declared.parts.Format.{Format}
+use Rattle.zkdump.specs.declared.parts.Format.TheVariants.{Zkr1, Zkr2}
+use Rattle.zkdump.specs.declared.parts.Part.TheVariants.{Letters}
+use Rattle.zkdump.specs.Parts.{letters, number, head_parts, piece_parts}
+use Rattle.zkdump.specs.Recording.{AreValues, spelled, Break, IsBreak, break_bytes, Head, First, Second, format_of, head_values, IsHead, head_bytes, Piece, piece_values, IsTimed, IsPiece, IsCut, piece_bytes, no_time, side_byte, Place, AtLetters, InHead, InPieces, front, Recording, Breaks, Ends, Spells, nothing}
+use Rattle.zkdump.proofs.Walks.{Walk, Walked, Broke, walk, walk-values, walk-break, spelled-append, cond-true, cond-false, lt-true, lt-false}
 
--- what some bytes begin with
-data First : Type 0 where
-  AtEnd : First
-  BadByte : First
-  SizeCut : First
-  SizeBad : First
-  ContentCut : (begun : History) → First
-  Whole : (side : Side) (content rest : List ℕ) → First
+abbrev pub with_content : Piece → List ℕ → Piece
+with_content p content = record { side = p.side; time = p.time; size = p.size; content = content }
 
-abbrev side_of : ℕ → Option Side
-side_of b = cond (b == 67) (Some Client) (cond (b == 83) (Some Server) None)
+abbrev pub side_in : List ℕ → Side
+side_in b = cond (bytes_eq b (67 ∷ [])) Client Server
 
-abbrev with_content : Side → ℕ → List ℕ → First
-with_content side n rest = cond (nat_lt (length rest) n) (ContentCut (on side rest)) (Whole side (take n rest) (drop n rest))
+abbrev pub bare : Side → List ℕ → List ℕ → Piece
+bare side time size = record { side = side; time = time; size = size; content = [] }
 
-abbrev with_size : Side → ℕ → List ℕ → First
-with_size side n rest = cond (nat_le 1 n && nat_le n 16777220) (with_content side n rest) SizeBad
+-- the piece of these values
+abbrev pub piece_with : Format → List (List ℕ) → Piece
+piece_with Zkr1 [] = bare Client [] []
+piece_with Zkr1 (b ∷ []) = bare Client [] []
+piece_with Zkr1 (b ∷ size ∷ more) = bare (side_in b) no_time size
+piece_with Zkr2 [] = bare Client [] []
+piece_with Zkr2 (b ∷ []) = bare Client [] []
+piece_with Zkr2 (b ∷ time ∷ []) = bare Client [] []
+piece_with Zkr2 (b ∷ time ∷ size ∷ more) = bare (side_in b) time size
 
-abbrev after_side : Option Side → List ℕ → First
-after_side None bytes = BadByte
-after_side (Some side) bytes = cond (nat_lt (length bytes) 4) SizeCut (with_size side (number (take 4 bytes)) (drop 4 bytes))
+abbrev pub sized : Head → List Piece → (List Piece → List ℕ → Recording) → Piece → List ℕ → Recording
+sized head pieces next p rest = cond (nat_lt (length rest) (number p.size)) (Ends head pieces (with_content p rest))
+    (next (pieces ++ with_content p (take (number p.size) rest) ∷ []) (drop (number p.size) rest))
 
-abbrev first_of : List ℕ → First
-first_of [] = AtEnd
-first_of (b ∷ bytes) = after_side (side_of b) bytes
+abbrev pub choose : Head → List Piece → (List Piece → List ℕ → Recording) → Walk → Recording
+choose head pieces next (Broke b) = Breaks (InPieces head pieces) b
+choose head pieces next (Walked values rest) = sized head pieces next (piece_with (format_of head) values) rest
 
-abbrev tail_first : Tail → First
-tail_first Nothing = AtEnd
-tail_first (NoSide b more) = BadByte
-tail_first (CutSize side begun) = SizeCut
-tail_first (NoSize side size more) = SizeBad
-tail_first (CutContent side size begun) = ContentCut (on side begun)
+-- the recording of a head, pieces, and bytes behind them
+abbrev pub parse : ℕ → Head → List Piece → List ℕ → Recording
+parse zero head pieces bytes = Breaks (InPieces head pieces) nothing
+parse (suc n) head pieces bytes = choose head pieces (λ more rest. parse n head more rest) (walk (piece_parts (format_of head)) bytes)
 
-cond-true : {A : Type 0} (b : Bool) (x y : A) → b ≡ true → cond b x y ≡ x
-cond-true b x y e = ap (λ c. cond c x y) e
+abbrev pub parse_all : Head → List ℕ → Recording
+parse_all head bytes = parse (suc (length bytes)) head [] bytes
 
-cond-false : {A : Type 0} (b : Bool) (x y : A) → b ≡ false → cond b x y ≡ y
-cond-false b x y e = ap (λ c. cond c x y) e
+abbrev pub behind_numbers : Walk → Recording
+behind_numbers (Broke b) = Breaks (InHead Zkr2) b
+behind_numbers (Walked [] rest) = Breaks AtLetters nothing
+behind_numbers (Walked (c ∷ []) rest) = Breaks AtLetters nothing
+behind_numbers (Walked (c ∷ s ∷ []) rest) = Breaks AtLetters nothing
+behind_numbers (Walked (c ∷ s ∷ w ∷ []) rest) = Breaks AtLetters nothing
+behind_numbers (Walked (c ∷ s ∷ w ∷ p ∷ more) rest) = parse_all (Second c s w p) rest
 
-lt-true : (a b : ℕ) → a < b → nat_lt a b ≡ true
-lt-true a b h = grind (arith, nat_tests)
+abbrev pub behind_letters : Walk → Recording
+behind_letters (Broke b) = Breaks AtLetters b
+behind_letters (Walked [] rest) = Breaks AtLetters nothing
+behind_letters (Walked (v ∷ more) rest) = cond (bytes_eq v (letters Zkr1)) (parse_all First rest) (behind_numbers (walk (head_parts Zkr2) rest))
 
-lt-false : (a b : ℕ) → b ≤ a → nat_lt a b ≡ false
-lt-false a b h = grind (arith, nat_tests)
+abbrev pub recorded : List ℕ → Recording
+recorded x = behind_letters (walk (Letters ∷ []) x)
 
-size-true : (n : ℕ) → IsSize n → nat_le 1 n && nat_le n 16777220 ≡ true
-size-true n h = grind (arith, nat_tests)
+-- ---- what is spelled is read
 
-size-false : (n : ℕ) → (IsSize n → ⊥) → nat_le 1 n && nat_le n 16777220 ≡ false
-size-false n h = grind (arith, nat_tests)
+side-again : (side : Side) → side_in (side_byte side ∷ []) ≡ side
+side-again Client = refl
+side-again Server = refl
 
-side-there : (side : Side) → side_of (side_byte side) ≡ Some side
-side-there Client = refl
-side-there Server = refl
+piece-again : (format : Format) (p : Piece) → IsTimed format p → piece_with format (piece_values format p) ≡ bare p.side p.time p.size
+piece-again Zkr1 p timed = ap (λ s. bare s no_time p.size) (side-again p.side) ∙ ap (λ t. bare p.side t p.size) (sym timed)
+piece-again Zkr2 p timed = ap (λ s. bare s p.time p.size) (side-again p.side)
 
-no-side-there : (b : ℕ) → IsNoSide b → side_of b ≡ None
-no-side-there b i = let c : b ≢ 67 = i.not_client in let s : b ≢ 83 = i.not_server in grind (arith, nat_tests)
+parse-break : (n : ℕ) (head : Head) (ps : List Piece) (b : Break) → IsBreak (piece_parts (format_of head)) b → parse (suc n) head ps (break_bytes b) ≡ Breaks (InPieces head ps) b
+parse-break n head ps b is = ap (choose head ps (λ more rest. parse n head more rest)) (walk-break _ b is)
 
-sized : (side : Side) (size more : List ℕ) → length size ≡ 4 →
-    first_of (side_byte side ∷ (size ++ more)) ≡ with_size side (number size) more
-sized side size more four =
-    ap (λ o. after_side o (size ++ more)) (side-there side)
-    ∙ cond-false _ _ _ (lt-false (length (size ++ more)) 4 (omega (arith, length-append size more)))
-    ∙ ap (λ s. with_size side (number s) (drop 4 (size ++ more))) (take_at size more 4 four)
-    ∙ ap (with_size side (number size)) (drop_at size more 4 four)
+module _ (n : ℕ) (head : Head) (ps : List Piece) (p : Piece) where
+  abbrev next : List Piece → List ℕ → Recording
+  next more rest = parse n head more rest
 
-first-tail : (t : Tail) → IsTail t → first_of (tail_bytes t) ≡ tail_first t
-first-tail Nothing i = refl
-first-tail (NoSide b more) i = ap (λ o. after_side o more) (no-side-there b i)
-first-tail (CutSize side begun) i = ap (λ o. after_side o begun) (side-there side) ∙ cond-true _ _ _ (lt-true _ _ i)
-first-tail (NoSize side size more) i = sized side size more i.four ∙ cond-false _ _ _ (size-false _ i.range)
-first-tail (CutContent side size begun) i = sized side size begun i.four ∙ cond-true _ _ _ (size-true _ i.range) ∙ cond-true _ _ _ (lt-true _ _ i.short)
+  parse-values : (rest : List ℕ) → AreValues (piece_parts (format_of head)) (piece_values (format_of head) p) → IsTimed (format_of head) p →
+      parse (suc n) head ps (spelled (piece_values (format_of head) p) rest) ≡ sized head ps next (bare p.side p.time p.size) rest
+  parse-values rest are timed =
+      ap (choose head ps next) (walk-values _ _ rest are) ∙ ap (λ q. sized head ps next q rest) (piece-again (format_of head) p timed)
 
-first-piece : (p : Piece) (rest : List ℕ) → IsPiece p → first_of (piece_bytes p ++ rest) ≡ Whole p.side p.content rest
-first-piece p rest i =
-    ap (λ l. first_of (side_byte p.side ∷ l)) (append_assoc p.size p.content rest)
-    ∙ sized p.side p.size (p.content ++ rest) i.four
-    ∙ ap (λ n. with_size p.side n (p.content ++ rest)) i.number_is
-    ∙ cond-true _ _ _ (size-true _ i.range)
-    ∙ cond-false _ _ _ (lt-false (length (p.content ++ rest)) (length p.content) (omega (arith, length-append p.content rest)))
-    ∙ ap (λ l. Whole p.side l (drop (length p.content) (p.content ++ rest))) (take-append_seam p.content rest)
-    ∙ ap (Whole p.side p.content) (drop-append_seam p.content rest)
+  parse-cut : IsCut (format_of head) p → parse (suc n) head ps (piece_bytes (format_of head) p) ≡ Ends head ps p
+  parse-cut is = parse-values p.content is.begun.values is.begun.timed ∙ cond-true _ _ _ (lt-true _ _ is.short)
 
-abbrev first_history : First → History
-first_history (ContentCut begun) = begun
-first_history _ = []
+  parse-piece : (rest : List ℕ) → IsPiece (format_of head) p → parse (suc n) head ps (piece_bytes (format_of head) p ++ rest) ≡ parse n head (ps ++ p ∷ []) rest
+  parse-piece rest is =
+      let enough : number p.size ≤ length (p.content ++ rest) = omega (arith, is.sized, length-append p.content rest) in
+      ap (parse (suc n) head ps) (spelled-append (piece_values (format_of head) p) p.content rest)
+      ∙ parse-values (p.content ++ rest) is.begun.values is.begun.timed
+      ∙ cond-false _ _ _ (lt-false _ _ enough)
+      ∙ ap (λ k. next (ps ++ with_content p (take k (p.content ++ rest)) ∷ []) (drop k (p.content ++ rest))) is.sized
+      ∙ ap (λ c. next (ps ++ with_content p c ∷ []) (drop (length p.content) (p.content ++ rest))) (take-append_seam p.content rest)
+      ∙ ap (next (ps ++ p ∷ [])) (drop-append_seam p.content rest)
 
-abbrev first_damage : ℕ → First → Option Damage
-first_damage place AtEnd = None
-first_damage place BadByte = Some (record { offset = place; reason = BadSide })
-first_damage place SizeCut = Some (record { offset = place + 1; reason = Short })
-first_damage place SizeBad = Some (record { offset = place + 1; reason = BadSize })
-first_damage place (ContentCut begun) = Some (record { offset = place + 5; reason = Short })
-first_damage place (Whole side content rest) = None
+parse-pieces : (qs : List Piece) (n : ℕ) (head : Head) (ps : List Piece) (end : List ℕ) (r : Recording) → length qs < n → All (IsPiece (format_of head)) qs →
+    ((k : ℕ) → parse (suc k) head (ps ++ qs) end ≡ r) → parse n head ps (flat_map (piece_bytes (format_of head)) qs ++ end) ≡ r
+parse-pieces [] zero head ps end r less each h = absurd (omega arith)
+parse-pieces [] (suc n) head ps end r less each h = ap (λ l. parse (suc n) head l end) (sym (append-nil ps)) ∙ h n
+parse-pieces (q ∷ qs) zero head ps end r less each h = absurd (omega arith)
+parse-pieces (q ∷ qs) (suc n) head ps end r less each h =
+    let f = format_of head in
+    ap (parse (suc n) head ps) (append_assoc (piece_bytes f q) (flat_map (piece_bytes f) qs) end)
+    ∙ parse-piece n head ps q (flat_map (piece_bytes f) qs ++ end) (All-head (IsPiece f) q qs each)
+    ∙ parse-pieces qs n head (ps ++ q ∷ []) end r (omega (arith, less)) (All-tail (IsPiece f) q qs each)
+    (λ k. ap (λ l. parse (suc k) head l end) (append_assoc ps (q ∷ []) qs) ∙ h k)
 
-tail-history : (t : Tail) → tail_history t ≡ first_history (tail_first t)
-tail-history Nothing = refl
-tail-history (NoSide b more) = refl
-tail-history (CutSize side begun) = refl
-tail-history (NoSize side size more) = refl
-tail-history (CutContent side size begun) = refl
+pub piece-some : (f : Format) (p : Piece) → 1 ≤ length (piece_bytes f p)
+piece-some Zkr1 p = omega arith
+piece-some Zkr2 p = omega arith
 
-tail-damage : (place : ℕ) (t : Tail) → tail_damage place t ≡ first_damage place (tail_first t)
-tail-damage place Nothing = refl
-tail-damage place (NoSide b more) = refl
-tail-damage place (CutSize side begun) = refl
-tail-damage place (NoSize side size more) = refl
-tail-damage place (CutContent side size begun) = refl
+pieces-some : (f : Format) (ps : List Piece) → length ps ≤ length (flat_map (piece_bytes f) ps)
+pieces-some f [] = omega arith
+pieces-some f (p ∷ ps) = omega (arith, piece-some f p, pieces-some f ps, length-append (piece_bytes f p) (flat_map (piece_bytes f) ps))
 
-no-whole-tail : (t : Tail) (side : Side) (content rest : List ℕ) → tail_first t ≡ Whole side content rest → ⊥
-no-whole-tail Nothing side content rest e = cc
-no-whole-tail (NoSide b more) side content rest e = cc
-no-whole-tail (CutSize s begun) side content rest e = cc
-no-whole-tail (NoSize s size more) side content rest e = cc
-no-whole-tail (CutContent s size begun) side content rest e = cc
+walk-letters : (f : Format) (rest : List ℕ) → walk (Letters ∷ []) (letters f ++ rest) ≡ Walked (letters f ∷ []) rest
+walk-letters Zkr1 rest = walk-values (Letters ∷ []) (letters Zkr1 ∷ []) rest (record { wide = refl; good = refl }, tt)
+walk-letters Zkr2 rest = walk-values (Letters ∷ []) (letters Zkr2 ∷ []) rest (record { wide = refl; good = refl }, tt)
 
--- the first of a whole piece and what follows it
-first-whole : (p : Piece) (ps : List Piece) (t : Tail) → IsPiece p →
-    first_of (flat_map piece_bytes (p ∷ ps) ++ tail_bytes t) ≡ Whole p.side p.content (flat_map piece_bytes ps ++ tail_bytes t)
-first-whole p ps t i =
-    ap first_of (append_assoc (piece_bytes p) (flat_map piece_bytes ps) (tail_bytes t))
-    ∙ first-piece p (flat_map piece_bytes ps ++ tail_bytes t) i
+parse-head : (head : Head) (rest : List ℕ) → IsHead head → recorded (head_bytes head ++ rest) ≡ parse_all head rest
+parse-head First rest is = ap behind_letters (walk-letters Zkr1 rest)
+parse-head (Second c s w p) rest is =
+    ap recorded (append_assoc (letters Zkr2) (spelled (c ∷ s ∷ w ∷ p ∷ []) []) rest)
+    ∙ ap behind_letters (walk-letters Zkr2 (spelled (c ∷ s ∷ w ∷ p ∷ []) [] ++ rest))
+    ∙ ap (λ l. behind_numbers (walk (head_parts Zkr2) l)) (spelled-append (c ∷ s ∷ w ∷ p ∷ []) [] rest)
+    ∙ ap behind_numbers (walk-values (head_parts Zkr2) (c ∷ s ∷ w ∷ p ∷ []) rest is)
 
-record IsSame (n : ℕ) (ps : List Piece) (t : Tail) (qs : List Piece) (u : Tail) : Type 0 where
-  history : flat_map piece_history ps ++ tail_history t ≡ flat_map piece_history qs ++ tail_history u
-  damage : tail_damage (n + length (flat_map piece_bytes ps)) t ≡ tail_damage (n + length (flat_map piece_bytes qs)) u
+-- a head, pieces and what follows them
+parse-in : (head : Head) (ps : List Piece) (end : List ℕ) (r : Recording) → IsHead head → All (IsPiece (format_of head)) ps →
+    ((k : ℕ) → parse (suc k) head ps end ≡ r) → recorded (front (InPieces head ps) ++ end) ≡ r
+parse-in head ps end r is each h =
+    let all = flat_map (piece_bytes (format_of head)) ps in
+    ap recorded (append_assoc (head_bytes head) all end)
+    ∙ parse-head head (all ++ end) is
+    ∙ parse-pieces ps (suc (length (all ++ end))) head [] end r (omega (arith, pieces-some (format_of head) ps, length-append all end)) each h
 
-record IsSameWhole (s : Side) (c : List ℕ) (r : List ℕ) (s' : Side) (c' : List ℕ) (r' : List ℕ) : Type 0 where
-  side : s ≡ s'
-  content : c ≡ c'
-  rest : r ≡ r'
+read-again : (r : Recording) (x : List ℕ) → Spells x r → recorded x ≡ r
+read-again (Breaks AtLetters b) x i = ap recorded i.is ∙ ap behind_letters (walk-break (Letters ∷ []) b i.sound.breaks)
+read-again (Breaks (InHead Zkr1) b) x i = absurd i.sound.breaks
+read-again (Breaks (InHead Zkr2) b) x i = ap recorded i.is ∙ ap behind_letters (walk-letters Zkr2 (break_bytes b)) ∙ ap behind_numbers (walk-break (head_parts Zkr2) b i.sound.breaks)
+read-again (Breaks (InPieces head ps) b) x i = ap recorded i.is
+    ∙ parse-in head ps (break_bytes b) (Breaks (InPieces head ps) b) i.sound.stands.headed i.sound.stands.each (λ k. parse-break k head ps b i.sound.breaks)
+read-again (Ends head ps cut) x i = ap recorded i.is
+    ∙ parse-in head ps (piece_bytes (format_of head) cut) (Ends head ps cut) i.sound.stands.headed i.sound.stands.each (λ k. parse-cut k head ps cut i.sound.cut)
 
-same-whole : (s : Side) (c r : List ℕ) (s' : Side) (c' r' : List ℕ) → Whole s c r ≡ Whole s' c' r' → IsSameWhole s c r s' c' r'
-same-whole s c r s' c' r' e = record { side = cc; content = cc; rest = cc }
-
-length-piece : (p : Piece) → IsPiece p → length (piece_bytes p) ≡ length p.content + 5
-length-piece p i = omega (arith, i.four, length-append p.size p.content)
-
-once : (ps qs : List Piece) (t u : Tail) (n : ℕ) → All IsPiece ps → All IsPiece qs → IsTail t → IsTail u →
-    flat_map piece_bytes ps ++ tail_bytes t ≡ flat_map piece_bytes qs ++ tail_bytes u → IsSame n ps t qs u
-once [] [] t u n a b i j e =
-    let f : tail_first t ≡ tail_first u = sym (first-tail t i) ∙ ap first_of e ∙ first-tail u j in
-    record {
-      history = tail-history t ∙ ap first_history f ∙ sym (tail-history u);
-      damage = tail-damage (n + 0) t ∙ ap (first_damage (n + 0)) f ∙ sym (tail-damage (n + 0) u);
-    }
-once [] (q ∷ qs) t u n a b i j e =
-    absurd (no-whole-tail t _ _ _ (sym (first-tail t i) ∙ ap first_of e ∙ first-whole q qs u (All-head IsPiece q qs b)))
-once (p ∷ ps) [] t u n a b i j e =
-    absurd (no-whole-tail u _ _ _ (sym (first-tail u j) ∙ ap first_of (sym e) ∙ first-whole p ps t (All-head IsPiece p ps a)))
-once (p ∷ ps) (q ∷ qs) t u n a b i j e =
-    let ip = All-head IsPiece p ps a in
-    let iq = All-head IsPiece q qs b in
-    let s = same-whole _ _ _ _ _ _ (sym (first-whole p ps t ip) ∙ ap first_of e ∙ first-whole q qs u iq) in
-    let m : ℕ = n + (length p.content + 5) in
-    let r = once ps qs t u m (All-tail IsPiece p ps a) (All-tail IsPiece q qs b) i j s.rest in
-    let here : piece_history p ≡ piece_history q = ap (λ v. on v p.content) s.side ∙ ap (on q.side) s.content in
-    let at-p : n + length (flat_map piece_bytes (p ∷ ps)) ≡ m + length (flat_map piece_bytes ps) =
-    omega (arith, length-piece p ip, length-append (piece_bytes p) (flat_map piece_bytes ps)) in
-    let at-q : n + length (flat_map piece_bytes (q ∷ qs)) ≡ m + length (flat_map piece_bytes qs) =
-    omega (arith, length-piece q iq, length-append (piece_bytes q) (flat_map piece_bytes qs), ap length s.content) in
-    record {
-      history = append_assoc (piece_history p) (flat_map piece_history ps) (tail_history t)
-          ∙ ap (λ l. l ++ (flat_map piece_history ps ++ tail_history t)) here
-          ∙ ap (λ l. piece_history q ++ l) r.history
-          ∙ sym (append_assoc (piece_history q) (flat_map piece_history qs) (tail_history u));
-      damage = ap (λ k. tail_damage k t) at-p ∙ r.damage ∙ sym (ap (λ k. tail_damage k u) at-q);
-    }
-
-drop-head : (a b : List ℕ) → head ++ a ≡ head ++ b → a ≡ b
-drop-head a b e = ap (drop 4) e
-
-pub spells-once : (x : List ℕ) (r s : Recording) → Spells x r → Spells x s → (history_of s ≡ history_of r) × (damage_of s ≡ damage_of r)
-spells-once x (Headless a) (Headless b) i j = (refl, refl)
-spells-once x (Headless a) (Pieces qs u) i j =
-    absurd (i.sound (ap (take 4) (sym i.is ∙ j.is)))
-spells-once x (Pieces ps t) (Headless b) i j =
-    absurd (j.sound (ap (take 4) (sym j.is ∙ i.is)))
-spells-once x (Pieces ps t) (Pieces qs u) i j =
-    let r = once qs ps u t 4 j.sound.each i.sound.each j.sound.after i.sound.after (drop-head _ _ (sym j.is ∙ i.is)) in
-    let at-q : length (front qs) ≡ 4 + length (flat_map piece_bytes qs) = omega arith in
-    let at-p : length (front ps) ≡ 4 + length (flat_map piece_bytes ps) = omega arith in
-    (r.history, ap (λ k. tail_damage k u) at-q ∙ r.damage ∙ sym (ap (λ k. tail_damage k t) at-p))
+pub spells-once : (x : List ℕ) (r s : Recording) → Spells x r → Spells x s → s ≡ r
+spells-once x r s i j = sym (read-again s x j) ∙ read-again r x i

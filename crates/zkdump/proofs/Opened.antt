@@ -4,16 +4,14 @@ use Rattle.zk_talk.specs.declared.limits.Limits.{Limits}
 use Rattle.zk_talk.specs.declared.message.Message.{Message}
 use Rattle.zk_talk.specs.declared.message.Ending.TheVariants.{Whole, Cut, Refused}
 use Rattle.zk_talk.specs.Stands.{TalkState}
-use Rattle.zkdump.specs.declared.recording.Stage.{Stage}
+use Rattle.zkdump.specs.declared.progress.Progress.{Progress}
 use Rattle.zkdump.specs.declared.summary.Summary.{Summary}
 use Rattle.zkdump.specs.declared.summary.Summary.TheVariants.{Ended, Broken}
-use Rattle.zkdump.specs.Recording.{history_of}
+use Rattle.zkdump.specs.Recording.{Recording, Spells, history_of, limits_of}
 use Rattle.zkdump.specs.Outcome.{IsGoodWith}
-use Rattle.zkdump.specs.Following.{Follows, Decides, Opens, Reaches}
-use Rattle.zk_talk.proofs.Start.{start_state, start}
-use Rattle.zkdump.proofs.Any.{any, starts-at}
-use Rattle.zkdump.proofs.Feeding.{good-here}
-use Rattle.zkdump.proofs.Stops.{read-at}
+use Rattle.zkdump.specs.Following.{Follows, Talks, Decides, Opens, Reaches}
+use Rattle.zkdump.proofs.Any.{longer}
+use Rattle.zkdump.proofs.Talking.{has-good}
 
 -- what comes to something begins with its messages
 opens-decided : (limits : Limits) (x : List ℕ) (messages : List Message) (summary : Summary) → Decides limits x messages summary → Opens limits x messages
@@ -56,44 +54,43 @@ opens-decided limits x messages (Broken damage) d = record {
   good = d.is.messages_are;
 }
 
-opens-follows : (limits : Limits) (x : List ℕ) (messages : List Message) (s : Stage) (t : TalkState) → Follows limits x messages s t → Opens limits x messages
-opens-follows limits x messages s t i =
-    let r = read-at s x i.history i.sound i.at in
-    record {
-      recording = r.1.recording;
-      spells = r.1.spells;
-      front = history_of r.1.recording;
-      rest = [];
-      splits = sym (append-nil (history_of r.1.recording));
-      good = subst (λ k. IsGoodWith limits k messages) r.1.content (good-here t limits i.history messages i.limits_are i.stands);
-    }
+opens-follows : (limits : Limits) (x : List ℕ) (messages : List Message) (p : Progress) → Follows limits x messages p → Opens limits x messages
+opens-follows limits x messages p i = record {
+  recording = i.recording;
+  spells = i.at.spells;
+  front = history_of i.recording;
+  rest = [];
+  splits = sym (append-nil (history_of i.recording));
+  good = has-good (limits_of limits i.recording) p.talk (history_of i.recording) messages i.talks.has;
+}
 
-pub opens-reached : (limits : Limits) (x : List ℕ) (messages : List Message) (s : Stage) (t : TalkState) (found : Option Summary) → Reaches limits x messages s t found → Opens limits x messages
-opens-reached limits x messages s t None i = opens-follows limits x messages s t i
-opens-reached limits x messages s t (Some summary) i = opens-decided limits x messages summary i
+pub opens-reached : (limits : Limits) (x : List ℕ) (messages : List Message) (p : Progress) (found : Option Summary) → Reaches limits x messages p found → Opens limits x messages
+opens-reached limits x messages p None i = opens-follows limits x messages p i
+opens-reached limits x messages p (Some summary) i = opens-decided limits x messages summary i
 
--- nothing was read
-pub opens-none : (limits : Limits) → Opens limits [] []
-opens-none limits =
-    let first = any [] in
+-- nothing has come, or the recording has its head
+opens-by : (limits : Limits) (x more : List ℕ) (messages : List Message) (r : Recording) (talk : Option TalkState) → Spells x r → Talks limits r messages talk → Opens limits (x ++ more) messages
+opens-by limits x more messages r None i talks =
+    let l = longer r x more i in
     record {
-      recording = first.recording;
-      spells = first.spells;
+      recording = l.new;
+      spells = l.spells;
       front = [];
-      rest = first.after;
-      splits = first.history;
-      good = good-here (start_state limits) limits [] [] refl (start limits);
+      rest = history_of l.new;
+      splits = refl;
+      good = has-good (limits_of limits l.new) None [] messages (refl, talks.has.1);
+    }
+opens-by limits x more messages r (Some t) i talks =
+    let l = longer r x more i in
+    record {
+      recording = l.new;
+      spells = l.spells;
+      front = history_of r;
+      rest = l.after;
+      splits = l.history;
+      good = subst (λ z. IsGoodWith z (history_of r) messages) (sym (l.limits_are talks.headed limits)) (has-good (limits_of limits r) (Some t) (history_of r) messages talks.has);
     }
 
 -- and whatever follows
-pub opens-later : (limits : Limits) (x more : List ℕ) (messages : List Message) (s : Stage) (t : TalkState) → Follows limits x messages s t → Opens limits (x ++ more) messages
-opens-later limits x more messages s t i =
-    let start = starts-at s x more i.history i.sound i.at in
-    record {
-      recording = start.recording;
-      spells = start.spells;
-      front = i.history;
-      rest = start.after;
-      splits = start.history;
-      good = good-here t limits i.history messages i.limits_are i.stands;
-    }
+pub opens-later : (limits : Limits) (x more : List ℕ) (messages : List Message) (p : Progress) → Follows limits x messages p → Opens limits (x ++ more) messages
+opens-later limits x more messages p i = opens-by limits x more messages i.recording p.talk i.at.spells i.talks

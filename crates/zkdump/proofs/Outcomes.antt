@@ -16,11 +16,11 @@ use Rattle.zk_talk.proofs.FaultOnce.{same_before, answer_fault}
 use Rattle.zk_talk.proofs.Headline.{same_good, fault_is_bad}
 use Rattle.zk_talk.proofs.FirstMessages.{first_of_good, first_of_any}
 use Rattle.zk_talk.proofs.OrderOnce.{order_once}
-use Rattle.zkdump.specs.declared.recording.Damage.{Damage}
+use Rattle.zkdump.specs.declared.parts.DamageAt.{DamageAt}
 use Rattle.zkdump.specs.declared.summary.Summary.{Summary}
 use Rattle.zkdump.specs.declared.summary.Summary.TheVariants.{Ended, Broken}
 use Rattle.zkdump.specs.Outcome.{ComesTo, HasMessages, IsGoodWith, IsOutcome}
-use Rattle.zkdump.specs.Recording.{Recording, history_of, damage_of}
+use Rattle.zkdump.specs.Recording.{Recording, history_of, limits_of, damage_of}
 
 -- one conversation ends in one place
 cut-once : (v : Conversation) (cr sr : List ℕ) (s t : Side) (n m k l : ℕ) → IsCutAt v cr sr s n k → IsCutAt v cr sr t m l → Cut s n k ≡ Cut t m l
@@ -52,10 +52,10 @@ module _ (limits : Limits) (h : History) where
       cut-once p.0 p.1 p.2 s t n m k l p.4
       (subst (λ v. IsCutAt v p.1 p.2 t m l) r.0 (subst (λ b. IsCutAt q.0 p.1 b t m l) r.2 (subst (λ b. IsCutAt q.0 b q.2 t m l) r.1 q.4)))
 
-  no-damage : (damage : Option Damage) (d : Damage) → damage ≡ None → damage ≡ Some d → ⊥
+  no-damage : (damage : Option DamageAt) (d : DamageAt) → damage ≡ None → damage ≡ Some d → ⊥
   no-damage damage d p q = cc
 
-  pub comes_to-once : (damage : Option Damage) (s t : Summary) → ComesTo limits h damage s → ComesTo limits h damage t → s ≡ t
+  pub comes_to-once : (damage : Option DamageAt) (s t : Summary) → ComesTo limits h damage s → ComesTo limits h damage t → s ≡ t
   comes_to-once damage (Ended (Refused f)) (Ended (Refused g)) p q = ap (λ e. Ended e) (ending-once (Refused f) (Refused g) p q)
   comes_to-once damage (Ended (Refused f)) (Ended (Whole m)) p q = ap (λ e. Ended e) (ending-once (Refused f) (Whole m) p q.1)
   comes_to-once damage (Ended (Refused f)) (Ended (Cut t m l)) p q = ap (λ e. Ended e) (ending-once (Refused f) (Cut t m l) p q.1)
@@ -92,8 +92,8 @@ messages-once limits h M N (Broken d) p q = order-once limits h p.conversation q
 
 pub outcome-once : (limits : Limits) (r : Recording) (M N : List Message) (s t : Summary) → IsOutcome limits r M s → IsOutcome limits r N t → (N ≡ M) × (t ≡ s)
 outcome-once limits r M N s t p q =
-    let e = comes_to-once limits (history_of r) (damage_of r) t s q.comes_to p.comes_to in
-    (messages-once limits (history_of r) N M s (subst (HasMessages limits (history_of r) N) e q.messages_are) p.messages_are, e)
+    let e = comes_to-once (limits_of limits r) (history_of r) (damage_of r) t s q.comes_to p.comes_to in
+    (messages-once (limits_of limits r) (history_of r) N M s (subst (HasMessages (limits_of limits r) (history_of r) N) e q.messages_are) p.messages_are, e)
 
 -- a recording whose history is good has no messages but those of the history
 good-once : (limits : Limits) (h : History) (M N : List Message) (s : Summary) → IsGoodWith limits h M → HasMessages limits h N s → N ≡ M
@@ -102,8 +102,8 @@ good-once limits h M N (Ended (Cut side n k)) g m = order-once limits h m.0 g.co
 good-once limits h M N (Ended (Whole n)) g m = order-once limits h m.0 g.conversation m.1 m.2 g.client_rest g.server_rest N M m.3 m.4 g.good g.order
 good-once limits h M N (Broken d) g m = order-once limits h m.conversation g.conversation m.client_rest m.server_rest g.client_rest g.server_rest N M m.good m.order g.good g.order
 
-pub outcome-good : (limits : Limits) (r : Recording) (M N : List Message) (s : Summary) → IsGoodWith limits (history_of r) M → IsOutcome limits r N s → N ≡ M
-outcome-good limits r M N s g o = good-once limits (history_of r) M N s g o.messages_are
+pub outcome-good : (limits : Limits) (r : Recording) (M N : List Message) (s : Summary) → IsGoodWith (limits_of limits r) (history_of r) M → IsOutcome limits r N s → N ≡ M
+outcome-good limits r M N s g o = good-once (limits_of limits r) (history_of r) M N s g o.messages_are
 
 -- the messages of a good front stand first in all that a recording comes to
 has-first : (limits : Limits) (h front rest : History) (M N : List Message) (s : Summary) → h ≡ front ++ rest → IsGoodWith limits front M → HasMessages limits h N s → (more : List Message) × (N ≡ M ++ more)
@@ -111,5 +111,5 @@ has-first limits h front rest M N (Ended e) i g m = first_of_any limits h front 
 has-first limits h front rest M N (Broken d) i g m =
     first_of_good limits h front rest g.conversation g.client_rest g.server_rest M N i g.good g.order m.conversation m.client_rest m.server_rest m.good m.order
 
-pub outcome-first : (limits : Limits) (r : Recording) (front rest : History) (M N : List Message) (s : Summary) → history_of r ≡ front ++ rest → IsGoodWith limits front M → IsOutcome limits r N s → (more : List Message) × (N ≡ M ++ more)
-outcome-first limits r front rest M N s i g o = has-first limits (history_of r) front rest M N s i g o.messages_are
+pub outcome-first : (limits : Limits) (r : Recording) (front rest : History) (M N : List Message) (s : Summary) → history_of r ≡ front ++ rest → IsGoodWith (limits_of limits r) front M → IsOutcome limits r N s → (more : List Message) × (N ≡ M ++ more)
+outcome-first limits r front rest M N s i g o = has-first (limits_of limits r) (history_of r) front rest M N s i g o.messages_are

@@ -1,6 +1,7 @@
 -- What is built of the listing of a whole conversation.
-use Rattle.std.proofs.Common.{◌≡◌, ℕ, ◌<◌, ◌≤◌, ◌^◌, List, [], ◌∷◌, ◌++◌, length, map, Option, Some, refl, sym, ap, ◌∙◌, append-nil, arith, subst}
+use Rattle.std.proofs.Common.{◌≡◌, ℕ, ◌<◌, ◌≤◌, ◌^◌, List, [], ◌∷◌, ◌++◌, length, map, Option, Some, refl, sym, ap, ◌∙◌, append-nil, arith, subst, true}
 use Rattle.std.proofs.Common.{w32}
+use Rattle.std.proofs.lemmas.Bool.Decides.{nat_tests}
 use Rattle.std.proofs.lemmas.Nat.{from_be_bytes-to_be_bytes_4}
 use Rattle.std.proofs.lemmas.List.Concat.{flat_map-append}
 use Rattle.std.proofs.lemmas.List.Folds.{flat_map-map}
@@ -19,7 +20,7 @@ use Rattle.zk_talk.specs.History.{History, side_bytes}
 use Rattle.zk_talk.specs.Conversation.{Conversation}
 use Rattle.zk_talk.specs.Good.{Good, IsOrder}
 use Rattle.zk_talk.specs.Ending.{IsEnding, unanswered}
-use Rattle.zk_talk.specs.Said.{AreSaid, AreSized, MaySay, said, payload_of, conversation_of}
+use Rattle.zk_talk.specs.Said.{AreSaid, AreSized, MaySay, said, side_of, payload_of, conversation_of}
 use Rattle.zk_talk.proofs.Small.{small_limits}
 use Rattle.zk_talk.proofs.Headline.{same_good}
 use Rattle.zk_talk.proofs.Replays.{order_said}
@@ -32,7 +33,10 @@ use Rattle.zk_lines.proofs.LawsPrinted.{unbroken}
 use Rattle.zkdump.specs.declared.built.Built.{Built}
 use Rattle.zkdump.specs.declared.built.Built.TheVariants.{Whole, LineRefused, SayRefused}
 use Rattle.zkdump.specs.declared.summary.Summary.TheVariants.{Ended}
-use Rattle.zkdump.specs.Recording.{IsPiece, number, piece_history, Spells, history_of}
+use Rattle.zkdump.specs.declared.parts.Format.TheVariants.{Zkr1}
+use Rattle.zkdump.specs.declared.parts.Part.TheVariants.{SideByte, Size}
+use Rattle.zkdump.specs.Parts.{number, is_good, is_within}
+use Rattle.zkdump.specs.Recording.{IsPiece, side_byte, piece_history, Spells, history_of}
 use Rattle.zkdump.specs.Outcome.{IsOutcome}
 use Rattle.zkdump.specs.Building.{IsLine, with_feed, fed, AreLines, all_fed, recording_of, piece_of, due_ending, IsBuilt, with_ending, HasBuilt}
 use Rattle.zkdump.specs.Rebuilding.{whole_listing, one_a_piece, AreAlike}
@@ -90,25 +94,38 @@ within : (limits : Limits) (before : List Message) (m : Message) → MaySay limi
 within limits before (FromClient f) may = omega (arith, may.1, limits.in_range)
 within limits before (FromServer s) may = omega (arith, may.1, limits.in_range)
 
-number_of : (n : ℕ) → n < 2 ^ 32 → number (to_be_bytes w32 n) ≡ n
+pub number_of : (n : ℕ) → n < 2 ^ 32 → number (to_be_bytes w32 n) ≡ n
 unfolding number
 number_of n h = from_be_bytes-to_be_bytes_4 n h
 
-is_piece : (m : Message) → length (payload_of m) ≤ 16777216 → IsPiece (piece_of m)
-is_piece m l = record {
-  four = refl;
-  number_is = number_of (length (frame (payload_of m))) (omega (arith, l, length-frame (payload_of m)));
-  range = (omega (arith, length-frame (payload_of m)), omega (arith, l, length-frame (payload_of m)));
-}
+in_range : (n : ℕ) → 1 ≤ n → n ≤ 16777220 → is_within 1 16777220 n ≡ true
+in_range n least most = grind (arith, nat_tests)
 
-each_piece : (limits : Limits) (messages : List Message) → AreSaid limits messages → All IsPiece (map piece_of messages)
+side_good : (m : Message) → is_good SideByte (side_byte (side_of m) ∷ []) ≡ true
+side_good (FromClient f) = refl
+side_good (FromServer s) = refl
+
+is_piece : (m : Message) → length (payload_of m) ≤ 16777216 → IsPiece Zkr1 (piece_of m)
+is_piece m l =
+    let n = length (frame (payload_of m)) in
+    let same : number (to_be_bytes w32 n) ≡ n = number_of n (omega (arith, l, length-frame (payload_of m))) in
+    let good : is_within 1 16777220 n ≡ true = in_range n (omega (arith, length-frame (payload_of m))) (omega (arith, l, length-frame (payload_of m))) in
+    record {
+      begun = record {
+        values = (record { wide = refl; good = side_good m }, (record { wide = refl; good = ap (is_within 1 16777220) same ∙ good }, tt));
+        timed = refl;
+      };
+      sized = same;
+    }
+
+each_piece : (limits : Limits) (messages : List Message) → AreSaid limits messages → All (IsPiece Zkr1) (map piece_of messages)
 each_piece limits messages are =
-    All-map IsPiece piece_of messages
-    (All-from_recursion (λ m. IsPiece (piece_of m)) messages (each_of (λ m. IsPiece (piece_of m)) messages (λ a m b e. is_piece m (within limits a m (are a m b e)))))
+    All-map (IsPiece Zkr1) piece_of messages
+    (All-from_recursion (λ m. IsPiece Zkr1 (piece_of m)) messages (each_of (λ m. IsPiece Zkr1 (piece_of m)) messages (λ a m b e. is_piece m (within limits a m (are a m b e)))))
 
 spelled : (limits : Limits) (messages : List Message) → AreSaid limits messages → Spells (recording_of messages) (one_a_piece messages)
 spelled limits messages are = record {
-  sound = record { each = each_piece limits messages are; after = tt };
+  sound = record { stands = record { headed = tt; each = each_piece limits messages are }; breaks = (refl, omega arith) };
   is = sym (append-nil (recording_of messages));
 }
 

@@ -1,5 +1,5 @@
 -- What is shown of the recording that was built.
-use Rattle.std.proofs.Common.{◌≡◌, ℕ, ◌+◌, ◌⊎◌, inl, inr, List, [], ◌++◌, length, Option, Some, None, refl, sym, ap, ◌∙◌, append_assoc, append-nil, subst}
+use Rattle.std.proofs.Common.{◌≡◌, ◌≢◌, ℕ, ◌+◌, ◌≤◌, ◌⊎◌, inl, inr, List, [], ◌∷◌, ◌++◌, length, Option, Some, None, refl, sym, ap, ◌∙◌, append_assoc, append-nil, subst, arith}
 use Rattle.std.specs.List.{All, flat_map}
 use Rattle.std.specs.Io.KnownBytes.{IsAtEnd, Appends}
 use Rattle.zk_talk.specs.declared.limits.Limits.{Limits}
@@ -8,69 +8,123 @@ use Rattle.zk_talk.specs.declared.message.Ending.TheVariants.{Whole as whole}
 use Rattle.zk_talk.specs.History.{History}
 use Rattle.zk_talk.specs.Conversation.{Conversation}
 use Rattle.zk_talk.specs.Good.{Good, IsGood, IsOrder}
+use Rattle.zk_talk.specs.declared.message.Fault.{Fault}
 use Rattle.zk_talk.specs.Fault.{IsFaultOf}
+use Rattle.zk_talk.proofs.Start.{start}
 use Rattle.zk_talk.specs.Ending.{IsEnding}
 use Rattle.zk_talk.proofs.Headline.{fault_is_bad, fault_more}
 use Rattle.zkdump.specs.declared.listing.Listing.{Listing}
-use Rattle.zkdump.specs.declared.recording.Damage.{Damage}
-use Rattle.zkdump.specs.declared.recording.Stage.TheVariants.{Start, Content}
+use Rattle.zkdump.specs.declared.parts.DamageAt.{DamageAt}
+use Rattle.zkdump.specs.declared.parts.Damage.TheVariants.{Short}
+use Rattle.zkdump.specs.declared.parts.Format.{Format}
+use Rattle.zkdump.specs.declared.parts.Format.TheVariants.{Zkr1, Zkr2}
+use Rattle.zkdump.specs.declared.parts.Part.{Part}
+use Rattle.zkdump.specs.declared.parts.Part.TheVariants.{Letters, ClientLimit, ServerLimit, Waiting, Profile, SideByte, Time, Size}
 use Rattle.zkdump.specs.declared.summary.Summary.{Summary}
 use Rattle.zkdump.specs.declared.summary.Summary.TheVariants.{Ended}
 use Rattle.zkdump.specs.declared.summary.Status.{Status}
 use Rattle.zkdump.specs.declared.summary.Status.TheVariants.{Good as good_end}
-use Rattle.zkdump.specs.Recording.{Piece, IsPiece, Nothing, NoSide, CutSize, NoSize, CutContent, Recording, Headless, Pieces, Spells, front, piece_history, history_of, damage_of}
+use Rattle.zkdump.specs.Parts.{head_parts, piece_parts, damage_cut}
+use Rattle.zkdump.specs.Recording.{End, Cut, Bad, IsBreakIn, IsBreak, format_of, Place, AtLetters, InHead, InPieces, parts_at, Recording, Breaks, Ends, Spells, place_of, history_of, limits_of, damage_of, damage_at, behind}
+use Rattle.zkdump.specs.Reading.{IsHeaded, IsDecidedBy}
 use Rattle.zkdump.specs.Lines.{text_of, last_line, status_of}
-use Rattle.zkdump.specs.Outcome.{ComesTo, HasMessages, IsOutcome, IsDecided}
+use Rattle.zkdump.specs.Outcome.{IsOutcome, IsBroken, IsDecided}
 use Rattle.zkdump.specs.Running.{HasListed}
 use Rattle.zkdump.specs.Building.{recording_of}
 use Rattle.zkdump.specs.Rebuilding.{one_a_piece}
-use Rattle.zkdump.proofs.Any.{Starts, any, starts-at}
+use Rattle.zkdump.proofs.Any.{longer}
 use Rattle.zkdump.proofs.Stages.{damaged-more}
 use Rattle.zkdump.proofs.Once.{spells-once}
 use Rattle.zkdump.proofs.Outcomes.{outcome-once}
 use Rattle.zkdump.proofs.Builds.{Leaves, leaves}
 use Rattle.zkdump.proofs.Rebuilds.{built_spelled, comes_again}
 
--- ---- what a recording holds stands first in what is held by longer bytes
-
-module _ (bytes rest : List ℕ) (pieces : List Piece) (each : All IsPiece pieces) where
-  after_pieces : (behind : List ℕ) → bytes ≡ front pieces ++ behind → Starts (bytes ++ rest) (flat_map piece_history pieces ++ [])
-  after_pieces behind e =
-      let start = starts-at (Start (length (front pieces))) (front pieces) (behind ++ rest) (flat_map piece_history pieces) tt
-      (record { pieces = pieces; each = each; read = refl; content = refl; place = refl }) in
-      subst (λ z. Starts z (flat_map piece_history pieces ++ [])) (sym (ap (λ z. z ++ rest) e ∙ append_assoc (front pieces) behind rest))
-      (subst (Starts (front pieces ++ (behind ++ rest))) (sym (append-nil (flat_map piece_history pieces))) start)
-
-starts_by : (bytes rest : List ℕ) (r : Recording) → Spells bytes r → Starts (bytes ++ rest) (history_of r)
-starts_by bytes rest (Headless b) i = any (bytes ++ rest)
-starts_by bytes rest (Pieces pieces Nothing) i = after_pieces bytes rest pieces i.sound.each [] i.is
-starts_by bytes rest (Pieces pieces (NoSide b more)) i = after_pieces bytes rest pieces i.sound.each _ i.is
-starts_by bytes rest (Pieces pieces (CutSize side begun)) i = after_pieces bytes rest pieces i.sound.each _ i.is
-starts_by bytes rest (Pieces pieces (NoSize side size more)) i = after_pieces bytes rest pieces i.sound.each _ i.is
-starts_by bytes rest (Pieces pieces (CutContent side size begun)) i =
-    let cut = i.sound.after in
-    starts-at (Content (length (front pieces) + 5) side _ (length begun)) bytes rest _ (record { range = cut.range; left = cut.short })
-    (record { pieces = pieces; each = i.sound.each; size_bytes = size; four = cut.four; number_is = refl; begun = begun; count = refl; read = i.is; content = refl; place = refl })
-
 -- ---- nothing is decided by a front of a recording that is good and undamaged
 
-none_some : (damage : Option Damage) (d : Damage) → damage ≡ None → damage ≡ Some d → ⊥
+none_some : (damage : Option DamageAt) (d : DamageAt) → damage ≡ None → damage ≡ Some d → ⊥
 none_some damage d p q = cc
 
-undecided : (limits : Limits) (bytes rest : List ℕ) (r s : Recording) → Spells bytes r → Spells (bytes ++ rest) s → IsGood limits (history_of s) → damage_of s ≡ None → IsDecided limits bytes r → ⊥
-undecided limits bytes rest r s i j good undamaged (inl f) =
-    let start = starts_by bytes rest r i in
-    let first = (spells-once (bytes ++ rest) start.recording s start.spells j).0 ∙ start.history in
-    fault_is_bad limits (history_of s) f.0 (subst (λ z. IsFaultOf limits z f.0) (sym first) (fault_more limits (history_of r) start.after f.0 f.1)) good
-undecided limits bytes rest r s i j good undamaged (inr b) =
-    let d = damaged-more b.damage bytes rest (history_of r) (record { recording = r; spells = i; content = refl; damage = b.is; decided = b.decided; head_read = b.head_read }) in
-    none_some (damage_of s) b.damage undamaged ((spells-once (bytes ++ rest) d.recording s d.spells j).1 ∙ d.damage)
+nothing-good : (limits : Limits) → IsGood limits []
+nothing-good limits = let s = start limits in (s.conversation, [], [], s.good)
 
-same_outcome : (limits : Limits) (r s : Recording) (messages : List Message) (summary : Summary) → history_of s ≡ history_of r → damage_of s ≡ damage_of r → IsOutcome limits r messages summary → IsOutcome limits s messages summary
-same_outcome limits r s messages summary e d i = record {
-  comes_to = subst (λ z. ComesTo limits z (damage_of s) summary) (sym e) (subst (λ z. ComesTo limits (history_of r) z summary) (sym d) i.comes_to);
-  messages_are = subst (λ z. HasMessages limits z messages summary) (sym e) i.messages_are;
+-- letters stand first alone
+abbrev Lacks : List Part → Type 0
+Lacks [] = Unit {0}
+Lacks (p ∷ ps) = (Letters ≡ p → ⊥) × Lacks ps
+
+no-letters : (ps : List Part) (before : List (List ℕ)) (end : End) → Lacks ps → IsBreakIn ps before Letters end → ⊥
+no-letters [] before end l is = is
+no-letters (p ∷ ps) [] end l is = l.0 is.0
+no-letters (p ∷ ps) (v ∷ vs) end l is = no-letters ps vs end l.1 is.1
+
+lacks-head : (f : Format) → Lacks (head_parts f)
+lacks-head Zkr1 = tt
+lacks-head Zkr2 = (λ e. cc, (λ e. cc, (λ e. cc, (λ e. cc, tt))))
+
+lacks-piece : (f : Format) → Lacks (piece_parts f)
+lacks-piece Zkr1 = (λ e. cc, (λ e. cc, tt))
+lacks-piece Zkr2 = (λ e. cc, (λ e. cc, (λ e. cc, tt)))
+
+-- four bytes are no beginning of letters
+letters-read : (bytes begun : List ℕ) (place : Place) (before : List (List ℕ)) → Spells bytes (Breaks place (record { before = before; part = Letters; end = Cut begun })) → 4 ≤ length bytes → ⊥
+letters-read bytes begun AtLetters [] i long = absurd (omega (arith, long, ap length i.is, i.sound.breaks.1))
+letters-read bytes begun AtLetters (v ∷ vs) i long = i.sound.breaks.1
+letters-read bytes begun (InHead f) before i long = no-letters (head_parts f) before (Cut begun) (lacks-head f) i.sound.breaks
+letters-read bytes begun (InPieces head pieces) before i long = no-letters (piece_parts (format_of head)) before (Cut begun) (lacks-piece (format_of head)) i.sound.breaks
+
+short-only : (place : ℕ) (d : DamageAt) → Some (damage_at place Short) ≡ Some d → d.reason ≢ Short → ⊥
+short-only place d e n = let same : damage_at place Short ≡ d = cc in n (sym (ap (λ (v : DamageAt). v.reason) same))
+
+broken-cut : (bytes begun : List ℕ) (place : Place) (before : List (List ℕ)) (part : Part) (b : IsBroken bytes (Breaks place (record { before = before; part = part; end = Cut begun }))) →
+    Spells bytes (Breaks place (record { before = before; part = part; end = Cut begun })) → ⊥
+broken-cut bytes begun place before Letters b i = letters-read bytes begun place before i b.head_read
+broken-cut bytes begun place before ClientLimit b i = short-only (behind place before) b.damage b.is b.decided
+broken-cut bytes begun place before ServerLimit b i = short-only (behind place before) b.damage b.is b.decided
+broken-cut bytes begun place before Waiting b i = short-only (behind place before) b.damage b.is b.decided
+broken-cut bytes begun place before Profile b i = short-only (behind place before) b.damage b.is b.decided
+broken-cut bytes begun place before SideByte b i = none_some None b.damage refl b.is
+broken-cut bytes begun place before Time b i = short-only (behind place before) b.damage b.is b.decided
+broken-cut bytes begun place before Size b i = short-only (behind place before) b.damage b.is b.decided
+
+broken-at : (bytes : List ℕ) (place : Place) (before : List (List ℕ)) (part : Part) (end : End) (b : IsBroken bytes (Breaks place (record { before = before; part = part; end = end }))) →
+    Spells bytes (Breaks place (record { before = before; part = part; end = end })) → IsDecidedBy b.damage bytes (Breaks place (record { before = before; part = part; end = end }))
+broken-at bytes place before part (Cut begun) b i = absurd (broken-cut bytes begun place before part b i)
+broken-at bytes place before part (Bad value more) b i = record {
+  place = place;
+  before = before;
+  part = part;
+  value = value;
+  more = more;
+  is = refl;
+  damage = b.is;
+  decided = b.decided;
+  head_read = b.head_read;
 }
+
+pub broken-by : (r : Recording) (bytes : List ℕ) (b : IsBroken bytes r) → Spells bytes r → IsDecidedBy b.damage bytes r
+broken-by (Breaks place k) bytes b i = broken-at bytes place k.before k.part k.end b i
+broken-by (Ends head pieces last) bytes b i = absurd (short-only _ b.damage b.is b.decided)
+
+-- a fault stands behind a whole head
+pub fault-headed : (limits : Limits) (r : Recording) (g : Fault) → IsFaultOf (limits_of limits r) (history_of r) g → IsHeaded (place_of r)
+fault-headed limits (Breaks AtLetters b) g is = absurd (fault_is_bad limits [] g is (nothing-good limits))
+fault-headed limits (Breaks (InHead format) b) g is = absurd (fault_is_bad limits [] g is (nothing-good limits))
+fault-headed limits (Breaks (InPieces head pieces) b) g is = tt
+fault-headed limits (Ends head pieces last) g is = tt
+
+undecided : (limits : Limits) (bytes rest : List ℕ) (r s : Recording) → Spells bytes r → Spells (bytes ++ rest) s → IsGood (limits_of limits s) (history_of s) → damage_of s ≡ None → IsDecided limits bytes r → ⊥
+undecided limits bytes rest r s i j good undamaged (inl f) = by-fault (fault-headed limits r f.0 f.1)
+  where
+    by-fault : IsHeaded (place_of r) → ⊥
+    by-fault is =
+        let l = longer r bytes rest i in
+        let same : l.new ≡ s = spells-once (bytes ++ rest) s l.new j l.spells in
+        let more = fault_more (limits_of limits r) (history_of r) l.after f.0 f.1 in
+        let here = subst (λ z. IsFaultOf z (history_of l.new) f.0) (sym (l.limits_are is limits)) (subst (λ h. IsFaultOf (limits_of limits r) h f.0) (sym l.history) more) in
+        fault_is_bad (limits_of limits s) (history_of s) f.0 (subst (λ q. IsFaultOf (limits_of limits q) (history_of q) f.0) same here) good
+undecided limits bytes rest r s i j good undamaged (inr b) =
+    let d = damaged-more b.damage bytes rest r i (broken-by r bytes b i) in
+    none_some (damage_of s) b.damage undamaged (ap damage_of (sym (spells-once (bytes ++ rest) s d.0 j d.1)) ∙ d.2.damage)
 
 -- ---- a run over what was built
 
@@ -81,7 +135,7 @@ module _ (limits : Limits) (h : History) (v : Conversation) (messages : List Mes
   abbrev again : IsOutcome limits (one_a_piece messages) messages (Ended (whole n))
   again = comes_again limits h v messages n good order ending
 
-  is_good : IsGood limits (history_of (one_a_piece messages))
+  is_good : IsGood (limits_of limits (one_a_piece messages)) (history_of (one_a_piece messages))
   is_good = let e = again.comes_to.1 in (e.0, [], [], e.1)
 
   -- the run has read all of it
@@ -96,9 +150,9 @@ module _ (limits : Limits) (h : History) (v : Conversation) (messages : List Mes
       let f = has.found in
       let l = leaves (recording_of messages) f.bytes unread f.reads.consumed in
       let i = all_read f.bytes unread l f.recording f.reads.just.spells f.enough in
-      let same = spells-once (recording_of messages) f.recording (one_a_piece messages) i spelled in
+      let same = spells-once (recording_of messages) (one_a_piece messages) f.recording spelled i in
       let once = outcome-once limits (one_a_piece messages) messages has.messages (Ended (whole n)) has.summary again
-      (same_outcome limits f.recording (one_a_piece messages) has.messages has.summary same.0 same.1 f.is) in (
+      (subst (λ q. IsOutcome limits q has.messages has.summary) same f.is) in (
         subst (λ z. Appends contents contents_now (text_of listing z ++ last_line (Ended (whole n)))) once.0
             (subst (λ z. Appends contents contents_now (text_of listing has.messages ++ last_line z)) once.1 has.written),
         has.status_is ∙ ap status_of once.1,

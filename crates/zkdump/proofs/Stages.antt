@@ -1,263 +1,335 @@
--- one step of the reader of recordings
-use Rattle.std.proofs.Common.{◌≡◌, ◌≢◌, ℕ, ◌+◌, ◌<◌, ◌≤◌, List, [], ◌∷◌, ◌++◌, length, take, set, Option, None, Some, refl, ap, sym, subst, ◌∙◌, append_assoc, arith, length-append, append-nil, zero, suc, get_or, ◌-◌}
+-- One step of the reader of recordings.
+use Rattle.std.proofs.Common.{◌≡◌, ◌≢◌, ℕ, ◌+◌, ◌-◌, ◌<◌, ◌≤◌, inl, inr, List, [], ◌∷◌, ◌++◌, length, take, set, map, Option, None, Some, true, false, IfSome, IsSome, ◌↔◌, refl, sym, ap, ◌∙◌, subst, append_assoc, append-nil, arith, length-append, length-take}
 use Rattle.std.specs.List.{All, flat_map}
-use Rattle.std.proofs.lemmas.List.{take_more_set, take_all, length-take, map-append, take-append-le}
-use Rattle.std.proofs.lemmas.List.Elements.{All-append}
-use Rattle.std.proofs.lemmas.Grind.{flat_map-append}
+use Rattle.std.proofs.lemmas.List.{take_more_set, take_all, map-append}
 use Rattle.std.proofs.Math.ListN.{length-set}
-use Rattle.zk_talk.specs.declared.message.Side.{Side}
-use Rattle.zk_talk.specs.History.{History, on}
 use Rattle.std.proofs.Math.Seq.{take-length}
+use Rattle.zk_talk.specs.declared.limits.Limits.{Limits}
+use Rattle.zk_talk.specs.declared.message.Side.{Side}
+use Rattle.zk_talk.specs.Ranges.{AreLimits}
+use Rattle.zk_talk.specs.History.{History, on}
+use Rattle.zkdump.specs.declared.parts.Damage.{Damage}
+use Rattle.zkdump.specs.declared.parts.Damage.TheVariants.{Short}
+use Rattle.zkdump.specs.declared.parts.DamageAt.{DamageAt}
+use Rattle.zkdump.specs.declared.parts.Format.{Format}
+use Rattle.zkdump.specs.declared.parts.Format.TheVariants.{Zkr1, Zkr2}
+use Rattle.zkdump.specs.declared.parts.Part.{Part}
+use Rattle.zkdump.specs.declared.parts.Part.TheVariants.{Letters, ClientLimit, ServerLimit, Waiting, Profile, SideByte, Time, Size}
 use Rattle.zkdump.specs.declared.recording.Stage.{Stage}
-use Rattle.zkdump.specs.declared.recording.Stage.TheVariants.{Start, Content, Damaged}
-use Rattle.zkdump.specs.declared.recording.Damage.{Damage}
-use Rattle.zkdump.specs.declared.recording.DamageReason.TheVariants.{BadHead, BadSide, BadSize, Short}
-use Rattle.zkdump.specs.Recording.{Piece, IsPiece, IsSize, Recording, Headless, Pieces, Nothing, NoSide, CutSize, NoSize, CutContent, Spells, head, front, number, piece_bytes, piece_history, side_byte, history_of, damage_of}
-use Rattle.zkdump.specs.Reading.{IsAt, content_of, InHead, AtStart, InSize, InContent, IsDamaged, IsRead, InRange}
+use Rattle.zkdump.specs.declared.recording.Stage.TheVariants.{Fixed, Content, Damaged}
+use Rattle.zkdump.specs.declared.recording.State.{State}
+use Rattle.zkdump.specs.Parts.{number, width, is_good, letters, damage_bad, head_parts, piece_parts}
+use Rattle.zkdump.specs.HeadLimits.{limits_or, limits_by, are_or_not}
+use Rattle.zkdump.specs.Recording.{IsValue, spelled, End, Cut, Bad, IsEnd, end_bytes, Break, IsBreakIn, IsBreak, break_bytes, Head, First, Second, format_of, head_limits, head_bytes, Piece, piece_values, IsPiece, IsCut, piece_bytes, piece_history, side_byte, Place, AtLetters, InHead, InPieces, parts_at, IsPlace, front, Recording, Breaks, Ends, Spells, place_of, begun_of, begun_history, damage_of, behind, nothing}
+use Rattle.zkdump.specs.Reading.{chosen, HasHead, HasHeadAt, Knows, before_size, AtPart, AtFixed, AtContent, IsDecidedBy, AtStage, IsAt, then_at, MayHold, GoesOn, within, in_head, ends, ReadsOn}
+use Rattle.zkdump.proofs.Lists.{flat_map-snoc, on-append}
+use Rattle.zkdump.proofs.Any.{same-values, begun-with, bytes-with, front-snoc, are-snoc}
+use Rattle.zkdump.proofs.Walks.{spelled-append, length-spelled}
 
--- a fourth byte makes four bytes whole
-pub four-whole : (bytes : List ℕ) (got b : ℕ) → length bytes ≡ 4 → got ≡ 3 → take got bytes ++ b ∷ [] ≡ set bytes got b
-four-whole bytes got b four three =
-    let less : got < length bytes = omega arith in
-    sym (take_more_set bytes got b less) ∙ take_all (got + 1) (set bytes got b) (omega (arith, length-set {A = ℕ}))
+-- ---- what stays as the reader goes on
 
-pub head-whole : (bytes : List ℕ) (got b : ℕ) (x : List ℕ) (h : History) →
-    got ≡ 3 → InHead bytes got x h → x ++ b ∷ [] ≡ set bytes got b
-head-whole bytes got b x h three i = rw i.read (four-whole bytes got b i.four three)
+pub has-same : (s t : State) (place : Place) → t.format ≡ s.format → t.limits ≡ s.limits → HasHeadAt s place → HasHeadAt t place
+has-same s t AtLetters f l has = tt
+has-same s t (InHead format) f l has = f ∙ has
+has-same s t (InPieces head pieces) f l has = record { format_is = f ∙ has.format_is; limits_are = λ options. ap (λ o. chosen o options) l ∙ has.limits_are options }
 
-pub head-read : (bytes : List ℕ) (got b : ℕ) (x : List ℕ) (h : History) →
-    got ≡ 3 → InHead bytes got x h → set bytes got b ≡ head → AtStart 4 (x ++ b ∷ []) h
-head-read bytes got b x h three i e = record {
-  pieces = [];
-  each = λ k d lt. absurd (omega arith);
-  read = head-whole bytes got b x h three i ∙ e;
-  content = i.content;
-  place = refl;
-}
+knows-same : (s : State) (stage : Stage) (place : Place) (before : List (List ℕ)) (part : Part) → Knows s place before part → Knows (record s { stage = stage }) place before part
+knows-same s stage place before Letters k = k
+knows-same s stage place before ClientLimit k = k
+knows-same s stage place before ServerLimit k = k
+knows-same s stage place before Waiting k = k
+knows-same s stage place before Profile k = k
+knows-same s stage place before SideByte k = k
+knows-same s stage place before Time k = record { within = k.within; second = k.second; values = k.values }
+knows-same s stage place before Size k = record { within = k.within; time = k.time; timed = k.timed; values = k.values }
 
-pub head-bad : (bytes : List ℕ) (got b : ℕ) (x : List ℕ) (h : History) →
-    got ≡ 3 → InHead bytes got x h → set bytes got b ≢ head →
-    IsDamaged (record { offset = 0; reason = BadHead }) (x ++ b ∷ []) h
-head-bad bytes got b x h three i ne =
-    let same = head-whole bytes got b x h three i in
-    let four' : length (set bytes got b) ≡ 4 = omega (arith, length-set {A = ℕ}, i.four) in
-    let all : take 4 (set bytes got b) ≡ set bytes got b = take_all 4 (set bytes got b) (omega arith) in
+end-swap : (ps : List Part) (before : List (List ℕ)) (part : Part) (e f : End) → IsBreakIn ps before part e → IsEnd part f → IsBreakIn ps before part f
+end-swap [] before part e f is new = absurd is
+end-swap (p ∷ ps) [] part e f is new = (is.0, subst (λ q. IsEnd q f) is.0 new)
+end-swap (p ∷ ps) (v ∷ vs) part e f is new = (is.0, end-swap ps vs part e f is.1 new)
+
+no-content : (r : Recording) (place : Place) (b : Break) → r ≡ Breaks place b → [] ≡ begun_history r ++ []
+no-content r place b e = ap (λ q. begun_history q ++ []) (sym e)
+
+pub spelled-snoc : (vs : List (List ℕ)) (v rest : List ℕ) → spelled (vs ++ v ∷ []) rest ≡ spelled vs (v ++ rest)
+spelled-snoc [] v rest = refl
+spelled-snoc (u ∷ vs) v rest = ap (λ l. u ++ l) (spelled-snoc vs v rest)
+
+end-of : (ps : List Part) (before : List (List ℕ)) (part : Part) (value more later : List ℕ) → IsBreakIn ps before part (Bad value more) → IsEnd part (Bad value later)
+end-of [] before part value more later is = absurd is
+end-of (p ∷ ps) [] part value more later is = subst (λ q. IsEnd q (Bad value later)) (sym is.0) is.1
+end-of (p ∷ ps) (v ∷ vs) part value more later is = end-of ps vs part value more later is.1
+
+pub at-side : (head : Head) → IsBreak (piece_parts (format_of head)) nothing
+at-side First = (refl, omega arith)
+at-side (Second c s w p) = (refl, omega arith)
+
+-- the recording ends otherwise, with more bytes
+module _ (x more : List ℕ) (place : Place) (before : List (List ℕ)) (part : Part) (e f : End) (i : Spells x (Breaks place (record { before = before; part = part; end = e })))
+    (is : IsEnd part f) (bytes : end_bytes f ≡ end_bytes e ++ more) where
+  pub begun-end : spelled before (end_bytes f) ≡ spelled before (end_bytes e) ++ more
+  begun-end = ap (spelled before) bytes ∙ sym (spelled-append before (end_bytes e) more)
+
+  pub spells-end : Spells (x ++ more) (Breaks place (record { before = before; part = part; end = f }))
+  spells-end = record {
+    sound = record { stands = i.sound.stands; breaks = end-swap (parts_at place) before part e f i.sound.breaks is };
+    is = ap (λ l. l ++ more) i.is ∙ append_assoc (front place) (spelled before (end_bytes e)) more ∙ ap (λ l. front place ++ l) (sym begun-end);
+  }
+
+-- ---- a byte of a part
+
+-- one more byte, and the part isn't whole
+pub part-more : (s : State) (part : Part) (bytes : List ℕ) (got b : ℕ) (x : List ℕ) (r : Recording) → got + 1 < width part → width part ≤ 8 →
+    Spells x r → HasHeadAt s (place_of r) → AtFixed s part bytes got r → ReadsOn (record s { stage = Fixed part (set bytes got b) (got + 1) }) x r (b ∷ []) None
+part-more s part bytes got b x r less most i has at' =
+    let p = at'.part_at in
+    let e = Cut (take got bytes) in
+    let f = Cut (take (got + 1) (set bytes got b)) in
+    let j = subst (Spells x) p.is i in
+    let again : take (got + 1) (set bytes got b) ≡ take got bytes ++ b ∷ [] = take_more_set bytes got b (omega (arith, less, most, at'.eight)) in
+    let short : length (take (got + 1) (set bytes got b)) < width part = omega (arith, less, length-take (got + 1) (set bytes got b)) in
     record {
-      recording = Headless (x ++ b ∷ []);
-      spells = record { sound = λ e. ne (sym all ∙ (rw same at e)); is = refl };
-      content = i.content;
-      damage = refl;
-      decided = λ e. cc;
-      head_read = rw same (omega arith);
-    }
-
-pub side-bad : (at b : ℕ) (x : List ℕ) (h : History) → b ≢ 67 → b ≢ 83 → AtStart at x h →
-    IsDamaged (record { offset = at; reason = BadSide }) (x ++ b ∷ []) h
-side-bad at b x h c s i = record {
-  recording = Pieces i.pieces (NoSide b []);
-  spells = record {
-    sound = record { each = i.each; after = record { not_client = c; not_server = s } };
-    is = rw i.read refl;
-  };
-  content = rw append-nil i.content;
-  damage = rw i.place refl;
-  decided = λ e. cc;
-  head_read = rw i.read (omega arith);
-}
-
--- a byte more after the front and a side's byte
-pub further : (a b c : List ℕ) (s : ℕ) → (a ++ (s ∷ b)) ++ c ≡ a ++ (s ∷ (b ++ c))
-further a b c s = append_assoc a (s ∷ b) c
-
-pub size-read : (at size : ℕ) (side : Side) (bytes : List ℕ) (got b : ℕ) (x : List ℕ) (h : History) →
-    got ≡ 3 → InSize at side bytes got x h → number (set bytes got b) ≡ size →
-    InContent (at + 4) side size 0 (x ++ b ∷ []) h
-size-read at size side bytes got b x h three i e = record {
-  pieces = i.pieces;
-  each = i.each;
-  size_bytes = set bytes got b;
-  four = omega (arith, length-set {A = ℕ}, i.four);
-  number_is = e;
-  begun = [];
-  count = refl;
-  read = rw (i.read, further, four-whole bytes got b i.four three, append-nil) refl;
-  content = rw append-nil i.content;
-  place = omega (arith, i.place);
-}
-
-pub size-bad : (at : ℕ) (side : Side) (bytes : List ℕ) (got b : ℕ) (x : List ℕ) (h : History) →
-    got ≡ 3 → InSize at side bytes got x h → (IsSize (number (set bytes got b)) → ⊥) →
-    IsDamaged (record { offset = at; reason = BadSize }) (x ++ b ∷ []) h
-size-bad at side bytes got b x h three i not = record {
-  recording = Pieces i.pieces (NoSize side (set bytes got b) []);
-  spells = record {
-    sound = record { each = i.each; after = record { four = omega (arith, length-set {A = ℕ}, i.four); range = not } };
-    is = rw (i.read, further, four-whole bytes got b i.four three, append-nil) refl;
-  };
-  content = rw append-nil i.content;
-  damage = rw i.place refl;
-  decided = λ e. cc;
-  head_read = rw i.read (omega arith);
-}
-
--- more bytes of a piece's content
-pub content-more : (at size got : ℕ) (side : Side) (more x : List ℕ) (h : History) →
-    InContent at side size got x h → InContent at side size (got + length more) (x ++ more) (h ++ on side more)
-content-more at size got side more x h i = record {
-  pieces = i.pieces;
-  each = i.each;
-  size_bytes = i.size_bytes;
-  four = i.four;
-  number_is = i.number_is;
-  begun = i.begun ++ more;
-  count = omega (arith, i.count, length-append {A = ℕ});
-  read = rw (i.read, further (front i.pieces) (i.size_bytes ++ i.begun) more (side_byte side), append_assoc i.size_bytes i.begun more) refl;
-  content = rw (i.content, map-append, append_assoc) refl;
-  place = i.place;
-}
-
-pub flat_map-snoc : {X : Type 0} {A : Type 0} (f : X → List A) (xs : List X) (x : X) → flat_map f (xs ++ x ∷ []) ≡ flat_map f xs ++ f x
-flat_map-snoc f xs x = flat_map-append f xs (x ∷ []) ∙ ap (λ l. flat_map f xs ++ l) (append-nil (f x))
-
-pub All-one : {X : Type 0} (P : X → Type 0) (x : X) → P x → All P (x ∷ [])
-All-one P x p zero d lt = p
-All-one P x p (suc k) d lt = absurd (omega arith)
-
--- a whole content ends its piece
-pub content-whole : (at size : ℕ) (side : Side) (x : List ℕ) (h : History) →
-    IsSize size → InContent at side size size x h → AtStart (at + size) x h
-content-whole at size side x h range i =
-    let p : Piece = record { side = side; size = i.size_bytes; content = i.begun } in
-    let is : IsPiece p = record { four = i.four; number_is = i.number_is ∙ sym i.count; range = subst IsSize (sym i.count) range } in
-    let read : x ≡ front (i.pieces ++ p ∷ []) = rw (flat_map-snoc piece_bytes i.pieces p) i.read in
-    let length_is : length x ≡ length (front i.pieces) + 5 + size = rw i.read (rw length-append (omega (arith, i.count, i.four, length-append i.size_bytes i.begun))) in
-    record {
-      pieces = i.pieces ++ p ∷ [];
-      each = All-append IsPiece i.pieces (p ∷ []) i.each (All-one IsPiece p is);
-      read = read;
-      content = rw (flat_map-snoc piece_history i.pieces p) i.content;
-      place = omega (arith, i.place, length_is, ap length read);
-    }
-
-damaged-by : (d : Damage) (x more : List ℕ) (h : History) → IsDamaged d x h →
-    (r : Recording) → Spells x r → h ≡ history_of r → damage_of r ≡ Some d → IsDamaged d (x ++ more) h
-damaged-by d x more h i (Headless bytes) s c e = record {
-  recording = Headless (x ++ more);
-  spells = record { sound = λ same. s.sound (sym (ap (take 4) s.is) ∙ sym (take-append-le 4 x more i.head_read) ∙ same); is = refl };
-  content = c;
-  damage = e;
-  decided = i.decided;
-  head_read = omega (arith, i.head_read, length-append x more);
-}
-damaged-by d x more h i (Pieces pieces Nothing) s c e = cc
-damaged-by d x more h i (Pieces pieces (NoSide b rest)) s c e = record {
-  recording = Pieces pieces (NoSide b (rest ++ more));
-  spells = record { sound = record { each = s.sound.each; after = s.sound.after }; is = rw s.is (append_assoc (front pieces) (b ∷ rest) more) };
-  content = c;
-  damage = e;
-  decided = i.decided;
-  head_read = omega (arith, i.head_read, length-append x more);
-}
-damaged-by d x more h i (Pieces pieces (CutSize side begun)) s c e =
-    let same : record { offset = length (front pieces) + 1; reason = Short } ≡ d = cc in
-    absurd (i.decided (sym (ap (λ (v : Damage). v.reason) same)))
-damaged-by d x more h i (Pieces pieces (NoSize side size rest)) s c e = record {
-  recording = Pieces pieces (NoSize side size (rest ++ more));
-  spells = record {
-    sound = record { each = s.sound.each; after = s.sound.after };
-    is = rw s.is (append_assoc (front pieces) (side_byte side ∷ (size ++ rest)) more ∙ ap (λ l. front pieces ++ (side_byte side ∷ l)) (append_assoc size rest more));
-  };
-  content = c;
-  damage = e;
-  decided = i.decided;
-  head_read = omega (arith, i.head_read, length-append x more);
-}
-damaged-by d x more h i (Pieces pieces (CutContent side size begun)) s c e =
-    let same : record { offset = length (front pieces) + 5; reason = Short } ≡ d = cc in
-    absurd (i.decided (sym (ap (λ (v : Damage). v.reason) same)))
-
--- a damage stands whatever follows it
-pub damaged-more : (d : Damage) (x more : List ℕ) (h : History) → IsDamaged d x h → IsDamaged d (x ++ more) h
-damaged-more d x more h i = damaged-by d x more h i i.recording i.spells i.content i.damage
-
--- the end of what was read, by the stage
-pub head-end : (bytes : List ℕ) (got : ℕ) (x : List ℕ) (h : History) → got < 4 → InHead bytes got x h →
-    IsRead x h (Some (record { offset = 0; reason = BadHead }))
-head-end bytes got x h less i =
-    let short : length x ≤ got = rw i.read (omega (arith, length-take {A = ℕ})) in
-    record {
-      recording = Headless x;
-      spells = record {
-        sound = λ e. let four : length (take 4 x) ≡ 4 = ap length e in absurd (omega (arith, length-take 4 x));
-        is = refl;
+      new = Breaks p.place (record { before = p.before; part = part; end = f });
+      is = record {
+        spells = spells-end x (b ∷ []) p.place p.before part e f j short again;
+        has = has-same s _ p.place refl refl (subst (λ q. HasHeadAt s (place_of q)) p.is has);
+        stands = record {
+          eight = length-set bytes got b ∙ at'.eight;
+          part_at = record { place = p.place; before = p.before; is = refl; at = p.at; knows = knows-same s _ p.place p.before part p.knows };
+        };
       };
-      content = i.content;
-      damage = refl;
+      goes_on = within (ap place_of (sym p.is)) (begun-end x (b ∷ []) p.place p.before part e f j short again ∙ ap (λ q. begun_of q ++ b ∷ []) (sym p.is)) (no-content r p.place _ p.is) tt;
     }
 
-pub start-end : (at : ℕ) (x : List ℕ) (h : History) → AtStart at x h → IsRead x h None
-start-end at x h i = record {
-  recording = Pieces i.pieces Nothing;
-  spells = record { sound = record { each = i.each; after = tt }; is = rw (i.read, append-nil) refl };
-  content = rw append-nil i.content;
-  damage = refl;
-}
+-- ---- a value that is not good
 
-pub size-end : (at : ℕ) (side : Side) (bytes : List ℕ) (got : ℕ) (x : List ℕ) (h : History) →
-    got < 4 → InSize at side bytes got x h → IsRead x h (Some (record { offset = at; reason = Short }))
-size-end at side bytes got x h less i = record {
-  recording = Pieces i.pieces (CutSize side (take got bytes));
-  spells = record { sound = record { each = i.each; after = omega (arith, length-take got bytes) }; is = i.read };
-  content = rw append-nil i.content;
-  damage = rw i.place refl;
-}
+bad-not_short : (part : Part) → damage_bad part ≢ Short
+bad-not_short Letters = λ e. cc
+bad-not_short ClientLimit = λ e. cc
+bad-not_short ServerLimit = λ e. cc
+bad-not_short Waiting = λ e. cc
+bad-not_short Profile = λ e. cc
+bad-not_short SideByte = λ e. cc
+bad-not_short Time = λ e. cc
+bad-not_short Size = λ e. cc
 
-pub content-end : (at size got : ℕ) (side : Side) (x : List ℕ) (h : History) → InRange size got →
-    InContent at side size got x h → IsRead x h (Some (record { offset = at; reason = Short }))
-content-end at size got side x h range i = record {
-  recording = Pieces i.pieces (CutContent side i.size_bytes i.begun);
-  spells = record {
-    sound = record {
-      each = i.each;
-      after = record {
-        four = i.four;
-        range = subst IsSize (sym i.number_is) range.range;
-        short = omega (arith, i.count, i.number_is, range.left);
+-- a value that is not good stands behind four bytes, or has them
+bad-read : (place : Place) (before : List (List ℕ)) (part : Part) (v : List ℕ) → IsBreak (parts_at place) (record { before = before; part = part; end = Bad v [] }) →
+    4 ≤ length (front place ++ spelled before (v ++ []))
+bad-read AtLetters [] part v is = omega (arith, is.1.0, ap width is.0, length-append v [])
+bad-read AtLetters (u ∷ us) part v is = absurd is.1
+bad-read (InHead Zkr1) before part v is = absurd is
+bad-read (InHead Zkr2) before part v is = omega arith
+bad-read (InPieces First pieces) before part v is = omega arith
+bad-read (InPieces (Second c s w p) pieces) before part v is = omega arith
+
+pub part-bad : (s : State) (part : Part) (begun v : List ℕ) (b : ℕ) (x : List ℕ) (r : Recording) → begun ++ b ∷ [] ≡ v → length v ≡ width part → is_good part v ≡ false →
+    Spells x r → HasHeadAt s (place_of r) → AtPart s part begun r → ReadsOn (record s { stage = Damaged (record { offset = s.at; reason = damage_bad part }) }) x r (b ∷ []) None
+part-bad s part begun v b x r again wide bad i has p =
+    let j = subst (Spells x) p.is i in
+    let f = Bad v [] in
+    let same : v ++ [] ≡ begun ++ b ∷ [] = append-nil v ∙ sym again in
+    let k = spells-end x (b ∷ []) p.place p.before part (Cut begun) f j (wide, bad) same in
+    record {
+      new = Breaks p.place (record { before = p.before; part = part; end = f });
+      is = record {
+        spells = k;
+        has = has-same s _ p.place refl refl (subst (λ q. HasHeadAt s (place_of q)) p.is has);
+        stands = record {
+          place = p.place;
+          before = p.before;
+          part = part;
+          value = v;
+          more = [];
+          is = refl;
+          damage = ap (λ n. Some (record { offset = n; reason = damage_bad part })) (sym p.at);
+          decided = bad-not_short part;
+          head_read = subst (λ l. 4 ≤ length l) (sym k.is) (bad-read p.place p.before part v k.sound.breaks);
+        };
+      };
+      goes_on = within (ap place_of (sym p.is)) (begun-end x (b ∷ []) p.place p.before part (Cut begun) f j (wide, bad) same ∙ ap (λ q. begun_of q ++ b ∷ []) (sym p.is)) (no-content r p.place _ p.is) tt;
+    }
+
+-- ---- a good value
+
+-- the next part of a head's numbers, or of a piece
+module _ (s : State) (place : Place) (before : List (List ℕ)) (part : Part) (begun v : List ℕ) (b : ℕ) (x : List ℕ)
+    (i : Spells x (Breaks place (record { before = before; part = part; end = Cut begun }))) (again : begun ++ b ∷ [] ≡ v) (at' : s.at ≡ behind place before) (wide : length v ≡ width part) where
+  pub next-bytes : spelled (before ++ v ∷ []) [] ≡ spelled before begun ++ b ∷ []
+  next-bytes = spelled-snoc before v [] ∙ ap (spelled before) (append-nil v ∙ sym again) ∙ sym (spelled-append before begun (b ∷ []))
+
+  pub to-next : (t : State) (next : Part) → t ≡ then_at s next (width part) → HasHeadAt s place → IsBreak (parts_at place) (record { before = before ++ v ∷ []; part = next; end = Cut [] }) →
+      Knows (then_at s next (width part)) place (before ++ v ∷ []) next → ReadsOn t x (Breaks place (record { before = before; part = part; end = Cut begun })) (b ∷ []) None
+  to-next t next e has breaks knows = subst (λ u. ReadsOn u x (Breaks place (record { before = before; part = part; end = Cut begun })) (b ∷ []) None) (sym e) (record {
+    new = Breaks place (record { before = before ++ v ∷ []; part = next; end = Cut [] });
+    is = record {
+      spells = record {
+        sound = record { stands = i.sound.stands; breaks = breaks };
+        is = ap (λ l. l ++ b ∷ []) i.is ∙ append_assoc (front place) (spelled before begun) (b ∷ []) ∙ ap (λ l. front place ++ l) (sym next-bytes);
+      };
+      has = has-same s _ place refl refl has;
+      stands = record {
+        eight = refl;
+        part_at = record {
+          place = place;
+          before = before ++ v ∷ [];
+          is = refl;
+          at = omega (arith, at', wide, ap length (spelled-snoc before v []), length-spelled before (v ++ []), length-append v []);
+          knows = knows;
+        };
       };
     };
-    is = i.read;
-  };
-  content = i.content;
-  damage = rw i.place refl;
-}
+    goes_on = within refl next-bytes refl tt;
+  })
 
-pub damaged-end : (d : Damage) (x : List ℕ) (h : History) → IsDamaged d x h → IsRead x h (Some d)
-damaged-end d x h i = record { recording = i.recording; spells = i.spells; content = i.content; damage = i.damage }
+-- ---- content
 
--- what the first bytes of a block lead to
-abbrev pub Leads : List ℕ → History → List ℕ → Stage × ℕ × Option Side → Type 0
-Leads x h block t = IsAt t.0 (x ++ take t.1 block) (h ++ content_of t.2 (take t.1 block))
+module _ (s : State) (got : ℕ) (x part : List ℕ) (r : Recording) (i : Spells x r) (has : HasHeadAt s (place_of r)) (c : AtContent s got r) where
+  begun : Spells x (Ends c.head c.pieces c.cut)
+  begun = subst (Spells x) c.is i
 
-take-first : (block : List ℕ) → 0 < length block → take 1 block ≡ get_or block 0 0 ∷ []
-take-first [] l = absurd (omega arith)
-take-first (b ∷ block) l = refl
+  grown : Piece
+  grown = record { side = c.cut.side; time = c.cut.time; size = c.cut.size; content = c.cut.content ++ part }
 
-pub leads-by_byte : (s : Stage) (x block : List ℕ) (h : History) → 0 < length block →
-    IsAt s (x ++ get_or block 0 0 ∷ []) h → Leads x h block (s, 1, None)
-leads-by_byte s x block h l i = rw (append-nil, take-first block l) i
+  has-here : HasHead s c.head
+  has-here = subst (λ q. HasHeadAt s (place_of q)) c.is has
 
-pub leads-in_content : (at size got : ℕ) (side : Side) (x block : List ℕ) (h : History) →
-    InContent at side size got x h → Leads x h block (Content at side size (got + length block), length block, Some side)
-leads-in_content at size got side x block h i = rw take-length (content-more at size got side block x h i)
+  grown-bytes : piece_bytes (format_of c.head) grown ≡ begun_of r ++ part
+  unfolding grown
+  grown-bytes =
+      bytes-with (format_of c.head) c.cut (c.cut.content ++ part)
+      ∙ sym (spelled-append (piece_values (format_of c.head) c.cut) c.cut.content part)
+      ∙ ap (λ q. begun_of q ++ part) (sym c.is)
 
-pub leads-to_start : (at size got : ℕ) (side : Side) (x block : List ℕ) (h : History) → InRange size got →
-    size - got ≤ length block → InContent at side size got x h → Leads x h block (Start (at + size), size - got, Some side)
-leads-to_start at size got side x block h range enough i =
-    let part = take (size - got) block in
-    let all : got + length part ≡ size = omega (arith, length-take (size - got) block, range.left) in
-    content-whole at size side (x ++ part) (h ++ on side part) range.range
-    (subst (λ n. InContent at side size n (x ++ part) (h ++ on side part)) all (content-more at size got side part x h i))
+  grown-history : piece_history grown ≡ begun_history r ++ on s.side part
+  unfolding grown
+  grown-history =
+      map-append (λ (v : ℕ). (c.cut.side, v)) c.cut.content part
+      ∙ ap (λ z. piece_history c.cut ++ on z part) c.side
+      ∙ ap (λ q. begun_history q ++ on s.side part) (sym c.is)
 
-pub leads-when_damaged : (d : Damage) (x block : List ℕ) (h : History) → IsDamaged d x h →
-    Leads x h block (Damaged d, length block, None)
-leads-when_damaged d x block h i = rw (append-nil, take-length) (damaged-more d x block h i)
+  grown-read : x ++ part ≡ front (InPieces c.head c.pieces) ++ piece_bytes (format_of c.head) grown
+  grown-read =
+      ap (λ l. l ++ part) (begun.is ∙ ap (λ q. front (InPieces c.head c.pieces) ++ begun_of q) (sym c.is))
+      ∙ append_assoc (front (InPieces c.head c.pieces)) (begun_of r) part
+      ∙ ap (λ l. front (InPieces c.head c.pieces) ++ l) (sym grown-bytes)
+
+  holds : MayHold (Some s.side) (place_of r)
+  holds = subst (λ q. MayHold (Some s.side) (place_of q)) (sym c.is) tt
+
+  -- the content isn't whole with these bytes
+  pub content-more : got + length part < s.size → ReadsOn (record s { stage = Content (got + length part) }) x r part (Some s.side)
+  unfolding grown
+  content-more less = record {
+    new = Ends c.head c.pieces grown;
+    is = record {
+      spells = record {
+        sound = record {
+          stands = begun.sound.stands;
+          cut = record {
+            begun = begun-with (format_of c.head) c.cut (c.cut.content ++ part) begun.sound.cut.begun;
+            short = omega (arith, less, c.count, c.size, length-append c.cut.content part);
+          };
+        };
+        is = grown-read;
+      };
+      has = record { format_is = has-here.format_is; limits_are = has-here.limits_are };
+      stands = record {
+        head = c.head;
+        pieces = c.pieces;
+        cut = grown;
+        is = refl;
+        at = c.at ∙ ap (λ vs. behind (InPieces c.head c.pieces) vs) (sym (same-values (format_of c.head) c.cut (c.cut.content ++ part)));
+        side = c.side;
+        size = c.size;
+        count = omega (arith, c.count, length-append c.cut.content part);
+      };
+    };
+    goes_on = within (sym (ap place_of c.is)) grown-bytes grown-history holds;
+  }
+
+  -- it is whole with these bytes
+  pub content-whole : got + length part ≡ s.size → ReadsOn (then_at s SideByte s.size) x r part (Some s.side)
+  unfolding grown
+  content-whole all =
+      let f = format_of c.head in
+      let is : IsPiece f grown = record {
+        begun = begun-with f c.cut (c.cut.content ++ part) begun.sound.cut.begun;
+        sized = omega (arith, all, c.count, c.size, length-append c.cut.content part);
+      } in
+      let whole : front (InPieces c.head (c.pieces ++ grown ∷ [])) ++ [] ≡ front (InPieces c.head c.pieces) ++ (piece_bytes f grown ++ []) = front-snoc c.head c.pieces grown [] in
+      record {
+        new = Breaks (InPieces c.head (c.pieces ++ grown ∷ [])) nothing;
+        is = record {
+          spells = record {
+            sound = record { stands = are-snoc c.head c.pieces grown begun.sound.stands is; breaks = at-side c.head };
+            is = grown-read ∙ ap (λ l. front (InPieces c.head c.pieces) ++ l) (sym (append-nil (piece_bytes f grown))) ∙ sym whole;
+          };
+          has = record { format_is = has-here.format_is; limits_are = has-here.limits_are };
+          stands = record {
+            eight = refl;
+            part_at = record {
+              place = InPieces c.head (c.pieces ++ grown ∷ []);
+              before = [];
+              is = refl;
+              at = omega (
+                arith,
+                all,
+                c.count,
+                c.size,
+                c.at,
+                ap length whole,
+                length-append (front (InPieces c.head (c.pieces ++ grown ∷ []))) [],
+                length-append (front (InPieces c.head c.pieces)) (piece_bytes f grown ++ []),
+                length-append (piece_bytes f grown) [],
+                ap length (bytes-with f c.cut (c.cut.content ++ part)),
+                length-spelled (piece_values f c.cut) (c.cut.content ++ part),
+                length-append c.cut.content part,
+              );
+              knows = (record { head = c.head; pieces = c.pieces ++ grown ∷ []; is = refl }, refl);
+            };
+          };
+        };
+        goes_on = ends c.head c.pieces grown (ap place_of c.is) refl grown-bytes grown-history;
+      }
+
+-- ---- behind a damage
+
+pub damaged-more : (d : DamageAt) (x more : List ℕ) (r : Recording) → Spells x r → (i : IsDecidedBy d x r) →
+    (new : Recording) × Spells (x ++ more) new × IsDecidedBy d (x ++ more) new × (place_of new ≡ place_of r) × (begun_of new ≡ begun_of r ++ more) × (begun_history new ≡ begun_history r ++ [])
+damaged-more d x more r s i =
+    let j = subst (Spells x) i.is s in
+    let e = Bad i.value i.more in
+    let f = Bad i.value (i.more ++ more) in
+    let is : IsEnd i.part f = end-of (parts_at i.place) i.before i.part i.value i.more (i.more ++ more) j.sound.breaks in
+    let bytes : end_bytes f ≡ end_bytes e ++ more = sym (append_assoc i.value i.more more) in (
+      Breaks i.place (record { before = i.before; part = i.part; end = f }),
+      spells-end x more i.place i.before i.part e f j is bytes,
+      record {
+        place = i.place;
+        before = i.before;
+        part = i.part;
+        value = i.value;
+        more = i.more ++ more;
+        is = refl;
+        damage = ap damage_of (sym i.is) ∙ i.damage;
+        decided = i.decided;
+        head_read = omega (arith, i.head_read, length-append x more);
+      },
+      sym (ap place_of i.is),
+      begun-end x more i.place i.before i.part e f j is bytes ∙ ap (λ q. begun_of q ++ more) (sym i.is),
+      no-content r i.place _ i.is,
+    )
+
+pub damaged-on : (s : State) (d : DamageAt) (x more : List ℕ) (r : Recording) → s.stage ≡ Damaged d → IsAt s x r → ReadsOn s x r more None
+damaged-on s d x more r e i =
+    let m = damaged-more d x more r i.spells (subst (λ q. AtStage s q x r) e i.stands) in
+    record {
+      new = m.0;
+      is = record {
+        spells = m.1;
+        has = subst (HasHeadAt s) (sym m.3) i.has;
+        stands = subst (λ q. AtStage s q (x ++ more) m.0) (sym e) m.2;
+      };
+      goes_on = within m.3 m.4 m.5 tt;
+    }

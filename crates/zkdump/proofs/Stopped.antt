@@ -15,7 +15,7 @@ use Rattle.zkdump.proofs.Feeding.{text_of-append}
 use Rattle.zkdump.proofs.Outcomes.{outcome-first}
 
 -- a front of a text is a front of whatever begins with it
-grown-in : (old new : Option (List ℕ)) (text more : List ℕ) → HasGrownIn old new text → HasGrownIn old new (text ++ more)
+pub grown-in : (old new : Option (List ℕ)) (text more : List ℕ) → HasGrownIn old new text → HasGrownIn old new (text ++ more)
 grown-in old new text more p = go (cases_lt p.0 (length text))
   where
     go : ((p.0 < length text) ⊎ (length text ≤ p.0)) → HasGrownIn old new (text ++ more)

@@ -10,79 +10,75 @@ use Rattle.zk_talk.specs.History.{History}
 use Rattle.zk_talk.specs.Fault.{IsFaultOf}
 use Rattle.zk_talk.specs.Ending.{IsEnding}
 use Rattle.zk_talk.specs.Answer.{AreMessages}
-use Rattle.zk_talk.specs.Stands.{TalkState, Stands, Refuses}
+use Rattle.zk_talk.specs.Stands.{TalkState, Refuses}
 use Rattle.zk_talk.proofs.Headline.{fault_is_bad, refused, stands_messages}
-use Rattle.zkdump.specs.declared.recording.Damage.{Damage}
-use Rattle.zkdump.specs.declared.recording.Stage.{Stage}
-use Rattle.zkdump.specs.declared.recording.Stage.TheVariants.{Head, Start, Size, Content, Damaged}
+use Rattle.zkdump.specs.declared.parts.DamageAt.{DamageAt}
+use Rattle.zkdump.specs.declared.progress.Progress.{Progress}
+use Rattle.zkdump.specs.declared.recording.State.{State}
 use Rattle.zkdump.specs.declared.listing.Listing.{Listing}
 use Rattle.zkdump.specs.declared.summary.Summary.{Summary}
 use Rattle.zkdump.specs.declared.summary.Summary.TheVariants.{Ended, Broken}
-use Rattle.zkdump.specs.Recording.{history_of}
-use Rattle.zkdump.specs.Reading.{IsAt, IsSound, IsDamaged, IsRead}
-use Rattle.zkdump.specs.Outcome.{HasNoFault, ComesTo, IsGoodWith}
-use Rattle.zkdump.specs.Following.{Follows, Decides, Finishes, Reaches, Advances}
-use Rattle.zkdump.proofs.Any.{Starts}
+use Rattle.zkdump.specs.Recording.{Recording, Spells, place_of, begun_history, history_at, history_of, limits_at, limits_of, damage_of}
+use Rattle.zkdump.specs.Reading.{IsAt, IsDecidedBy, IsHeaded}
+use Rattle.zkdump.specs.Outcome.{HasNoFault, ComesTo, IsGoodWith, IsOutcome}
+use Rattle.zkdump.specs.Following.{Has, Talks, HasOr, Follows, Decides, Finishes, Reaches, Advances}
+use Rattle.zkdump.proofs.Any.{longer}
 use Rattle.zkdump.proofs.Feeding.{listed-none, listed-then}
-use Rattle.zkdump.proofs.Stages.{damaged-more, head-end, start-end, size-end, content-end, damaged-end}
-
--- whatever the stage, what was read is a recording
-pub read-at : (s : Stage) (x : List ℕ) (h : History) → IsSound s → IsAt s x h → (d : Option Damage) × IsRead x h d
-read-at (Head bytes got) x h sound i = (_, head-end bytes got x h sound i)
-read-at (Start at) x h sound i = (_, start-end at x h i)
-read-at (Size at side bytes got) x h sound i = (_, size-end at side bytes got x h sound i)
-read-at (Content at side size got) x h sound i = (_, content-end at size got side x h sound i)
-read-at (Damaged d) x h sound i = (_, damaged-end d x h i)
+use Rattle.zkdump.proofs.Stages.{damaged-more}
+use Rattle.zkdump.proofs.Talking.{talk_now, has-stands, has-good}
 
 no-fault : (limits : Limits) (h : History) (messages : List Message) → IsGoodWith limits h messages → HasNoFault limits h
 no-fault limits h messages i = λ fault is. fault_is_bad limits h fault is (i.conversation, i.client_rest, i.server_rest, i.good)
 
+-- what was read, and the rest of a block
+pub rejoined : (x block : List ℕ) (n : ℕ) → (x ++ take n block) ++ drop n block ≡ x ++ block
+rejoined x block n = append_assoc x (take n block) (drop n block) ∙ ap (λ b. x ++ b) (take-append-drop n block)
+
 -- a fault stands whatever follows it
-pub decides-by_fault : (limits : Limits) (x : List ℕ) (h : History) (messages : List Message) (t : TalkState) (f : Fault) →
-    Starts x h → t.limits ≡ limits → Refuses t h messages f → Decides limits x messages (Ended (Refused f))
-decides-by_fault limits x h messages t f i e r =
-    let both = refused t h i.after messages f r in
-    let here = subst (λ k. IsFaultOf limits k f × AreMessages limits k messages (Refused f)) (sym i.history)
-    (subst (λ l. IsFaultOf l (h ++ i.after) f × AreMessages l (h ++ i.after) messages (Refused f)) e both) in
+pub decides-by_fault : (limits : Limits) (x block : List ℕ) (n : ℕ) (r : Recording) (messages : List Message) (talk : Option TalkState) (f : Fault) → Spells (x ++ take n block) r →
+    IsHeaded (place_of r) → HasOr (limits_of limits r) talk (Some f) (history_of r) messages → Decides limits (x ++ block) messages (Ended (Refused f))
+decides-by_fault limits x block n r messages None f i is has = absurd has
+decides-by_fault limits x block n r messages (Some t) f i is has =
+    let l = longer r (x ++ take n block) (drop n block) i in
+    let both = refused t (history_of r) l.after messages f has.0 in
+    let e = has.1 ∙ sym (l.limits_are is limits) in
+    let here = subst (λ k. IsFaultOf (limits_of limits l.new) k f × AreMessages (limits_of limits l.new) k messages (Refused f)) (sym l.history)
+    (subst (λ z. IsFaultOf z (history_of r ++ l.after) f × AreMessages z (history_of r ++ l.after) messages (Refused f)) e both) in
     record {
-      recording = i.recording;
-      spells = i.spells;
+      recording = l.new;
+      spells = subst (λ y. Spells y l.new) (rejoined x block n) l.spells;
       is = record { comes_to = here.0; messages_are = here.1 };
       decided = inl (f, here.0);
     }
 
 -- a damage other than the end stands whatever follows it
-pub decides-by_damage : (limits : Limits) (x block : List ℕ) (n : ℕ) (h : History) (messages : List Message) (d : Damage) →
-    IsDamaged d (x ++ take n block) h → IsGoodWith limits h messages → Decides limits (x ++ block) messages (Broken d)
-decides-by_damage limits x block n h messages d i good =
-    let whole : (x ++ take n block) ++ drop n block ≡ x ++ block = append_assoc x (take n block) (drop n block) ∙ ap (λ b. x ++ b) (take-append-drop n block) in
-    let j = subst (λ y. IsDamaged d y h) whole (damaged-more d (x ++ take n block) (drop n block) h i) in
-    let here = subst (λ k. IsGoodWith limits k messages) j.content good in
+pub decides-by_damage : (limits : Limits) (x block : List ℕ) (n : ℕ) (r : Recording) (messages : List Message) (d : DamageAt) → Spells (x ++ take n block) r →
+    IsDecidedBy d (x ++ take n block) r → IsGoodWith (limits_of limits r) (history_of r) messages → Decides limits (x ++ block) messages (Broken d)
+decides-by_damage limits x block n r messages d s i good =
+    let m = damaged-more d (x ++ take n block) (drop n block) r s i in
+    let history : history_of r ≡ history_of m.0 = ap (λ p. history_at p ++ begun_history r) (sym m.3) ∙ ap (λ h. history_at (place_of m.0) ++ h) (sym (m.5 ∙ append-nil (begun_history r))) in
+    let here = subst (λ z. IsGoodWith z (history_of m.0) messages) (ap (limits_at limits) (sym m.3)) (subst (λ h. IsGoodWith (limits_of limits r) h messages) history good) in
+    let j = subst (λ y. IsDecidedBy d y m.0) (rejoined x block n) m.2 in
     record {
-      recording = j.recording;
-      spells = j.spells;
-      is = record { comes_to = (no-fault limits (history_of j.recording) messages here, j.damage); messages_are = here };
+      recording = m.0;
+      spells = subst (λ y. Spells y m.0) (rejoined x block n) m.1;
+      is = record { comes_to = (no-fault (limits_of limits m.0) (history_of m.0) messages here, j.damage); messages_are = here };
       decided = inr (record { damage = d; is = j.damage; decided = j.decided; head_read = j.head_read });
     }
 
-pub rejoin : (limits : Limits) (x block : List ℕ) (n : ℕ) (messages : List Message) (summary : Summary) →
-    Decides limits ((x ++ take n block) ++ drop n block) messages summary → Decides limits (x ++ block) messages summary
-rejoin limits x block n messages summary i =
-    subst (λ y. Decides limits y messages summary) (append_assoc x (take n block) (drop n block) ∙ ap (λ b. x ++ b) (take-append-drop n block)) i
-
 -- ---- one block after another
 
-pub advances-none : (listing : Listing) (s : Stage) (t : TalkState) (lines : List ℕ) → Advances listing s t lines [] None s t lines
-advances-none listing s t lines limits x messages i = ([], rw append-nil (rw append-nil i), listed-none listing lines)
+pub advances-none : (listing : Listing) (p : Progress) (lines : List ℕ) → Advances listing p lines [] None p lines
+advances-none listing p lines limits x messages i = ([], rw append-nil (rw append-nil i), listed-none listing lines)
 
-pub advances-then : (listing : Listing) (s mid after : Stage) (t u v : TalkState) (lines during now a b : List ℕ) (found : Option Summary) →
-    Advances listing s t lines a None mid u during → Advances listing mid u during b found after v now → Advances listing s t lines (a ++ b) found after v now
-advances-then listing s mid after t u v lines during now a b found p q limits x messages i =
-    let one = p limits x messages i in
-    let two = q limits (x ++ a) (messages ++ one.0) one.1 in
-    let joined = subst (λ m. Reaches limits ((x ++ a) ++ b) m after v found) (append_assoc messages one.0 two.0) two.1 in (
+pub advances-then : (listing : Listing) (p mid after : Progress) (lines during now a b : List ℕ) (found : Option Summary) →
+    Advances listing p lines a None mid during → Advances listing mid during b found after now → Advances listing p lines (a ++ b) found after now
+advances-then listing p mid after lines during now a b found f g limits x messages i =
+    let one = f limits x messages i in
+    let two = g limits (x ++ a) (messages ++ one.0) one.1 in
+    let joined = subst (λ m. Reaches limits ((x ++ a) ++ b) m after found) (append_assoc messages one.0 two.0) two.1 in (
       one.0 ++ two.0,
-      subst (λ y. Reaches limits y (messages ++ (one.0 ++ two.0)) after v found) (append_assoc x a b) joined,
+      subst (λ y. Reaches limits y (messages ++ (one.0 ++ two.0)) after found) (append_assoc x a b) joined,
       listed-then listing lines during now one.0 two.0 one.2 two.2,
     )
 
@@ -91,25 +87,27 @@ comes-to_end limits h (Refused f) i = i
 comes-to_end limits h (Cut side frame got) i = (refl, i)
 comes-to_end limits h (Whole unanswered) i = (refl, i)
 
-pub finishes-whole : (limits : Limits) (x : List ℕ) (h : History) (messages : List Message) (t : TalkState) (ending : Ending) →
-    IsRead x h None → Stands t h messages → t.limits ≡ limits → IsEnding t.limits h ending → Finishes limits x messages (Ended ending)
-finishes-whole limits x h messages t ending i st e is =
-    let both = subst (λ l. IsEnding l h ending × AreMessages l h messages ending) e (is, stands_messages t h messages st ending is) in
-    let here = subst (λ k. IsEnding limits k ending × AreMessages limits k messages ending) i.content both in
+pub finishes-whole : (limits : Limits) (x : List ℕ) (r : Recording) (messages : List Message) (talk : Option TalkState) (ending : Ending) →
+    Spells x r → damage_of r ≡ None → Has (limits_of limits r) talk (history_of r) messages → IsEnding (limits_of limits r) (history_of r) ending → Finishes limits x messages (Ended ending)
+finishes-whole limits x r messages talk ending i e has is =
+    let l = limits_of limits r in
+    let s = has-stands l talk (history_of r) messages has in
+    let all = stands_messages (talk_now l talk) (history_of r) messages s.0 ending (subst (λ z. IsEnding z (history_of r) ending) (sym s.1) is) in
     record {
-      recording = i.recording;
-      spells = i.spells;
+      recording = r;
+      spells = i;
       is = record {
-        comes_to = subst (λ d. ComesTo limits (history_of i.recording) d (Ended ending)) (sym i.damage) (comes-to_end limits (history_of i.recording) ending here.0);
-        messages_are = here.1;
+        comes_to = subst (λ d. ComesTo l (history_of r) d (Ended ending)) (sym e) (comes-to_end l (history_of r) ending is);
+        messages_are = subst (λ z. AreMessages z (history_of r) messages ending) s.1 all;
       };
     }
 
-pub finishes-broken : (limits : Limits) (x : List ℕ) (h : History) (messages : List Message) (d : Damage) → IsRead x h (Some d) → IsGoodWith limits h messages → Finishes limits x messages (Broken d)
-finishes-broken limits x h messages d i good =
-    let here = subst (λ k. IsGoodWith limits k messages) i.content good in
+pub finishes-broken : (limits : Limits) (x : List ℕ) (r : Recording) (messages : List Message) (talk : Option TalkState) (d : DamageAt) → Spells x r → damage_of r ≡ Some d →
+    Has (limits_of limits r) talk (history_of r) messages → Finishes limits x messages (Broken d)
+finishes-broken limits x r messages talk d i e has =
+    let good = has-good (limits_of limits r) talk (history_of r) messages has in
     record {
-      recording = i.recording;
-      spells = i.spells;
-      is = record { comes_to = (no-fault limits (history_of i.recording) messages here, i.damage); messages_are = here };
+      recording = r;
+      spells = i;
+      is = record { comes_to = (no-fault (limits_of limits r) (history_of r) messages good, e); messages_are = good };
     }

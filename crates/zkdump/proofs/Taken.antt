@@ -14,7 +14,7 @@ use Rattle.zkdump.specs.Building.{IsLine, with_feed, fed, AreLines, all_fed, las
 use Rattle.zkdump.specs.Accepting.{AreGood, Took, HasTaken, Begins, HaltsAt, BeginsIn, HaltsIn, BuildsAll, BeginsAll, some, all, answer_of}
 use Rattle.zkdump.proofs.Feeding.{grown-whole}
 use Rattle.zkdump.proofs.Accepted.{all-snoc, built-good}
-use Rattle.zkdump.proofs.Stages.{flat_map-snoc}
+use Rattle.zkdump.proofs.Lists.{flat_map-snoc}
 
 all-append : {X : Type 0} (P : X → Type 0) (xs ys : List X) → AllByRecursion P xs → AllByRecursion P ys → AllByRecursion P (xs ++ ys)
 all-append P [] ys a b = b

@@ -16,7 +16,9 @@ use Rattle.zk_lines.specs.Lines.{line, Fits}
 use Rattle.zk_lines.specs.Endings.{ending_text}
 use Rattle.zkdump.specs.declared.built.Built.{Built}
 use Rattle.zkdump.specs.declared.built.Built.TheVariants.{Whole, LineRefused, SayRefused}
-use Rattle.zkdump.specs.Recording.{Piece, front}
+use Rattle.zkdump.specs.declared.parts.Format.TheVariants.{Zkr1}
+use Rattle.zkdump.specs.Parts.{letters}
+use Rattle.zkdump.specs.Recording.{First, Piece, piece_bytes, no_time, InPieces, front}
 use Rattle.zkdump.specs.Outcome.{HasGrownIn}
 
 -- ---- lines
@@ -47,11 +49,18 @@ pub data StandFirst (x : List ℕ) (unread : Option (List ℕ)) (lines : List (L
 
 -- a message's frame as a piece
 abbrev pub piece_of : Message → Piece
-piece_of m = record { side = side_of m; size = to_be_bytes w32 (length (frame (payload_of m))); content = frame (payload_of m) }
+piece_of m = record { side = side_of m; time = no_time; size = to_be_bytes w32 (length (frame (payload_of m))); content = frame (payload_of m) }
+
+-- what a recording that is built begins with
+abbrev pub head : List ℕ
+head = letters Zkr1
+
+abbrev pub built_bytes : Piece → List ℕ
+built_bytes p = piece_bytes Zkr1 p
 
 -- the head, and a piece for each message, in order
 abbrev pub recording_of : List Message → List ℕ
-recording_of messages = front (map piece_of messages)
+recording_of messages = front (InPieces First (map piece_of messages))
 
 -- ---- what is built
 

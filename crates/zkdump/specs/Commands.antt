@@ -3,25 +3,29 @@ use Rattle.std.specs.Prelude.{◌≡◌, ℕ, List, Option}
 use Rattle.zk_talk.specs.declared.limits.Limits.{Limits}
 use Rattle.zkdump.specs.declared.built.Built.{Built}
 use Rattle.zkdump.specs.declared.listing.Listing.TheVariants.{All, Last}
+use Rattle.zkdump.specs.declared.migrate.Migrated.{Migrated}
 use Rattle.zkdump.specs.declared.options.Command.{Command}
 use Rattle.zkdump.specs.declared.options.Settings.{Settings}
-use Rattle.zkdump.specs.declared.options.Command.TheVariants.{Show, Check, Build}
+use Rattle.zkdump.specs.declared.options.Command.TheVariants.{Show, Check, Build, Migrate}
 use Rattle.zkdump.specs.declared.summary.Status.{Status}
 use Rattle.zkdump.specs.Running.{HasListed, HasStopped}
 use Rattle.zkdump.specs.Building.{HasBuilt, HasBegunBuilding}
-use Rattle.zkdump.specs.Exits.{exit_of, exit_of_built}
+use Rattle.zkdump.specs.Migrating.{HasMigrated, HasBegunMigrating}
+use Rattle.zkdump.specs.Exits.{exit_of, exit_of_built, exit_of_migrated}
 
 -- a command that came to its end, with this exit status
 abbrev pub HasDone : Command → Limits → Option (List ℕ) → Option (List ℕ) → Option (List ℕ) → Option (List ℕ) → ℕ → Type 0
 HasDone Show limits unread unread_now contents contents_now exit = (status : Status) × HasListed limits All unread unread_now contents contents_now status × (exit ≡ exit_of status)
 HasDone Check limits unread unread_now contents contents_now exit = (status : Status) × HasListed limits Last unread unread_now contents contents_now status × (exit ≡ exit_of status)
 HasDone Build limits unread unread_now contents contents_now exit = (built : Built) × HasBuilt limits unread unread_now contents contents_now built × (exit ≡ exit_of_built built)
+HasDone Migrate limits unread unread_now contents contents_now exit = (answer : Migrated) × HasMigrated limits unread unread_now contents contents_now answer × (exit ≡ exit_of_migrated answer)
 
 -- a command that failed
 abbrev pub HasFailed : Command → Limits → Option (List ℕ) → Option (List ℕ) → Option (List ℕ) → Option (List ℕ) → Type 0
 HasFailed Show limits unread unread_now contents contents_now = HasStopped limits All unread unread_now contents contents_now
 HasFailed Check limits unread unread_now contents contents_now = HasStopped limits Last unread unread_now contents contents_now
 HasFailed Build limits unread unread_now contents contents_now = HasBegunBuilding limits unread unread_now contents contents_now
+HasFailed Migrate limits unread unread_now contents contents_now = HasBegunMigrating limits unread unread_now contents contents_now
 
 -- what was chosen came to its end, or failed
 abbrev pub IsDone : Settings → Option (List ℕ) → Option (List ℕ) → Option (List ℕ) → Option (List ℕ) → ℕ → Type 0

@@ -1,5 +1,5 @@
 -- How far a recording was read, with the conversation in it, and which lines were appended.
-use Rattle.std.specs.Prelude.{◌≡◌, ◌<◌, ◌≤◌, ◌+◌, ℕ, List, ◌++◌, length, take, Option, None, Some}
+use Rattle.std.specs.Prelude.{◌≡◌, ◌<◌, ◌≤◌, ◌+◌, ℕ, List, [], ◌++◌, length, take, Option, None, Some}
 use Rattle.zk_talk.specs.declared.limits.Limits.{Limits}
 use Rattle.zk_talk.specs.declared.message.Message.{Message}
 use Rattle.zk_talk.specs.declared.message.Fault.{Fault}
@@ -8,20 +8,34 @@ use Rattle.zk_talk.specs.Stands.{TalkState, Stands, Refuses}
 use Rattle.zkdump.specs.declared.listing.Listing.{Listing}
 use Rattle.zkdump.specs.declared.progress.Step.{Step}
 use Rattle.zkdump.specs.declared.progress.Step.TheVariants.{Took, Found}
-use Rattle.zkdump.specs.declared.recording.Stage.{Stage}
+use Rattle.zkdump.specs.declared.progress.Progress.{Progress}
+use Rattle.zkdump.specs.declared.recording.State.{State}
 use Rattle.zkdump.specs.declared.summary.Summary.{Summary}
-use Rattle.zkdump.specs.Recording.{Recording, Spells, history_of}
-use Rattle.zkdump.specs.Reading.{IsAt, IsSound, place_of}
+use Rattle.zkdump.specs.Recording.{Place, Recording, Spells, place_of, history_of, limits_of}
+use Rattle.zkdump.specs.Reading.{IsAt, IsHeaded, place_in}
 use Rattle.zkdump.specs.Lines.{text_of}
 use Rattle.zkdump.specs.Outcome.{IsGoodWith, IsOutcome, IsDecided}
 
+-- the history of a talk: none, where no content has come
+abbrev pub Has : Limits → Option TalkState → History → List Message → Type 0
+Has limits None h messages = (h ≡ []) × (messages ≡ [])
+Has limits (Some talk) h messages = Stands talk h messages × (talk.limits ≡ limits)
+
+-- a talk begins behind a whole head
+abbrev pub IsHeadedBy : Option TalkState → Place → Type 0
+IsHeadedBy None place = Unit {0}
+IsHeadedBy (Some talk) place = IsHeaded place
+
+pub record Talks (limits : Limits) (r : Recording) (messages : List Message) (talk : Option TalkState) : Type 0 where
+  pub headed : IsHeadedBy talk (place_of r)
+  pub has : Has (limits_of limits r) talk (history_of r) messages
+
 -- the bytes x were read, the messages in them are these, and no fault stands in them
-pub record Follows (limits : Limits) (x : List ℕ) (messages : List Message) (stage : Stage) (talk : TalkState) : Type 0 where
-  pub history : History
-  pub sound : IsSound stage
-  pub at : IsAt stage x history
-  pub stands : Stands talk history messages
-  pub limits_are : talk.limits ≡ limits
+pub record Follows (limits : Limits) (x : List ℕ) (messages : List Message) (p : Progress) : Type 0 where
+  pub options : p.limits ≡ limits
+  pub recording : Recording
+  pub at : IsAt p.reader x recording
+  pub talks : Talks limits recording messages p.talk
 
 -- these bytes are a recording that comes to this
 pub record Finishes (limits : Limits) (x : List ℕ) (messages : List Message) (summary : Summary) : Type 0 where
@@ -43,7 +57,7 @@ pub record Opens (limits : Limits) (x : List ℕ) (messages : List Message) : Ty
   pub front : History
   pub rest : History
   pub splits : history_of recording ≡ front ++ rest
-  pub good : IsGoodWith limits front messages
+  pub good : IsGoodWith (limits_of limits recording) front messages
 
 -- ---- what some bytes do to a talk, and to the lines before them
 
@@ -57,25 +71,35 @@ abbrev pub Takes : Listing → TalkState → List ℕ → History → Option Fau
 Takes listing old lines bytes refused new lines_now = (h : History) (messages : List Message) → Stands old h messages →
     (more : List Message) × Judges new (h ++ bytes) (messages ++ more) refused × (lines_now ≡ lines ++ text_of listing more)
 
+-- the bytes were given to the talk, which begins with its first content
+abbrev pub HasOr : Limits → Option TalkState → Option Fault → History → List Message → Type 0
+HasOr limits talk None h messages = Has limits talk h messages
+HasOr limits None (Some fault) h messages = ⊥
+HasOr limits (Some talk) (Some fault) h messages = Refuses talk h messages fault × (talk.limits ≡ limits)
+
+abbrev pub Gives : Limits → Listing → Option TalkState → List ℕ → History → Option Fault → Option TalkState → List ℕ → Type 0
+Gives limits listing old lines bytes refused new lines_now = (h : History) (messages : List Message) → Has limits old h messages →
+    (more : List Message) × HasOr limits new refused (h ++ bytes) (messages ++ more) × (lines_now ≡ lines ++ text_of listing more)
+
 -- ---- what a block does to a recording that is read
 
 -- it goes on, or what it comes to stands
-abbrev pub Reaches : Limits → List ℕ → List Message → Stage → TalkState → Option Summary → Type 0
-Reaches limits x messages stage talk None = Follows limits x messages stage talk
-Reaches limits x messages stage talk (Some summary) = Decides limits x messages summary
+abbrev pub Reaches : Limits → List ℕ → List Message → Progress → Option Summary → Type 0
+Reaches limits x messages p None = Follows limits x messages p
+Reaches limits x messages p (Some summary) = Decides limits x messages summary
 
 -- and the lines of its messages were appended
-abbrev pub Advances : Listing → Stage → TalkState → List ℕ → List ℕ → Option Summary → Stage → TalkState → List ℕ → Type 0
-Advances listing stage talk lines block found stage_now talk_now lines_now =
-    (limits : Limits) (x : List ℕ) (messages : List Message) → Follows limits x messages stage talk →
-    (more : List Message) × Reaches limits (x ++ block) (messages ++ more) stage_now talk_now found × (lines_now ≡ lines ++ text_of listing more)
+abbrev pub Advances : Listing → Progress → List ℕ → List ℕ → Option Summary → Progress → List ℕ → Type 0
+Advances listing p lines block found now lines_now =
+    (limits : Limits) (x : List ℕ) (messages : List Message) → Follows limits x messages p →
+    (more : List Message) × Reaches limits (x ++ block) (messages ++ more) now found × (lines_now ≡ lines ++ text_of listing more)
 
 -- some first bytes of a block were taken, or what the recording comes to was found in it
-abbrev pub Steps : Listing → Stage → TalkState → List ℕ → List ℕ → Step → Stage → TalkState → List ℕ → Type 0
-Steps listing stage talk lines block (Took n) stage_now talk_now lines_now = Advances listing stage talk lines (take n block) None stage_now talk_now lines_now
-Steps listing stage talk lines block (Found summary) stage_now talk_now lines_now = Advances listing stage talk lines block (Some summary) stage_now talk_now lines_now
+abbrev pub Steps : Listing → Progress → List ℕ → List ℕ → Step → Progress → List ℕ → Type 0
+Steps listing p lines block (Took n) now lines_now = Advances listing p lines (take n block) None now lines_now
+Steps listing p lines block (Found summary) now lines_now = Advances listing p lines block (Some summary) now lines_now
 
 -- at least one byte, and no more than there are
-abbrev pub IsWithin : Stage → List ℕ → Step → Stage → Type 0
-IsWithin stage block (Took n) stage_now = (0 < n) × (n ≤ length block) × (place_of stage_now ≤ place_of stage + n)
-IsWithin stage block (Found summary) stage_now = Unit {0}
+abbrev pub IsWithin : State → List ℕ → Step → State → Type 0
+IsWithin s block (Took n) now = (0 < n) × (n ≤ length block) × (place_in now ≤ place_in s + n)
+IsWithin s block (Found summary) now = Unit {0}

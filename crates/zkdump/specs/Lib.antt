@@ -1,4 +1,6 @@
 pub mod Streams
+pub mod Parts
+pub mod HeadLimits
 pub mod Recording
 pub mod Reading
 pub mod Lines
@@ -7,6 +9,7 @@ pub mod Outcome
 pub mod Following
 pub mod Running
 pub mod Exits
+pub mod Migrating
 pub mod Profiles
 pub mod Building
 pub mod Accepting

@@ -8,21 +8,23 @@ use Rattle.zk_lines.specs.Lines.{line}
 use Rattle.zk_lines.specs.Endings.{ending_text}
 use Rattle.zkdump.specs.declared.listing.Listing.{Listing}
 use Rattle.zkdump.specs.declared.listing.Listing.TheVariants.{All, Last}
-use Rattle.zkdump.specs.declared.recording.Damage.{Damage}
-use Rattle.zkdump.specs.declared.recording.DamageReason.{DamageReason}
-use Rattle.zkdump.specs.declared.recording.DamageReason.TheVariants.{BadHead, BadSide, BadSize, Short}
+use Rattle.zkdump.specs.declared.parts.DamageAt.{DamageAt}
+use Rattle.zkdump.specs.declared.parts.Damage.{Damage}
+use Rattle.zkdump.specs.declared.parts.Damage.TheVariants.{BadHead, BadLimits, BadSide, BadTime, BadSize, Short}
 use Rattle.zkdump.specs.declared.summary.Summary.{Summary}
 use Rattle.zkdump.specs.declared.summary.Summary.TheVariants.{Ended, Broken}
 use Rattle.zkdump.specs.declared.summary.Status.{Status}
 use Rattle.zkdump.specs.declared.summary.Status.TheVariants.{Good, Bad}
 
-abbrev pub damage_word : DamageReason → List ℕ
+abbrev pub damage_word : Damage → List ℕ
 damage_word BadHead = codes "BadHead"
+damage_word BadLimits = codes "BadLimits"
 damage_word BadSide = codes "BadSide"
+damage_word BadTime = codes "BadTime"
 damage_word BadSize = codes "BadSize"
 damage_word Short = codes "Short"
 
-abbrev pub damage_text : Damage → List ℕ
+abbrev pub damage_text : DamageAt → List ℕ
 damage_text d = codes ". recording offset=" ++ (decimal d.offset ++ (codes " reason=" ++ damage_word d.reason))
 
 abbrev pub summary_text : Summary → List ℕ

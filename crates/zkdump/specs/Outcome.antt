@@ -11,17 +11,17 @@ use Rattle.zk_talk.specs.Good.{Good, IsOrder}
 use Rattle.zk_talk.specs.Fault.{IsFaultOf}
 use Rattle.zk_talk.specs.Ending.{IsEnding}
 use Rattle.zk_talk.specs.Answer.{AreMessages}
-use Rattle.zkdump.specs.declared.recording.Damage.{Damage}
-use Rattle.zkdump.specs.declared.recording.DamageReason.TheVariants.{Short}
+use Rattle.zkdump.specs.declared.parts.DamageAt.{DamageAt}
+use Rattle.zkdump.specs.declared.parts.Damage.TheVariants.{Short}
 use Rattle.zkdump.specs.declared.summary.Summary.{Summary}
 use Rattle.zkdump.specs.declared.summary.Summary.TheVariants.{Ended, Broken}
-use Rattle.zkdump.specs.Recording.{Recording, Spells, history_of, damage_of}
+use Rattle.zkdump.specs.Recording.{Recording, Spells, history_of, limits_of, damage_of}
 
 abbrev pub HasNoFault : Limits → History → Type 0
 HasNoFault limits h = (fault : Fault) → IsFaultOf limits h fault → ⊥
 
 -- a history, in a recording with this damage or with none, comes to this
-abbrev pub ComesTo : Limits → History → Option Damage → Summary → Type 0
+abbrev pub ComesTo : Limits → History → Option DamageAt → Summary → Type 0
 ComesTo limits h damage (Ended (Refused fault)) = IsFaultOf limits h fault
 ComesTo limits h damage (Broken d) = HasNoFault limits h × (damage ≡ Some d)
 ComesTo limits h damage (Ended (Cut side frame got)) = (damage ≡ None) × IsEnding limits h (Cut side frame got)
@@ -40,25 +40,26 @@ abbrev pub HasMessages : Limits → History → List Message → Summary → Typ
 HasMessages limits h messages (Ended ending) = AreMessages limits h messages ending
 HasMessages limits h messages (Broken d) = IsGoodWith limits h messages
 
+-- under the limits that it has, or else those that are given
 pub record IsOutcome (limits : Limits) (r : Recording) (messages : List Message) (summary : Summary) : Type 0 where
-  pub comes_to : ComesTo limits (history_of r) (damage_of r) summary
-  pub messages_are : HasMessages limits (history_of r) messages summary
+  pub comes_to : ComesTo (limits_of limits r) (history_of r) (damage_of r) summary
+  pub messages_are : HasMessages (limits_of limits r) (history_of r) messages summary
 
 -- a damage that stands whatever follows
 pub record IsBroken (x : List ℕ) (r : Recording) : Type 0 where
-  pub damage : Damage
+  pub damage : DamageAt
   pub is : damage_of r ≡ Some damage
   pub decided : damage.reason ≢ Short
   pub head_read : 4 ≤ length x
 
 -- whatever follows, the recording keeps its fault or its damage
 abbrev pub IsDecided : Limits → List ℕ → Recording → Type 0
-IsDecided limits x r = ((fault : Fault) × IsFaultOf limits (history_of r) fault) ⊎ IsBroken x r
+IsDecided limits x r = ((fault : Fault) × IsFaultOf (limits_of limits r) (history_of r) fault) ⊎ IsBroken x r
 
 -- these bytes are just one recording
 pub record IsJust (x : List ℕ) (r : Recording) : Type 0 where
   pub spells : Spells x r
-  pub only : (s : Recording) → Spells x s → (history_of s ≡ history_of r) × (damage_of s ≡ damage_of r)
+  pub only : (s : Recording) → Spells x s → s ≡ r
 
 -- what was read of a source with these bytes left before and after
 pub record Reads (before after : Option (List ℕ)) (x : List ℕ) (r : Recording) : Type 0 where
@@ -79,7 +80,7 @@ pub record IsRunning (limits : Limits) (before after : Option (List ℕ)) (messa
   pub bytes : List ℕ
   pub recording : Recording
   pub reads : Reads before after bytes recording
-  pub good : IsGoodWith limits (history_of recording) messages
+  pub good : IsGoodWith (limits_of limits recording) (history_of recording) messages
   pub only : (others : List Message) (summary : Summary) → IsOutcome limits recording others summary → others ≡ messages
 
 -- what was read begins with these messages
@@ -90,7 +91,7 @@ pub record HasBegun (limits : Limits) (before after : Option (List ℕ)) (messag
   pub front : History
   pub rest : History
   pub splits : history_of recording ≡ front ++ rest
-  pub good : IsGoodWith limits front messages
+  pub good : IsGoodWith (limits_of limits recording) front messages
 
 -- a writer's contents have grown by a front of the text
 abbrev pub HasGrownIn : Option (List ℕ) → Option (List ℕ) → List ℕ → Type 0

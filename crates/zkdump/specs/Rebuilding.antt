@@ -8,7 +8,7 @@ use Rattle.zkdump.specs.declared.built.Built.{Built}
 use Rattle.zkdump.specs.declared.built.Built.TheVariants.{Whole, LineRefused, SayRefused}
 use Rattle.zkdump.specs.declared.listing.Listing.TheVariants.{All}
 use Rattle.zkdump.specs.declared.summary.Summary.TheVariants.{Ended}
-use Rattle.zkdump.specs.Recording.{Recording, Pieces, Nothing}
+use Rattle.zkdump.specs.Recording.{First, InPieces, Recording, Breaks, nothing}
 use Rattle.zkdump.specs.Lines.{text_of, last_line}
 use Rattle.zkdump.specs.Building.{piece_of, IsNextLine, IsDotted}
 
@@ -18,7 +18,7 @@ whole_listing messages unanswered = text_of All messages ++ last_line (Ended (wh
 
 -- a piece for each message, and nothing after them
 abbrev pub one_a_piece : List Message → Recording
-one_a_piece messages = Pieces (map piece_of messages) Nothing
+one_a_piece messages = Breaks (InPieces First (map piece_of messages)) nothing
 
 -- both refuse no line, or both refuse one line: for what it holds, or for one reason to say
 abbrev pub AreAlike : Built → Built → Type 0

@@ -8,7 +8,7 @@ use Rattle.zkdump.specs.declared.listing.Listing.{Listing}
 use Rattle.zkdump.specs.declared.summary.Summary.{Summary}
 use Rattle.zkdump.specs.declared.summary.Status.{Status}
 use Rattle.zkdump.specs.Lines.{text_of, last_line, status_of}
-use Rattle.zkdump.specs.Recording.{Recording, history_of}
+use Rattle.zkdump.specs.Recording.{Recording, history_of, limits_of}
 use Rattle.zkdump.specs.Outcome.{Reads, IsGoodWith, IsOutcome, IsDecided, IsFound, IsRunning, HasBegun, HasGrownIn}
 
 -- the reader failed, or was read as often as a run may
@@ -43,7 +43,7 @@ pub record HasBegunListing (limits : Limits) (listing : Listing) (unread unread_
 
 -- a front was written of the lines of messages that stand first in a recording, or of its whole listing
 pub data HasWrittenIn (limits : Limits) (listing : Listing) (bytes : List ℕ) (recording : Recording) (unread_now contents contents_now : Option (List ℕ)) : Type 0 where
-  in_messages : (messages : List Message) (front rest : History) → history_of recording ≡ front ++ rest → IsGoodWith limits front messages →
+  in_messages : (messages : List Message) (front rest : History) → history_of recording ≡ front ++ rest → IsGoodWith (limits_of limits recording) front messages →
       HasGrownIn contents contents_now (text_of listing messages) → HasWrittenIn limits listing bytes recording unread_now contents contents_now
   in_last_line : (messages : List Message) (summary : Summary) → IsOutcome limits recording messages summary → IsAtEnd unread_now ⊎ IsDecided limits bytes recording →
       HasGrownIn contents contents_now (text_of listing messages ++ last_line summary) → HasWrittenIn limits listing bytes recording unread_now contents contents_now

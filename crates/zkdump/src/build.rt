@@ -7,7 +7,7 @@ use crate::builder::Builder;
 use crate::built::Built;
 use crate::engines::{BLOCK, MOST_READS};
 use crate::listing::RunFault;
-use crate::recording::HEAD;
+use crate::parts::ZKR1;
 use crate::streams::{Sink, Source, write_whole};
 use std::alloc::Global;
 use zk_talk::Limits;
@@ -50,7 +50,7 @@ pub fn build_run<R: Source, W: Sink>(
     ensures begun { OnErr result (HasBegunBuilding limits (R.remaining reader.old) (R.remaining reader.new) (W.contents writer.old) (W.contents writer.new)) }
 {
     let mut builder = Builder::new(alloc, limits)?;
-    write_whole(writer, &HEAD)?;
+    write_whole(writer, &ZKR1)?;
     let mut buf = [0; BLOCK];
     for _turn in 0..MOST_READS {
         let Ok(count) = reader.read(&mut buf) else {

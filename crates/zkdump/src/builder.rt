@@ -10,8 +10,8 @@ ghost use Rattle.zk_talk.specs.Said.{Says};
 ghost use Rattle.zk_lines.specs.Lines.{Fits, line};
 ghost use Rattle.zkdump.specs.declared.builder.Halt.TheVariants.{Fails};
 ghost use Rattle.zkdump.specs.declared.listing.RunFault.TheVariants.{Read, Write, Memory};
-ghost use Rattle.zkdump.specs.Recording.{head, piece_bytes, side_byte};
-ghost use Rattle.zkdump.specs.Building.{IsDotted, due_ending};
+ghost use Rattle.zkdump.specs.Recording.{no_time, side_byte};
+ghost use Rattle.zkdump.specs.Building.{head, built_bytes, IsDotted, due_ending};
 ghost use Rattle.zkdump.specs.Accepting.{Took, HasTaken, HaltsAt, HaltsIn, IfSpared, BuildsAll, BeginsAll};
 
 use crate::built::Built;
@@ -128,7 +128,7 @@ fn byte_of(side: Side) -> u8
 /// A piece of these bytes.
 fn piece_of(alloc: Global, side: Side, content: &[u8]) -> Result<Vec<u8>, AllocError>
     ensures { IfOk result (λ piece. length content.now < 2 ^ 32 →
-        piece.items ≡ piece_bytes (record { side = side; size = to_be_bytes w32 (length content.now); content = content.now })) }
+        piece.items ≡ built_bytes (record { side = side; time = no_time; size = to_be_bytes w32 (length content.now); content = content.now })) }
 {
     let size = u32::try_from(content.len()).unwrap_or(u32::MAX);
     let mut piece = Vec::new(alloc);

@@ -39,7 +39,7 @@ fn read_on<R: Source, W: Sink>(
     ensures spared { IsErrOf result RunFault.Memory → W.has_failed writer.new ≡ false }
     ensures bound { R.read_count reader.new ≤ R.read_count reader.old + 4294967296 }
 {
-    let mut progress = Progress::new(alloc, limits)?;
+    let mut progress = Progress::new(alloc, limits);
     let mut lines = Vec::new(alloc);
     let mut buf = [0; BLOCK];
     for _turn in 0..MOST_READS {

@@ -16,7 +16,9 @@ ghost use Rattle.zkdump.specs.declared.listing.Listing.{Listing};
 ghost use Rattle.zkdump.specs.declared.summary.Summary.TheVariants.{Ended};
 ghost use Rattle.zkdump.specs.declared.summary.Status.{Status};
 ghost use Rattle.zkdump.specs.declared.summary.Status.TheVariants.{Good as good_end};
-ghost use Rattle.zkdump.specs.Recording.{Spells, history_of};
+ghost use Rattle.zkdump.specs.Recording.{Recording, Spells, history_of};
+ghost use Rattle.zkdump.specs.declared.parts.Format.TheVariants.{Zkr1, Zkr2};
+ghost use Rattle.zkdump.specs.Migrating.{IsListing, IsWhole, migrated};
 ghost use Rattle.zkdump.specs.Lines.{text_of, last_line};
 ghost use Rattle.zkdump.specs.Outcome.{IsOutcome, HasGrownIn};
 ghost use Rattle.zkdump.specs.Running.{HasListed};
@@ -65,4 +67,14 @@ pub fn begun_is_a_front()
     ensures known { (limits : Limits) (x : List ℕ) (all : List (List ℕ)) (others : List Message) (built : Built) → AreLines x all → IsBuilt limits all others built → (unread contents contents_now : Option (List ℕ)) → HasBegunBuilding limits (Some x) unread contents contents_now → HasGrownIn contents contents_now (recording_of others) }
     // Or those that were read.
     ensures read { (limits : Limits) (unread unread_now contents contents_now : Option (List ℕ)) (begun : HasBegunBuilding limits unread unread_now contents contents_now) (all : List (List ℕ)) (others : List Message) (built : Built) → AreLines begun.bytes all → IsBuilt limits all others built → HasGrownIn contents contents_now (recording_of others) }
+{}
+
+/// An undamaged recording of the first format is migrated to one that is listed as it is.
+pub fn migrated_is_listed()
+    // Under the options, which the new one carries: those that it is listed under have no effect.
+    ensures listed { (options other : Limits) (x : List ℕ) (r : Recording) → IsWhole Zkr1 x r → (listing : Listing) (text : List ℕ) → IsListing options listing x text → IsListing other listing (migrated options r) text }
+    // And no listing of the new one is another.
+    ensures back { (options other : Limits) (x : List ℕ) (r : Recording) → IsWhole Zkr1 x r → (listing : Listing) (text : List ℕ) → IsListing other listing (migrated options r) text → IsListing options listing x text }
+    // One of the second format stays as it is, byte for byte.
+    ensures same { (options : Limits) (x : List ℕ) (r : Recording) → IsWhole Zkr2 x r → migrated options r ≡ x }
 {}

@@ -15,9 +15,14 @@ pub mod laws;
 pub mod listing;
 #[cfg(test)]
 mod memory;
+pub mod migrate;
+#[cfg(test)]
+mod migrate_tests;
 pub mod options;
+pub mod parts;
 pub mod progress;
 pub mod recording;
+pub mod recordings;
 pub mod run;
 pub mod streams;
 pub mod summary;

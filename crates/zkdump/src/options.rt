@@ -18,6 +18,8 @@ pub enum Command {
     Check,
     /// To write the recording that a listing shows.
     Build,
+    /// To write the recording of the second format that a recording makes.
+    Migrate,
 }
 
 /// A command line that is in order.
@@ -31,7 +33,7 @@ pub struct Settings {
 #[derive(Clone, Copy, Debug, PartialEq, Eq, Error)]
 pub enum UsageFault {
     /// They are no command line of this program, or ask for help.
-    #[error("usage: zkdump show|check|build [--limit N] [--waiting N] [--profile 3.4|3.5]")]
+    #[error("usage: zkdump show|check|build|migrate [--limit N] [--waiting N] [--profile 3.4|3.5]")]
     Words,
     /// A growth was refused.
     #[error("zkdump: out of memory")]

@@ -1,13 +1,15 @@
 //! A recording that is read block by block, and the conversation in it.
-ghost use Rattle.std.specs.Prelude.{◌≡◌, ◌≢◌, ◌+◌, ◌^◌, ◌<◌, ◌≤◌, ℕ, List, [], Some, None, IfOk, OnErr, length, drop};
+ghost use Rattle.std.specs.Prelude.{◌≡◌, ◌≢◌, ◌+◌, ◌^◌, ◌<◌, ◌≤◌, ℕ, List, [], Some, None, IfOk, OnErr, MatchOption, length, drop};
 ghost use Rattle.zk_jute.specs.declared.fault.Reason.TheVariants.{NoMemory};
 ghost use Rattle.zk_talk.specs.declared.message.Message.{Message};
-ghost use Rattle.zk_talk.specs.History.{on};
-ghost use Rattle.zkdump.specs.Reading.{place_of, content_of};
-ghost use Rattle.zkdump.specs.Following.{Follows, Finishes, Takes, Advances, Steps, IsWithin};
+ghost use Rattle.zk_talk.specs.Ending.{IsEnding};
+ghost use Rattle.zk_talk.specs.History.{History, on};
+ghost use Rattle.zk_talk.specs.Stands.{Stands};
+ghost use Rattle.zkdump.specs.Reading.{content_of, place_in};
+ghost use Rattle.zkdump.specs.Following.{Follows, Finishes, Takes, Gives, Has, Advances, Steps, IsWithin};
 
 use crate::listing::Listing;
-use crate::recording::Recorder;
+use crate::recording::RecordingReader;
 use crate::summary::Summary;
 use std::alloc::{AllocError, Global};
 use zk_jute::Reason;
@@ -64,41 +66,61 @@ fn feed(
     Ok(None)
 }
 
+/// The talk, which begins where there is none.
+fn begun(alloc: Global, talk: Option<Talk>, limits: Limits) -> Result<Talk, AllocError>
+    ensures { IfOk result (λ t. MatchOption talk ((t.limits ≡ limits) × Stands t [] []) (λ old. t ≡ old)) }
+{
+    match talk {
+        Some(talk) => Ok(talk),
+        None => Talk::new(alloc, limits),
+    }
+}
+
 /// Gives the first bytes of a block to the conversation, where they are content of a side.
 fn give(
-    talk: &mut Talk,
+    alloc: Global,
+    limits: Limits,
+    talk: &mut Option<Talk>,
     side: Option<Side>,
     bytes: &[u8],
     listing: Listing,
     lines: &mut Vec<u8>,
 ) -> Result<Option<Fault>, AllocError>
-    ensures limits { talk.new.limits ≡ talk.old.limits }
-    ensures taken { IfOk result (λ refused. Takes listing talk.old lines.old.items (content_of side bytes.now) refused talk.new lines.new.items) }
+    ensures gives { IfOk result (λ refused. Gives limits listing talk.old lines.old.items (content_of side bytes.now) refused talk.new lines.new.items) }
+    ensures same { side ≡ None → talk.new ≡ talk.old }
 {
-    match side {
-        Some(side) => feed(talk, side, bytes, listing, lines),
-        None => Ok(None),
-    }
+    let Some(side) = side else {
+        return Ok(None);
+    };
+    let mut now = begun(alloc, talk.take(), limits)?;
+    let refused = feed(&mut now, side, bytes, listing, lines)?;
+    *talk = Some(now);
+    Ok(refused)
 }
 
 /// A recording as far as it was read, and the conversation in it.
 #[derive(Drop)]
 pub struct Progress {
-    recorder: Recorder,
-    talk: Talk,
+    alloc: Global,
+    /// Those of a recording that has none.
+    limits: Limits,
+    reader: RecordingReader,
+    /// From the first byte of content on.
+    talk: Option<Talk>,
 }
 
 impl Progress {
-    /// Nothing was read.
-    pub fn new(alloc: Global, limits: Limits) -> Result<Progress, AllocError>
-        ensures start { IfOk result (λ p. Follows limits [] [] p.recorder p.talk) }
-        ensures place { IfOk result (λ p. place_of p.recorder ≡ 0) }
+    /// Nothing was read. Recordings that have no limits are read under these.
+    pub fn new(alloc: Global, limits: Limits) -> Progress
+        ensures start { Follows limits [] [] result }
+        ensures place { place_in result.reader ≡ 0 }
     {
-        let talk = Talk::new(alloc, limits)?;
-        Ok(Progress {
-            recorder: Recorder::new(),
-            talk,
-        })
+        Progress {
+            alloc,
+            limits,
+            reader: RecordingReader::new(),
+            talk: None,
+        }
     }
 
     /// Takes the first bytes of a block, and says how many, or what was found in it.
@@ -109,19 +131,27 @@ impl Progress {
         lines: &mut Vec<u8>,
     ) -> Result<Step, AllocError>
         requires some { 0 < length block.now }
-        requires room { place_of self.old.recorder + length block.now < 2 ^ 64 }
-        ensures within { IfOk result (λ step. IsWithin self.old.recorder block.now step self.new.recorder) }
-        ensures steps { IfOk result (λ step.
-            Steps listing self.old.recorder self.old.talk lines.old.items block.now step self.new.recorder self.new.talk lines.new.items) }
+        requires room { place_in self.old.reader + length block.now < 2 ^ 64 }
+        ensures within { IfOk result (λ step. IsWithin self.old.reader block.now step self.new.reader) }
+        ensures steps { IfOk result (λ step. Steps listing self.old lines.old.items block.now step self.new lines.new.items) }
     {
-        let part = self.recorder.next(block);
-        let bytes = &block[..part.used];
-        let refused = give(&mut self.talk, part.side, bytes, listing, lines)?;
+        let run = self.reader.next(block);
+        let limits = self.reader.limits(self.limits);
+        let bytes = &block[..run.used];
+        let refused = give(
+            self.alloc,
+            limits,
+            &mut self.talk,
+            run.side,
+            bytes,
+            listing,
+            lines,
+        )?;
         match refused {
             Some(fault) => Ok(Step::Found(Summary::Ended(Ending::Refused(fault)))),
-            None => match self.recorder.damage() {
+            None => match self.reader.damage() {
                 Some(damage) => Ok(Step::Found(Summary::Broken(damage))),
-                None => Ok(Step::Took(part.used)),
+                None => Ok(Step::Took(run.used)),
             },
         }
     }
@@ -134,10 +164,9 @@ impl Progress {
         listing: Listing,
         lines: &mut Vec<u8>,
     ) -> Result<Option<Summary>, AllocError>
-        requires room { place_of self.old.recorder + length block.now < 2 ^ 64 }
-        ensures place { IfOk result (λ found. found ≡ None → place_of self.new.recorder ≤ place_of self.old.recorder + length block.now) }
-        ensures advances { IfOk result (λ found.
-            Advances listing self.old.recorder self.old.talk lines.old.items block.now found self.new.recorder self.new.talk lines.new.items) }
+        requires room { place_in self.old.reader + length block.now < 2 ^ 64 }
+        ensures place { IfOk result (λ found. found ≡ None → place_in self.new.reader ≤ place_in self.old.reader + length block.now) }
+        ensures advances { IfOk result (λ found. Advances listing self.old lines.old.items block.now found self.new lines.new.items) }
     {
         let mut at = 0;
         while at < block.len() {
@@ -152,11 +181,21 @@ impl Progress {
 
     /// What a recording comes to that ends here.
     pub fn finish(&self) -> Summary
-        ensures { (limits : Limits) (x : List ℕ) (messages : List Message) → Follows limits x messages self.now.recorder self.now.talk → Finishes limits x messages result }
+        ensures { (limits : Limits) (x : List ℕ) (messages : List Message) → Follows limits x messages self.now → Finishes limits x messages result }
     {
-        match self.recorder.finish() {
+        match self.reader.finish() {
             Some(damage) => Summary::Broken(damage),
-            None => Summary::Ended(self.talk.finish()),
+            None => Summary::Ended(ending(&self.talk)),
         }
+    }
+}
+
+/// How the history of a talk ends; where there is none, it has no bytes.
+fn ending(talk: &Option<Talk>) -> Ending
+    ensures { (limits : Limits) (h : History) (messages : List Message) → Has limits talk.now h messages → IsEnding limits h result }
+{
+    match talk {
+        Some(talk) => talk.finish(),
+        None => Ending::Whole { unanswered: 0 },
     }
 }

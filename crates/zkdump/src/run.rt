@@ -1,12 +1,13 @@
 //! The whole program, over a reader and two writers.
 ghost use Rattle.std.specs.Prelude.{◌≡◌, ◌^◌, ◌<◌, ◌≤◌, false, IfOk, IfErr, OnErr};
 ghost use Rattle.zkdump.specs.Commands.{IsDone, IsFailed};
-ghost use Rattle.zkdump.specs.Exits.{exit_of, exit_of_built, refusal_of};
+ghost use Rattle.zkdump.specs.Exits.{exit_of, exit_of_built, exit_of_migrated, refusal_of};
 
 use crate::build::build_run;
 use crate::built::Built;
 use crate::engines::{check_run, show_run};
 use crate::listing::RunFault;
+use crate::migrate::{Migrated, migrate_run};
 use crate::options::{Command, Settings, UsageFault};
 use crate::streams::{Sink, Source, write_whole};
 use crate::summary::Status;
@@ -73,6 +74,20 @@ fn report<F: Sink>(built: Built, faults: &mut F) -> u8
     }
 }
 
+/// Tells the damage, where there is one, and gives the status for it.
+fn report_damage<F: Sink>(migrated: Migrated, faults: &mut F) -> u8
+    ensures exit { result ≡ exit_of_migrated migrated }
+    ensures small { result < 2 }
+{
+    match migrated {
+        Migrated::Whole => 0,
+        Migrated::Damaged { .. } => {
+            tell(faults, &migrated);
+            1
+        }
+    }
+}
+
 /// Runs the engine that the words ask for, and gives the status for what it answers.
 fn obey<R: Source, W: Sink, F: Sink>(
     alloc: Global,
@@ -92,6 +107,10 @@ fn obey<R: Source, W: Sink, F: Sink>(
         Command::Show => Ok(exit_code(show_run(alloc, chosen.limits, reader, writer)?)),
         Command::Check => Ok(exit_code(check_run(alloc, chosen.limits, reader, writer)?)),
         Command::Build => Ok(report(build_run(alloc, chosen.limits, reader, writer)?, faults)),
+        Command::Migrate => {
+            let migrated = migrate_run(alloc, chosen.limits, reader, writer)?;
+            Ok(report_damage(migrated, faults))
+        }
     }
 }
 

@@ -2,7 +2,7 @@
 ghost use Rattle.std.specs.Prelude.{◌≡◌, ◌++◌, ◌∷◌, [], IfOk, string_bytes};
 ghost use Rattle.zkdump.specs.Lines.{damage_word, damage_text, summary_text, last_line, status_of};
 
-use crate::recording::{Damage, DamageReason};
+use crate::parts::{Damage, DamageAt};
 use std::alloc::{AllocError, Global};
 use zk_lines::ending_line;
 use zk_talk::Ending;
@@ -11,7 +11,7 @@ use zk_talk::Ending;
 #[derive(Clone, Copy, Debug, PartialEq, Eq)]
 pub enum Summary {
     Ended(Ending),
-    Broken(Damage),
+    Broken(DamageAt),
 }
 
 /// Whether a recording is that of a whole conversation.
@@ -21,14 +21,17 @@ pub enum Status {
     Bad,
 }
 
-fn damage_name(reason: DamageReason) -> &'static str
+/// The name of a damage in a line.
+pub fn damage_name(reason: Damage) -> &'static str
     ensures { result.now ≡ damage_word reason }
 {
     match reason {
-        DamageReason::BadHead => "BadHead",
-        DamageReason::BadSide => "BadSide",
-        DamageReason::BadSize => "BadSize",
-        DamageReason::Short => "Short",
+        Damage::BadHead => "BadHead",
+        Damage::BadLimits => "BadLimits",
+        Damage::BadSide => "BadSide",
+        Damage::BadTime => "BadTime",
+        Damage::BadSize => "BadSize",
+        Damage::Short => "Short",
     }
 }
 
@@ -61,7 +64,7 @@ impl Summary {
     }
 }
 
-fn damage_line(alloc: Global, damage: Damage) -> Result<Vec<u8>, AllocError>
+fn damage_line(alloc: Global, damage: DamageAt) -> Result<Vec<u8>, AllocError>
     ensures { IfOk result (λ line. line.items ≡ damage_text damage) }
 {
     let offset = damage.offset;

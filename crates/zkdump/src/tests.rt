@@ -35,7 +35,7 @@ S 1 exists zxid=5 err=-101/NONODE
 ";
 
 const USAGE: &str =
-    "usage: zkdump show|check|build [--limit N] [--waiting N] [--profile 3.4|3.5]\n";
+    "usage: zkdump show|check|build|migrate [--limit N] [--waiting N] [--profile 3.4|3.5]\n";
 
 fn put_pieces(recording: &mut Vec<u8>, pieces: &[(u8, &[u8])]) -> Result<(), AllocError> {
     for (side, bytes) in pieces {
@@ -175,10 +175,32 @@ fn refusals(rt: HostRuntime) -> Result<(), Fail> {
 
 #[test]
 fn damages(rt: HostRuntime) -> Result<(), Fail> {
-    let table: [(&[u8], &str); 6] = [
+    let table: [(&[u8], &str); 13] = [
         (b"", ". recording offset=0 reason=BadHead\n"),
         (b"ZKR", ". recording offset=0 reason=BadHead\n"),
-        (b"ZKR2", ". recording offset=0 reason=BadHead\n"),
+        (b"ZKR3", ". recording offset=0 reason=BadHead\n"),
+        (b"ZKR2", ". recording offset=4 reason=Short\n"),
+        (b"ZKR2\0\0\0\x3f", ". recording offset=4 reason=BadLimits\n"),
+        (
+            b"ZKR2\0\0\0\x40\0\0\0\x40\0\0\0\0",
+            ". recording offset=12 reason=BadLimits\n",
+        ),
+        (
+            b"ZKR2\0\0\0\x40\0\0\0\x40\0\0\0\x01\0\0\0\x24",
+            ". recording offset=16 reason=BadLimits\n",
+        ),
+        (
+            b"ZKR2\0\0\0\x40\0\0\0\x40\0\0\0\x01\0\0\0\x23C\xff\xff\xff\xff\xff\xff\xff\xff",
+            ". recording offset=21 reason=BadTime\n",
+        ),
+        (
+            b"ZKR2\0\0\0\x40\0\0\0\x40\0\0\0\x01\0\0\0\x22C\0\0\0\0\0\0\0",
+            ". recording offset=21 reason=Short\n",
+        ),
+        (
+            b"ZKR2\0\0\0\x40\0\0\0\x40\0\0\0\x01\0\0\0\x22C\0\0\0\0\0\0\0\0\0\0\0\0",
+            ". recording offset=29 reason=BadSize\n",
+        ),
         (b"ZKR1X", ". recording offset=4 reason=BadSide\n"),
         (b"ZKR1C\0\0\0\0", ". recording offset=5 reason=BadSize\n"),
         (
@@ -190,6 +212,19 @@ fn damages(rt: HostRuntime) -> Result<(), Fail> {
         expect(&rt, "zkdump check", input, (1, line, ""))?;
     }
     Ok(())
+}
+
+/// The numbers of the head stand in the place of the options.
+#[test]
+fn limits_of_the_head(rt: HostRuntime) -> Result<(), Fail> {
+    let input =
+        b"ZKR2\0\0\0\x64\0\0\0\x40\0\0\0\x01\0\0\0\x22C\0\0\0\0\0\0\0\x07\0\0\0\x04\0\0\0\x65";
+    let line = ". refused side=C frame=0 offset=4 place=0 reason=LengthRange\n";
+    expect(&rt, "zkdump check", input, (1, line, ""))?;
+    let input =
+        b"ZKR2\0\0\0\x64\0\0\0\x40\0\0\0\x01\0\0\0\x22C\0\0\0\0\0\0\0\x07\0\0\0\x04\0\0\0\x64";
+    let line = ". cut side=C frame=0 got=4\n";
+    expect(&rt, "zkdump check --limit 64", input, (1, line, ""))
 }
 
 #[test]

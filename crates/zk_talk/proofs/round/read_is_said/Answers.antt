@@ -1,5 +1,8 @@
-use Rattle.zk_talk.proofs.Spoken.{said_again}
+use Rattle.zk_talk.proofs.Spoken.{said_again, good_said}
 use Rattle.zk_talk.proofs.round.read_is_said.Goals as goal
 
-pub returns : goal.returns
-returns c = said_again
+pub returns-clause-again : goal.returns-clause-again
+returns-clause-again c = said_again
+
+pub returns-clause-messages : goal.returns-clause-messages
+returns-clause-messages c = good_said

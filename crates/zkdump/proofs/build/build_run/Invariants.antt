@@ -1,6 +1,6 @@
 use Rattle.std.proofs.Common.{◌≡◌, ◌+◌, ◌*◌, ◌≤◌, List, Option, ℕ, false, length}
 use Rattle.std.specs.Io.KnownBytes.{Consumes, Appends}
-use Rattle.zkdump.specs.Recording.{head}
+use Rattle.zkdump.specs.Building.{head}
 use Rattle.zkdump.specs.Accepting.{HasTaken}
 use Rattle.zkdump.proofs.build.build_run.Given as goal
 

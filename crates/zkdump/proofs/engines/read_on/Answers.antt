@@ -1,28 +1,19 @@
-use Rattle.std.proofs.Common.{arith, ◌∙◌, [], ◌++◌, false, true, refl, length-take, ap, ◌||◌, inl, inr, subst, None, Some}
+use Rattle.std.proofs.Common.{arith, ◌∙◌, ◌++◌, false, true, refl, length-take, ap, ◌||◌, inl, inr, subst, None, Some}
 use Rattle.std.specs.Io.KnownBytes.{Appends}
 use Rattle.std.proofs.lemmas.Result.{err_from_is_err_and}
 use Rattle.zkdump.specs.Lines.{text_of}
 use Rattle.zkdump.specs.Outcome.{HasGrownIn}
 use Rattle.zkdump.specs.Following.{Reaches}
-use Rattle.zkdump.proofs.Bytes.{Consumes-none, Consumes-then, Consumes-kept}
-use Rattle.zkdump.proofs.Feeding.{told-none, told-then, grown-then, grown-whole}
+use Rattle.zkdump.proofs.Bytes.{Consumes-then, Consumes-kept}
+use Rattle.zkdump.proofs.Feeding.{told-then, grown-then, grown-whole}
 use Rattle.zkdump.proofs.Found.{found-at_end, found-decided, begun-by, running, running-begun, appended}
-use Rattle.zkdump.proofs.Opened.{opens-none, opens-later, opens-reached}
+use Rattle.zkdump.proofs.Opened.{opens-later, opens-reached}
 use Rattle.zkdump.proofs.engines.read_on.Goals as goal
-
-pub returns-in_err-progress-clause-begun : goal.returns-in_err-progress-clause-begun
-returns-in_err-progress-clause-begun g c =
-    let p = err_from_is_err_and c.from_residual.result c.from_residual.ensures.1 in
-    rw p.1 (record {
-      messages = [];
-      begun = begun-by c.args.limits _ _ [] [] (Consumes-none _) (opens-none c.args.limits);
-      written = grown-whole _ _ _ (told-none c.args.listing _);
-    })
 
 pub returns-in_default-clause-read : goal.returns-in_default-clause-read
 returns-in_default-clause-read g c = λ _.
     let i = c.loop-turn.invariant.read in
-    record { messages = i.1; running = running c.args.limits _ _ i.0 i.1 _ _ (Consumes-kept _ _ _ i.0 i.2 c.in_default.ensures.bytes) i.3; written = i.4 }
+    record { messages = i.1; running = running c.args.limits _ _ i.0 i.1 _ (Consumes-kept _ _ _ i.0 i.2 c.in_default.ensures.bytes) i.3; written = i.4 }
 
 pub returns-in_default-clause-spent : goal.returns-in_default-clause-spent
 returns-in_default-clause-spent g c = λ _. inl (c.in_default.ensures.failed ∙ ap (λ b. b || true) c.loop-turn.invariant.live)
@@ -32,7 +23,7 @@ returns-in_default-clause-begun g c =
     let i = c.loop-turn.invariant.read in
     record {
       messages = i.1;
-      begun = running-begun c.args.limits _ _ i.1 (running c.args.limits _ _ i.0 i.1 _ _ (Consumes-kept _ _ _ i.0 i.2 c.in_default.ensures.bytes) i.3);
+      begun = running-begun c.args.limits _ _ i.1 (running c.args.limits _ _ i.0 i.1 _ (Consumes-kept _ _ _ i.0 i.2 c.in_default.ensures.bytes) i.3);
       written = grown-whole _ _ _ i.4;
     }
 
@@ -50,11 +41,11 @@ returns-then-count-eq0-clause-ok g c =
 
 pub returns-in_err-found-clause-begun : goal.returns-in_err-found-clause-begun
 returns-in_err-found-clause-begun g c =
-    let p = err_from_is_err_and c.from_residual-in_err-found.result c.from_residual-in_err-found.ensures.1 in
+    let p = err_from_is_err_and c.from_residual.result c.from_residual.ensures.1 in
     let i = c.loop-turn.invariant.read in
     rw p.1 (record {
       messages = i.1;
-      begun = begun-by c.args.limits _ _ _ i.1 (Consumes-then _ _ _ i.0 _ i.2 c.in-Ok.ensures.bytes.0) (opens-later c.args.limits i.0 _ i.1 _ _ i.3);
+      begun = begun-by c.args.limits _ _ _ i.1 (Consumes-then _ _ _ i.0 _ i.2 c.in-Ok.ensures.bytes.0) (opens-later c.args.limits i.0 _ i.1 _ i.3);
       written = grown-whole _ _ _ i.4;
     })
 
@@ -66,7 +57,7 @@ returns-in_err-write_whole-clause-begun g c =
     let text = appended _ _ _ _ c.as_slice.ensures.value a.2 c.loop-turn.invariant.empty in
     rw p.1 (record {
       messages = i.1 ++ a.0;
-      begun = begun-by c.args.limits _ _ _ (i.1 ++ a.0) (Consumes-then _ _ _ i.0 _ i.2 c.in-Ok.ensures.bytes.0) (opens-reached c.args.limits _ _ _ _ _ a.1);
+      begun = begun-by c.args.limits _ _ _ (i.1 ++ a.0) (Consumes-then _ _ _ i.0 _ i.2 c.in-Ok.ensures.bytes.0) (opens-reached c.args.limits _ _ _ _ a.1);
       written = grown-then c.args.listing _ _ _ i.1 a.0 i.4 (subst (HasGrownIn (g.W.Sink.contents c.loop-turn.writer) (g.W.Sink.contents c.write_whole.new.writer)) text c.in_err-write_whole.ensures.err);
     })
 
@@ -78,7 +69,7 @@ returns-in-Some-clause-ok g c =
     record {
       messages = i.1 ++ a.0;
       found = found-decided c.args.limits _ _ _ (i.1 ++ a.0) c.in-Some.summary (Consumes-then _ _ _ i.0 _ i.2 c.in-Ok.ensures.bytes.0)
-          (subst (Reaches c.args.limits _ (i.1 ++ a.0) _ _) c.in-Some.is a.1);
+          (subst (Reaches c.args.limits _ (i.1 ++ a.0) _) c.in-Some.is a.1);
       written = told-then c.args.listing _ _ _ i.1 a.0 i.4 (subst (Appends (g.W.Sink.contents c.loop-turn.writer) (g.W.Sink.contents c.write_whole.new.writer)) text c.in_ok-write_whole.ensures.ok);
     }
 
@@ -98,7 +89,7 @@ loop-turn-preserved g c =
         _,
         i.1 ++ a.0,
         Consumes-then _ _ _ i.0 _ i.2 c.in-Ok.ensures.bytes.0,
-        subst (Reaches c.args.limits _ (i.1 ++ a.0) _ _) c.in_default-found.is a.1,
+        subst (Reaches c.args.limits _ (i.1 ++ a.0) _) c.in_default-found.is a.1,
         told-then c.args.listing _ _ _ i.1 a.0 i.4 (subst (Appends (g.W.Sink.contents c.loop-turn.writer) (g.W.Sink.contents c.write_whole.new.writer)) text c.in_ok-write_whole.ensures.ok),
       );
     }
@@ -106,7 +97,7 @@ loop-turn-preserved g c =
 pub returns-clause-read : goal.returns-clause-read
 returns-clause-read g c = λ _.
     let i = c.loop-turn.invariant.read in
-    record { messages = i.1; running = running c.args.limits _ _ i.0 i.1 _ _ i.2 i.3; written = i.4 }
+    record { messages = i.1; running = running c.args.limits _ _ i.0 i.1 _ i.2 i.3; written = i.4 }
 
 pub returns-clause-spent : goal.returns-clause-spent
 returns-clause-spent g c = λ _. inr (omega (arith, c.loop-turn.invariant.count, c.loop-turn-test.false))
@@ -114,4 +105,4 @@ returns-clause-spent g c = λ _. inr (omega (arith, c.loop-turn.invariant.count,
 pub returns-clause-begun : goal.returns-clause-begun
 returns-clause-begun g c =
     let i = c.loop-turn.invariant.read in
-    record { messages = i.1; begun = running-begun c.args.limits _ _ i.1 (running c.args.limits _ _ i.0 i.1 _ _ i.2 i.3); written = grown-whole _ _ _ i.4 }
+    record { messages = i.1; begun = running-begun c.args.limits _ _ i.1 (running c.args.limits _ _ i.0 i.1 _ i.2 i.3); written = grown-whole _ _ _ i.4 }

@@ -2,7 +2,7 @@ use Rattle.std.proofs.Common.{◌≡◌, ◌+◌, ◌*◌, ◌≤◌, List, [], 
 use Rattle.std.specs.Io.KnownBytes.{Consumes, Appends}
 use Rattle.zk_talk.specs.declared.message.Message.{Message}
 use Rattle.zkdump.specs.Lines.{text_of}
-use Rattle.zkdump.specs.Reading.{place_of}
+use Rattle.zkdump.specs.Reading.{place_in}
 use Rattle.zkdump.specs.Following.{Follows}
 use Rattle.zkdump.proofs.engines.read_on.Given as goal
 
@@ -13,8 +13,8 @@ invariant-loop-turn g l = record {
   live : g.R.Source.has_failed l.reader ≡ false;
   writer_live : g.W.Sink.has_failed l.writer ≡ false;
   count : g.R.Source.read_count l.reader ≡ g.R.Source.read_count l.initial.reader + l._turn;
-  place : place_of l.progress.recorder ≤ 65536 * l._turn;
+  place : place_in l.progress.reader ≤ 65536 * l._turn;
   read : (x : List ℕ) × (messages : List Message) × Consumes (g.R.Source.remaining l.initial.reader) (g.R.Source.remaining l.reader) x
-      × Follows l.fn.limits x messages l.progress.recorder l.progress.talk
+      × Follows l.fn.limits x messages l.progress
       × Appends (g.W.Sink.contents l.initial.writer) (g.W.Sink.contents l.writer) (text_of l.fn.listing messages);
 }

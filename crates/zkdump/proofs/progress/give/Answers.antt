@@ -1,16 +1,15 @@
-use Rattle.std.proofs.Common.{IfOk, None, subst, sym}
-use Rattle.zk_talk.specs.declared.message.Side.TheVariants.{Client}
+use Rattle.std.proofs.Common.{◌≡◌, [], MatchOption, Some, sym, subst}
+use Rattle.zk_talk.specs.Stands.{Stands}
 use Rattle.zkdump.specs.Reading.{content_of}
-use Rattle.zkdump.specs.Following.{Takes}
-use Rattle.zkdump.proofs.Feeding.{takes-none}
+use Rattle.zkdump.specs.Following.{Gives}
+use Rattle.zkdump.proofs.Talking.{gives-by}
 use Rattle.zkdump.proofs.progress.give.Goals as goal
 
-pub returns-in-Some-clause-taken : goal.returns-in-Some-clause-taken
-returns-in-Some-clause-taken c =
-    subst (λ side. IfOk c.feed.result (λ refused. Takes c.args.listing c.args.talk.now c.args.lines.now.items (content_of side c.args.bytes.now) refused c.feed.new.talk c.feed.new.lines.items))
-    (sym c.in-Some.is) c.feed.ensures.taken
-
-pub returns-in-None-clause-taken : goal.returns-in-None-clause-taken
-returns-in-None-clause-taken c =
+pub returns-clause-gives : goal.returns-clause-gives
+returns-clause-gives c =
     let lines = c.args.lines.now.items in
-    subst (λ side. Takes c.args.listing c.args.talk.now lines (content_of side c.args.bytes.now) None c.args.talk.now lines) (sym c.in-None.is) (takes-none c.args.listing c.args.talk.now lines Client)
+    let t = c.in_ok-now.now in
+    let begun = subst (λ talk. MatchOption talk ((t.limits ≡ c.args.limits) × Stands t [] []) (λ old. t ≡ old)) c.take.ensures.value c.in_ok-now.ensures in
+    subst (λ s. Gives c.args.limits c.args.listing c.args.talk.now lines (content_of s c.args.bytes.now) c.in_ok-refused.refused (Some c.feed.new.talk) c.feed.new.lines.items) (sym c.in-Some.is)
+    (gives-by c.args.limits c.args.listing c.args.talk.now t c.feed.new.talk lines c.feed.new.lines.items _ c.in_ok-refused.refused
+    begun c.in_ok-refused.ensures.limits c.in_ok-refused.ensures.taken)

@@ -4,6 +4,7 @@ use Rattle.zk_talk.specs.declared.stream.Advance.TheVariants.{Within, Whole, Ref
 use Rattle.zk_talk.specs.Advance.{IsAdvance}
 use Rattle.zk_talk.specs.Judged.{IsNextOf}
 use Rattle.zk_talk.proofs.Answering.{client_goes, client_stops, client_makes, client_fails}
+use Rattle.zk_talk.proofs.Empty.{no_bytes_whole, no_bytes_refused}
 use Rattle.zk_talk.proofs.talk.Talk.client_piece.Goals as goal
 
 pub returns-in-Within-clause-ok : goal.returns-in-Within-clause-ok
@@ -37,3 +38,9 @@ returns-in-Refused-clause-err c =
     let k = c.in-Refused.ensures in
     let a = subst (λ z. IsAdvance z T.client_size T.client_held c.args.piece.now (Refused c.in-Refused.used c.in-Refused.reason) s.frames.bytes) c.self.invariant.0.same k.advance in
     rw (← c.self.view_is) (client_stops T c.args.piece.now s s k.count k.size c.refuse-in-Refused.new.kept c.in-Refused.used c.in-Refused.reason c.refuse-in-Refused.result a c.refuse-in-Refused.ensures.refused)
+
+pub returns-in-Err-clause-empty : goal.returns-in-Err-clause-empty
+returns-in-Err-clause-empty c = λ none. absurd (let a = (c.in-Whole.ensures).advance in no_bytes_whole a.0 a.1 none)
+
+pub returns-in-Refused-clause-empty : goal.returns-in-Refused-clause-empty
+returns-in-Refused-clause-empty c = λ none. absurd (let a = (c.in-Refused.ensures).advance in no_bytes_refused a.0 a.1 none)

@@ -3,6 +3,7 @@ use Rattle.zk_talk.specs.contracts.talk.Talk.{the_view}
 use Rattle.zk_talk.specs.declared.stream.Advance.TheVariants.{Within, Whole, Refused}
 use Rattle.zk_talk.specs.Advance.{IsAdvance}
 use Rattle.zk_talk.proofs.Answering.{server_goes, server_stops, server_makes, server_fails}
+use Rattle.zk_talk.proofs.Empty.{no_bytes_whole, no_bytes_refused}
 use Rattle.zk_talk.proofs.talk.Talk.server_piece.Goals as goal
 
 pub returns-in-Within-clause-ok : goal.returns-in-Within-clause-ok
@@ -36,3 +37,9 @@ returns-in-Refused-clause-err c =
     let k = c.in-Refused.ensures in
     let a = subst (λ z. IsAdvance z T.server_size T.server_held c.args.piece.now (Refused c.in-Refused.used c.in-Refused.reason) s.frames.bytes) c.self.invariant.1.same k.advance in
     rw (← c.self.view_is) (server_stops T c.args.piece.now s s k.count k.size c.refuse-in-Refused.new.kept c.in-Refused.used c.in-Refused.reason c.refuse-in-Refused.result a c.refuse-in-Refused.ensures.refused)
+
+pub returns-in-Err-clause-empty : goal.returns-in-Err-clause-empty
+returns-in-Err-clause-empty c = λ none. absurd (let a = (c.in-Whole.ensures).advance in no_bytes_whole a.0 a.1 none)
+
+pub returns-in-Refused-clause-empty : goal.returns-in-Refused-clause-empty
+returns-in-Refused-clause-empty c = λ none. absurd (let a = (c.in-Refused.ensures).advance in no_bytes_refused a.0 a.1 none)

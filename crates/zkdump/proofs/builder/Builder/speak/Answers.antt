@@ -3,7 +3,7 @@ use Rattle.std.specs.Io.KnownBytes.{Appends}
 use Rattle.std.proofs.lemmas.Result.{err_from_is_err_and}
 use Rattle.zk_lines.specs.Lines.{line}
 use Rattle.zkdump.specs.declared.listing.RunFault.TheVariants.{Memory, Write}
-use Rattle.zkdump.specs.Recording.{piece_bytes}
+use Rattle.zkdump.specs.Building.{built_bytes}
 use Rattle.zkdump.specs.Outcome.{HasGrownIn}
 use Rattle.zkdump.specs.Building.{piece_of}
 use Rattle.zkdump.specs.Accepting.{Took}
@@ -25,7 +25,7 @@ returns-in_err-write_whole-clause-halts g c =
     let p = err_from_is_err_and c.from_residual-in_err-write_whole.result c.from_residual-in_err-write_whole.ensures.1 in
     rw (p.1, p.2) (λ limits lines before t.
     let may = (c.in_default.ensures.said t.messages t.knows.says).0 in
-    let piece : c.deref-2.result.now ≡ piece_bytes (piece_of c.args.message.now) =
+    let piece : c.deref-2.result.now ≡ built_bytes (piece_of c.args.message.now) =
     piece-is c.args.self.now.speaker.limits t.messages c.args.message.now _ _ _ _ _ _ may c.deref-2.ensures.value c.side_of.ensures c.deref.ensures.value c.in_default.ensures.bytes c.new-frame.ensures.items c.in_ok-piece.ensures in
     fails-within limits lines before _ _ _ (rw c.requires.going at t) c.args.message.now c.requires.fits _ c.in_default.ensures.limits c.in_default.ensures.said _ Write
     (subst (HasGrownIn (g.W.Sink.contents c.args.writer.now) (g.W.Sink.contents c.write_whole.new.writer)) piece c.in_err-write_whole.ensures.err))
@@ -33,7 +33,7 @@ returns-in_err-write_whole-clause-halts g c =
 pub returns-clause-goes_on : goal.returns-clause-goes_on
 returns-clause-goes_on g c = λ limits lines before t.
     let may = (c.in_default.ensures.said t.messages t.knows.says).0 in
-    let piece : c.deref-2.result.now ≡ piece_bytes (piece_of c.args.message.now) =
+    let piece : c.deref-2.result.now ≡ built_bytes (piece_of c.args.message.now) =
     piece-is c.args.self.now.speaker.limits t.messages c.args.message.now _ _ _ _ _ _ may c.deref-2.ensures.value c.side_of.ensures c.deref.ensures.value c.in_default.ensures.bytes c.new-frame.ensures.items c.in_ok-piece.ensures in
     subst (λ ended. Took limits (lines ++ line c.args.message.now ∷ []) before (g.W.Sink.contents c.write_whole.new.writer) (c.args.self.now.lines + 1) ended c.say.new.self) (sym c.requires.going)
     (took-message limits lines before _ _ _ (rw c.requires.going at t) c.args.message.now c.requires.fits _ c.in_default.ensures.limits c.in_default.ensures.said _

@@ -1,13 +1,13 @@
 use Rattle.std.proofs.Common.{◌+◌, ◌≤◌, ◌-◌, length, take, None}
-use Rattle.zkdump.specs.Reading.{place_of}
+use Rattle.zkdump.specs.Reading.{place_in}
 use Rattle.zkdump.specs.Following.{Advances}
 use Rattle.zkdump.proofs.progress.Progress.feed.Given as goal
 
 abbrev pub invariant-loop-at : goal.invariant-loop-at
 invariant-loop-at l = record {
   within : l.at ≤ length l.block;
-  place : place_of l.self.recorder ≤ place_of l.initial.self.recorder + l.at;
-  advances : Advances l.fn.listing l.initial.self.recorder l.initial.self.talk l.initial.lines.items (take l.at l.block) None l.self.recorder l.self.talk l.lines.items;
+  place : place_in l.self.reader ≤ place_in l.initial.self.reader + l.at;
+  advances : Advances l.fn.listing l.initial.self l.initial.lines.items (take l.at l.block) None l.self l.lines.items;
 }
 
 abbrev pub decreases-loop-at : goal.decreases-loop-at

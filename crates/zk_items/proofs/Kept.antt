@@ -1,0 +1,17 @@
+-- What stands in the output stays there, what is spelled stands behind it, and what is told of the value holds where it is.
+use Rattle.std.proofs.Common.{◌≡◌, ℕ, ◌≤◌, List, ◌++◌, length, take, Result, Ok, Err, OnOk, ap, ◌∙◌, arith, append_assoc}
+use Rattle.std.proofs.lemmas.List.{take-append-le, length-take}
+use Rattle.zk_items.specs.Form.{Keeps}
+
+pub keeps_more : (old more new : List ℕ) → new ≡ old ++ more → Keeps old new
+keeps_more old more new e front is =
+    let short : length front ≤ length old = omega (arith, ap length is, length-take (length front) old) in
+    ap (take (length front)) e ∙ take-append-le (length front) old more short ∙ is
+
+pub then_spelled : {A E : Type 0} (r : Result A E) (old mid new first next : List ℕ) → mid ≡ old ++ first → OnOk r (new ≡ mid ++ next) → OnOk r (new ≡ old ++ (first ++ next))
+then_spelled (Ok x) old mid new first next e f = f ∙ ap (λ (m : List ℕ). m ++ next) e ∙ append_assoc old first next
+then_spelled (Err x) old mid new first next e f = f
+
+pub told : {A E P : Type 0} (r : Result A E) → P → OnOk r P
+told (Ok x) p = p
+told (Err x) p = tt

@@ -1,0 +1,21 @@
+//! The two laws of each item of a line.
+ghost use Rattle.zk_items.specs.Codes.{error_code, failure_code, event_code};
+ghost use Rattle.zk_items.specs.Laws.{Lawful};
+ghost use Rattle.zk_items.specs.Leaf.{int, long, bit, ro, text, blob};
+
+/// The two laws of each item: the spelling of a value that fits is read again as that value,
+/// whatever may follow an item; and what is read is the spelling of a value that fits, and the
+/// rest.
+pub fn item_laws()
+    ensures int { Lawful int }
+    ensures long { Lawful long }
+    ensures bit { Lawful bit }
+    // A bit that may be absent.
+    ensures ro { Lawful ro }
+    ensures text { Lawful text }
+    ensures blob { Lawful blob }
+    // The number of an error, that of a failure, and that of a type of event, with their names.
+    ensures error_code { Lawful error_code }
+    ensures failure_code { Lawful failure_code }
+    ensures event_code { Lawful event_code }
+{}

@@ -1,0 +1,19 @@
+use Rattle.std.proofs.Common.{ℕ, Option, Ok, ap, ◌∙◌}
+use Rattle.zk_jute.proofs.Lists.{all_stand, list_shows}
+use Rattle.zk_jute.proofs.series.SeriesStandsPayload.decode.Goals as goal
+
+pub lying-requires-in-Some : goal.lying-requires-in-Some
+lying-requires-in-Some g c =
+    let w = g.R.Form.wired in
+    let src = c.args.src.now.bytes.now in
+    let end = c.in_ok-end-in-Some in
+    all_stand w.layout w.items src (g.R.Element.value src) (g.met.R.Element.is_value src) c.in-Some.count c.in_ok-count.start end.end end.ensures.exact
+
+pub returns-in_ok-end-in-Some-clause-exact : goal.returns-in_ok-end-in-Some-clause-exact
+returns-in_ok-end-in-Some-clause-exact g c =
+    let w = g.R.Form.wired in
+    let src = c.args.src.now.bytes.now in
+    let start = c.in_ok-count.start in
+    let end = c.in_ok-end-in-Some in
+    let size = c.in_ok-count.ensures.exact ∙ ap (λ (n : Option ℕ). Ok (n, start)) c.in-Some.is in
+    rw c.lying-in-Some.ensures (list_shows w.layout w.items src (g.R.Element.value src) (g.met.R.Element.is_value src) c.in-Some.count start end.end end.ensures.exact c.args.place size)

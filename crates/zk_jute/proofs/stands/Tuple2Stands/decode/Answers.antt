@@ -1,0 +1,19 @@
+use Rattle.std.proofs.Common.{ap}
+use Rattle.std.proofs.lemmas.Result.{err_from_is_err_and}
+use Rattle.zk_jute.specs.Reading.{end_of}
+use Rattle.zk_jute.proofs.Chains.{are_plain, then_fails, then_fails_later}
+use Rattle.zk_jute.proofs.stands.Tuple2Stands.decode.Goals as goal
+
+pub returns-in_err-first-clause-plain : goal.returns-in_err-first-clause-plain
+returns-in_err-first-clause-plain g c = λ plain.
+    let a = g.A.Form.wired.layout in
+    let b = g.B.Form.wired.layout in
+    let p = err_from_is_err_and c.from_residual.result c.from_residual.ensures.1 in
+    rw (p.1, p.2) (then_fails a b (g.P.Source.payload c.args.src.now) c.args.place c.in_err-first.field-0.0 (c.in_err-first.ensures.plain (are_plain g.P.Source.grows a b plain).0))
+
+pub returns-in_err-second-clause-plain : goal.returns-in_err-second-clause-plain
+returns-in_err-second-clause-plain g c = λ plain.
+    let a = g.A.Form.wired.layout in
+    let b = g.B.Form.wired.layout in
+    let p = err_from_is_err_and c.from_residual-in_err-second.result c.from_residual-in_err-second.ensures.1 in
+    rw (p.1, p.2) (then_fails_later a b (g.P.Source.payload c.args.src.now) c.args.place c.in_err-second.field-0.0 c.in_ok-first.place (ap end_of c.in_ok-first.ensures.exact) (c.in_err-second.ensures.plain (are_plain g.P.Source.grows a b plain).1))

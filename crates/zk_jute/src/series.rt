@@ -1,0 +1,117 @@
+//! Lists where they lie in a payload: they take no memory.
+ghost use Rattle.std.specs.Prelude.{◌≡◌, ◌≤◌, ◌↔◌, ℕ, List, length, IsTrue, IfOk};
+ghost use Rattle.zk_jute.specs.Reading.{Read, Scans, items_at, read_map, times_at};
+ghost use Rattle.zk_jute.specs.Wired.{vector};
+ghost use Rattle.zk_jute.specs.Standing.{IsPlain};
+ghost use Rattle.zk_jute.specs.Shown.{AllStand, IsNull, count_of, list_at, text_value, text_is_value};
+
+use crate::fault::ItemFault;
+use crate::run::size_at;
+use crate::source::{Payload, Source};
+use crate::stands::{Form, Stands};
+use crate::value::TextRef;
+use std::marker::{Model, PhantomData};
+
+/// An element of a list that lies in a payload: its value is told by the bytes.
+pub trait Element: Form {
+    /// The value that stands at a place.
+    ghost value: { List ℕ → ℕ → Read Self };
+
+    ghost is_value: { (src : List ℕ) (place : ℕ) → items_at Self.wired.layout src place ≡ read_map Self.wired.items (value src place) };
+}
+
+impl<'a> Element for TextRef<'a> {
+    ghost value = { text_value };
+
+    ghost is_value = { text_is_value };
+}
+
+/// A `vector` where it lies: null, or elements.
+#[derive(Drop)]
+pub struct Series<'a, R: Element> {
+    payload: &'a [u8],
+    count: Option<usize>,
+    place: usize,
+    of: PhantomData<R>,
+}
+
+impl<'a, R: Element> Model for Series<'a, R> {
+    ghost use Rattle.zk_jute.specs.Held.{Vector};
+    ghost use Rattle.zk_jute.specs.Shown.{list_at, AllStand};
+
+    ghost Value = { Vector R };
+
+    ghost view = { λ l. list_at (R.value l.payload.now) l.count l.place };
+
+    ghost invariant = { λ l. AllStand (R.value l.payload.now) l.count l.place };
+}
+
+/// A list of texts where it lies.
+pub type TextList<'a> = Series<'a, TextRef<'a>>;
+
+impl<'a, R: Element> Series<'a, R> {
+    /// Whether it is null, and no list of no elements.
+    pub fn is_null(&self) -> bool
+        ensures { IsTrue result ↔ IsNull self.now }
+    {
+        self.count.is_none()
+    }
+
+    /// The number of elements; 0 for null.
+    pub fn count(&self) -> usize
+        ensures { result ≡ count_of self.now }
+    {
+        self.count.unwrap_or(0)
+    }
+}
+
+/// So many elements of the payload, from a place on.
+fn lying<'a, R: Element>(payload: &'a [u8], count: Option<usize>, place: usize) -> Series<'a, R>
+    requires { AllStand (R.value payload.now) count place }
+    ensures { result ≡ list_at (R.value payload.now) count place }
+{
+    Series {
+        payload,
+        count,
+        place,
+        of: PhantomData,
+    }
+}
+
+#[tactic(auto, using(crate::proofs::Loops::scanning_goes_on, crate::proofs::Loops::scanning_ends))]
+/// The place after so many elements.
+fn elements_end<P: Source, R: Stands<P>>(
+    src: &P,
+    count: usize,
+    place: usize,
+) -> Result<usize, ItemFault>
+    requires place { place ≤ length (P.payload src.now) }
+    requires plain { IsPlain P.grows R.wired.layout }
+    ensures exact { Scans result (times_at (items_at R.wired.layout (P.payload src.now)) count place) }
+    ensures within { IfOk result (λ after. after ≤ length (P.payload src.now)) }
+{
+    let mut after = place;
+    for _ in 0..count {
+        let (_, next) = R::decode(src, after)?;
+        after = next;
+    }
+    Ok(after)
+}
+
+impl<'a, R: Element> Form for Series<'a, R> {
+    ghost wired = { vector R.wired };
+}
+
+impl<'a, R: Element + Stands<Payload<'a>>> Stands<Payload<'a>> for Series<'a, R> {
+    #[tactic(auto, using(crate::proofs::Fields::list_none, crate::proofs::Fields::list_fails, crate::proofs::Fields::list_refused, crate::proofs::Fields::elements_fail, crate::proofs::Lists::elements_refuse))]
+    fn decode(src: &Payload<'a>, place: usize) -> Result<(Self, usize), ItemFault> {
+        let (count, start) = size_at(src.bytes, place)?;
+        match count {
+            None => Ok((lying(src.bytes, None, start), start)),
+            Some(count) => {
+                let end = elements_end::<Payload<'a>, R>(src, count, start)?;
+                Ok((lying(src.bytes, Some(count), start), end))
+            }
+        }
+    }
+}

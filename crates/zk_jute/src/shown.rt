@@ -1,0 +1,38 @@
+//! Texts and blobs where they lie in a payload: they take no memory.
+ghost use Rattle.zk_jute.specs.Wired.{ustring, buffer};
+
+use crate::fault::ItemFault;
+use crate::run::{run_at, text_at};
+use crate::source::Payload;
+use crate::stands::{Form, Stands};
+use crate::value::{BlobRef, BytesRef, CharsRef, TextRef};
+
+impl<'a> Form for TextRef<'a> {
+    ghost wired = { ustring };
+}
+
+impl<'a> Stands<Payload<'a>> for TextRef<'a> {
+    #[tactic(auto, using(crate::proofs::Fields::text_is, crate::proofs::Fields::refuses_told, crate::proofs::Fields::fails_told))]
+    fn decode(src: &Payload<'a>, place: usize) -> Result<(Self, usize), ItemFault> {
+        let (text, after) = text_at(src.bytes, place)?;
+        match text {
+            None => Ok((TextRef::Null, after)),
+            Some(text) => Ok((TextRef::Full(CharsRef::new(text)), after)),
+        }
+    }
+}
+
+impl<'a> Form for BlobRef<'a> {
+    ghost wired = { buffer };
+}
+
+impl<'a> Stands<Payload<'a>> for BlobRef<'a> {
+    #[tactic(auto, using(crate::proofs::Fields::run_is, crate::proofs::Fields::refuses_told, crate::proofs::Fields::fails_told))]
+    fn decode(src: &Payload<'a>, place: usize) -> Result<(Self, usize), ItemFault> {
+        let (bytes, after) = run_at(src.bytes, place)?;
+        match bytes {
+            None => Ok((BlobRef::Null, after)),
+            Some(bytes) => Ok((BlobRef::Full(BytesRef::new(bytes)), after)),
+        }
+    }
+}

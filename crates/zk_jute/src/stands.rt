@@ -1,0 +1,163 @@
+//! Values that are read from a payload, copied out of it or borrowed from it.
+ghost use Rattle.std.specs.Prelude.{◌≡◌, ◌≢◌, ℕ, ◌≤◌, ◌<◌, List, length, get_or, IfOk, IfErr};
+ghost use Rattle.std.specs.List.{flat_map};
+ghost use Rattle.zk_jute.specs.declared.fault.Reason.TheVariants.{NoMemory};
+ghost use Rattle.zk_jute.specs.Item.{HaveBytes};
+ghost use Rattle.zk_jute.specs.Layout.{IsValueOf};
+ghost use Rattle.zk_jute.specs.Told.{StandsAt, IsReadAs, HasToldFault, IsToldFault};
+ghost use Rattle.zk_jute.specs.Reading.{Fails, Gives, items_at, times_at};
+ghost use Rattle.zk_jute.specs.Wired.{Wired, int, long, boolean, ustring, buffer, vector, ◌and◌};
+ghost use Rattle.zk_jute.specs.Standing.{IsPlain};
+
+use crate::fault::ItemFault;
+use crate::number::{bool_at, int_at, long_at};
+use crate::run::size_at;
+use crate::source::{Kept, Source};
+use crate::value::{Blob, Items, List, Text};
+use crate::wire::Wire;
+use std::alloc::Global;
+
+/// What stands as items, wherever its texts, blobs and lists lie.
+pub trait Form: Sized + Drop {
+    /// Its layout, the items of each value, and their laws.
+    ghost wired: { Wired Self };
+}
+
+/// A value that is read from such a payload.
+pub trait Stands<P: Source>: Form {
+    /// The step of `read_in` that an impl writes: its fields, one after the other.
+    fn decode(src: &P, place: usize) -> Result<(Self, usize), ItemFault>
+        requires { place ≤ length (P.payload src.now) }
+        ensures exact { Gives (λ x. (Self.wired.items x.0, x.1)) result (items_at Self.wired.layout (P.payload src.now) place) }
+        ensures plain { IsPlain P.grows Self.wired.layout → IfErr result (λ e. Fails e (items_at Self.wired.layout (P.payload src.now) place)) }
+        ensures within { IfOk result (λ x. x.1 ≤ length (P.payload src.now)) };
+
+    /// The value that stands at `place`, and the place after it; else the first fault from the left,
+    /// its place counted from the beginning of the payload.
+    final fn read_in(src: &P, place: usize) -> Result<(Self, usize), ItemFault>
+        requires { place ≤ length (P.payload src.now) }
+        // What is read stands there, each byte of it.
+        ensures found { IfOk result (λ x. IsValueOf Self.wired.layout (Self.wired.items x.0) × StandsAt (Self.wired.items x.0) (P.payload src.now) place x.1) }
+        // What stands there is read, unless memory is wanted.
+        ensures only { (x : Self) (end : ℕ) → HaveBytes (Self.wired.items x) → StandsAt (Self.wired.items x) (P.payload src.now) place end → IsReadAs (x, end) result }
+        // Nothing stands there where a fault is answered, and the items fix which one it is.
+        ensures fault { IfErr result (λ e. IsToldFault (IsValueOf Self.wired.layout) (P.payload src.now) place e) }
+        // Numbers, booleans, and what is borrowed, never want memory.
+        ensures plain { IsPlain P.grows Self.wired.layout → IfErr result (λ e. HasToldFault (IsValueOf Self.wired.layout) (P.payload src.now) place e × (e.reason ≢ NoMemory)) }
+        ensures within { IfOk result (λ x. x.1 ≤ length (P.payload src.now)) }
+    {
+        are_bytes(src.payload());
+        Self::decode(src, place)
+    }
+}
+
+/// Bytes are numbers below 256; the function does nothing.
+fn are_bytes(bytes: &[u8])
+    ensures { (i : ℕ) → get_or bytes.now i 0 < 256 }
+{
+    let _ = bytes;
+}
+
+impl Form for i32 {
+    ghost wired = { int };
+}
+
+impl<P: Source> Stands<P> for i32 {
+    fn decode(src: &P, place: usize) -> Result<(Self, usize), ItemFault> {
+        int_at(src.payload(), place)
+    }
+}
+
+impl Form for i64 {
+    ghost wired = { long };
+}
+
+impl<P: Source> Stands<P> for i64 {
+    fn decode(src: &P, place: usize) -> Result<(Self, usize), ItemFault> {
+        long_at(src.payload(), place)
+    }
+}
+
+impl Form for bool {
+    ghost wired = { boolean };
+}
+
+impl<P: Source> Stands<P> for bool {
+    fn decode(src: &P, place: usize) -> Result<(Self, usize), ItemFault> {
+        bool_at(src.payload(), place)
+    }
+}
+
+impl<A: Form, B: Form> Form for (A, B) {
+    ghost wired = { A.wired and B.wired };
+}
+
+impl<P: Source, A: Stands<P>, B: Stands<P>> Stands<P> for (A, B) {
+    #[tactic(auto, using(crate::proofs::Chains::reads))]
+    fn decode(src: &P, place: usize) -> Result<(Self, usize), ItemFault> {
+        let (first, place) = A::decode(src, place)?;
+        let (second, place) = B::decode(src, place)?;
+        Ok(((first, second), place))
+    }
+}
+
+impl Form for Text {
+    ghost wired = { ustring };
+}
+
+impl<'a> Stands<Kept<'a>> for Text {
+    fn decode(src: &Kept<'a>, place: usize) -> Result<(Self, usize), ItemFault> {
+        <Text as Wire>::decode(src.alloc, src.bytes, place)
+    }
+}
+
+impl Form for Blob {
+    ghost wired = { buffer };
+}
+
+impl<'a> Stands<Kept<'a>> for Blob {
+    fn decode(src: &Kept<'a>, place: usize) -> Result<(Self, usize), ItemFault> {
+        <Blob as Wire>::decode(src.alloc, src.bytes, place)
+    }
+}
+
+impl<T: Form> Form for List<T> {
+    ghost wired = { vector T.wired };
+}
+
+#[tactic(auto, using(crate::proofs::Loops::reading_ends, crate::proofs::Fields::refuses_memory))]
+/// So many elements from a place on, and the place after them.
+fn elements_in<P: Source, T: Stands<P>>(
+    alloc: Global,
+    src: &P,
+    count: usize,
+    place: usize,
+) -> Result<(Vec<T>, usize), ItemFault>
+    requires { place ≤ length (P.payload src.now) }
+    ensures exact { Gives (λ x. (flat_map T.wired.items x.0.items, x.1)) result (times_at (items_at T.wired.layout (P.payload src.now)) count place) }
+    ensures count { IfOk result (λ x. length x.0.items ≡ count) }
+    ensures within { IfOk result (λ x. x.1 ≤ length (P.payload src.now)) }
+{
+    let mut items = Vec::new(alloc);
+    let mut after = place;
+    for _ in 0..count {
+        let (item, next) = T::decode(src, after)?;
+        items.push(item)?;
+        after = next;
+    }
+    Ok((items, after))
+}
+
+impl<'a, T: Stands<Kept<'a>>> Stands<Kept<'a>> for List<T> {
+    #[tactic(auto, using(crate::proofs::Fields::list_none, crate::proofs::Fields::list_some, crate::proofs::Fields::list_refused, crate::proofs::Fields::elements_refused))]
+    fn decode(src: &Kept<'a>, place: usize) -> Result<(Self, usize), ItemFault> {
+        let (count, after) = size_at(src.bytes, place)?;
+        match count {
+            None => Ok((List::Null, after)),
+            Some(count) => {
+                let (items, after) = elements_in(src.alloc, src, count, after)?;
+                Ok((List::Full(Items::new(items)), after))
+            }
+        }
+    }
+}

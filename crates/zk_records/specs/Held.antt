@@ -1,0 +1,74 @@
+-- The records that hold texts, blobs or lists, wherever these lie.
+use Rattle.zk_jute.specs.Held.{Text, Blob, Vector}
+use Rattle.zk_records.specs.declared.acl.IdOf.{IdOf}
+use Rattle.zk_records.specs.declared.acl.AclOf.{AclOf}
+use Rattle.zk_records.specs.declared.connect.ConnectRequestOf.{ConnectRequestOf}
+use Rattle.zk_records.specs.declared.connect.ConnectResponseOf.{ConnectResponseOf}
+use Rattle.zk_records.specs.declared.event.WatcherEventOf.{WatcherEventOf}
+use Rattle.zk_records.specs.declared.ask.CreateAskOf.{CreateAskOf}
+use Rattle.zk_records.specs.declared.ask.DeleteAskOf.{DeleteAskOf}
+use Rattle.zk_records.specs.declared.ask.SetDataAskOf.{SetDataAskOf}
+use Rattle.zk_records.specs.declared.ask.SetAclAskOf.{SetAclAskOf}
+use Rattle.zk_records.specs.declared.ask.CheckAskOf.{CheckAskOf}
+use Rattle.zk_records.specs.declared.query.WatchAskOf.{WatchAskOf}
+use Rattle.zk_records.specs.declared.query.PathAskOf.{PathAskOf}
+use Rattle.zk_records.specs.declared.session.AuthAskOf.{AuthAskOf}
+use Rattle.zk_records.specs.declared.session.SetWatchesAskOf.{SetWatchesAskOf}
+use Rattle.zk_records.specs.declared.body.DataBodyOf.{DataBodyOf}
+use Rattle.zk_records.specs.declared.body.AclBodyOf.{AclBodyOf}
+use Rattle.zk_records.specs.declared.body.ChildrenBodyOf.{ChildrenBodyOf}
+use Rattle.zk_records.specs.declared.body.CreateBodyOf.{CreateBodyOf}
+
+abbrev pub Id : Type 0
+Id = IdOf Text
+
+abbrev pub Acl : Type 0
+Acl = AclOf Id
+
+abbrev pub ConnectRequest : Type 0
+ConnectRequest = ConnectRequestOf Blob
+
+abbrev pub ConnectResponse : Type 0
+ConnectResponse = ConnectResponseOf Blob
+
+abbrev pub WatcherEvent : Type 0
+WatcherEvent = WatcherEventOf Text
+
+abbrev pub CreateAsk : Type 0
+CreateAsk = CreateAskOf Text Blob (Vector Acl)
+
+abbrev pub DeleteAsk : Type 0
+DeleteAsk = DeleteAskOf Text
+
+abbrev pub SetDataAsk : Type 0
+SetDataAsk = SetDataAskOf Text Blob
+
+abbrev pub SetAclAsk : Type 0
+SetAclAsk = SetAclAskOf Text (Vector Acl)
+
+abbrev pub CheckAsk : Type 0
+CheckAsk = CheckAskOf Text
+
+abbrev pub WatchAsk : Type 0
+WatchAsk = WatchAskOf Text
+
+abbrev pub PathAsk : Type 0
+PathAsk = PathAskOf Text
+
+abbrev pub AuthAsk : Type 0
+AuthAsk = AuthAskOf Text Blob
+
+abbrev pub SetWatchesAsk : Type 0
+SetWatchesAsk = SetWatchesAskOf (Vector Text)
+
+abbrev pub DataBody : Type 0
+DataBody = DataBodyOf Blob
+
+abbrev pub AclBody : Type 0
+AclBody = AclBodyOf (Vector Acl)
+
+abbrev pub ChildrenBody : Type 0
+ChildrenBody = ChildrenBodyOf (Vector Text)
+
+abbrev pub CreateBody : Type 0
+CreateBody = CreateBodyOf Text

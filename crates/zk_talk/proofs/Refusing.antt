@@ -1,0 +1,56 @@
+-- The body in which the fault lies, of a talk that keeps it.
+use Rattle.std.proofs.Common.{◌≡◌, ℕ, ◌≤◌, List, [], ◌∷◌, ◌++◌, length, drop, refl, sym, ap, subst, ◌∙◌, Option, Some, None, Bor, MatchOption}
+use Rattle.std.proofs.lemmas.Bool.{false≢true}
+use Rattle.zk_answers.specs.declared.layout.Layout.{Layout}
+use Rattle.zk_frames.specs.Framing.{frame, IsFrame}
+use Rattle.zk_talk.specs.declared.message.Side.{Side}
+use Rattle.zk_talk.specs.declared.message.Fault.{Fault}
+use Rattle.zk_talk.specs.declared.message.Message.{Message}
+use Rattle.zk_talk.specs.History.{History}
+use Rattle.zk_talk.specs.Conversation.{Conversation}
+use Rattle.zk_talk.specs.Describes.{Describes}
+use Rattle.zk_talk.specs.Fault.{IsCause, IsOfItems, IsPayloadFault, rest_on, side_limit}
+use Rattle.zk_talk.specs.Fault.IsCause.{stream_end, length_range, payload_fault}
+use Rattle.zk_talk.specs.Refused.{HasBody, IsInBody, IsRefusedBody}
+use Rattle.zk_talk.specs.Stands.{TalkState, Refuses, held_on}
+use Rattle.zk_talk.specs.declared.limits.Limits.{Limits}
+use Rattle.zk_jute.specs.declared.fault.Reason.{Reason}
+use Rattle.zk_talk.proofs.Bodies.{frame_once}
+
+pub some_same : {X : Type 0} (o : Option X) (x y : X) → o ≡ Some x → o ≡ Some y → x ≡ y
+some_same o x y a b = cc
+
+module _ (t : TalkState) (h : History) (M : List Message) (f : Fault) (r : Refuses t h M f) where
+  abbrev now : Conversation
+  now = r.is.conversation
+
+  abbrev last : List ℕ
+  last = rest_on f.side r.is.client_rest r.is.server_rest ++ r.is.byte ∷ []
+
+  pub known : Describes (length now.client) (length now.server) t.waiting now
+  known = record { client = refl; server = refl; may = r.is.good.conversation.server; queues = r.queues }
+
+  -- a fault of items is a whole frame's
+  pub held_whole : IsOfItems f.reason → IsFrame (side_limit t.limits f.side) (held_on f.side t)
+  held_whole items = subst (IsFrame (side_limit t.limits f.side)) (sym (r.held items)) (go _ _ _ items r.is.cause)
+    where
+      go : (size place : ℕ) (reason : Reason) → IsOfItems reason → IsCause t.limits now f.side size (rest_on f.side r.is.client_rest r.is.server_rest) r.is.byte place reason → IsFrame (side_limit t.limits f.side) last
+      go size place reason items (stream_end a b is) = absurd (false≢true (subst IsOfItems is items))
+      go size place reason items (length_range a b c is) = absurd (false≢true (subst IsOfItems is items))
+      go size place reason items (payload_fault a p is fits x) = (p, is, fits)
+
+  module _ (p : List ℕ) (is : held_on f.side t ≡ frame p) where
+    pub body_none : ((layout : Layout) (body : List ℕ) → HasBody now p f.side layout body → ⊥) → (layout : Layout) (body : List ℕ) → IsRefusedBody t.limits h f r.is layout body → ⊥
+    body_none none layout body b =
+        let held = r.held b.inside.items in
+        let same : b.payload ≡ p = frame_once b.payload p (sym b.whole ∙ sym held ∙ is) in
+        none layout body (subst (λ z. HasBody now z f.side layout body) same b.has)
+
+    pub body_some : IsInBody f → (layout : Layout) (body : List ℕ) → HasBody now p f.side layout body → IsRefusedBody t.limits h f r.is layout body
+    body_some inside layout body has = record { inside = inside; payload = p; whole = sym (r.held inside.items) ∙ is; has = has }
+
+    -- what is found of the held payload is what the fault lies in
+    pub body_either : (o : Option (Layout × Bor (List ℕ))) → IsInBody f → MatchOption o ((layout : Layout) (body : List ℕ) → HasBody now p f.side layout body → ⊥) (λ b. HasBody now p f.side b.0 b.1.now) →
+        MatchOption o ((layout : Layout) (body : List ℕ) → IsRefusedBody t.limits h f r.is layout body → ⊥) (λ b. IsRefusedBody t.limits h f r.is b.0 b.1.now)
+    body_either None inside x = body_none x
+    body_either (Some b) inside x = body_some inside b.0 b.1.now x

@@ -1,0 +1,57 @@
+-- The body in which a fault lies.
+use Rattle.std.specs.Prelude.{◌≡◌, ◌≢◌, ℕ, ◌<◌, ◌≤◌, ℤ, pos, List, [], ◌∷◌, ◌++◌, Option, Some, None}
+use Rattle.zk_jute.specs.Item.{HaveBytes}
+use Rattle.zk_jute.specs.Faults.{Opens}
+use Rattle.zk_records.specs.declared.header.ReplyHeader.{ReplyHeader}
+use Rattle.zk_records.specs.declared.op.Op.{Op}
+use Rattle.zk_records.specs.declared.op.Op.TheVariants as ops
+use Rattle.zk_records.specs.Codes.{op_number}
+use Rattle.zk_asks.specs.declared.frame.Ask.{Ask as Asked}
+use Rattle.zk_asks.specs.Codes.{event_xid}
+use Rattle.zk_asks.specs.Forms.{header_items}
+use Rattle.zk_asks.specs.Rows.{op_of_ask}
+use Rattle.zk_answers.specs.declared.layout.Layout.{Layout}
+use Rattle.zk_answers.specs.declared.layout.Layout.TheVariants as layouts
+use Rattle.zk_answers.specs.Faults.{IsHead}
+use Rattle.zk_frames.specs.Framing.{frame}
+use Rattle.zk_waiting.specs.Lane.{lane_of}
+use Rattle.zk_talk.specs.declared.message.Side.{Side}
+use Rattle.zk_talk.specs.declared.message.Side.TheVariants.{Client, Server}
+use Rattle.zk_talk.specs.declared.message.Fault.{Fault}
+use Rattle.zk_talk.specs.declared.limits.Limits.{Limits}
+use Rattle.zk_talk.specs.History.{History}
+use Rattle.zk_talk.specs.Conversation.{Conversation}
+use Rattle.zk_talk.specs.Fault.{IsFaultOf, IsNext, IsOfItems, rest_on}
+
+-- how many bytes a header has, behind a side's frame 0
+abbrev pub header_size : Side → ℕ
+header_size Client = 8
+header_size Server = 16
+
+-- the next reply with this xid answers a request of the operation, which isn't multi
+abbrev pub AnswersOp : Conversation → ℤ → Op → Type 0
+AnswersOp v xid op = (ask : Asked) × IsNext v (lane_of xid) xid ask × (op ≡ op_of_ask ask) × (op ≢ ops.Multi)
+
+-- it answers none, or a multi
+abbrev pub AnswersNone : Conversation → ℤ → Type 0
+AnswersNone v xid = (ask : Asked) → IsNext v (lane_of xid) xid ask → op_of_ask ask ≢ ops.Multi → ⊥
+
+-- the payload has a header, and behind it this body, of this layout: v came before it
+pub data HasBody (v : Conversation) (p : List ℕ) : Side → Layout → List ℕ → Type 0 where
+  request : (xid : ℤ) (op : Op) (body : List ℕ) → HaveBytes (header_items xid (op_number op)) → Opens p (header_items xid (op_number op)) body → HasBody v p Client (layouts.Asked op) body
+  event : (header : ReplyHeader) (body : List ℕ) → IsHead p header body → header.xid ≡ event_xid → HasBody v p Server layouts.Event body
+  reply : (header : ReplyHeader) (body : List ℕ) → IsHead p header body → header.xid ≢ event_xid → header.err ≡ pos 0 →
+      (ask : Asked) → IsNext v (lane_of header.xid) header.xid ask → op_of_ask ask ≢ ops.Multi → HasBody v p Server (layouts.Answered (op_of_ask ask)) body
+
+-- the fault lies in a body: behind the header of a frame that isn't its side's first, for one of a body's reasons
+pub record IsInBody (fault : Fault) : Type 0 where
+  pub later : 0 < fault.frame
+  pub items : IsOfItems fault.reason
+  pub behind : header_size fault.side ≤ fault.place
+
+-- the body in which the fault of a history lies
+pub record IsRefusedBody (limits : Limits) (h : History) (fault : Fault) (is : IsFaultOf limits h fault) (layout : Layout) (body : List ℕ) : Type 0 where
+  pub inside : IsInBody fault
+  pub payload : List ℕ
+  pub whole : rest_on fault.side is.client_rest is.server_rest ++ is.byte ∷ [] ≡ frame payload
+  pub has : HasBody is.conversation payload fault.side layout body

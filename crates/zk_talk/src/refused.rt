@@ -1,0 +1,135 @@
+//! The body in which a fault lies.
+ghost use Rattle.std.specs.Prelude.{◌≡◌, ◌≢◌, ◌≤◌, ◌↔◌, ℕ, List, length, IsTrue, IfSome, MatchOption};
+ghost use Rattle.zk_records.specs.declared.op.Op.TheVariants as ops;
+ghost use Rattle.zk_answers.specs.declared.layout.Layout.{Layout as Kind};
+ghost use Rattle.zk_answers.specs.declared.layout.Layout.TheVariants as layouts;
+ghost use Rattle.zk_frames.specs.Framing.{frame};
+ghost use Rattle.zk_frames.specs.Held.{IsWhole};
+ghost use Rattle.zk_talk.specs.declared.message.Side.TheVariants.{Client, Server};
+ghost use Rattle.zk_talk.specs.Conversation.{Conversation};
+ghost use Rattle.zk_talk.specs.Describes.{Describes};
+ghost use Rattle.zk_talk.specs.Fault.{of_items};
+ghost use Rattle.zk_talk.specs.Refused.{HasBody, IsInBody, AnswersNone, AnswersOp, header_size};
+
+use crate::message::{Fault, Side};
+use zk_answers::{Layout, reply_head};
+use zk_asks::Asked;
+use zk_frames::Frames;
+use zk_jute::{Reason, int_at};
+use zk_records::{Op, Profile, op_of};
+use zk_waiting::{Waiting, lane_of};
+
+/// Whether a body's items give this reason.
+fn is_of_items(reason: Reason) -> bool
+    ensures { result ≡ of_items reason }
+{
+    match reason {
+        Reason::Short => true,
+        Reason::BadBool => true,
+        Reason::BadLength => true,
+        Reason::BadText => true,
+        Reason::Trailing => true,
+        Reason::BadPart => true,
+        Reason::NoMemory => false,
+        Reason::UnknownOp => false,
+        Reason::XidOp => false,
+        Reason::EventErr => false,
+        Reason::LengthRange => false,
+        Reason::QueueFull => false,
+        Reason::Unasked => false,
+        Reason::XidOrder { .. } => false,
+        Reason::StreamEnd => false,
+    }
+}
+
+/// How many bytes a header has, behind a side's frame 0.
+fn header_size(side: Side) -> u32
+    ensures { result ≡ header_size side }
+{
+    match side {
+        Side::Client => 8,
+        Side::Server => 16,
+    }
+}
+
+/// Whether the fault lies in a body.
+pub fn is_in_body(fault: Fault) -> bool
+    ensures { IsTrue result ↔ IsInBody fault }
+{
+    if fault.frame == 0 {
+        return false;
+    }
+    if fault.place < header_size(fault.side) {
+        return false;
+    }
+    is_of_items(fault.reason)
+}
+
+/// What the whole frame carries.
+pub fn whole_payload(frames: &Frames) -> Option<&[u8]>
+    ensures { MatchOption result (IsWhole frames.now → ⊥) (λ p. (frames.now.bytes ≡ frame p.now) × (length p.now ≤ frames.now.limit)) }
+{
+    if frames.is_whole() {
+        Some(frames.payload())
+    } else {
+        None
+    }
+}
+
+/// The body behind a request's header.
+pub fn asked_body(payload: &[u8]) -> Option<(Layout, &[u8])>
+    ensures found { (v : Conversation) → MatchOption result ((layout : Kind) (body : List ℕ) → HasBody v payload.now Client layout body → ⊥) (λ b. HasBody v payload.now Client b.0 b.1.now) }
+    ensures small { IfSome result (λ b. length b.1.now ≤ length payload.now) }
+    ensures known { IfSome result (λ b. b.0 ≢ layouts.Answered ops.Multi) }
+{
+    let Ok((_, place)) = int_at(payload, 0) else {
+        return None;
+    };
+    let Ok((kind, place)) = int_at(payload, place) else {
+        return None;
+    };
+    match op_of(Profile::V35, kind) {
+        None => None,
+        Some(op) => Some((Layout::Asked(op), &payload[place..])),
+    }
+}
+
+/// The operation of the request that a reply with this xid answers; none where it is a multi's.
+fn answered_op(xid: i32, waiting: &Waiting) -> Option<Op>
+    ensures found { (n m : ℕ) (v : Conversation) → Describes n m waiting.now v → MatchOption result (AnswersNone v xid) (AnswersOp v xid) }
+    ensures known { IfSome result (λ op. op ≢ ops.Multi) }
+{
+    match waiting.oldest(lane_of(xid)) {
+        None => None,
+        Some(slot) => {
+            if slot.xid() != xid {
+                return None;
+            }
+            match slot.op() {
+                Op::Multi => None,
+                op => Some(op),
+            }
+        }
+    }
+}
+
+/// The body behind the header of an event, or of a reply with err 0 to another operation than multi.
+pub fn answered_body<'a>(payload: &'a [u8], waiting: &Waiting) -> Option<(Layout, &'a [u8])>
+    ensures found { (n m : ℕ) (v : Conversation) → Describes n m waiting.now v → MatchOption result ((layout : Kind) (body : List ℕ) → HasBody v payload.now Server layout body → ⊥) (λ b. HasBody v payload.now Server b.0 b.1.now) }
+    ensures small { IfSome result (λ b. length b.1.now ≤ length payload.now) }
+    ensures known { IfSome result (λ b. b.0 ≢ layouts.Answered ops.Multi) }
+{
+    let Ok(head) = reply_head(payload) else {
+        return None;
+    };
+    if head.xid == -1 {
+        return Some((Layout::Event, &payload[16..]));
+    }
+    if head.err != 0 {
+        return None;
+    }
+    match answered_op(head.xid, waiting) {
+        None => None,
+        Some(op) => Some((Layout::Answered(op), &payload[16..])),
+    }
+}

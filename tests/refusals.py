@@ -1,0 +1,130 @@
+#!/usr/bin/env python3
+"""Runs the proved program over the worked examples, with each growth of memory refused in turn.
+
+    refusals.py [--jobs N] [--only WORD] [--program PATH]
+
+tests/refuse.c, which a C compiler makes a library of, stands in the place of the C library's malloc and realloc, which
+are all that a program asks for memory by, and refuses the Nth call of a run. For each worked example (docs/EXAMPLES.md)
+and N counting up from 1 until a run meets no refusal, over the stored cases of show, check and build, and `build` over
+the listings of those of show, the run does what it does with ample memory; or it ends with status 3, `zkdump: out of
+memory` on standard error, and a front of the output that it has with ample memory.
+
+The program is crates/zkdump/out/zkdump where no other is named; `./test` leaves it there, and so does `./zkdump`. It
+prints the runs that do otherwise and one last line. The status is 0 where none does. Where there is no C compiler it
+says so, and runs nothing.
+"""
+
+import argparse
+import concurrent.futures
+import os
+import pathlib
+import shutil
+import subprocess
+import sys
+import tempfile
+import time
+
+from program import BUILT, TOP, Program
+
+CASES = TOP / "crates" / "zkdump" / "cases"
+KINDS = ("show", "check", "build")
+OUT_OF_MEMORY = b"zkdump: out of memory\n"
+
+
+class Refusing(Program):
+    """A program of which one growth is refused, by a library that stands before the C library."""
+
+    def __init__(self, path, library):
+        super().__init__(path)
+        self.library = library
+        self.note = tempfile.TemporaryFile()
+        self.actions.append((os.POSIX_SPAWN_DUP2, self.note.fileno(), 3))
+
+    def run_without(self, growth, words, data):
+        """What a run gives of which this growth is refused, and whether there was one."""
+        os.ftruncate(self.note.fileno(), 0)
+        self.environment = {"LD_PRELOAD": self.library, "REFUSED_GROWTH": str(growth)}
+        found = self.run(words, data)
+        self.environment = {}
+        return found, os.fstat(self.note.fileno()).st_size > 0
+
+
+def is_right(found, ample):
+    """Whether a run of which a growth was refused gave what it may."""
+    if found == ample:
+        return True
+    output, errors, status = found
+    return (errors, status) == (OUT_OF_MEMORY, 3) and ample[0].startswith(output)
+
+
+def test(task):
+    """One run, with each of its growths refused in turn."""
+    path, library, kind, name, words, data = task
+    program = Refusing(path, library)
+    ample = program.run(words, data)
+    failures, growth = [], 0
+    while True:
+        growth += 1
+        found, was_refused = program.run_without(growth, words, data)
+        if not was_refused:
+            break
+        if not is_right(found, ample):
+            failures.append(f"{kind} {name}: without growth {growth}: {found}, with it {ample}")
+    if found != ample:
+        failures.append(f"{kind} {name}: with no growth refused: {found}, and again {ample}")
+    if growth == 1:
+        failures.append(f"{kind} {name}: no growth was refused")
+    return growth - len(failures), failures
+
+
+def content(path):
+    return path.read_bytes() if path.exists() else b""
+
+
+def runs():
+    """What is run: a kind, a name, the words and the standard input."""
+    for kind in ("show", "check", "build"):
+        for args in sorted((CASES / kind).glob("*.args")):
+            yield kind, args.stem, args.read_text().splitlines(), content(args.with_suffix(".in"))
+    for args in sorted((CASES / "show").glob("*.args")):
+        words = ["build", *args.read_text().splitlines()[1:]]
+        if content(args.with_suffix(".out")):
+            yield "build", f"show/{args.stem}", words, content(args.with_suffix(".out"))
+
+
+def compiled(folder):
+    """The library of refuse.c, or None where there is no C compiler."""
+    for compiler in filter(None, (os.environ.get("CC"), "cc", "gcc", "clang")):
+        if shutil.which(compiler):
+            library = os.path.join(folder, "refuse.so")
+            source = pathlib.Path(__file__).with_name("refuse.c")
+            subprocess.run([compiler, "-O2", "-shared", "-fPIC", "-fno-builtin", "-o", library, source], check=True)
+            return library
+    return None
+
+
+def main():
+    parser = argparse.ArgumentParser(description="Each growth refused in turn, over the proved program.")
+    parser.add_argument("--jobs", type=int, default=os.cpu_count() or 1)
+    parser.add_argument("--only", choices=KINDS)
+    parser.add_argument("--program", default=str(BUILT))
+    options = parser.parse_args()
+    if not os.access(options.program, os.X_OK):
+        parser.error(f"{options.program} is no program; ./zkdump builds it")
+    passed, failures, begin = 0, [], time.monotonic()
+    with tempfile.TemporaryDirectory() as folder, concurrent.futures.ProcessPoolExecutor(options.jobs) as pool:
+        library = compiled(folder)
+        if library is None:
+            print("skipped: there is no C compiler for tests/refuse.c\n0 passed, 0 failed")
+            return 0
+        tasks = [(options.program, library, *one) for one in runs()]
+        for good, bad in pool.map(test, [task for task in tasks if options.only in (None, task[2])]):
+            passed, failures = passed + good, failures + bad
+    print("\n".join(failures[:50]), end="\n" if failures else "")
+    print(f"{passed + len(failures)} runs in {time.monotonic() - begin:.0f} s")
+    print(f"{passed} passed, {len(failures)} failed")
+    return 1 if failures else 0
+
+
+if __name__ == "__main__":
+    sys.exit(main())
