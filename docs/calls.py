@@ -20,7 +20,7 @@ import sys
 TOP = pathlib.Path(__file__).resolve().parent.parent
 PAGE, EDITS = TOP / "docs" / "CALLS.md", TOP / "docs" / "MUST_FAIL.md"
 BEGIN, END = "<!-- The lines from here on are written by docs/calls.py. -->", "<!-- Up to here. -->"
-PROGRAM = ("words", "engines", "build", "migrate", "run", "streams", "laws", "recordings")
+PROGRAM = ("words", "engines", "earliest_run", "build", "migrate", "run", "streams", "laws", "recordings")
 
 CLAUSE = re.compile(r"\s*(requires|ensures)\*?\s+(\w+\s+)?\{")
 BLOCK = re.compile(r"^(?:pub )?(impl|trait)\b([^\n{;]*)\{", re.M)

@@ -25,6 +25,7 @@ HEADLINES = (
     ("read_all", (("zk_talk", "read_all"),)),
     ("Speaker::say", (("zk_talk", "say"),)),
     ("show_run and check_run", (("zkdump", "show_run"), ("zkdump", "check_run"))),
+    ("check_earliest_run", (("zkdump", "check_earliest_run"),)),
     ("build_run", (("zkdump", "build_run"),)),
     ("migrate_run", (("zkdump", "migrate_run"),)),
 )

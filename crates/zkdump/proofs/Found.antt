@@ -3,11 +3,12 @@ use Rattle.std.proofs.Common.{◌≡◌, ℕ, List, [], ◌++◌, ◌+◌, lengt
 use Rattle.std.specs.Io.KnownBytes.{Consumes, IsAtEnd, Appends}
 use Rattle.zk_talk.specs.declared.limits.Limits.{Limits}
 use Rattle.zk_talk.specs.declared.message.Message.{Message}
+use Rattle.zk_talk.specs.Stands.{TalkState}
 use Rattle.zkdump.specs.declared.progress.Progress.{Progress}
 use Rattle.zkdump.specs.declared.summary.Summary.{Summary}
 use Rattle.zkdump.specs.Recording.{Recording, Spells, history_of, limits_of}
 use Rattle.zkdump.specs.Outcome.{Reads, IsFound, IsRunning, HasBegun, HasGrownIn, IsGoodWith}
-use Rattle.zkdump.specs.Following.{Follows, Finishes, Decides, Opens}
+use Rattle.zkdump.specs.Following.{Follows, IsKept, Finishes, Decides, Opens}
 use Rattle.std.proofs.Math.Seq.{take-append-add, take-append_seam}
 use Rattle.zkdump.proofs.Bytes.{Consumes-then, Appends-then}
 use Rattle.zkdump.proofs.Talking.{has-good}
@@ -17,15 +18,23 @@ use Rattle.zkdump.proofs.Once.{spells-once}
 pub reads : (before after : Option (List ℕ)) (x : List ℕ) (r : Recording) → Consumes before after x → Spells x r → Reads before after x r
 reads before after x r p i = record { consumed = p; just = record { spells = i; only = λ s j. spells-once x r s i j } }
 
-pub found-at_end : (limits : Limits) (before mid after : Option (List ℕ)) (x none : List ℕ) (messages : List Message) (summary : Summary) →
-    Consumes before mid x → Consumes mid after none → none ≡ [] → IsAtEnd after → Finishes limits x messages summary → IsFound limits before after messages summary
-found-at_end limits before mid after x none messages summary p q nothing end i = record {
-  bytes = x;
-  recording = i.recording;
-  reads = reads before after x i.recording (subst (Consumes before after) (ap (λ b. x ++ b) nothing ∙ append-nil x) (Consumes-then before mid after x none p q)) i.spells;
-  is = i.is;
-  only = λ others other o. outcome-once limits i.recording messages others summary other i.is o;
-  enough = inl end;
+-- what was found, of a talk that keeps its fault
+pub record FoundBy (limits : Limits) (before after : Option (List ℕ)) (messages : List Message) (talk : Option TalkState) (summary : Summary) : Type 0 where
+  pub found : IsFound limits before after messages summary
+  pub kept : IsKept (limits_of limits found.recording) talk (history_of found.recording) messages summary
+
+pub found-at_end : (limits : Limits) (before mid after : Option (List ℕ)) (x none : List ℕ) (messages : List Message) (talk : Option TalkState) (summary : Summary) →
+    Consumes before mid x → Consumes mid after none → none ≡ [] → IsAtEnd after → Finishes limits x messages talk summary → FoundBy limits before after messages talk summary
+found-at_end limits before mid after x none messages talk summary p q nothing end i = record {
+  found = record {
+    bytes = x;
+    recording = i.recording;
+    reads = reads before after x i.recording (subst (Consumes before after) (ap (λ b. x ++ b) nothing ∙ append-nil x) (Consumes-then before mid after x none p q)) i.spells;
+    is = i.is;
+    only = λ others other o. outcome-once limits i.recording messages others summary other i.is o;
+    enough = inl end;
+  };
+  kept = i.kept;
 }
 
 -- what was read has these messages and no fault
@@ -65,15 +74,18 @@ begun-by limits before after x messages p i = record {
 }
 
 -- what stands whatever follows was found
-pub found-decided : (limits : Limits) (before after : Option (List ℕ)) (x : List ℕ) (messages : List Message) (summary : Summary) →
-    Consumes before after x → Decides limits x messages summary → IsFound limits before after messages summary
-found-decided limits before after x messages summary p i = record {
-  bytes = x;
-  recording = i.recording;
-  reads = reads before after x i.recording p i.spells;
-  is = i.is;
-  only = λ others other o. outcome-once limits i.recording messages others summary other i.is o;
-  enough = inr i.decided;
+pub found-decided : (limits : Limits) (before after : Option (List ℕ)) (x : List ℕ) (messages : List Message) (talk : Option TalkState) (summary : Summary) →
+    Consumes before after x → Decides limits x messages talk summary → FoundBy limits before after messages talk summary
+found-decided limits before after x messages talk summary p i = record {
+  found = record {
+    bytes = x;
+    recording = i.recording;
+    reads = reads before after x i.recording p i.spells;
+    is = i.is;
+    only = λ others other o. outcome-once limits i.recording messages others summary other i.is o;
+    enough = inr i.decided;
+  };
+  kept = i.kept;
 }
 
 -- what stands in the buffer, which held nothing before

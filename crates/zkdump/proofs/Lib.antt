@@ -25,3 +25,4 @@ pub mod Spared
 pub mod Lasting
 pub mod Moves
 pub mod Migrates
+pub mod Tails

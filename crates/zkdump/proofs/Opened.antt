@@ -14,8 +14,8 @@ use Rattle.zkdump.proofs.Any.{longer}
 use Rattle.zkdump.proofs.Talking.{has-good}
 
 -- what comes to something begins with its messages
-opens-decided : (limits : Limits) (x : List ℕ) (messages : List Message) (summary : Summary) → Decides limits x messages summary → Opens limits x messages
-opens-decided limits x messages (Ended (Refused fault)) d =
+opens-decided : (limits : Limits) (x : List ℕ) (messages : List Message) (talk : Option TalkState) (summary : Summary) → Decides limits x messages talk summary → Opens limits x messages
+opens-decided limits x messages talk (Ended (Refused fault)) d =
     let m = d.is.messages_are in
     record {
       recording = d.recording;
@@ -25,7 +25,7 @@ opens-decided limits x messages (Ended (Refused fault)) d =
       splits = m.0.stands;
       good = record { conversation = m.0.conversation; client_rest = m.0.client_rest; server_rest = m.0.server_rest; good = m.0.good; order = m.1 };
     }
-opens-decided limits x messages (Ended (Cut side frame got)) d =
+opens-decided limits x messages talk (Ended (Cut side frame got)) d =
     let m = d.is.messages_are in
     record {
       recording = d.recording;
@@ -35,7 +35,7 @@ opens-decided limits x messages (Ended (Cut side frame got)) d =
       splits = sym (append-nil (history_of d.recording));
       good = record { conversation = m.0; client_rest = m.1; server_rest = m.2; good = m.3; order = m.4 };
     }
-opens-decided limits x messages (Ended (Whole unanswered)) d =
+opens-decided limits x messages talk (Ended (Whole unanswered)) d =
     let m = d.is.messages_are in
     record {
       recording = d.recording;
@@ -45,7 +45,7 @@ opens-decided limits x messages (Ended (Whole unanswered)) d =
       splits = sym (append-nil (history_of d.recording));
       good = record { conversation = m.0; client_rest = m.1; server_rest = m.2; good = m.3; order = m.4 };
     }
-opens-decided limits x messages (Broken damage) d = record {
+opens-decided limits x messages talk (Broken damage) d = record {
   recording = d.recording;
   spells = d.spells;
   front = history_of d.recording;
@@ -66,7 +66,7 @@ opens-follows limits x messages p i = record {
 
 pub opens-reached : (limits : Limits) (x : List ℕ) (messages : List Message) (p : Progress) (found : Option Summary) → Reaches limits x messages p found → Opens limits x messages
 opens-reached limits x messages p None i = opens-follows limits x messages p i
-opens-reached limits x messages p (Some summary) i = opens-decided limits x messages summary i
+opens-reached limits x messages p (Some summary) i = opens-decided limits x messages p.talk summary i
 
 -- nothing has come, or the recording has its head
 opens-by : (limits : Limits) (x more : List ℕ) (messages : List Message) (r : Recording) (talk : Option TalkState) → Spells x r → Talks limits r messages talk → Opens limits (x ++ more) messages

@@ -10,10 +10,12 @@ use Rattle.zkdump.specs.declared.listing.Listing.{Listing}
 use Rattle.zkdump.specs.declared.parts.DamageAt.{DamageAt}
 use Rattle.zkdump.specs.declared.progress.Progress.{Progress}
 use Rattle.zkdump.specs.declared.recording.State.{State}
+use Rattle.zkdump.specs.declared.summary.Summary.{Summary}
 use Rattle.zkdump.specs.declared.summary.Summary.TheVariants.{Ended, Broken}
+use Rattle.zkdump.specs.Lines.{text_of}
 use Rattle.zkdump.specs.Recording.{Recording, place_of, history_of, limits_of}
 use Rattle.zkdump.specs.Reading.{IsAt, IsDecidedBy, IsHeaded, ReadsOn, content_of}
-use Rattle.zkdump.specs.Following.{Follows, Talks, Gives, Advances}
+use Rattle.zkdump.specs.Following.{Follows, Talks, Gives, Decides, Advances}
 use Rattle.zkdump.proofs.Stops.{decides-by_fault, decides-by_damage}
 use Rattle.zkdump.proofs.Talking.{Given, given, has-good}
 
@@ -30,17 +32,22 @@ module _ (listing : Listing) (p : Progress) (lines lines_now block : List ℕ) (
       (λ is. limits_are _ r.new r.is is ∙ ap (λ l. limits_of l r.new) i.options) i.talks
       (subst (λ z. Gives now_limits listing p.talk lines (content_of side (take used block)) z talk lines_now) e gives) same
 
-  pub steps-refused : (fault : Fault) → refused ≡ Some fault → (now : Progress) → Advances listing p lines block (Some (Ended (Refused fault))) now lines_now
-  steps-refused fault e now = λ limits x messages i.
+  -- this stands, whatever follows the block
+  abbrev pub Finds : Summary → Type 0
+  Finds summary = (limits : Limits) (x : List ℕ) (messages : List Message) → Follows limits x messages p →
+      (more : List Message) × Decides limits (x ++ block) (messages ++ more) talk summary × (lines_now ≡ lines ++ text_of listing more)
+
+  pub steps-refused : (fault : Fault) → refused ≡ Some fault → Finds (Ended (Refused fault))
+  steps-refused fault e = λ limits x messages i.
       let r = reads x i.recording i.at in
       let g = comes limits x messages i (Some fault) e in
       (g.0, decides-by_fault limits x block used r.new (messages ++ g.0) talk fault r.is.spells g.1.0 g.1.1, g.2)
 
-  pub steps-broken : refused ≡ None → (d : DamageAt) → ((x : List ℕ) (r : Recording) → IsAt state x r → IsDecidedBy d x r) → (now : Progress) → Advances listing p lines block (Some (Broken d)) now lines_now
-  steps-broken e d damaged now = λ limits x messages i.
+  pub steps-broken : refused ≡ None → (d : DamageAt) → ((x : List ℕ) (r : Recording) → IsAt state x r → IsDecidedBy d x r) → Finds (Broken d)
+  steps-broken e d damaged = λ limits x messages i.
       let r = reads x i.recording i.at in
       let g = comes limits x messages i None e in
-      (g.0, decides-by_damage limits x block used r.new (messages ++ g.0) d r.is.spells (damaged _ r.new r.is) (has-good (limits_of limits r.new) talk (history_of r.new) (messages ++ g.0) g.1.has), g.2)
+      (g.0, decides-by_damage limits x block used r.new (messages ++ g.0) talk d r.is.spells (damaged _ r.new r.is) (has-good (limits_of limits r.new) talk (history_of r.new) (messages ++ g.0) g.1.has), g.2)
 
   pub steps-on : refused ≡ None → (now : Progress) → now.limits ≡ p.limits → now.reader ≡ state → now.talk ≡ talk → Advances listing p lines (take used block) None now lines_now
   steps-on e now options reader talk_is = λ limits x messages i.

@@ -1,5 +1,5 @@
 -- What a run finds before the end.
-use Rattle.std.proofs.Common.{◌≡◌, ℕ, List, [], ◌++◌, take, drop, Option, Some, None, inl, inr, refl, sym, ap, ◌∙◌, subst, append_assoc, append-nil}
+use Rattle.std.proofs.Common.{◌≡◌, ℕ, List, [], ◌∷◌, ◌++◌, take, drop, Option, Some, None, inl, inr, refl, sym, ap, ◌∙◌, subst, append_assoc, append-nil}
 use Rattle.std.proofs.lemmas.List.{take-append-drop}
 use Rattle.zk_talk.specs.declared.limits.Limits.{Limits}
 use Rattle.zk_talk.specs.declared.message.Message.{Message}
@@ -21,7 +21,7 @@ use Rattle.zkdump.specs.declared.summary.Summary.TheVariants.{Ended, Broken}
 use Rattle.zkdump.specs.Recording.{Recording, Spells, place_of, begun_history, history_at, history_of, limits_at, limits_of, damage_of}
 use Rattle.zkdump.specs.Reading.{IsAt, IsDecidedBy, IsHeaded}
 use Rattle.zkdump.specs.Outcome.{HasNoFault, ComesTo, IsGoodWith, IsOutcome}
-use Rattle.zkdump.specs.Following.{Has, Talks, HasOr, Follows, Decides, Finishes, Reaches, Advances}
+use Rattle.zkdump.specs.Following.{Has, Talks, HasRefused, IsKept, Follows, Decides, Finishes, Reaches, Advances}
 use Rattle.zkdump.proofs.Any.{longer}
 use Rattle.zkdump.proofs.Feeding.{listed-none, listed-then}
 use Rattle.zkdump.proofs.Stages.{damaged-more}
@@ -34,9 +34,37 @@ no-fault limits h messages i = λ fault is. fault_is_bad limits h fault is (i.co
 pub rejoined : (x block : List ℕ) (n : ℕ) → (x ++ take n block) ++ drop n block ≡ x ++ block
 rejoined x block n = append_assoc x (take n block) (drop n block) ∙ ap (λ b. x ++ b) (take-append-drop n block)
 
+-- what comes after a refusal changes nothing
+refuses-more : (t : TalkState) (h r : History) (messages : List Message) (f : Fault) → Refuses t h messages f → Refuses t (h ++ r) messages f
+refuses-more t h r messages f x =
+    let i = x.is in
+    record {
+      kept = x.kept;
+      is = record {
+        before = i.before;
+        byte = i.byte;
+        after = i.after ++ r;
+        conversation = i.conversation;
+        client_rest = i.client_rest;
+        server_rest = i.server_rest;
+        stands = ap (λ z. z ++ r) i.stands ∙ append_assoc i.before ((f.side, i.byte) ∷ i.after) r;
+        good = i.good;
+        bad = i.bad;
+        frame = i.frame;
+        offset = i.offset;
+        place = i.place;
+        told = i.told;
+        cause = i.cause;
+      };
+      order = x.order;
+      queues = x.queues;
+      load = x.load;
+      held = x.held;
+    }
+
 -- a fault stands whatever follows it
 pub decides-by_fault : (limits : Limits) (x block : List ℕ) (n : ℕ) (r : Recording) (messages : List Message) (talk : Option TalkState) (f : Fault) → Spells (x ++ take n block) r →
-    IsHeaded (place_of r) → HasOr (limits_of limits r) talk (Some f) (history_of r) messages → Decides limits (x ++ block) messages (Ended (Refused f))
+    IsHeaded (place_of r) → HasRefused (limits_of limits r) talk (history_of r) messages f → Decides limits (x ++ block) messages talk (Ended (Refused f))
 decides-by_fault limits x block n r messages None f i is has = absurd has
 decides-by_fault limits x block n r messages (Some t) f i is has =
     let l = longer r (x ++ take n block) (drop n block) i in
@@ -49,12 +77,13 @@ decides-by_fault limits x block n r messages (Some t) f i is has =
       spells = subst (λ y. Spells y l.new) (rejoined x block n) l.spells;
       is = record { comes_to = here.0; messages_are = here.1 };
       decided = inl (f, here.0);
+      kept = (subst (λ k. Refuses t k messages f) (sym l.history) (refuses-more t (history_of r) l.after messages f has.0), e);
     }
 
 -- a damage other than the end stands whatever follows it
-pub decides-by_damage : (limits : Limits) (x block : List ℕ) (n : ℕ) (r : Recording) (messages : List Message) (d : DamageAt) → Spells (x ++ take n block) r →
-    IsDecidedBy d (x ++ take n block) r → IsGoodWith (limits_of limits r) (history_of r) messages → Decides limits (x ++ block) messages (Broken d)
-decides-by_damage limits x block n r messages d s i good =
+pub decides-by_damage : (limits : Limits) (x block : List ℕ) (n : ℕ) (r : Recording) (messages : List Message) (talk : Option TalkState) (d : DamageAt) → Spells (x ++ take n block) r →
+    IsDecidedBy d (x ++ take n block) r → IsGoodWith (limits_of limits r) (history_of r) messages → Decides limits (x ++ block) messages talk (Broken d)
+decides-by_damage limits x block n r messages talk d s i good =
     let m = damaged-more d (x ++ take n block) (drop n block) r s i in
     let history : history_of r ≡ history_of m.0 = ap (λ p. history_at p ++ begun_history r) (sym m.3) ∙ ap (λ h. history_at (place_of m.0) ++ h) (sym (m.5 ∙ append-nil (begun_history r))) in
     let here = subst (λ z. IsGoodWith z (history_of m.0) messages) (ap (limits_at limits) (sym m.3)) (subst (λ h. IsGoodWith (limits_of limits r) h messages) history good) in
@@ -64,6 +93,7 @@ decides-by_damage limits x block n r messages d s i good =
       spells = subst (λ y. Spells y m.0) (rejoined x block n) m.1;
       is = record { comes_to = (no-fault (limits_of limits m.0) (history_of m.0) messages here, j.damage); messages_are = here };
       decided = inr (record { damage = d; is = j.damage; decided = j.decided; head_read = j.head_read });
+      kept = tt;
     }
 
 -- ---- one block after another
@@ -87,8 +117,14 @@ comes-to_end limits h (Refused f) i = i
 comes-to_end limits h (Cut side frame got) i = (refl, i)
 comes-to_end limits h (Whole unanswered) i = (refl, i)
 
+-- what has no fault keeps none
+kept-none : (limits : Limits) (talk : Option TalkState) (h : History) (messages : List Message) → Has limits talk h messages → (ending : Ending) → IsEnding limits h ending → IsKept limits talk h messages (Ended ending)
+kept-none limits talk h messages has (Refused f) is = absurd (no-fault limits h messages (has-good limits talk h messages has) f is)
+kept-none limits talk h messages has (Cut side frame got) is = tt
+kept-none limits talk h messages has (Whole unanswered) is = tt
+
 pub finishes-whole : (limits : Limits) (x : List ℕ) (r : Recording) (messages : List Message) (talk : Option TalkState) (ending : Ending) →
-    Spells x r → damage_of r ≡ None → Has (limits_of limits r) talk (history_of r) messages → IsEnding (limits_of limits r) (history_of r) ending → Finishes limits x messages (Ended ending)
+    Spells x r → damage_of r ≡ None → Has (limits_of limits r) talk (history_of r) messages → IsEnding (limits_of limits r) (history_of r) ending → Finishes limits x messages talk (Ended ending)
 finishes-whole limits x r messages talk ending i e has is =
     let l = limits_of limits r in
     let s = has-stands l talk (history_of r) messages has in
@@ -100,14 +136,16 @@ finishes-whole limits x r messages talk ending i e has is =
         comes_to = subst (λ d. ComesTo l (history_of r) d (Ended ending)) (sym e) (comes-to_end l (history_of r) ending is);
         messages_are = subst (λ z. AreMessages z (history_of r) messages ending) s.1 all;
       };
+      kept = kept-none l talk (history_of r) messages has ending is;
     }
 
 pub finishes-broken : (limits : Limits) (x : List ℕ) (r : Recording) (messages : List Message) (talk : Option TalkState) (d : DamageAt) → Spells x r → damage_of r ≡ Some d →
-    Has (limits_of limits r) talk (history_of r) messages → Finishes limits x messages (Broken d)
+    Has (limits_of limits r) talk (history_of r) messages → Finishes limits x messages talk (Broken d)
 finishes-broken limits x r messages talk d i e has =
     let good = has-good (limits_of limits r) talk (history_of r) messages has in
     record {
       recording = r;
       spells = i;
       is = record { comes_to = (no-fault (limits_of limits r) (history_of r) messages good, e); messages_are = good };
+      kept = tt;
     }

@@ -6,9 +6,10 @@ use Rattle.zkdump.specs.declared.listing.Listing.TheVariants.{All, Last}
 use Rattle.zkdump.specs.declared.migrate.Migrated.{Migrated}
 use Rattle.zkdump.specs.declared.options.Command.{Command}
 use Rattle.zkdump.specs.declared.options.Settings.{Settings}
-use Rattle.zkdump.specs.declared.options.Command.TheVariants.{Show, Check, Build, Migrate}
+use Rattle.zkdump.specs.declared.options.Command.TheVariants.{Show, Check, CheckEarliest, Build, Migrate}
 use Rattle.zkdump.specs.declared.summary.Status.{Status}
 use Rattle.zkdump.specs.Running.{HasListed, HasStopped}
+use Rattle.zkdump.specs.Earliest.{HasToldEarliest, HasStoppedEarliest}
 use Rattle.zkdump.specs.Building.{HasBuilt, HasBegunBuilding}
 use Rattle.zkdump.specs.Migrating.{HasMigrated, HasBegunMigrating}
 use Rattle.zkdump.specs.Exits.{exit_of, exit_of_built, exit_of_migrated}
@@ -17,6 +18,7 @@ use Rattle.zkdump.specs.Exits.{exit_of, exit_of_built, exit_of_migrated}
 abbrev pub HasDone : Command → Limits → Option (List ℕ) → Option (List ℕ) → Option (List ℕ) → Option (List ℕ) → ℕ → Type 0
 HasDone Show limits unread unread_now contents contents_now exit = (status : Status) × HasListed limits All unread unread_now contents contents_now status × (exit ≡ exit_of status)
 HasDone Check limits unread unread_now contents contents_now exit = (status : Status) × HasListed limits Last unread unread_now contents contents_now status × (exit ≡ exit_of status)
+HasDone CheckEarliest limits unread unread_now contents contents_now exit = (status : Status) × HasToldEarliest limits unread unread_now contents contents_now status × (exit ≡ exit_of status)
 HasDone Build limits unread unread_now contents contents_now exit = (built : Built) × HasBuilt limits unread unread_now contents contents_now built × (exit ≡ exit_of_built built)
 HasDone Migrate limits unread unread_now contents contents_now exit = (answer : Migrated) × HasMigrated limits unread unread_now contents contents_now answer × (exit ≡ exit_of_migrated answer)
 
@@ -24,6 +26,7 @@ HasDone Migrate limits unread unread_now contents contents_now exit = (answer : 
 abbrev pub HasFailed : Command → Limits → Option (List ℕ) → Option (List ℕ) → Option (List ℕ) → Option (List ℕ) → Type 0
 HasFailed Show limits unread unread_now contents contents_now = HasStopped limits All unread unread_now contents contents_now
 HasFailed Check limits unread unread_now contents contents_now = HasStopped limits Last unread unread_now contents contents_now
+HasFailed CheckEarliest limits unread unread_now contents contents_now = HasStoppedEarliest limits unread unread_now contents contents_now
 HasFailed Build limits unread unread_now contents contents_now = HasBegunBuilding limits unread unread_now contents contents_now
 HasFailed Migrate limits unread unread_now contents contents_now = HasBegunMigrating limits unread unread_now contents contents_now
 

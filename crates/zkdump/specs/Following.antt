@@ -2,6 +2,7 @@
 use Rattle.std.specs.Prelude.{◌≡◌, ◌<◌, ◌≤◌, ◌+◌, ℕ, List, [], ◌++◌, length, take, Option, None, Some}
 use Rattle.zk_talk.specs.declared.limits.Limits.{Limits}
 use Rattle.zk_talk.specs.declared.message.Message.{Message}
+use Rattle.zk_talk.specs.declared.message.Ending.TheVariants.{Whole, Cut, Refused}
 use Rattle.zk_talk.specs.declared.message.Fault.{Fault}
 use Rattle.zk_talk.specs.History.{History}
 use Rattle.zk_talk.specs.Stands.{TalkState, Stands, Refuses}
@@ -11,6 +12,7 @@ use Rattle.zkdump.specs.declared.progress.Step.TheVariants.{Took, Found}
 use Rattle.zkdump.specs.declared.progress.Progress.{Progress}
 use Rattle.zkdump.specs.declared.recording.State.{State}
 use Rattle.zkdump.specs.declared.summary.Summary.{Summary}
+use Rattle.zkdump.specs.declared.summary.Summary.TheVariants.{Ended, Broken}
 use Rattle.zkdump.specs.Recording.{Place, Recording, Spells, place_of, history_of, limits_of}
 use Rattle.zkdump.specs.Reading.{IsAt, IsHeaded, place_in}
 use Rattle.zkdump.specs.Lines.{text_of}
@@ -37,18 +39,32 @@ pub record Follows (limits : Limits) (x : List ℕ) (messages : List Message) (p
   pub at : IsAt p.reader x recording
   pub talks : Talks limits recording messages p.talk
 
+-- a talk that refused a history keeps the fault
+abbrev pub HasRefused : Limits → Option TalkState → History → List Message → Fault → Type 0
+HasRefused limits None h messages fault = ⊥
+HasRefused limits (Some talk) h messages fault = Refuses talk h messages fault × (talk.limits ≡ limits)
+
+-- where a history ends by a fault, the talk has refused it
+abbrev pub IsKept : Limits → Option TalkState → History → List Message → Summary → Type 0
+IsKept limits talk h messages (Ended (Refused fault)) = HasRefused limits talk h messages fault
+IsKept limits talk h messages (Ended (Cut side frame got)) = Unit {0}
+IsKept limits talk h messages (Ended (Whole unanswered)) = Unit {0}
+IsKept limits talk h messages (Broken damage) = Unit {0}
+
 -- these bytes are a recording that comes to this
-pub record Finishes (limits : Limits) (x : List ℕ) (messages : List Message) (summary : Summary) : Type 0 where
+pub record Finishes (limits : Limits) (x : List ℕ) (messages : List Message) (talk : Option TalkState) (summary : Summary) : Type 0 where
   pub recording : Recording
   pub spells : Spells x recording
   pub is : IsOutcome limits recording messages summary
+  pub kept : IsKept (limits_of limits recording) talk (history_of recording) messages summary
 
 -- and whatever follows them, the summary stands
-pub record Decides (limits : Limits) (x : List ℕ) (messages : List Message) (summary : Summary) : Type 0 where
+pub record Decides (limits : Limits) (x : List ℕ) (messages : List Message) (talk : Option TalkState) (summary : Summary) : Type 0 where
   pub recording : Recording
   pub spells : Spells x recording
   pub is : IsOutcome limits recording messages summary
   pub decided : IsDecided limits x recording
+  pub kept : IsKept (limits_of limits recording) talk (history_of recording) messages summary
 
 -- these bytes are a recording that begins with these messages
 pub record Opens (limits : Limits) (x : List ℕ) (messages : List Message) : Type 0 where
@@ -74,8 +90,7 @@ Takes listing old lines bytes refused new lines_now = (h : History) (messages : 
 -- the bytes were given to the talk, which begins with its first content
 abbrev pub HasOr : Limits → Option TalkState → Option Fault → History → List Message → Type 0
 HasOr limits talk None h messages = Has limits talk h messages
-HasOr limits None (Some fault) h messages = ⊥
-HasOr limits (Some talk) (Some fault) h messages = Refuses talk h messages fault × (talk.limits ≡ limits)
+HasOr limits talk (Some fault) h messages = HasRefused limits talk h messages fault
 
 abbrev pub Gives : Limits → Listing → Option TalkState → List ℕ → History → Option Fault → Option TalkState → List ℕ → Type 0
 Gives limits listing old lines bytes refused new lines_now = (h : History) (messages : List Message) → Has limits old h messages →
@@ -86,7 +101,7 @@ Gives limits listing old lines bytes refused new lines_now = (h : History) (mess
 -- it goes on, or what it comes to stands
 abbrev pub Reaches : Limits → List ℕ → List Message → Progress → Option Summary → Type 0
 Reaches limits x messages p None = Follows limits x messages p
-Reaches limits x messages p (Some summary) = Decides limits x messages summary
+Reaches limits x messages p (Some summary) = Decides limits x messages p.talk summary
 
 -- and the lines of its messages were appended
 abbrev pub Advances : Listing → Progress → List ℕ → List ℕ → Option Summary → Progress → List ℕ → Type 0

@@ -8,6 +8,7 @@ pub mod Rebuilding
 pub mod Outcome
 pub mod Following
 pub mod Running
+pub mod Earliest
 pub mod Exits
 pub mod Migrating
 pub mod Profiles

@@ -4,11 +4,13 @@ use Rattle.std.specs.Io.KnownBytes.{IsAtEnd, Appends}
 use Rattle.zk_talk.specs.declared.limits.Limits.{Limits}
 use Rattle.zk_talk.specs.declared.message.Message.{Message}
 use Rattle.zk_talk.specs.History.{History}
+use Rattle.zk_talk.specs.Stands.{TalkState}
 use Rattle.zkdump.specs.declared.listing.Listing.{Listing}
 use Rattle.zkdump.specs.declared.summary.Summary.{Summary}
 use Rattle.zkdump.specs.declared.summary.Status.{Status}
 use Rattle.zkdump.specs.Lines.{text_of, last_line, status_of}
 use Rattle.zkdump.specs.Recording.{Recording, history_of, limits_of}
+use Rattle.zkdump.specs.Following.{IsKept}
 use Rattle.zkdump.specs.Outcome.{Reads, IsGoodWith, IsOutcome, IsDecided, IsFound, IsRunning, HasBegun, HasGrownIn}
 
 -- the reader failed, or was read as often as a run may
@@ -20,6 +22,11 @@ pub record HasFound (limits : Limits) (listing : Listing) (unread unread_now con
   pub messages : List Message
   pub found : IsFound limits unread unread_now messages summary
   pub written : Appends contents contents_now (text_of listing messages)
+
+-- and where it is refused, the talk has refused it
+pub record HasFoundBy (limits : Limits) (listing : Listing) (unread unread_now contents contents_now : Option (List ℕ)) (talk : Option TalkState) (summary : Summary) : Type 0 where
+  pub all : HasFound limits listing unread unread_now contents contents_now summary
+  pub kept : IsKept (limits_of limits all.found.recording) talk (history_of all.found.recording) all.messages summary
 
 -- the listing of what was read was written
 pub record HasListed (limits : Limits) (listing : Listing) (unread unread_now contents contents_now : Option (List ℕ)) (status : Status) : Type 0 where

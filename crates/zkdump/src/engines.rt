@@ -1,7 +1,7 @@
 //! The engines that read a recording: its listing, and the listing's last line alone.
 ghost use Rattle.std.specs.Prelude.{◌≡◌, ◌+◌, ◌^◌, ◌<◌, ◌≤◌, false, true, IfOk, OnErr, IsErrOf};
 ghost use Rattle.zkdump.specs.declared.listing.Listing.TheVariants.{All, Last};
-ghost use Rattle.zkdump.specs.Running.{IsSpent, HasFound, HasBegunListing, HasListed, HasReached, HasStopped};
+ghost use Rattle.zkdump.specs.Running.{IsSpent, HasFoundBy, HasBegunListing, HasListed, HasReached, HasStopped};
 
 use crate::listing::{Listing, RunFault};
 use crate::progress::Progress;
@@ -18,17 +18,17 @@ pub const BLOCK: usize = 65_536;
 
 /// Reads until what the recording comes to stands, or to the end, and writes the lines of its messages: those of each
 /// read before the next one. They stand in one buffer, which lives as long as the run.
-fn read_on<R: Source, W: Sink>(
+pub(crate) fn read_on<R: Source, W: Sink>(
     alloc: Global,
     limits: Limits,
     listing: Listing,
     reader: &mut R,
     writer: &mut W,
-) -> Result<Summary, RunFault>
+) -> Result<(Summary, Progress), RunFault>
     requires reader { R.has_failed reader.old ≡ false }
     requires reads { R.read_count reader.old < 2 ^ 62 }
     requires writer { W.has_failed writer.old ≡ false }
-    ensures ok { IfOk result (HasFound limits listing (R.remaining reader.old) (R.remaining reader.new) (W.contents writer.old) (W.contents writer.new)) }
+    ensures ok { IfOk result (λ f. HasFoundBy limits listing (R.remaining reader.old) (R.remaining reader.new) (W.contents writer.old) (W.contents writer.new) f.1.talk f.0) }
     ensures read { IsErrOf result RunFault.Read → HasReached limits listing (R.remaining reader.old) (R.remaining reader.new) (W.contents writer.old) (W.contents writer.new) }
     ensures spent { IsErrOf result RunFault.Read → IsSpent (R.has_failed reader.new) (R.read_count reader.old) (R.read_count reader.new) }
     ensures begun { OnErr result (HasBegunListing limits listing (R.remaining reader.old) (R.remaining reader.new) (W.contents writer.old) (W.contents writer.new)) }
@@ -47,13 +47,13 @@ fn read_on<R: Source, W: Sink>(
             return Err(RunFault::Read);
         };
         if count == 0 {
-            return Ok(progress.finish());
+            return Ok((progress.finish(), progress));
         }
         let found = progress.feed(&buf[..count], listing, &mut lines)?;
         write_whole(writer, lines.as_slice())?;
         lines.clear();
         if let Some(summary) = found {
-            return Ok(summary);
+            return Ok((summary, progress));
         }
     }
     Err(RunFault::Read)
@@ -81,7 +81,7 @@ fn run<R: Source, W: Sink>(
     ensures bound { R.read_count reader.new ≤ R.read_count reader.old + 4294967296 }
     ensures begun { OnErr result (HasStopped limits listing (R.remaining reader.old) (R.remaining reader.new) (W.contents writer.old) (W.contents writer.new)) }
 {
-    let summary = read_on(alloc, limits, listing, reader, writer)?;
+    let (summary, _progress) = read_on(alloc, limits, listing, reader, writer)?;
     let line = summary.last_line(alloc)?;
     write_whole(writer, &line)?;
     Ok(summary.status())

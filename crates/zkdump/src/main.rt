@@ -10,6 +10,7 @@ pub mod builder;
 pub mod built;
 #[cfg(test)]
 mod device_tests;
+pub mod earliest_run;
 pub mod engines;
 pub mod laws;
 pub mod listing;

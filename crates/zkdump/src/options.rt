@@ -16,6 +16,8 @@ pub enum Command {
     Show,
     /// To write its last line.
     Check,
+    /// To write its last line, and the line of the first impossible byte.
+    CheckEarliest,
     /// To write the recording that a listing shows.
     Build,
     /// To write the recording of the second format that a recording makes.
@@ -33,7 +35,7 @@ pub struct Settings {
 #[derive(Clone, Copy, Debug, PartialEq, Eq, Error)]
 pub enum UsageFault {
     /// They are no command line of this program, or ask for help.
-    #[error("usage: zkdump show|check|build|migrate [--limit N] [--waiting N] [--profile 3.4|3.5]")]
+    #[error("usage: zkdump show|check|build|migrate [--limit N] [--waiting N] [--profile 3.4|3.5] [--earliest]")]
     Words,
     /// A growth was refused.
     #[error("zkdump: out of memory")]

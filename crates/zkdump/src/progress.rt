@@ -1,17 +1,22 @@
 //! A recording that is read block by block, and the conversation in it.
-ghost use Rattle.std.specs.Prelude.{◌≡◌, ◌≢◌, ◌+◌, ◌^◌, ◌<◌, ◌≤◌, ℕ, List, [], Some, None, IfOk, OnErr, MatchOption, length, drop};
+ghost use Rattle.std.specs.Prelude.{◌≡◌, ◌≢◌, ◌+◌, ◌^◌, ◌<◌, ◌≤◌, ℕ, List, [], Some, None, IfOk, IfSome, OnErr, MatchOption, length, drop};
 ghost use Rattle.zk_jute.specs.declared.fault.Reason.TheVariants.{NoMemory};
 ghost use Rattle.zk_talk.specs.declared.message.Message.{Message};
 ghost use Rattle.zk_talk.specs.Ending.{IsEnding};
 ghost use Rattle.zk_talk.specs.History.{History, on};
 ghost use Rattle.zk_talk.specs.Stands.{Stands};
+ghost use Rattle.zk_talk.specs.declared.message.Fault.{Fault as fault_of};
+ghost use Rattle.zk_records.specs.declared.op.Op.TheVariants as ops;
+ghost use Rattle.zk_answers.specs.declared.layout.Layout.TheVariants as layouts;
+ghost use Rattle.zkdump.specs.Earliest.{TellsBody};
 ghost use Rattle.zkdump.specs.Reading.{content_of, place_in};
-ghost use Rattle.zkdump.specs.Following.{Follows, Finishes, Takes, Gives, Has, Advances, Steps, IsWithin};
+ghost use Rattle.zkdump.specs.Following.{Follows, Finishes, HasRefused, Takes, Gives, Has, Advances, Steps, IsWithin};
 
 use crate::listing::Listing;
 use crate::recording::RecordingReader;
 use crate::summary::Summary;
 use std::alloc::{AllocError, Global};
+use zk_answers::Layout;
 use zk_jute::Reason;
 use zk_talk::{Ending, Fault, Limits, Side, Talk};
 
@@ -179,9 +184,21 @@ impl Progress {
         Ok(None)
     }
 
+    /// The layout and the bytes of the body in which the fault lies that was found.
+    pub fn refused_body(&self) -> Option<(Layout, &[u8])>
+        ensures tells { (limits : Limits) (h : History) (messages : List Message) (fault : fault_of) → HasRefused limits self.now.talk h messages fault → TellsBody limits h fault result }
+        ensures small { IfSome result (λ b. length b.1.now ≤ 16777216) }
+        ensures known { IfSome result (λ b. b.0 ≢ layouts.Answered ops.Multi) }
+    {
+        match &self.talk {
+            Some(talk) => talk.refused_body(),
+            None => None,
+        }
+    }
+
     /// What a recording comes to that ends here.
     pub fn finish(&self) -> Summary
-        ensures { (limits : Limits) (x : List ℕ) (messages : List Message) → Follows limits x messages self.now → Finishes limits x messages result }
+        ensures { (limits : Limits) (x : List ℕ) (messages : List Message) → Follows limits x messages self.now → Finishes limits x messages self.now.talk result }
     {
         match self.reader.finish() {
             Some(damage) => Summary::Broken(damage),

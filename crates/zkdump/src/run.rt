@@ -5,6 +5,7 @@ ghost use Rattle.zkdump.specs.Exits.{exit_of, exit_of_built, exit_of_migrated, r
 
 use crate::build::build_run;
 use crate::built::Built;
+use crate::earliest_run::check_earliest_run;
 use crate::engines::{check_run, show_run};
 use crate::listing::RunFault;
 use crate::migrate::{Migrated, migrate_run};
@@ -106,6 +107,10 @@ fn obey<R: Source, W: Sink, F: Sink>(
     match chosen.command {
         Command::Show => Ok(exit_code(show_run(alloc, chosen.limits, reader, writer)?)),
         Command::Check => Ok(exit_code(check_run(alloc, chosen.limits, reader, writer)?)),
+        Command::CheckEarliest => {
+            let status = check_earliest_run(alloc, chosen.limits, reader, writer)?;
+            Ok(exit_code(status))
+        }
         Command::Build => Ok(report(build_run(alloc, chosen.limits, reader, writer)?, faults)),
         Command::Migrate => {
             let migrated = migrate_run(alloc, chosen.limits, reader, writer)?;

@@ -35,7 +35,7 @@ S 1 exists zxid=5 err=-101/NONODE
 ";
 
 const USAGE: &str =
-    "usage: zkdump show|check|build|migrate [--limit N] [--waiting N] [--profile 3.4|3.5]\n";
+    "usage: zkdump show|check|build|migrate [--limit N] [--waiting N] [--profile 3.4|3.5] [--earliest]\n";
 
 fn put_pieces(recording: &mut Vec<u8>, pieces: &[(u8, &[u8])]) -> Result<(), AllocError> {
     for (side, bytes) in pieces {

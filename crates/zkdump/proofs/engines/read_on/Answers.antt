@@ -31,13 +31,10 @@ pub returns-then-count-eq0-clause-ok : goal.returns-then-count-eq0-clause-ok
 returns-then-count-eq0-clause-ok g c =
     let i = c.loop-turn.invariant.read in
     let r = c.in-Ok.ensures.bytes in
-    record {
-      messages = i.1;
-      found = found-at_end c.args.limits _ _ _ i.0 _ i.1 c.finish.result i.2 r.0 (rw c.if-count-eq0.true refl)
-          (r.1 c.if-count-eq0.true (omega (arith, c.read.auto.buf, c.loop-turn.invariant.block)))
-          (c.finish.ensures c.args.limits i.0 i.1 i.3);
-      written = i.4;
-    }
+    let f = found-at_end c.args.limits _ _ _ i.0 _ i.1 _ c.finish.result i.2 r.0 (rw c.if-count-eq0.true refl)
+    (r.1 c.if-count-eq0.true (omega (arith, c.read.auto.buf, c.loop-turn.invariant.block)))
+    (c.finish.ensures c.args.limits i.0 i.1 i.3) in
+    record { all = record { messages = i.1; found = f.found; written = i.4 }; kept = f.kept }
 
 pub returns-in_err-found-clause-begun : goal.returns-in_err-found-clause-begun
 returns-in_err-found-clause-begun g c =
@@ -66,11 +63,15 @@ returns-in-Some-clause-ok g c =
     let i = c.loop-turn.invariant.read in
     let a = c.in_ok-found.ensures.advances c.args.limits i.0 i.1 i.3 in
     let text = appended _ _ _ _ c.as_slice.ensures.value a.2 c.loop-turn.invariant.empty in
+    let f = found-decided c.args.limits _ _ _ (i.1 ++ a.0) c.feed.new.self.talk c.in-Some.summary (Consumes-then _ _ _ i.0 _ i.2 c.in-Ok.ensures.bytes.0)
+    (subst (Reaches c.args.limits _ (i.1 ++ a.0) c.feed.new.self) c.in-Some.is a.1) in
     record {
-      messages = i.1 ++ a.0;
-      found = found-decided c.args.limits _ _ _ (i.1 ++ a.0) c.in-Some.summary (Consumes-then _ _ _ i.0 _ i.2 c.in-Ok.ensures.bytes.0)
-          (subst (Reaches c.args.limits _ (i.1 ++ a.0) _) c.in-Some.is a.1);
-      written = told-then c.args.listing _ _ _ i.1 a.0 i.4 (subst (Appends (g.W.Sink.contents c.loop-turn.writer) (g.W.Sink.contents c.write_whole.new.writer)) text c.in_ok-write_whole.ensures.ok);
+      all = record {
+        messages = i.1 ++ a.0;
+        found = f.found;
+        written = told-then c.args.listing _ _ _ i.1 a.0 i.4 (subst (Appends (g.W.Sink.contents c.loop-turn.writer) (g.W.Sink.contents c.write_whole.new.writer)) text c.in_ok-write_whole.ensures.ok);
+      };
+      kept = f.kept;
     }
 
 pub loop-turn-preserved : goal.loop-turn-preserved

@@ -17,20 +17,20 @@ returns-in_err-summary-clause-begun g c =
 pub returns-in_err-line-clause-begun : goal.returns-in_err-line-clause-begun
 returns-in_err-line-clause-begun g c =
     let p = err_from_is_err_and c.from_residual-in_err-line.result c.from_residual-in_err-line.ensures.1 in
-    let f = c.in_ok-summary.ensures.ok in
+    let f = c.in_ok-summary.ensures.ok.all in
     rw p.1 (stopped-in_last_line c.args.limits c.args.listing _ _ _ _ f.messages _ f.found (grown-front _ _ _ _ f.written))
 
 pub returns-in_err-write_whole-clause-begun : goal.returns-in_err-write_whole-clause-begun
 returns-in_err-write_whole-clause-begun g c =
     let p = err_from_is_err_and c.from_residual-in_err-write_whole.result c.from_residual-in_err-write_whole.ensures.1 in
-    let f = c.in_ok-summary.ensures.ok in
+    let f = c.in_ok-summary.ensures.ok.all in
     let line : c.deref.result.now ≡ last_line c.in_ok-summary.summary = c.deref.ensures.value ∙ c.in_ok-line.ensures in
     rw p.1 (stopped-in_last_line c.args.limits c.args.listing _ _ _ _ f.messages _ f.found (grown-further _ _ _ _ _ f.written
     (subst (HasGrownIn (g.W.Sink.contents c.read_on.new.writer) (g.W.Sink.contents c.write_whole.new.writer)) line c.in_err-write_whole.ensures.err)))
 
 pub returns-clause-ok : goal.returns-clause-ok
 returns-clause-ok g c =
-    let f = c.in_ok-summary.ensures.ok in
+    let f = c.in_ok-summary.ensures.ok.all in
     let line : c.deref.result.now ≡ last_line c.in_ok-summary.summary = c.deref.ensures.value ∙ c.in_ok-line.ensures in
     record {
       messages = f.messages;
