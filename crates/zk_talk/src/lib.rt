@@ -32,6 +32,8 @@ mod profile_tests;
 #[cfg(test)]
 mod refusal_tests;
 #[cfg(test)]
+mod refused_tests;
+#[cfg(test)]
 mod reply_tests;
 #[cfg(test)]
 mod speaker_tests;

@@ -1,7 +1,6 @@
 //! Create2, which is of profile 3.5 alone.
 use super::*;
 use crate::tests::{CONNECT, CONNECTED, reads, refused, usual};
-use std::alloc::Global;
 use std::test::Fail;
 use zk_jute::Reason;
 use zk_records::Profile;
@@ -55,28 +54,4 @@ fn create2_is_read(rt: HostRuntime) -> Result<(), Fail> {
     let short = refused(Side::Server, 1, 67, 22, Reason::Short);
     let pieces = asked_and_answered(CREATED);
     reads(&rt, rt.alloc(), newer()?, &pieces, &labels[..3], short)
-}
-
-/// What each message is refused for.
-fn refusals(
-    alloc: Global,
-    limits: Limits,
-    messages: &[Message],
-) -> Result<[Option<SayFault>; 4], Fail> {
-    let mut speaker = Speaker::new(alloc, limits)?;
-    let mut out = Vec::new(alloc);
-    let mut faults = [None; 4];
-    for (fault, message) in faults.iter_mut().zip(messages.iter()) {
-        *fault = speaker.say(message, &mut out).err();
-    }
-    Ok(faults)
-}
-
-#[test]
-fn create2_is_said(rt: HostRuntime) -> Result<(), Fail> {
-    let messages = read_all(rt.alloc(), newer()?, &asked_and_answered(CREATED2))?.messages;
-    assert_eq!(rt; refusals(rt.alloc(), newer()?, &messages)?, [None; 4]);
-    let older = [None, None, Some(SayFault::Misfit), Some(SayFault::Unasked)];
-    assert_eq!(rt; refusals(rt.alloc(), usual()?, &messages)?, older);
-    Ok(())
 }

@@ -329,7 +329,7 @@ fn held_and_waiting(rt: HostRuntime) -> Result<(), Fail> {
 }
 
 /// What a piece is refused for.
-fn fault_of(talk: &mut Talk, side: Side, piece: &[u8]) -> Option<Fault> {
+pub(crate) fn fault_of(talk: &mut Talk, side: Side, piece: &[u8]) -> Option<Fault> {
     match talk.take(side, piece) {
         Ok(_) => None,
         Err(fault) => Some(fault),
@@ -337,7 +337,7 @@ fn fault_of(talk: &mut Talk, side: Side, piece: &[u8]) -> Option<Fault> {
 }
 
 /// A talk that has read both connect messages and a request.
-fn asked(alloc: Global) -> Result<Talk, Fail> {
+pub(crate) fn asked(alloc: Global) -> Result<Talk, Fail> {
     let mut talk = Talk::new(alloc, usual()?)?;
     takes(&mut talk, Side::Client, CONNECT);
     takes(&mut talk, Side::Server, CONNECTED);
