@@ -79,10 +79,12 @@ def sides(pieces):
 
 def stored():
     """The recordings of the worked examples and of real clients: a name, the program's words, the recording and the
-    line that `check` writes of it."""
+    line that a plain `check` writes of it, without what --earliest tells below it."""
     for args in sorted((TOP / "crates/zkdump/cases/check").glob("*.args")):
         source, wanted = args.with_suffix(".in"), args.with_suffix(".out")
         if source.exists() and wanted.exists():
-            yield args.stem, args.read_text().split(), source.read_bytes(), last_line(wanted.read_bytes())
+            words = [word for word in args.read_text().split() if word != "--earliest"]
+            line = wanted.read_bytes().partition(b". earliest=")[0]
+            yield args.stem, words, source.read_bytes(), last_line(line)
     for path in sorted((TOP / "captures").glob("*.zkr")):
         yield path.stem, ["check"], path.read_bytes(), last_line(path.with_suffix(".show").read_bytes())
