@@ -76,6 +76,22 @@ fault_more limits h r f is = record {
   cause = is.cause;
 }
 
+-- The messages before it stay the same, and a talk that refused it stands for the longer history too.
+pub messages_more : (limits : Limits) (h r : History) (M : List Message) (f : Fault) → AreMessages limits h M (Refused f) → AreMessages limits (h ++ r) M (Refused f)
+unfolding fault_more
+messages_more limits h r M f m = (fault_more limits h r f m.0, m.1)
+
+pub refuses_more : (t : TalkState) (h r : History) (M : List Message) (f : Fault) → Refuses t h M f → Refuses t (h ++ r) M f
+unfolding fault_more
+refuses_more t h r M f x = record {
+  kept = x.kept;
+  is = fault_more t.limits h r f x.is;
+  order = x.order;
+  queues = x.queues;
+  load = x.load;
+  held = x.held;
+}
+
 pub refused : (t : TalkState) (h r : History) (M : List Message) (f : Fault) → Refuses t h M f → IsEnding t.limits (h ++ r) (Refused f) × AreMessages t.limits (h ++ r) M (Refused f)
 unfolding fault_more
 refused t h r M f x = (fault_more t.limits h r f x.is, (fault_more t.limits h r f x.is, x.order))

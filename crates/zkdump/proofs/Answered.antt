@@ -38,28 +38,6 @@ pub on-err-map : {T E : Type 0} (r : Result T E) (P Q : Type 0) → (P → Q) �
 on-err-map (Ok x) P Q f p = tt
 on-err-map (Err e) P Q f p = f p
 
--- ---- why no failed read or write is behind a halt
-
-pub spared-halt : (halt : Halt) (P : Type 0) → P → IfSpared halt P
-spared-halt (Refused built) P p = p
-spared-halt (Fails Memory) P p = p
-spared-halt (Fails Read) P p = tt
-spared-halt (Fails Write) P p = tt
-
-pub spared-result : {T : Type 0} (r : Result T Halt) (P : Type 0) → P → IfErr r (λ halt. IfSpared halt P)
-spared-result (Ok x) P p = tt
-spared-result (Err halt) P p = spared-halt halt P p
-
-pub open-answer : (halt : Halt) (P : Type 0) → IfSpared halt P → IfOk (answer_of halt) (λ _. P)
-open-answer (Refused built) P p = p
-open-answer (Fails fault) P p = tt
-
-pub spared-answer : (halt : Halt) (P : Type 0) → IfSpared halt P → IsErrOf (answer_of halt) Memory → P
-spared-answer (Refused built) P p e = absurd cc
-spared-answer (Fails Memory) P p e = p
-spared-answer (Fails Read) P p e = absurd cc
-spared-answer (Fails Write) P p e = absurd cc
-
 module _ (limits : Limits) (unread mid : Option (List ℕ)) (x : List ℕ) (before now : Option (List ℕ)) (p : Consumes unread mid x) where
   -- what was read so far
   pub built-so_far : (begun : List ℕ) (count : ℕ) (ended : Bool) (speaker : SpeakerState) → HasTaken limits x before now begun count ended speaker → HasBuiltSoFar limits unread mid before now

@@ -7,7 +7,7 @@ use Rattle.zk_talk.specs.declared.message.Ending.TheVariants.{Whole, Cut, Refuse
 use Rattle.zk_talk.specs.History.{History}
 use Rattle.zk_talk.specs.Fault.{IsFaultOf}
 use Rattle.zk_talk.specs.Answer.{AreMessages}
-use Rattle.zk_talk.proofs.Headline.{fault_is_bad, fault_more}
+use Rattle.zk_talk.proofs.Headline.{fault_is_bad, fault_more, messages_more}
 use Rattle.zkdump.specs.declared.summary.Summary.{Summary}
 use Rattle.zkdump.specs.declared.summary.Summary.TheVariants.{Ended, Broken}
 use Rattle.zkdump.specs.Recording.{Recording, Spells, history_at, limits_at, place_of, begun_history, history_of, limits_of, damage_of}
@@ -17,28 +17,6 @@ use Rattle.zkdump.proofs.Any.{longer}
 use Rattle.zkdump.proofs.Once.{spells-once}
 use Rattle.zkdump.proofs.Shown.{fault-headed, broken-by}
 use Rattle.zkdump.proofs.Stages.{damaged-more}
-
--- the messages before a fault are those before it, whatever follows
-messages_more : (limits : Limits) (h rest : History) (messages : List Message) (f : Fault) → AreMessages limits h messages (Refused f) → AreMessages limits (h ++ rest) messages (Refused f)
-messages_more limits h rest messages f m =
-    let is = m.0 in
-    let longer : IsFaultOf limits (h ++ rest) f = record {
-      before = is.before;
-      byte = is.byte;
-      after = is.after ++ rest;
-      conversation = is.conversation;
-      client_rest = is.client_rest;
-      server_rest = is.server_rest;
-      stands = ap (λ z. z ++ rest) is.stands ∙ append_assoc is.before ((f.side, is.byte) ∷ is.after) rest;
-      good = is.good;
-      bad = is.bad;
-      frame = is.frame;
-      offset = is.offset;
-      place = is.place;
-      told = is.told;
-      cause = is.cause;
-    } in
-    (longer, m.1)
 
 -- equal limits, histories and damages come to the same
 same-outcome : (limits : Limits) (r s : Recording) (messages : List Message) (summary : Summary) → limits_of limits s ≡ limits_of limits r → history_of s ≡ history_of r → damage_of s ≡ damage_of r → IsOutcome limits r messages summary → IsOutcome limits s messages summary

@@ -11,7 +11,7 @@ use Rattle.zk_talk.specs.Fault.{IsFaultOf}
 use Rattle.zk_talk.specs.Ending.{IsEnding}
 use Rattle.zk_talk.specs.Answer.{AreMessages}
 use Rattle.zk_talk.specs.Stands.{TalkState, Refuses}
-use Rattle.zk_talk.proofs.Headline.{fault_is_bad, refused, stands_messages}
+use Rattle.zk_talk.proofs.Headline.{fault_is_bad, refused, refuses_more, stands_messages}
 use Rattle.zkdump.specs.declared.parts.DamageAt.{DamageAt}
 use Rattle.zkdump.specs.declared.progress.Progress.{Progress}
 use Rattle.zkdump.specs.declared.recording.State.{State}
@@ -34,34 +34,6 @@ no-fault limits h messages i = λ fault is. fault_is_bad limits h fault is (i.co
 pub rejoined : (x block : List ℕ) (n : ℕ) → (x ++ take n block) ++ drop n block ≡ x ++ block
 rejoined x block n = append_assoc x (take n block) (drop n block) ∙ ap (λ b. x ++ b) (take-append-drop n block)
 
--- what comes after a refusal changes nothing
-refuses-more : (t : TalkState) (h r : History) (messages : List Message) (f : Fault) → Refuses t h messages f → Refuses t (h ++ r) messages f
-refuses-more t h r messages f x =
-    let i = x.is in
-    record {
-      kept = x.kept;
-      is = record {
-        before = i.before;
-        byte = i.byte;
-        after = i.after ++ r;
-        conversation = i.conversation;
-        client_rest = i.client_rest;
-        server_rest = i.server_rest;
-        stands = ap (λ z. z ++ r) i.stands ∙ append_assoc i.before ((f.side, i.byte) ∷ i.after) r;
-        good = i.good;
-        bad = i.bad;
-        frame = i.frame;
-        offset = i.offset;
-        place = i.place;
-        told = i.told;
-        cause = i.cause;
-      };
-      order = x.order;
-      queues = x.queues;
-      load = x.load;
-      held = x.held;
-    }
-
 -- a fault stands whatever follows it
 pub decides-by_fault : (limits : Limits) (x block : List ℕ) (n : ℕ) (r : Recording) (messages : List Message) (talk : Option TalkState) (f : Fault) → Spells (x ++ take n block) r →
     IsHeaded (place_of r) → HasRefused (limits_of limits r) talk (history_of r) messages f → Decides limits (x ++ block) messages talk (Ended (Refused f))
@@ -77,7 +49,7 @@ decides-by_fault limits x block n r messages (Some t) f i is has =
       spells = subst (λ y. Spells y l.new) (rejoined x block n) l.spells;
       is = record { comes_to = here.0; messages_are = here.1 };
       decided = inl (f, here.0);
-      kept = (subst (λ k. Refuses t k messages f) (sym l.history) (refuses-more t (history_of r) l.after messages f has.0), e);
+      kept = (subst (λ k. Refuses t k messages f) (sym l.history) (refuses_more t (history_of r) l.after messages f has.0), e);
     }
 
 -- a damage other than the end stands whatever follows it
