@@ -1,4 +1,4 @@
-use Rattle.std.proofs.Common.{◌≡◌, sym, ◌∙◌, subst, refl, arith}
+use Rattle.std.proofs.Common.{sym, ◌∙◌, subst, refl, arith}
 use Rattle.zk_frames.specs.Held.{IsWhole}
 use Rattle.zk_frames.specs.Advance.{Holds}
 use Rattle.zk_frames.proofs.Taking.{standing_whole}
