@@ -6,11 +6,11 @@ use Rattle.zk_jute.specs.Wired.{Wired}
 use Rattle.zk_jute.proofs.Layouts.{bytes_only}
 use Rattle.zk_records.specs.declared.op.Op.{Op}
 use Rattle.zk_records.specs.declared.op.PartOp.{PartOp}
-use Rattle.zk_answers.specs.declared.frame.Body.{Body}
-use Rattle.zk_answers.specs.declared.frame.Body.TheVariants as body
-use Rattle.zk_answers.specs.declared.frame.PartDone.{PartDone}
+use Rattle.zk_answers.specs.Held.{Body, PartDone}
+use Rattle.zk_answers.specs.declared.frame.BodyOf.TheVariants as body
 use Rattle.zk_answers.specs.Rows.{Row, holds, bare, multi, row_of, Content, remake, items_in}
-use Rattle.zk_answers.specs.Frames.{op_of_body, body_items, BodyFits}
+use Rattle.zk_answers.specs.Frames.{BodyFits}
+use Rattle.zk_answers.specs.Rows.{op_of_body, body_items}
 use Rattle.zk_answers.specs.Faults.{IsOfShape, shape_in, body_shape}
 use Rattle.zk_answers.proofs.Results.{multi_only}
 

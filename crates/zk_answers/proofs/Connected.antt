@@ -9,8 +9,8 @@ use Rattle.zk_jute.proofs.Sequels.{Same}
 use Rattle.zk_jute.proofs.Flagged.{flagged_unique, flagged_excludes, flagged_injective}
 use Rattle.zk_records.specs.Held.{ConnectResponse}
 use Rattle.zk_records.specs.Records.{connect_response}
-use Rattle.zk_answers.specs.declared.frame.ServerFrame.{ServerFrame}
-use Rattle.zk_answers.specs.declared.frame.ServerFrame.TheVariants as frame
+use Rattle.zk_answers.specs.Held.{ServerFrame}
+use Rattle.zk_answers.specs.declared.frame.ServerFrameOf.TheVariants as frame
 use Rattle.zk_answers.specs.Frames.{IsConnected, IsSent, payload}
 use Rattle.zk_answers.specs.Faults.{IsConnectedFault}
 

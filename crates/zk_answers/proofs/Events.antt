@@ -11,8 +11,8 @@ use Rattle.zk_jute.proofs.Sequels.{Same}
 use Rattle.zk_records.specs.declared.header.ReplyHeader.{ReplyHeader}
 use Rattle.zk_records.specs.Held.{WatcherEvent}
 use Rattle.zk_records.specs.Records.{reply_header, watcher_event}
-use Rattle.zk_answers.specs.declared.frame.ServerFrame.{ServerFrame}
-use Rattle.zk_answers.specs.declared.frame.ServerFrame.TheVariants as frame
+use Rattle.zk_answers.specs.Held.{ServerFrame}
+use Rattle.zk_answers.specs.declared.frame.ServerFrameOf.TheVariants as frame
 use Rattle.zk_answers.specs.Frames.{event_header, IsEvent, IsSent, payload}
 use Rattle.zk_answers.specs.Faults.{Fields, IsHead, IsRestFault, IsEventFault, in_header, bad_err, in_event}
 use Rattle.zk_answers.proofs.Heads.{Headed, headed_unique, headed_excludes, head_unique, stands_head}

@@ -7,11 +7,11 @@ use Rattle.std.proofs.lemmas.Option.{slice_get-get_or}
 use Rattle.zk_records.specs.declared.op.Op.TheVariants as ops
 use Rattle.zk_records.specs.declared.op.PartOp.{PartOp}
 use Rattle.zk_records.specs.declared.op.PartOp.TheVariants as parts
-use Rattle.zk_asks.specs.declared.frame.Ask.{Ask}
-use Rattle.zk_asks.specs.declared.frame.Ask.TheVariants as ask
+use Rattle.zk_asks.specs.Held.{Ask}
+use Rattle.zk_asks.specs.declared.frame.AskOf.TheVariants as ask
 use Rattle.zk_asks.specs.Frames.{ops_of_ask}
 use Rattle.zk_asks.specs.Rows.{op_of_ask}
-use Rattle.zk_answers.specs.declared.frame.PartDone.{PartDone}
+use Rattle.zk_answers.specs.Held.{PartDone}
 use Rattle.zk_answers.specs.Results.{Answers, AnswerAll}
 
 some_same : {X : Type 0} (x y : X) → ◌≡◌ {A = Option X} (Some x) (Some y) → x ≡ y

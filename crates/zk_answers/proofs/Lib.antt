@@ -15,3 +15,4 @@ pub mod Shorts
 pub mod Opened
 pub mod Cased
 pub mod Covered
+pub mod Lying

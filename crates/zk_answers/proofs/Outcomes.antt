@@ -17,7 +17,7 @@ use Rattle.zk_jute.proofs.Sequels.{stands_then}
 use Rattle.zk_records.specs.declared.header.MultiHeader.{MultiHeader}
 use Rattle.zk_records.specs.declared.op.PartOp.{PartOp}
 use Rattle.zk_records.specs.Records.{multi_header}
-use Rattle.zk_answers.specs.declared.frame.PartDone.{PartDone}
+use Rattle.zk_answers.specs.Held.{PartDone}
 use Rattle.zk_asks.specs.Parts.{marked}
 use Rattle.zk_answers.proofs.Dones.{result_items, result_is, items_of, done_is}
 use Rattle.zk_answers.specs.Results.{result_header, error_header, result_layout, done_items, Answers, AnswerAll, MayAnswer, IsDoneFault, in_mark, bad_mark, in_result, in_error, other_error, behind_result, behind_error}

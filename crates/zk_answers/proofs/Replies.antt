@@ -10,12 +10,11 @@ use Rattle.zk_records.specs.declared.header.ReplyHeader.{ReplyHeader}
 use Rattle.zk_records.specs.declared.op.Op.{Op}
 use Rattle.zk_records.specs.declared.op.PartOp.{PartOp}
 use Rattle.zk_records.specs.Records.{reply_header}
-use Rattle.zk_answers.specs.declared.frame.Outcome.{Outcome}
-use Rattle.zk_answers.specs.declared.frame.Outcome.TheVariants as outcome
-use Rattle.zk_answers.specs.declared.frame.Reply.{Reply}
-use Rattle.zk_answers.specs.declared.frame.ServerFrame.{ServerFrame}
-use Rattle.zk_answers.specs.declared.frame.ServerFrame.TheVariants as frame
-use Rattle.zk_answers.specs.Frames.{err_of, header_of, rest_items, IsOutcome, IsSent, IsReplyTo, OutcomeFits, body_items, payload}
+use Rattle.zk_answers.specs.Held.{Outcome, Reply, ServerFrame}
+use Rattle.zk_answers.specs.declared.frame.OutcomeOf.TheVariants as outcome
+use Rattle.zk_answers.specs.declared.frame.ServerFrameOf.TheVariants as frame
+use Rattle.zk_answers.specs.Frames.{err_of, header_of, rest_items, IsOutcome, IsSent, IsReplyTo, OutcomeFits, payload}
+use Rattle.zk_answers.specs.Rows.{body_items}
 use Rattle.zk_answers.specs.Faults.{Shape, Fields, IsOfShape, IsHead, IsRestFault, rest_shape, IsReplyFault, in_head, in_rest, body_shape}
 use Rattle.zk_answers.proofs.Heads.{Headed, headed_unique, headed_excludes, head_unique, stands_head}
 use Rattle.zk_answers.proofs.Rests.{rest_unique, rest_excludes}

@@ -6,7 +6,7 @@ use Rattle.zk_jute.specs.Item.{Item, bytes_of}
 use Rattle.zk_jute.proofs.Layouts.{bytes_only}
 use Rattle.zk_jute.proofs.Decided.{one_fault}
 use Rattle.zk_jute.proofs.Sequels.{Same, excluded}
-use Rattle.zk_answers.specs.declared.frame.PartDone.{PartDone}
+use Rattle.zk_answers.specs.Held.{PartDone}
 use Rattle.zk_answers.specs.Results.{multi_items}
 use Rattle.zk_answers.specs.Faults.{Shape, Fields, Results, IsOfShape, IsShapeFault, IsRestFault, in_shape, past_shape}
 use Rattle.zk_answers.proofs.Results.{done_unique, done_excludes, multi_only}

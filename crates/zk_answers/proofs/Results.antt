@@ -12,8 +12,8 @@ use Rattle.zk_jute.proofs.Sequels.{Same, Sequel, sequel_same, sequel_not}
 use Rattle.zk_records.specs.declared.header.MultiHeader.{MultiHeader}
 use Rattle.zk_records.specs.declared.op.PartOp.{PartOp}
 use Rattle.zk_records.specs.Records.{multi_header}
-use Rattle.zk_answers.specs.declared.frame.PartDone.{PartDone}
-use Rattle.zk_answers.specs.declared.frame.PartDone.TheVariants as done
+use Rattle.zk_answers.specs.Held.{PartDone}
+use Rattle.zk_answers.specs.declared.frame.PartDoneOf.TheVariants as done
 use Rattle.zk_asks.specs.Parts.{end_header, marked}
 use Rattle.zk_answers.specs.Results.{result_header, error_header, done_items, multi_items, result_layout, Answers, AnswerAll, MayAnswer, IsDoneFault, in_mark, bad_mark, in_result, in_error, other_error, behind_result, behind_error}
 use Rattle.zk_answers.proofs.Placed.{Placed, placed_same, placed_not}

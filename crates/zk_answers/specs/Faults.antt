@@ -10,7 +10,7 @@ use Rattle.zk_records.specs.declared.header.ReplyHeader.{ReplyHeader}
 use Rattle.zk_records.specs.declared.op.Op.{Op}
 use Rattle.zk_records.specs.declared.op.PartOp.{PartOp}
 use Rattle.zk_records.specs.Records.{connect_response, reply_header, watcher_event}
-use Rattle.zk_answers.specs.declared.frame.PartDone.{PartDone}
+use Rattle.zk_answers.specs.Held.{PartDone}
 use Rattle.zk_answers.specs.Results.{multi_items, AnswerAll, IsDoneFault}
 use Rattle.zk_answers.specs.Rows.{Row, holds, bare, multi, row_of}
 

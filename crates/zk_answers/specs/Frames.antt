@@ -6,29 +6,23 @@ use Rattle.zk_records.specs.declared.header.ReplyHeader.{ReplyHeader}
 use Rattle.zk_records.specs.declared.op.Op.{Op}
 use Rattle.zk_records.specs.declared.op.PartOp.{PartOp}
 use Rattle.zk_records.specs.Records.{connect_response, reply_header, watcher_event}
-use Rattle.zk_answers.specs.declared.frame.Body.{Body}
-use Rattle.zk_answers.specs.declared.frame.Body.TheVariants as body
-use Rattle.zk_answers.specs.declared.frame.Outcome.{Outcome}
-use Rattle.zk_answers.specs.declared.frame.Outcome.TheVariants as outcome
-use Rattle.zk_answers.specs.declared.frame.Reply.{Reply}
-use Rattle.zk_answers.specs.declared.frame.ServerFrame.{ServerFrame}
-use Rattle.zk_answers.specs.declared.frame.ServerFrame.TheVariants as frame
+use Rattle.zk_answers.specs.declared.frame.BodyOf.{BodyOf}
+use Rattle.zk_answers.specs.declared.frame.OutcomeOf.{OutcomeOf}
+use Rattle.zk_answers.specs.declared.frame.ReplyOf.{ReplyOf}
+use Rattle.zk_answers.specs.Held.{Body, Outcome, Reply, ServerFrame}
+use Rattle.zk_answers.specs.declared.frame.BodyOf.TheVariants as body
+use Rattle.zk_answers.specs.declared.frame.OutcomeOf.TheVariants as outcome
+use Rattle.zk_answers.specs.declared.frame.ServerFrameOf.TheVariants as frame
 use Rattle.zk_answers.specs.Results.{AnswerAll}
-use Rattle.zk_answers.specs.Rows.{seen}
+use Rattle.zk_answers.specs.Rows.{op_of_body, body_items}
 
 -- ---- a reply
 
-abbrev pub op_of_body : Body → Op
-op_of_body b = (seen b).0
-
-abbrev pub body_items : Body → List Item
-body_items b = (seen b).1
-
-abbrev pub op_of_outcome : Outcome → Op
+abbrev pub op_of_outcome : {T B L A M : Type 0} → OutcomeOf (BodyOf T B L A M) → Op
 op_of_outcome (outcome.Done b) = op_of_body b
 op_of_outcome (outcome.Failed op e) = op
 
-abbrev pub op_of_reply : Reply → Op
+abbrev pub op_of_reply : {T B L A M : Type 0} → ReplyOf (BodyOf T B L A M) → Op
 op_of_reply r = op_of_outcome r.outcome
 
 -- 0 where nothing failed

@@ -1,5 +1,7 @@
 pub mod Results
 pub mod Rows
+pub mod Held
+pub mod Shown
 pub mod Frames
 pub mod Faults
 pub mod Openings

@@ -13,8 +13,8 @@ use Rattle.zk_records.specs.declared.op.PartOp.TheVariants as parts
 use Rattle.zk_records.specs.Codes.{part_number}
 use Rattle.zk_records.specs.Records.{multi_header, stat}
 use Rattle.zk_asks.specs.Parts.{end_header, marked}
-use Rattle.zk_answers.specs.declared.frame.PartDone.{PartDone}
-use Rattle.zk_answers.specs.declared.frame.PartDone.TheVariants as done
+use Rattle.zk_answers.specs.Held.{PartDone}
+use Rattle.zk_answers.specs.declared.frame.PartDoneOf.TheVariants as done
 use Rattle.zk_answers.specs.declared.multi.Mark.{Mark}
 use Rattle.zk_answers.specs.declared.multi.Mark.TheVariants as mark
 
@@ -42,6 +42,29 @@ Answers op done.Deleted = op ≡ parts.Delete
 Answers op (done.DataSet s) = op ≡ parts.SetData
 Answers op done.Checked = op ≡ parts.Check
 Answers op (done.PartFailed e) = Unit {0}
+
+-- a part's own result
+abbrev pub Own : PartOp → PartDone → Type 0
+Own op (done.Created path) = op ≡ parts.Create
+Own op done.Deleted = op ≡ parts.Delete
+Own op (done.DataSet s) = op ≡ parts.SetData
+Own op done.Checked = op ≡ parts.Check
+Own op (done.PartFailed e) = ⊥
+
+-- what stands before it, and what stands behind that
+abbrev pub mark_before : PartDone → MultiHeader
+mark_before (done.Created path) = result_header parts.Create
+mark_before done.Deleted = result_header parts.Delete
+mark_before (done.DataSet s) = result_header parts.SetData
+mark_before done.Checked = result_header parts.Check
+mark_before (done.PartFailed e) = error_header e
+
+abbrev pub result_of : PartDone → List Item
+result_of (done.Created path) = text_items path
+result_of done.Deleted = []
+result_of (done.DataSet s) = stat.items s
+result_of done.Checked = []
+result_of (done.PartFailed e) = AnInt e ∷ []
 
 -- results for these parts, as many as parts
 abbrev pub AnswerAll : List PartOp → List PartDone → Type 0

@@ -5,9 +5,9 @@ use Rattle.zk_jute.specs.Wired.{Wired, ustring, vector}
 use Rattle.zk_records.specs.declared.op.Op.{Op}
 use Rattle.zk_records.specs.declared.op.Op.TheVariants as ops
 use Rattle.zk_records.specs.Records.{stat, data_body, acl_body, children_body, create_body}
-use Rattle.zk_answers.specs.declared.frame.Body.{Body}
-use Rattle.zk_answers.specs.declared.frame.Body.TheVariants as body
-use Rattle.zk_answers.specs.declared.frame.PartDone.{PartDone}
+use Rattle.zk_answers.specs.declared.frame.BodyOf.{BodyOf}
+use Rattle.zk_answers.specs.Held.{Body, PartDone}
+use Rattle.zk_answers.specs.declared.frame.BodyOf.TheVariants as body
 use Rattle.zk_answers.specs.Results.{multi_items}
 
 -- a record of its own, nothing, or the results of a multi's parts; each with the body that it makes
@@ -53,20 +53,38 @@ items_in multi x = multi_items x
 
 -- ---- a body's operation, and its items
 
-abbrev pub seen : Body → Op × List Item
-seen (body.Create path) = (ops.Create, ustring.items path)
-seen body.Delete = (ops.Delete, [])
-seen (body.Exists s) = (ops.Exists, stat.items s)
-seen (body.GetData blob s) = (ops.GetData, data_body.items (record { blob = blob; stat = s }))
-seen (body.SetData s) = (ops.SetData, stat.items s)
-seen (body.GetAcl acl s) = (ops.GetAcl, acl_body.items (record { acl = acl; stat = s }))
-seen (body.SetAcl s) = (ops.SetAcl, stat.items s)
-seen (body.GetChildren names) = (ops.GetChildren, (vector ustring).items names)
-seen (body.Sync path) = (ops.Sync, ustring.items path)
-seen body.Ping = (ops.Ping, [])
-seen (body.GetChildren2 names s) = (ops.GetChildren2, children_body.items (record { names = names; stat = s }))
-seen (body.Multi dones) = (ops.Multi, multi_items dones)
-seen (body.Create2 path s) = (ops.Create2, create_body.items (record { path = path; stat = s }))
-seen body.Auth = (ops.Auth, [])
-seen body.SetWatches = (ops.SetWatches, [])
-seen body.CloseSession = (ops.CloseSession, [])
+abbrev pub op_of_body : {T B L A M : Type 0} → BodyOf T B L A M → Op
+op_of_body (body.Create path) = ops.Create
+op_of_body body.Delete = ops.Delete
+op_of_body (body.Exists s) = ops.Exists
+op_of_body (body.GetData blob s) = ops.GetData
+op_of_body (body.SetData s) = ops.SetData
+op_of_body (body.GetAcl acl s) = ops.GetAcl
+op_of_body (body.SetAcl s) = ops.SetAcl
+op_of_body (body.GetChildren names) = ops.GetChildren
+op_of_body (body.Sync path) = ops.Sync
+op_of_body body.Ping = ops.Ping
+op_of_body (body.GetChildren2 names s) = ops.GetChildren2
+op_of_body (body.Multi dones) = ops.Multi
+op_of_body (body.Create2 path s) = ops.Create2
+op_of_body body.Auth = ops.Auth
+op_of_body body.SetWatches = ops.SetWatches
+op_of_body body.CloseSession = ops.CloseSession
+
+abbrev pub body_items : Body → List Item
+body_items (body.Create path) = ustring.items path
+body_items body.Delete = []
+body_items (body.Exists s) = stat.items s
+body_items (body.GetData blob s) = data_body.items (record { blob = blob; stat = s })
+body_items (body.SetData s) = stat.items s
+body_items (body.GetAcl acl s) = acl_body.items (record { acl = acl; stat = s })
+body_items (body.SetAcl s) = stat.items s
+body_items (body.GetChildren names) = (vector ustring).items names
+body_items (body.Sync path) = ustring.items path
+body_items body.Ping = []
+body_items (body.GetChildren2 names s) = children_body.items (record { names = names; stat = s })
+body_items (body.Multi dones) = multi_items dones
+body_items (body.Create2 path s) = create_body.items (record { path = path; stat = s })
+body_items body.Auth = []
+body_items body.SetWatches = []
+body_items body.CloseSession = []

@@ -2,7 +2,8 @@
 ghost use Rattle.std.specs.Prelude.{◌≡◌, ◌≤◌, length, IfOk, IfErr};
 ghost use Rattle.zk_jute.specs.Item.{HaveBytes};
 ghost use Rattle.zk_jute.specs.Told.{StandsAt, IsToldAt};
-ghost use Rattle.zk_answers.specs.Frames.{op_of_body, body_items, BodyFits, err_of, rest_items, IsOutcome, OutcomeFits};
+ghost use Rattle.zk_answers.specs.Frames.{BodyFits, err_of, rest_items, IsOutcome, OutcomeFits};
+ghost use Rattle.zk_answers.specs.Rows.{op_of_body, body_items};
 ghost use Rattle.zk_answers.specs.Faults.{IsShapeFault, body_shape, rest_shape};
 
 use crate::frame::{Body, Failure, Outcome};

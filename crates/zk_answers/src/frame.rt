@@ -1,10 +1,12 @@
 //! Server frames.
 ghost use Rattle.std.specs.Prelude.{◌≡◌, ◌≢◌, ℤ, pos, MatchOption, IfSome, IfNone};
-ghost use Rattle.zk_answers.specs.Frames.{op_of_body, op_of_reply};
+ghost use Rattle.zk_answers.specs.Frames.{op_of_reply};
+ghost use Rattle.zk_answers.specs.Rows.{op_of_body};
 
+use crate::done_list::DoneList;
 use std::marker::Model;
-use zk_jute::{Blob, Items, List, Text};
-use zk_records::{Acl, ConnectResponse, Op, Stat, WatcherEvent};
+use zk_jute::{Blob, BlobRef, Items, List, Text, TextList, TextRef};
+use zk_records::{Acl, AclList, ConnectResponseOf, Op, Stat, WatcherEventOf};
 
 /// The number of an error (ZooKeeper 3.4, `KeeperException.Code`): never 0.
 #[derive(Debug, Drop)]
@@ -45,100 +47,130 @@ impl Failure {
 
 /// What became of a part of a multi (`MultiResponse`): its result, or the number of an error, 0 too.
 #[derive(Debug, Drop)]
-pub enum PartDone {
-    Created(Text),
+pub enum PartDoneOf<T> {
+    Created(T),
     Deleted,
     DataSet(Stat),
     Checked,
     PartFailed(i32),
 }
 
+/// PartDone with memory of its own.
+pub type PartDone = PartDoneOf<Text>;
+
+/// PartDone where it lies in a payload.
+pub type PartDoneRef<'a> = PartDoneOf<TextRef<'a>>;
+
 /// What a reply says where nothing failed: the response records of zookeeper.jute, one for each
 /// operation.
 #[derive(Debug, Drop)]
-pub enum Body {
-    Create { path: Text },
+pub enum BodyOf<T, B, L, A, M> {
+    Create { path: T },
     Delete,
     Exists { stat: Stat },
-    GetData { blob: Blob, stat: Stat },
+    GetData { blob: B, stat: Stat },
     SetData { stat: Stat },
-    GetAcl { acl: List<Acl>, stat: Stat },
+    GetAcl { acl: A, stat: Stat },
     SetAcl { stat: Stat },
-    GetChildren { names: List<Text> },
-    Sync { path: Text },
+    GetChildren { names: L },
+    Sync { path: T },
     Ping,
-    GetChildren2 { names: List<Text>, stat: Stat },
-    Multi(Items<PartDone>),
-    Create2 { path: Text, stat: Stat },
+    GetChildren2 { names: L, stat: Stat },
+    Multi(M),
+    Create2 { path: T, stat: Stat },
     Auth,
     SetWatches,
     CloseSession,
 }
 
+/// Body with memory of its own.
+pub type Body = BodyOf<Text, Blob, List<Text>, List<Acl>, Items<PartDone>>;
+
+/// Body where it lies in a payload.
+pub type BodyRef<'a> = BodyOf<TextRef<'a>, BlobRef<'a>, TextList<'a>, AclList<'a>, DoneList<'a>>;
+
 /// What became of a request.
 #[derive(Debug, Drop)]
-pub enum Outcome {
-    Done(Body),
+pub enum OutcomeOf<D> {
+    Done(D),
     Failed(Op, Failure),
 }
 
+/// Outcome with memory of its own.
+pub type Outcome = OutcomeOf<Body>;
+
+/// Outcome where it lies in a payload.
+pub type OutcomeRef<'a> = OutcomeOf<BodyRef<'a>>;
+
 /// The answer to a request.
 #[derive(Debug, Drop)]
-pub struct Reply {
+pub struct ReplyOf<D> {
     /// That of the request.
     pub xid: i32,
     /// The server's last transaction.
     pub zxid: i64,
-    pub outcome: Outcome,
+    pub outcome: OutcomeOf<D>,
 }
+
+/// Reply with memory of its own.
+pub type Reply = ReplyOf<Body>;
+
+/// Reply where it lies in a payload.
+pub type ReplyRef<'a> = ReplyOf<BodyRef<'a>>;
 
 /// What a server sends.
 #[derive(Debug, Drop)]
-pub enum ServerFrame {
+pub enum ServerFrameOf<T, B, D> {
     /// The answer to the connect request; old servers leave the boolean out.
     Connected {
-        hello: ConnectResponse,
+        hello: ConnectResponseOf<B>,
         read_only: Option<bool>,
     },
-    Answered(Reply),
+    Answered(ReplyOf<D>),
     /// What a watch saw; nobody asked just now.
     Event {
         zxid: i64,
-        event: WatcherEvent,
+        event: WatcherEventOf<T>,
     },
 }
 
-fn op_of(body: &Body) -> Op
+/// ServerFrame with memory of its own.
+pub type ServerFrame = ServerFrameOf<Text, Blob, Body>;
+
+/// ServerFrame where it lies in a payload.
+pub type ServerRef<'a> = ServerFrameOf<TextRef<'a>, BlobRef<'a>, BodyRef<'a>>;
+
+fn op_of<T, B, L, A, M>(body: &BodyOf<T, B, L, A, M>) -> Op
     ensures { result ≡ op_of_body body.now }
 {
     match body {
-        Body::Create { .. } => Op::Create,
-        Body::Delete => Op::Delete,
-        Body::Exists { .. } => Op::Exists,
-        Body::GetData { .. } => Op::GetData,
-        Body::SetData { .. } => Op::SetData,
-        Body::GetAcl { .. } => Op::GetAcl,
-        Body::SetAcl { .. } => Op::SetAcl,
-        Body::GetChildren { .. } => Op::GetChildren,
-        Body::Sync { .. } => Op::Sync,
-        Body::Ping => Op::Ping,
-        Body::GetChildren2 { .. } => Op::GetChildren2,
-        Body::Multi(_) => Op::Multi,
-        Body::Create2 { .. } => Op::Create2,
-        Body::Auth => Op::Auth,
-        Body::SetWatches => Op::SetWatches,
-        Body::CloseSession => Op::CloseSession,
+        BodyOf::Create { .. } => Op::Create,
+        BodyOf::Delete => Op::Delete,
+        BodyOf::Exists { .. } => Op::Exists,
+        BodyOf::GetData { .. } => Op::GetData,
+        BodyOf::SetData { .. } => Op::SetData,
+        BodyOf::GetAcl { .. } => Op::GetAcl,
+        BodyOf::SetAcl { .. } => Op::SetAcl,
+        BodyOf::GetChildren { .. } => Op::GetChildren,
+        BodyOf::Sync { .. } => Op::Sync,
+        BodyOf::Ping => Op::Ping,
+        BodyOf::GetChildren2 { .. } => Op::GetChildren2,
+        BodyOf::Multi(_) => Op::Multi,
+        BodyOf::Create2 { .. } => Op::Create2,
+        BodyOf::Auth => Op::Auth,
+        BodyOf::SetWatches => Op::SetWatches,
+        BodyOf::CloseSession => Op::CloseSession,
     }
 }
 
-impl Reply {
+impl<T, B, L, A, M> ReplyOf<BodyOf<T, B, L, A, M>> {
     /// The operation that is answered.
     pub fn op(&self) -> Op
         ensures { result ≡ op_of_reply self.now }
     {
         match &self.outcome {
-            Outcome::Done(body) => op_of(body),
-            Outcome::Failed(op, _) => *op,
+            OutcomeOf::Done(body) => op_of(body),
+            OutcomeOf::Failed(op, _) => *op,
         }
     }
 }

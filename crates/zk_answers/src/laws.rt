@@ -8,7 +8,7 @@ ghost use Rattle.zk_jute.specs.declared.fault.Reason.{Reason};
 ghost use Rattle.zk_records.specs.declared.header.ReplyHeader.{ReplyHeader};
 ghost use Rattle.zk_records.specs.declared.op.Op.{Op};
 ghost use Rattle.zk_records.specs.declared.op.PartOp.{PartOp};
-ghost use Rattle.zk_answers.specs.declared.frame.ServerFrame.{ServerFrame};
+ghost use Rattle.zk_answers.specs.Held.{ServerFrame};
 ghost use Rattle.zk_answers.specs.Frames.{frame_items, IsConnected, IsEvent, IsReplyTo, IsSent, payload};
 ghost use Rattle.zk_answers.specs.Forms.{IsConnectedForm, IsReplyForm, IsEventForm};
 ghost use Rattle.zk_answers.specs.Faults.{IsConnectedFault, IsHead, IsHeadFault, IsReplyFault, IsEventFault};

@@ -2,6 +2,7 @@
 #![tactic(auto)]
 
 mod body;
+mod done_list;
 mod fit;
 mod form;
 mod frame;
@@ -9,15 +10,23 @@ mod laws;
 mod layout;
 mod multi;
 mod read;
+mod scan;
 mod write;
 
+pub use done_list::{DoneItems, DoneList};
 pub use fit::fits;
 pub use form::{Form, form_of};
-pub use frame::{Body, Failure, Outcome, PartDone, Reply, ServerFrame};
+pub use frame::{
+    Body, BodyOf, BodyRef, Failure, Outcome, OutcomeOf, OutcomeRef, PartDone, PartDoneOf,
+    PartDoneRef, Reply, ReplyOf, ReplyRef, ServerFrame, ServerFrameOf, ServerRef,
+};
 pub use laws::{connected_laws, event_laws, form_laws, head_laws, opening_laws, reply_laws};
 pub use layout::Layout;
 pub use read::{read_connected, read_event, read_reply, reply_head};
+pub use scan::{scan_connected, scan_event, scan_reply};
 pub use write::write_server;
 
+#[cfg(test)]
+mod scan_tests;
 #[cfg(test)]
 mod tests;

@@ -14,13 +14,13 @@ use zk_records::{MultiHeader, PartOp, Stat, part_number};
 
 /// What a header stands before, while a part is left.
 #[derive(Drop)]
-enum Mark {
+pub(crate) enum Mark {
     Result,
     Error,
     Bad,
 }
 
-fn mark_of(header: &MultiHeader, op: PartOp) -> Mark
+pub(crate) fn mark_of(header: &MultiHeader, op: PartOp) -> Mark
     ensures { ItsPlace op header.now result }
 {
     if header.done {
@@ -34,7 +34,7 @@ fn mark_of(header: &MultiHeader, op: PartOp) -> Mark
     }
 }
 
-fn is_end(header: &MultiHeader) -> bool
+pub(crate) fn is_end(header: &MultiHeader) -> bool
     ensures { IsTrue result ↔ (header.now ≡ end_header) }
 {
     header.done && header.kind == -1 && header.err == -1

@@ -4,7 +4,7 @@ ghost use Rattle.zk_jute.specs.Reading.{told_place};
 ghost use Rattle.zk_jute.specs.Told.{IsTold};
 ghost use Rattle.zk_jute.specs.Flagged.{IsReadAs};
 ghost use Rattle.zk_records.specs.declared.header.ReplyHeader as records;
-ghost use Rattle.zk_answers.specs.declared.frame.ServerFrame as frames;
+ghost use Rattle.zk_answers.specs.Held as frames;
 ghost use Rattle.zk_answers.specs.Frames.{IsConnected, IsEvent, IsReplyTo, IsSent};
 ghost use Rattle.zk_answers.specs.Frames as sent;
 ghost use Rattle.zk_answers.specs.Faults.{IsConnectedFault, IsHead, IsHeadFault, IsReplyFault, IsEventFault};

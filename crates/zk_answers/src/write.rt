@@ -3,6 +3,7 @@ ghost use Rattle.std.specs.Prelude.{◌≡◌, ◌++◌, OnOk, OnErr, pos, negsu
 ghost use Rattle.zk_jute.specs.Item.{Fit, IsSizeWithin};
 ghost use Rattle.zk_asks.specs.Parts as parts;
 ghost use Rattle.zk_answers.specs.Results as results;
+ghost use Rattle.zk_answers.specs.Rows as rows;
 ghost use Rattle.zk_answers.specs.Frames as frames;
 
 use crate::frame::{Body, Outcome, PartDone, Reply, ServerFrame};
@@ -58,7 +59,7 @@ impl Spell for PartDone {
 }
 
 impl Spell for Body {
-    ghost items = { frames.body_items };
+    ghost items = { rows.body_items };
 
     fn put<O: Output>(&self, out: &mut O) -> Result<(), O::Error> {
         match self {

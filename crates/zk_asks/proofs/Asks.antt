@@ -1,6 +1,6 @@
 -- Requests: what is read, what is refused, and that the two exclude each other.
 use Rattle.std.proofs.Common.{◌≡◌, ℕ, ◌+◌, ◌<◌, inl, inr, List, ◌++◌, length, drop, refl, sym, ap, subst, ◌∙◌, arith}
-use Rattle.std.specs.Prelude.{ℤ, ◌≢◌}
+use Rattle.std.specs.Prelude.{ℤ}
 use Rattle.zk_jute.specs.declared.fault.ItemFault.{ItemFault}
 use Rattle.zk_jute.specs.declared.fault.Reason.TheVariants.{Trailing, UnknownOp, XidOp}
 use Rattle.zk_jute.specs.Item.{Item, bytes_of, HaveBytes}
@@ -8,10 +8,9 @@ use Rattle.zk_jute.specs.Layout.{Layout, IsValueOf}
 use Rattle.zk_jute.specs.Faults.{IsFault}
 use Rattle.zk_jute.specs.Reading.{told_place}
 use Rattle.zk_jute.specs.Told.{StandsAt, IsToldFault}
-use Rattle.zk_records.specs.Records.{request_header, create_ask, delete_ask, watch_ask, set_data_ask, path_ask, set_acl_ask, auth_ask, set_watches_ask}
+use Rattle.zk_records.specs.Records.{request_header}
 use Rattle.zk_records.specs.declared.op.Op.{Op}
-use Rattle.zk_asks.specs.declared.frame.Ask.{Ask}
-use Rattle.zk_asks.specs.declared.frame.Ask.TheVariants as ask
+use Rattle.zk_asks.specs.Held.{Ask}
 use Rattle.zk_records.specs.declared.profile.Profile.{Profile}
 use Rattle.zk_records.specs.Codes.{op_number, HasOp, IsNoOp}
 use Rattle.zk_asks.specs.Codes.{IsAllowed}

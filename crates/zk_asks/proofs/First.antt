@@ -10,8 +10,8 @@ use Rattle.zk_jute.proofs.Flagged.{flagged_unique, flagged_excludes, flagged_inj
 use Rattle.zk_jute.proofs.Sequels.{Same}
 use Rattle.zk_records.specs.Records.{connect_request}
 use Rattle.zk_records.specs.Held.{ConnectRequest}
-use Rattle.zk_asks.specs.declared.frame.ClientFrame.{ClientFrame}
-use Rattle.zk_asks.specs.declared.frame.ClientFrame.TheVariants as frame
+use Rattle.zk_asks.specs.Held.{ClientFrame}
+use Rattle.zk_asks.specs.declared.frame.ClientFrameOf.TheVariants as frame
 use Rattle.zk_asks.specs.Faults.{IsFirstFault}
 use Rattle.zk_asks.specs.Forms.{IsHello}
 use Rattle.zk_asks.specs.Frames.{frame_items, IsSent, IsFirst, payload}

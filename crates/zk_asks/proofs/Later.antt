@@ -4,30 +4,26 @@ use Rattle.std.specs.Prelude.{Result, Ok, Err, IfOk, IfErr, ℤ, ◌≢◌}
 use Rattle.std.proofs.lemmas.List.{append-nil, length-append}
 use Rattle.zk_jute.specs.declared.fault.Reason.{Reason}
 use Rattle.zk_jute.specs.declared.fault.ItemFault.{ItemFault}
-use Rattle.zk_jute.specs.declared.fault.Reason.TheVariants.{Trailing, UnknownOp, XidOp}
+use Rattle.zk_jute.specs.declared.fault.Reason.TheVariants.{NoMemory, Trailing, UnknownOp, XidOp}
 use Rattle.zk_jute.specs.Item.{Item, bytes_of, HaveBytes}
 use Rattle.zk_jute.specs.Layout.{IsValueOf}
 use Rattle.zk_jute.proofs.Layouts.{bytes_only, bytes_both, have_parts}
 use Rattle.zk_jute.proofs.Decided.{one_fault}
-use Rattle.zk_records.specs.Records.{request_header, create_ask, delete_ask, watch_ask, set_data_ask, path_ask, set_acl_ask, auth_ask, set_watches_ask}
+use Rattle.zk_records.specs.Records.{request_header}
 use Rattle.zk_records.specs.declared.header.RequestHeader.{RequestHeader}
 use Rattle.zk_records.specs.declared.op.Op.{Op}
-use Rattle.zk_records.specs.declared.op.Op.TheVariants as ops
-use Rattle.zk_asks.specs.declared.frame.Part.{Part}
-use Rattle.zk_asks.specs.declared.frame.Ask.{Ask}
-use Rattle.zk_asks.specs.declared.frame.ClientFrame.{ClientFrame}
-use Rattle.zk_asks.specs.declared.frame.ClientFrame.TheVariants as frame
+use Rattle.zk_asks.specs.Held.{Ask}
+use Rattle.zk_asks.specs.Held.{ClientFrame}
+use Rattle.zk_asks.specs.declared.frame.ClientFrameOf.TheVariants as frame
 use Rattle.zk_records.specs.declared.profile.Profile.{Profile}
 use Rattle.zk_records.specs.Codes.{op_number, HasOp, IsNoOp}
 use Rattle.zk_asks.specs.Codes.{IsAllowed}
 use Rattle.zk_asks.specs.Forms.{header_items, IsOf, IsBody, IsAsk, asks}
 use Rattle.zk_asks.specs.Rows.{Row, holds, bare, multi, row_of, Content, remake, items_in, Body, Fields, Parts, body_of, op_of_ask, body_items}
 use Rattle.zk_asks.specs.Faults.{IsFaultOf, IsBodyFault, IsAskFault, in_header, unknown_op, bad_xid, in_body, behind_body}
-use Rattle.zk_asks.specs.Parts.{multi_items}
 use Rattle.zk_asks.specs.Frames.{frame_items, IsSent, IsLater, IsOfProfile, payload}
 use Rattle.zk_jute.specs.Told.{IsReadAs}
 use Rattle.zk_jute.specs.Told.{IsTold}
-use Rattle.zk_jute.specs.Wired.{Wired}
 use Rattle.zk_records.proofs.Numbers.{op_number_apart}
 use Rattle.zk_jute.proofs.Sequels.{Same, Sequel, excluded, sequel_same, sequel_not}
 use Rattle.zk_asks.proofs.Parted.{multi_unique, multi_excludes, multi_only, multi_apart}
@@ -220,3 +216,14 @@ pub ask_only : (profile : Profile) (src : List ℕ) (answer : Result ClientFrame
 unfolding IsTold
 ask_only profile src (Ok g) found fault f later has sent e = ask_injective g f found.0 later found.2 sent (sym found.3 ∙ e)
 ask_only profile src (Err x) found fault f later has sent e = elim fault [ inl m ↦ m | inr k ↦ absurd (ask_excludes profile f k.0 x.reason later has sent (subst (λ (b : List ℕ). IsAskFault profile b k.0 x.reason) e k.1)) ]
+
+-- what is sent is read, where no memory is wanted
+pub ask_lies : (profile : Profile) (src : List ℕ) (answer : Result ClientFrame ItemFault) → IfOk answer (λ f. IsLater f × IsOfProfile profile f × IsSent f × (src ≡ payload f))
+    → IfErr answer (λ e. IsTold (IsAskFault profile src) e × (e.reason ≢ NoMemory)) → (f : ClientFrame) → IsLater f → IsOfProfile profile f → IsSent f → src ≡ payload f → answer ≡ Ok f
+unfolding IsTold
+ask_lies profile src (Ok g) found fault f later has sent e = ap Ok (ask_injective g f found.0 later found.2 sent (sym found.3 ∙ e))
+ask_lies profile src (Err x) found fault f later has sent e =
+    elim fault.0 [
+      | inl m ↦ absurd (fault.1 (ap (λ (y : ItemFault). y.reason) m))
+      | inr k ↦ absurd (ask_excludes profile f k.0 x.reason later has sent (subst (λ (b : List ℕ). IsAskFault profile b k.0 x.reason) e k.1))
+    ]

@@ -2,6 +2,8 @@ pub mod Made
 pub mod First
 pub mod Parts
 pub mod Parted
+pub mod Lying
+pub mod Counted
 pub mod Asks
 pub mod Later
 pub mod Openings

@@ -1,8 +1,8 @@
 -- An ask is its operation and what that holds.
 use Rattle.std.proofs.Common.{◌≡◌, refl}
 use Rattle.zk_records.specs.declared.op.Op.{Op}
-use Rattle.zk_asks.specs.declared.frame.Ask.{Ask}
-use Rattle.zk_asks.specs.declared.frame.Ask.TheVariants as ask
+use Rattle.zk_asks.specs.Held.{Ask}
+use Rattle.zk_asks.specs.declared.frame.AskOf.TheVariants as ask
 use Rattle.zk_asks.specs.Rows.{row_of, Content, remake, items_in, op_of_ask, body_items}
 
 -- an ask is its operation and its content

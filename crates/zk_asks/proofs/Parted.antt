@@ -13,8 +13,8 @@ use Rattle.zk_records.specs.Records.{multi_header, create_ask, delete_ask, set_d
 use Rattle.zk_records.specs.declared.header.MultiHeader.{MultiHeader}
 use Rattle.zk_records.specs.declared.op.PartOp.{PartOp}
 use Rattle.zk_records.specs.declared.op.PartOp.TheVariants as parts
-use Rattle.zk_asks.specs.declared.frame.Part.{Part}
-use Rattle.zk_asks.specs.declared.frame.Part.TheVariants as part
+use Rattle.zk_asks.specs.Held.{Part}
+use Rattle.zk_asks.specs.declared.frame.PartOf.TheVariants as part
 use Rattle.zk_records.proofs.Numbers.{part_number_apart}
 use Rattle.zk_jute.specs.Wired.{Wired}
 use Rattle.zk_asks.specs.Parts.{part_layout, part_header, end_header, marked, MayStand, IsMulti, no_more, a_part}
@@ -46,7 +46,7 @@ part_mark op = mark_is (part_header op) (mark_bytes op)
 pub end_mark : IsValueOf multi_header.layout (marked end_header)
 end_mark = mark_is end_header end_bytes
 
-mark_same : (a b : MultiHeader) → marked a ≡ marked b → a ≡ b
+pub mark_same : (a b : MultiHeader) → marked a ≡ marked b → a ≡ b
 mark_same a b e = multi_header.tells_apart a b e
 
 -- ---- a fault by its header
@@ -194,7 +194,7 @@ made (part.Delete x) = (x, refl, refl)
 made (part.SetData x) = (x, refl, refl)
 made (part.Check x) = (x, refl, refl)
 
-record_same : (p q : Part) → op_of_part p ≡ op_of_part q → record_of p ≡ record_of q → p ≡ q
+pub record_same : (p q : Part) → op_of_part p ≡ op_of_part q → record_of p ≡ record_of q → p ≡ q
 unfolding IsMade
 record_same p q same e =
     let r = row_of (op_of_part p) in

@@ -13,8 +13,8 @@ use Rattle.zk_jute.proofs.Layouts.{bytes_both, have_parts}
 use Rattle.zk_records.specs.Records.{multi_header, create_ask, delete_ask, set_data_ask, check_ask}
 use Rattle.zk_records.specs.declared.header.MultiHeader.{MultiHeader}
 use Rattle.zk_records.specs.declared.op.PartOp.{PartOp}
-use Rattle.zk_asks.specs.declared.frame.Part.{Part}
-use Rattle.zk_asks.specs.declared.frame.Part.TheVariants as part
+use Rattle.zk_asks.specs.Held.{Part}
+use Rattle.zk_asks.specs.declared.frame.PartOf.TheVariants as part
 use Rattle.zk_asks.specs.Parts.{part_layout, part_header, end_header, marked, MayStand, IsMulti, no_more, a_part}
 use Rattle.zk_asks.specs.Faults.{IsMultiFault, in_mark, bad_mark, in_part, behind_part}
 use Rattle.zk_asks.specs.Parts.{record_of, op_of_part, part_items, multi_items}

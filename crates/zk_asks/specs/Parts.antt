@@ -9,8 +9,9 @@ use Rattle.zk_records.specs.declared.header.MultiHeader.{MultiHeader}
 use Rattle.zk_records.specs.declared.op.PartOp.{PartOp}
 use Rattle.zk_records.specs.declared.op.PartOp.TheVariants as parts
 use Rattle.zk_records.specs.Codes.{part_number}
-use Rattle.zk_asks.specs.declared.frame.Part.{Part}
-use Rattle.zk_asks.specs.declared.frame.Part.TheVariants as part
+use Rattle.zk_asks.specs.declared.frame.PartOf.{PartOf}
+use Rattle.zk_asks.specs.Held.{Part}
+use Rattle.zk_asks.specs.declared.frame.PartOf.TheVariants as part
 
 -- what a part's record is, and the part that it makes
 pub record PartRow : Type 1 where
@@ -27,18 +28,19 @@ part_row parts.Delete = row part.Delete delete_ask
 part_row parts.SetData = row part.SetData set_data_ask
 part_row parts.Check = row part.Check check_ask
 
--- a part's operation, and its record's items
-abbrev pub seen_part : Part → PartOp × List Item
-seen_part (part.Create body) = (parts.Create, create_ask.items body)
-seen_part (part.Delete body) = (parts.Delete, delete_ask.items body)
-seen_part (part.SetData body) = (parts.SetData, set_data_ask.items body)
-seen_part (part.Check body) = (parts.Check, check_ask.items body)
+-- a part's operation
+abbrev pub op_of_part : {T B A : Type 0} → PartOf T B A → PartOp
+op_of_part (part.Create body) = parts.Create
+op_of_part (part.Delete body) = parts.Delete
+op_of_part (part.SetData body) = parts.SetData
+op_of_part (part.Check body) = parts.Check
 
-abbrev pub op_of_part : Part → PartOp
-op_of_part p = (seen_part p).0
-
+-- its record's items
 abbrev pub record_of : Part → List Item
-record_of p = (seen_part p).1
+record_of (part.Create body) = create_ask.items body
+record_of (part.Delete body) = delete_ask.items body
+record_of (part.SetData body) = set_data_ask.items body
+record_of (part.Check body) = check_ask.items body
 
 abbrev pub part_layout : PartOp → Layout
 part_layout op = (part_row op).wired.layout

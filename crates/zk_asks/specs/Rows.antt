@@ -6,9 +6,9 @@ use Rattle.zk_jute.specs.Wired.{Wired}
 use Rattle.zk_records.specs.Records.{create_ask, delete_ask, watch_ask, set_data_ask, path_ask, set_acl_ask, auth_ask, set_watches_ask}
 use Rattle.zk_records.specs.declared.op.Op.{Op}
 use Rattle.zk_records.specs.declared.op.Op.TheVariants as ops
-use Rattle.zk_asks.specs.declared.frame.Part.{Part}
-use Rattle.zk_asks.specs.declared.frame.Ask.{Ask}
-use Rattle.zk_asks.specs.declared.frame.Ask.TheVariants as ask
+use Rattle.zk_asks.specs.declared.frame.AskOf.{AskOf}
+use Rattle.zk_asks.specs.Held.{Part, Ask}
+use Rattle.zk_asks.specs.declared.frame.AskOf.TheVariants as ask
 use Rattle.zk_asks.specs.Parts.{multi_items}
 
 -- a record of its own, nothing, or a multi's parts; each with the ask that it makes
@@ -64,29 +64,41 @@ body_in (multi make) = Parts
 
 -- ---- an ask's operation, and its items
 
-abbrev pub seen : Ask → Op × List Item
-seen (ask.Create x) = (ops.Create, create_ask.items x)
-seen (ask.Delete x) = (ops.Delete, delete_ask.items x)
-seen (ask.Exists x) = (ops.Exists, watch_ask.items x)
-seen (ask.GetData x) = (ops.GetData, watch_ask.items x)
-seen (ask.SetData x) = (ops.SetData, set_data_ask.items x)
-seen (ask.GetAcl x) = (ops.GetAcl, path_ask.items x)
-seen (ask.SetAcl x) = (ops.SetAcl, set_acl_ask.items x)
-seen (ask.GetChildren x) = (ops.GetChildren, watch_ask.items x)
-seen (ask.Sync x) = (ops.Sync, path_ask.items x)
-seen ask.Ping = (ops.Ping, [])
-seen (ask.GetChildren2 x) = (ops.GetChildren2, watch_ask.items x)
-seen (ask.Multi x) = (ops.Multi, multi_items x)
-seen (ask.Create2 x) = (ops.Create2, create_ask.items x)
-seen (ask.Auth x) = (ops.Auth, auth_ask.items x)
-seen (ask.SetWatches x) = (ops.SetWatches, set_watches_ask.items x)
-seen ask.CloseSession = (ops.CloseSession, [])
-
-abbrev pub op_of_ask : Ask → Op
-op_of_ask a = (seen a).0
+abbrev pub op_of_ask : {T B L A M : Type 0} → AskOf T B L A M → Op
+op_of_ask (ask.Create x) = ops.Create
+op_of_ask (ask.Delete x) = ops.Delete
+op_of_ask (ask.Exists x) = ops.Exists
+op_of_ask (ask.GetData x) = ops.GetData
+op_of_ask (ask.SetData x) = ops.SetData
+op_of_ask (ask.GetAcl x) = ops.GetAcl
+op_of_ask (ask.SetAcl x) = ops.SetAcl
+op_of_ask (ask.GetChildren x) = ops.GetChildren
+op_of_ask (ask.Sync x) = ops.Sync
+op_of_ask ask.Ping = ops.Ping
+op_of_ask (ask.GetChildren2 x) = ops.GetChildren2
+op_of_ask (ask.Multi x) = ops.Multi
+op_of_ask (ask.Create2 x) = ops.Create2
+op_of_ask (ask.Auth x) = ops.Auth
+op_of_ask (ask.SetWatches x) = ops.SetWatches
+op_of_ask ask.CloseSession = ops.CloseSession
 
 abbrev pub body_items : Ask → List Item
-body_items a = (seen a).1
+body_items (ask.Create x) = create_ask.items x
+body_items (ask.Delete x) = delete_ask.items x
+body_items (ask.Exists x) = watch_ask.items x
+body_items (ask.GetData x) = watch_ask.items x
+body_items (ask.SetData x) = set_data_ask.items x
+body_items (ask.GetAcl x) = path_ask.items x
+body_items (ask.SetAcl x) = set_acl_ask.items x
+body_items (ask.GetChildren x) = watch_ask.items x
+body_items (ask.Sync x) = path_ask.items x
+body_items ask.Ping = []
+body_items (ask.GetChildren2 x) = watch_ask.items x
+body_items (ask.Multi x) = multi_items x
+body_items (ask.Create2 x) = create_ask.items x
+body_items (ask.Auth x) = auth_ask.items x
+body_items (ask.SetWatches x) = set_watches_ask.items x
+body_items ask.CloseSession = []
 
 abbrev pub body_of : Op → Body
 body_of op = body_in (row_of op)

@@ -1,11 +1,25 @@
 //! What a request leaves for its reply.
-ghost use Rattle.std.specs.Prelude.{◌≡◌, ◌≢◌, ◌<◌, ◌≤◌, ◌↔◌, ℕ, List, [], length, Option, Some, None};
+ghost use Rattle.std.specs.Prelude.{◌≡◌, ◌≢◌, ◌+◌, ◌<◌, ◌≤◌, ◌↔◌, ◌∷◌, ◌++◌, ℕ, List, [], length, Option, Some, None};
 ghost use Rattle.std.specs.List.{slice_get};
 ghost use Rattle.zk_records.specs.declared.op.Op.{Op};
 ghost use Rattle.zk_records.specs.declared.op.Op.TheVariants as ops;
 ghost use Rattle.zk_records.specs.declared.op.PartOp.{PartOp};
 
 use zk_records::{Op, PartOp};
+
+/// Where the operations of parts are put, in order.
+pub trait Room {
+    ghost ops: { Self → List PartOp };
+
+    /// How many it holds at most.
+    ghost room: { Self → ℕ };
+
+    /// Puts one more behind the others.
+    fn push(&mut self, op: PartOp)
+        requires { length (ops self.old) < room self.old }
+        ensures pushed { ops self.new ≡ ops self.old ++ op ∷ [] }
+        ensures room { room self.new ≡ room self.old };
+}
 
 /// The operation of a request, and the operations of its parts: what its reply is read by.
 pub trait Asked {
@@ -25,6 +39,12 @@ pub trait Asked {
     /// The operation of a part, counted from 0; None past the last one.
     fn part(&self, j: u32) -> Option<PartOp>
         ensures { result ≡ slice_get (part_ops self.now) j };
+
+    /// Puts the operations of all parts behind what is in the room, each in one step.
+    fn put_ops<R: Room>(&self, room: &mut R)
+        requires { length (R.ops room.old) + length (part_ops self.now) ≤ R.room room.old }
+        ensures put { R.ops room.new ≡ R.ops room.old ++ part_ops self.now }
+        ensures room { R.room room.new ≡ R.room room.old };
 
     /// Nothing but a multi has parts.
     ghost lawful: { (x : Self) → operation x ≢ ops.Multi → part_ops x ≡ [] };

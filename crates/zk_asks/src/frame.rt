@@ -4,31 +4,38 @@ ghost use Rattle.zk_asks.specs.Parts.{op_of_part};
 ghost use Rattle.zk_asks.specs.Rows.{op_of_ask};
 ghost use Rattle.zk_asks.specs.Frames.{parts_of_ask};
 
-use zk_jute::Items;
+use crate::part_list::PartList;
+use zk_jute::{Blob, BlobRef, Items, List, Text, TextList, TextRef};
 use zk_records::{
-    AuthAsk, CheckAsk, ConnectRequest, CreateAsk, DeleteAsk, Op, PartOp, PathAsk, SetAclAsk,
-    SetDataAsk, SetWatchesAsk, WatchAsk,
+    Acl, AclList, AuthAskOf, CheckAskOf, ConnectRequestOf, CreateAskOf, DeleteAskOf, Op, PartOp,
+    PathAskOf, SetAclAskOf, SetDataAskOf, SetWatchesAskOf, WatchAskOf,
 };
 
 /// A part of a multi: what `MultiTransactionRecord` may hold.
 #[derive(Debug, Drop)]
-pub enum Part {
-    Create(CreateAsk),
-    Delete(DeleteAsk),
-    SetData(SetDataAsk),
-    Check(CheckAsk),
+pub enum PartOf<T, B, A> {
+    Create(CreateAskOf<T, B, A>),
+    Delete(DeleteAskOf<T>),
+    SetData(SetDataAskOf<T, B>),
+    Check(CheckAskOf<T>),
 }
 
-impl Part {
+/// Part with memory of its own.
+pub type Part = PartOf<Text, Blob, List<Acl>>;
+
+/// Part where it lies in a payload.
+pub type PartRef<'a> = PartOf<TextRef<'a>, BlobRef<'a>, AclList<'a>>;
+
+impl<T, B, A> PartOf<T, B, A> {
     /// Which operation it is.
     pub fn op(&self) -> PartOp
         ensures { result ≡ op_of_part self.now }
     {
         match self {
-            Part::Create(_) => PartOp::Create,
-            Part::Delete(_) => PartOp::Delete,
-            Part::SetData(_) => PartOp::SetData,
-            Part::Check(_) => PartOp::Check,
+            PartOf::Create(_) => PartOp::Create,
+            PartOf::Delete(_) => PartOp::Delete,
+            PartOf::SetData(_) => PartOp::SetData,
+            PartOf::Check(_) => PartOp::Check,
         }
     }
 }
@@ -36,56 +43,64 @@ impl Part {
 /// What is asked: the record that follows a request's header, by the operations of
 /// `ZooDefs.OpCode`.
 #[derive(Debug, Drop)]
-pub enum Ask {
-    Create(CreateAsk),
-    Delete(DeleteAsk),
-    Exists(WatchAsk),
-    GetData(WatchAsk),
-    SetData(SetDataAsk),
-    GetAcl(PathAsk),
-    SetAcl(SetAclAsk),
-    GetChildren(WatchAsk),
-    Sync(PathAsk),
+pub enum AskOf<T, B, L, A, M> {
+    Create(CreateAskOf<T, B, A>),
+    Delete(DeleteAskOf<T>),
+    Exists(WatchAskOf<T>),
+    GetData(WatchAskOf<T>),
+    SetData(SetDataAskOf<T, B>),
+    GetAcl(PathAskOf<T>),
+    SetAcl(SetAclAskOf<T, A>),
+    GetChildren(WatchAskOf<T>),
+    Sync(PathAskOf<T>),
     Ping,
-    GetChildren2(WatchAsk),
-    Multi(Items<Part>),
-    Create2(CreateAsk),
-    Auth(AuthAsk),
-    SetWatches(SetWatchesAsk),
+    GetChildren2(WatchAskOf<T>),
+    Multi(M),
+    Create2(CreateAskOf<T, B, A>),
+    Auth(AuthAskOf<T, B>),
+    SetWatches(SetWatchesAskOf<L>),
     CloseSession,
 }
 
-impl Ask {
+/// Ask with memory of its own.
+pub type Ask = AskOf<Text, Blob, List<Text>, List<Acl>, Items<Part>>;
+
+/// Ask where it lies in a payload.
+pub type AskRef<'a> = AskOf<TextRef<'a>, BlobRef<'a>, TextList<'a>, AclList<'a>, PartList<'a>>;
+
+impl<T, B, L, A, M> AskOf<T, B, L, A, M> {
     /// Which operation it is.
     pub fn op(&self) -> Op
         ensures { result ≡ op_of_ask self.now }
     {
         match self {
-            Ask::Create(_) => Op::Create,
-            Ask::Delete(_) => Op::Delete,
-            Ask::Exists(_) => Op::Exists,
-            Ask::GetData(_) => Op::GetData,
-            Ask::SetData(_) => Op::SetData,
-            Ask::GetAcl(_) => Op::GetAcl,
-            Ask::SetAcl(_) => Op::SetAcl,
-            Ask::GetChildren(_) => Op::GetChildren,
-            Ask::Sync(_) => Op::Sync,
-            Ask::Ping => Op::Ping,
-            Ask::GetChildren2(_) => Op::GetChildren2,
-            Ask::Multi(_) => Op::Multi,
-            Ask::Create2(_) => Op::Create2,
-            Ask::Auth(_) => Op::Auth,
-            Ask::SetWatches(_) => Op::SetWatches,
-            Ask::CloseSession => Op::CloseSession,
+            AskOf::Create(_) => Op::Create,
+            AskOf::Delete(_) => Op::Delete,
+            AskOf::Exists(_) => Op::Exists,
+            AskOf::GetData(_) => Op::GetData,
+            AskOf::SetData(_) => Op::SetData,
+            AskOf::GetAcl(_) => Op::GetAcl,
+            AskOf::SetAcl(_) => Op::SetAcl,
+            AskOf::GetChildren(_) => Op::GetChildren,
+            AskOf::Sync(_) => Op::Sync,
+            AskOf::Ping => Op::Ping,
+            AskOf::GetChildren2(_) => Op::GetChildren2,
+            AskOf::Multi(_) => Op::Multi,
+            AskOf::Create2(_) => Op::Create2,
+            AskOf::Auth(_) => Op::Auth,
+            AskOf::SetWatches(_) => Op::SetWatches,
+            AskOf::CloseSession => Op::CloseSession,
         }
     }
+}
 
+impl<T, B, L, A, P> AskOf<T, B, L, A, Items<P>> {
     /// The parts of a multi, in order; nothing else has any.
-    pub fn parts(&self) -> &[Part]
+    pub fn parts(&self) -> &[P]
         ensures { result.now ≡ parts_of_ask self.now }
     {
         match self {
-            Ask::Multi(parts) => parts.as_slice(),
+            AskOf::Multi(parts) => parts.as_slice(),
             _ => &[],
         }
     }
@@ -93,16 +108,22 @@ impl Ask {
 
 /// What a client sends in one frame (`ClientCnxn`).
 #[derive(Debug, Drop)]
-pub enum ClientFrame {
+pub enum ClientFrameOf<B, A> {
     /// The connect request, and the boolean that newer clients write behind it: whether a
     /// read-only server will do.
     Connect {
-        hello: ConnectRequest,
+        hello: ConnectRequestOf<B>,
         read_only: Option<bool>,
     },
     /// A request, under the number that its reply repeats.
     Ask {
         xid: i32,
-        ask: Ask,
+        ask: A,
     },
 }
+
+/// ClientFrame with memory of its own.
+pub type ClientFrame = ClientFrameOf<Blob, Ask>;
+
+/// ClientFrame where it lies in a payload.
+pub type ClientRef<'a> = ClientFrameOf<BlobRef<'a>, AskRef<'a>>;

@@ -6,15 +6,23 @@ mod codes;
 mod frame;
 mod laws;
 mod multi;
+mod part_list;
 mod read;
+mod request;
+mod scan;
 mod write;
 
-pub use asked::{Asked, asked_laws};
+pub use asked::{Asked, Room, asked_laws};
 pub use codes::allowed;
-pub use frame::{Ask, ClientFrame, Part};
+pub use frame::{Ask, AskOf, AskRef, ClientFrame, ClientFrameOf, ClientRef, Part, PartOf, PartRef};
 pub use laws::{ask_laws, first_laws, form_laws, opening_laws};
+pub use part_list::{PartItems, PartList};
 pub use read::{read_ask, read_first};
+pub use request::RequestRef;
+pub use scan::{scan_ask, scan_first};
 pub use write::write_client;
 
+#[cfg(test)]
+mod scan_tests;
 #[cfg(test)]
 mod tests;

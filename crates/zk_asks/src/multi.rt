@@ -15,13 +15,13 @@ use zk_records::{CheckAsk, CreateAsk, DeleteAsk, MultiHeader, PartOp, SetDataAsk
 
 /// What a header of a multi stands before.
 #[derive(Drop)]
-enum Mark {
+pub(crate) enum Mark {
     Part(PartOp),
     End,
     Bad,
 }
 
-fn mark_of(header: &MultiHeader) -> Mark
+pub(crate) fn mark_of(header: &MultiHeader) -> Mark
     ensures { Marks header.now result }
 {
     if header.err != -1 {

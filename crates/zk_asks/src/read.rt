@@ -6,7 +6,7 @@ ghost use Rattle.zk_jute.specs.Told.{IsReadAs};
 ghost use Rattle.zk_asks.specs.Rows.{op_of_ask, body_items};
 ghost use Rattle.zk_asks.specs.Frames.{IsSent, IsFirst, IsLater, IsOfProfile};
 ghost use Rattle.zk_asks.specs.Frames as frames;
-ghost use Rattle.zk_asks.specs.declared.frame.ClientFrame.{ClientFrame};
+ghost use Rattle.zk_asks.specs.Held.{ClientFrame};
 ghost use Rattle.zk_asks.specs.Faults.{IsFirstFault, IsAskFault, IsBodyFault};
 
 use crate::codes::allowed;

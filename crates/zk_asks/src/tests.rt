@@ -287,6 +287,8 @@ impl Asked for Wanted {
         None
     }
 
+    fn put_ops<R: Room>(&self, _room: &mut R) {}
+
     ghost lawful = { λ x other. refl };
 }
 

@@ -4,7 +4,7 @@ use Rattle.std.specs.Prelude.{◌≢◌, Result, Ok, Err, IfOk, IfErr}
 use Rattle.std.proofs.lemmas.List.{append-nil, length-append}
 use Rattle.zk_jute.specs.declared.fault.ItemFault.{ItemFault}
 use Rattle.zk_jute.specs.declared.fault.Reason.{Reason}
-use Rattle.zk_jute.specs.declared.fault.Reason.TheVariants.{Trailing}
+use Rattle.zk_jute.specs.declared.fault.Reason.TheVariants.{Trailing, NoMemory}
 use Rattle.zk_jute.specs.Item.{Item, ABoolean, bytes_of, HaveBytes}
 use Rattle.zk_jute.specs.Layout.{Layout, Unfolds, IsValueOf}
 use Rattle.zk_jute.specs.Reading.{told_place}
@@ -120,3 +120,12 @@ module _ {X : Type 0} (l : Layout) (items : X → List Item) (unfolds : (x : X) 
   flagged_only src (Err x) found fault y flag have e =
       let w : IsValueOf l (items y) = (unfolds y, (have_parts (items y) (flag_items flag) have).0) in
       elim fault [ inl m ↦ m | inr k ↦ absurd (flagged_excludes l (items y) flag k.0 x.reason w (subst (λ (b : List ℕ). IsFlaggedFault l b k.0 x.reason) e k.1)) ]
+
+-- what is read unless memory is wanted is read, where it isn't
+pub read_is_all : {X : Type 0} (y : X) (answer : Result X ItemFault) → IsReadAs y answer → IfErr answer (λ e. e.reason ≢ NoMemory) → answer ≡ Ok y
+read_is_all y (Ok x) read none = ap Ok read
+read_is_all y (Err e) read none = absurd (none (ap (λ (f : ItemFault). f.reason) read))
+
+pub read_exactly : {X : Type 0} (Told : ItemFault → Type 0) (y : X) (answer : Result X ItemFault) → IfErr answer (λ e. Told e × (e.reason ≢ NoMemory)) → (IfErr answer Told → IsReadAs y answer) → answer ≡ Ok y
+read_exactly Told y (Ok x) fault read = ap Ok (read tt)
+read_exactly Told y (Err e) fault read = read_is_all y (Err e) (read fault.0) fault.1

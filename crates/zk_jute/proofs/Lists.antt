@@ -1,5 +1,5 @@
 -- A list that lies in a payload shows what stands there.
-use Rattle.std.proofs.Common.{◌≡◌, ℕ, zero, suc, List, ◌∷◌, ◌++◌, length, Some, Ok, Err, refl, sym, ap, subst, ◌∙◌, arith}
+use Rattle.std.proofs.Common.{◌≡◌, ◌<◌, ◌-◌, ℕ, zero, suc, List, [], ◌∷◌, ◌++◌, length, Some, Ok, Err, refl, sym, ap, subst, ◌∙◌, arith}
 use Rattle.std.specs.List.{flat_map}
 use Rattle.zk_jute.specs.declared.fault.ItemFault.{ItemFault}
 use Rattle.zk_jute.specs.declared.value.Nullable.TheVariants as nullable
@@ -50,3 +50,14 @@ module _ {X : Type 0} (l : Layout) (items : X → List Item) (src : List ℕ) (a
 
 pub elements_refuse : (l : Layout) (src : List ℕ) (place n after : ℕ) (e : ItemFault) → size_at src place ≡ Ok (Some n, after) → Fails e (times_at (items_at l src) n after) → Refuses e (items_at (Each l End) src place)
 elements_refuse l src place n after e size h = refuses_fails e (items_at (Each l End) src place) (elements_fail l src place n after e size h)
+
+-- none of those that are left stands there
+no_value : {X : Type 0} (items : X → List Item) (v : Read X) (given : Read (List Item)) (e : ItemFault) → given ≡ read_map items v → Fails e given → (others : ℕ → List X) → next_value v others ≡ []
+unfolding Fails
+no_value items (Ok y) given e is h others = absurd cc
+no_value items (Err f) given e is h others = refl
+
+pub values_end : {X : Type 0} (items : X → List Item) (at : ℕ → Read X) (left place : ℕ) (given : Read (List Item)) (e : ItemFault) → 0 < left → given ≡ read_map items (at place) → Fails e given → values_at at left place ≡ []
+values_end {X = X} items at left place given e some is h =
+    let n : left ≡ suc (left - 1) = omega arith in
+    ap (λ (n : ℕ). values_at at n place) n ∙ no_value items (at place) given e is h (values_at at (left - 1))

@@ -1,10 +1,13 @@
 -- What lies in a payload, as a value of its bytes.
 use Rattle.std.specs.Prelude.{◌≡◌, ℕ, zero, suc, List, [], ◌∷◌, length, Option, Some, None, Ok, Err, refl}
 use Rattle.zk_jute.specs.declared.value.Nullable.TheVariants as nullable
-use Rattle.zk_jute.specs.Held.{Text, Vector}
-use Rattle.zk_jute.specs.Item.{Ustring, AUstring}
+use Rattle.zk_jute.specs.Held.{Text, Blob, Vector}
+use Rattle.std.specs.List.{flat_map}
+use Rattle.std.specs.Prelude.{◌≤◌}
+use Rattle.zk_jute.specs.Item.{Item, Ustring, AUstring, HaveBytes}
 use Rattle.zk_jute.specs.Layout.{One, End}
-use Rattle.zk_jute.specs.Reading.{Read, ◌>>=◌, read_map, text_at, items_at}
+use Rattle.zk_jute.specs.Told.{StandsAt}
+use Rattle.zk_jute.specs.Reading.{Read, ◌>>=◌, read_map, run_at, size_at, text_at, items_at}
 use Rattle.zk_jute.specs.Values.{text_items}
 
 abbrev pub text_of : Option (List ℕ) → Text
@@ -14,6 +17,10 @@ text_of (Some bytes) = nullable.Full bytes
 -- the text that stands at a place
 abbrev pub text_value : List ℕ → ℕ → Read Text
 text_value src place = read_map text_of (text_at src place)
+
+-- the blob that stands at a place
+abbrev pub blob_value : List ℕ → ℕ → Read Blob
+blob_value src place = read_map text_of (run_at src place)
 
 text_shown : (read : Read (Option (List ℕ))) → (read_map AUstring read >>= λ x. read_map (λ others. x.0 ∷ others) (Ok ([], x.1))) ≡ read_map text_items (read_map text_of read)
 text_shown (Ok (None, after)) = refl
@@ -49,3 +56,40 @@ count_of (nullable.Full xs) = length xs
 
 abbrev pub IsNull : {X : Type 0} → Vector X → Type 0
 IsNull v = v ≡ nullable.Null
+
+-- the values of a list; none of null
+abbrev pub elements_of : {X : Type 0} → Vector X → List X
+elements_of nullable.Null = []
+elements_of (nullable.Full xs) = xs
+
+-- ---- values in order, and the place after them
+
+-- one value, and then another
+abbrev pub both_at : {X Y : Type 0} → (ℕ → Read X) → (ℕ → Read Y) → ℕ → Read (X × Y)
+both_at v w place = v place >>= λ x. read_map (λ y. (x.0, y)) (w x.1)
+
+-- n values, one after the other
+abbrev pub run_of : {X : Type 0} → (ℕ → Read X) → ℕ → ℕ → Read (List X)
+run_of at zero place = Ok ([], place)
+run_of at (suc n) place = at place >>= λ x. read_map (λ others. x.0 ∷ others) (run_of at n x.1)
+
+abbrev pub elements_from : {X : Type 0} → (ℕ → Read X) → Option ℕ × ℕ → Read (Vector X)
+elements_from at (None, after) = Ok (nullable.Null, after)
+elements_from at (Some n, after) = read_map nullable.Full (run_of at n after)
+
+-- the list that stands at a place
+abbrev pub list_value : {X : Type 0} → (List ℕ → ℕ → Read X) → List ℕ → ℕ → Read (Vector X)
+list_value at src place = size_at src place >>= elements_from (at src)
+
+-- ---- values whose layouts differ, one after the other
+
+-- so many, from one place to another
+pub record Stretch {X : Type 0} (items : X → List Item) (src : List ℕ) (place at count : ℕ) : Type 0 where
+  pub values : List X
+  pub count_is : count ≡ length values
+  pub have : HaveBytes (flat_map items values)
+  pub stands : StandsAt (flat_map items values) src place at
+
+-- so many, from a place on
+abbrev pub Begins : {X : Type 0} → (X → List Item) → List ℕ → ℕ → ℕ → Type 0
+Begins items src count place = (place ≤ length src) × (at : ℕ) × Stretch items src place at count

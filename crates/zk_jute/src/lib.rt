@@ -20,10 +20,10 @@ mod wire;
 pub use fault::{ItemFault, Reason, reason_name};
 pub use number::{bool_at, int_at, long_at};
 pub use output::Output;
-pub use payload::read_flagged;
-pub use series::{Element, Series, TextList};
+pub use payload::{read_flagged, scan_flagged};
+pub use series::{Element, Elements, Series, TextList};
 pub use source::{Kept, Payload, Source};
-pub use stands::{Form, Stands};
+pub use stands::{Form, Stands, read_ref};
 pub use value::{
     Blob, BlobRef, Bytes, BytesRef, Chars, CharsRef, Items, List, Nullable, Text, TextRef,
 };

@@ -1,13 +1,17 @@
 //! A payload that is a value, and then nothing or one boolean: those that open a connection, where
 //! old peers leave the boolean out (`ClientCnxnSocket.readConnectResult` of ZooKeeper 3.4).
-ghost use Rattle.std.specs.Prelude.{◌≡◌, ◌++◌, Option, Bool, IfOk, IfErr};
+ghost use Rattle.std.specs.Prelude.{◌≡◌, ◌≢◌, ◌++◌, Option, Bool, Ok, IfOk, IfErr};
+ghost use Rattle.zk_jute.specs.declared.fault.Reason.TheVariants.{NoMemory};
+ghost use Rattle.zk_jute.specs.Standing.{IsPlain};
 ghost use Rattle.zk_jute.specs.Item.{bytes_of, HaveBytes};
 ghost use Rattle.zk_jute.specs.Told.{IsReadAs, IsTold};
 ghost use Rattle.zk_jute.specs.Flagged.{flag_items, IsFlaggedFault};
 
 use crate::fault::{ItemFault, Reason};
 use crate::output::Output;
-use crate::wire::{Spell, Wire};
+use crate::source::{Kept, Payload, Source};
+use crate::stands::{Form, Stands};
+use crate::wire::Spell;
 use std::alloc::Global;
 
 impl Spell for Option<bool> {
@@ -22,16 +26,18 @@ impl Spell for Option<bool> {
 }
 
 #[tactic(auto, using(crate::proofs::Flagged::refusals))]
-fn flagged_of<T: Wire>(alloc: Global, payload: &[u8]) -> Result<(T, Option<bool>), ItemFault>
-    ensures found { IfOk result (λ x. HaveBytes (T.items x.0 ++ flag_items x.1) × (payload.now ≡ bytes_of (T.items x.0 ++ flag_items x.1))) }
-    ensures fault { IfErr result (λ e. IsTold (IsFlaggedFault T.layout payload.now) e) }
+fn flagged_of<P: Source, T: Stands<P>>(src: &P) -> Result<(T, Option<bool>), ItemFault>
+    ensures found { IfOk result (λ x. HaveBytes (T.wired.items x.0 ++ flag_items x.1) × (P.payload src.now ≡ bytes_of (T.wired.items x.0 ++ flag_items x.1))) }
+    ensures fault { IfErr result (λ e. IsTold (IsFlaggedFault T.wired.layout (P.payload src.now)) e) }
+    ensures plain { IsPlain P.grows T.wired.layout → IfErr result (λ e. e.reason ≢ NoMemory) }
 {
-    let (value, place) = T::read(alloc, payload, 0)?;
-    if place == payload.len() {
+    let (value, place) = T::read_in(src, 0)?;
+    let end = src.payload().len();
+    if place == end {
         return Ok((value, None));
     }
-    let (flag, place) = bool::read(alloc, payload, place)?;
-    if place < payload.len() {
+    let (flag, place) = bool::read_in(src, place)?;
+    if place < end {
         return Err(ItemFault::at(place, Reason::Trailing));
     }
     Ok((value, Some(flag)))
@@ -39,13 +45,33 @@ fn flagged_of<T: Wire>(alloc: Global, payload: &[u8]) -> Result<(T, Option<bool>
 
 /// The value that the payload is, and the boolean behind it, where one is there; bytes behind that
 /// are `Trailing`.
-pub fn read_flagged<T: Wire>(alloc: Global, payload: &[u8]) -> Result<(T, Option<bool>), ItemFault>
+pub fn read_flagged<'a, T: Stands<Kept<'a>>>(
+    alloc: Global,
+    payload: &'a [u8],
+) -> Result<(T, Option<bool>), ItemFault>
     // What is read is the whole payload.
-    ensures found { IfOk result (λ x. HaveBytes (T.items x.0 ++ flag_items x.1) × (payload.now ≡ bytes_of (T.items x.0 ++ flag_items x.1))) }
+    ensures found { IfOk result (λ x. HaveBytes (T.wired.items x.0 ++ flag_items x.1) × (payload.now ≡ bytes_of (T.wired.items x.0 ++ flag_items x.1))) }
     // What has the form is read, unless memory is wanted.
-    ensures only { (x : T) (flag : Option Bool) → HaveBytes (T.items x ++ flag_items flag) → payload.now ≡ bytes_of (T.items x ++ flag_items flag) → IsReadAs (x, flag) result }
+    ensures only { (x : T) (flag : Option Bool) → HaveBytes (T.wired.items x ++ flag_items flag) → payload.now ≡ bytes_of (T.wired.items x ++ flag_items flag) → IsReadAs (x, flag) result }
     // Else the first case that applies is told, unless memory is wanted.
-    ensures fault { IfErr result (λ e. IsTold (IsFlaggedFault T.layout payload.now) e) }
+    ensures fault { IfErr result (λ e. IsTold (IsFlaggedFault T.wired.layout payload.now) e) }
 {
-    flagged_of(alloc, payload)
+    flagged_of(&Kept {
+        alloc,
+        bytes: payload,
+    })
+}
+
+/// The value that the payload is, and the boolean behind it, where they lie; it takes no memory.
+pub fn scan_flagged<'a, T: Stands<Payload<'a>>>(
+    payload: &'a [u8],
+) -> Result<(T, Option<bool>), ItemFault>
+    // What is read is the whole payload.
+    ensures found { IfOk result (λ x. HaveBytes (T.wired.items x.0 ++ flag_items x.1) × (payload.now ≡ bytes_of (T.wired.items x.0 ++ flag_items x.1))) }
+    // What has the form is read.
+    ensures only { (x : T) (flag : Option Bool) → HaveBytes (T.wired.items x ++ flag_items flag) → payload.now ≡ bytes_of (T.wired.items x ++ flag_items flag) → result ≡ Ok (x, flag) }
+    // Else the first case that applies is told.
+    ensures fault { IfErr result (λ e. IsTold (IsFlaggedFault T.wired.layout payload.now) e × (e.reason ≢ NoMemory)) }
+{
+    flagged_of(&Payload { bytes: payload })
 }

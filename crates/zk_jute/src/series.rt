@@ -1,9 +1,11 @@
 //! Lists where they lie in a payload: they take no memory.
-ghost use Rattle.std.specs.Prelude.{◌≡◌, ◌≤◌, ◌↔◌, ℕ, List, length, IsTrue, IfOk};
+ghost use Rattle.std.specs.Prelude.{◌≡◌, ◌≤◌, ◌↔◌, ℕ, List, length, Some, IsTrue, IfOk, IfSome};
+ghost use Rattle.std.specs.Iterator.{YieldsFirst, UpTo, item_count};
+ghost use Rattle.std.specs.Iterator.SizeHint.{IsWithinCount};
 ghost use Rattle.zk_jute.specs.Reading.{Read, Scans, items_at, read_map, times_at};
 ghost use Rattle.zk_jute.specs.Wired.{vector};
 ghost use Rattle.zk_jute.specs.Standing.{IsPlain};
-ghost use Rattle.zk_jute.specs.Shown.{AllStand, IsNull, count_of, list_at, text_value, text_is_value};
+ghost use Rattle.zk_jute.specs.Shown.{AllStand, IsNull, count_of, elements_of, list_at, text_value, text_is_value};
 
 use crate::fault::ItemFault;
 use crate::run::size_at;
@@ -37,13 +39,14 @@ pub struct Series<'a, R: Element> {
 
 impl<'a, R: Element> Model for Series<'a, R> {
     ghost use Rattle.zk_jute.specs.Held.{Vector};
+    ghost use Rattle.std.specs.Prelude.{◌≤◌, length};
     ghost use Rattle.zk_jute.specs.Shown.{list_at, AllStand};
 
     ghost Value = { Vector R };
 
     ghost view = { λ l. list_at (R.value l.payload.now) l.count l.place };
 
-    ghost invariant = { λ l. AllStand (R.value l.payload.now) l.count l.place };
+    ghost invariant = { λ l. (l.place ≤ length l.payload.now) × AllStand (R.value l.payload.now) l.count l.place };
 }
 
 /// A list of texts where it lies.
@@ -63,11 +66,86 @@ impl<'a, R: Element> Series<'a, R> {
     {
         self.count.unwrap_or(0)
     }
+
+    /// The elements, in order; none for null.
+    pub fn items(&self) -> Elements<'a, R>
+        ensures { result ≡ elements_of self.now }
+    {
+        Elements {
+            payload: self.payload,
+            left: self.count(),
+            place: self.place,
+            of: PhantomData,
+        }
+    }
+}
+
+/// The elements of a list that are left.
+#[derive(Drop)]
+pub struct Elements<'a, R: Element> {
+    payload: &'a [u8],
+    left: usize,
+    place: usize,
+    of: PhantomData<R>,
+}
+
+impl<'a, R: Element> Model for Elements<'a, R> {
+    ghost use Rattle.std.specs.Prelude.{List, ◌≤◌, ◌≡◌, length};
+    ghost use Rattle.zk_jute.specs.Shown.{values_at};
+
+    ghost Value = { List R };
+
+    ghost view = { λ l. values_at (R.value l.payload.now) l.left l.place };
+
+    ghost invariant = { λ l. (l.place ≤ length l.payload.now) × (length (values_at (R.value l.payload.now) l.left l.place) ≡ l.left) };
+}
+
+impl<'a, R: Element + Stands<Payload<'a>>> Iterator for Elements<'a, R> {
+    type Item = R;
+
+    ghost next_gives = { YieldsFirst (λ s. s) };
+
+    ghost remaining = { item_count (λ s. s) };
+
+    fn next(&mut self) -> Option<R> {
+        if self.left == 0 {
+            return None;
+        }
+        let src = Payload {
+            bytes: self.payload,
+        };
+        match R::decode(&src, self.place) {
+            Ok((item, place)) => {
+                self.place = place;
+                self.left -= 1;
+                Some(item)
+            }
+            // All that are left stand there.
+            Err(_) => None,
+        }
+    }
+
+    fn size_hint(&self) -> (usize, Option<usize>)
+        ensures lower { IsWithinCount result.0 (item_count (λ s. s) self.now) }
+        ensures upper { IfSome result.1 (UpTo (item_count (λ s. s) self.now)) }
+        ensures exact { (result.0 ≡ length self.now) × (result.1 ≡ Some (length self.now)) }
+    {
+        let left = self.len();
+        (left, Some(left))
+    }
+}
+
+impl<'a, R: Element + Stands<Payload<'a>>> ExactSizeIterator for Elements<'a, R> {
+    fn len(&self) -> usize {
+        let Elements { left, .. } = self;
+        *left
+    }
 }
 
 /// So many elements of the payload, from a place on.
 fn lying<'a, R: Element>(payload: &'a [u8], count: Option<usize>, place: usize) -> Series<'a, R>
-    requires { AllStand (R.value payload.now) count place }
+    requires place { place ≤ length payload.now }
+    requires stand { AllStand (R.value payload.now) count place }
     ensures { result ≡ list_at (R.value payload.now) count place }
 {
     Series {

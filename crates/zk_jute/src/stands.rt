@@ -12,7 +12,7 @@ ghost use Rattle.zk_jute.specs.Standing.{IsPlain};
 use crate::fault::ItemFault;
 use crate::number::{bool_at, int_at, long_at};
 use crate::run::size_at;
-use crate::source::{Kept, Source};
+use crate::source::{Kept, Payload, Source};
 use crate::value::{Blob, Items, List, Text};
 use crate::wire::Wire;
 use std::alloc::Global;
@@ -49,6 +49,19 @@ pub trait Stands<P: Source>: Form {
         are_bytes(src.payload());
         Self::decode(src, place)
     }
+}
+
+/// What lies at a place of a payload, and the place after it; it takes no memory.
+pub fn read_ref<'a, T: Stands<Payload<'a>>>(
+    src: &Payload<'a>,
+    place: usize,
+) -> Result<(T, usize), ItemFault>
+    requires { place ≤ length src.now.bytes.now }
+    ensures found { IfOk result (λ x. IsValueOf T.wired.layout (T.wired.items x.0) × StandsAt (T.wired.items x.0) src.now.bytes.now place x.1) }
+    ensures fault { IfErr result (λ e. HasToldFault (IsValueOf T.wired.layout) src.now.bytes.now place e × (e.reason ≢ NoMemory)) }
+    ensures within { IfOk result (λ x. x.1 ≤ length src.now.bytes.now) }
+{
+    T::read_in(src, place)
 }
 
 /// Bytes are numbers below 256; the function does nothing.

@@ -197,6 +197,21 @@ fn borrowed(rt: HostRuntime) -> Result<(), Fail> {
     Ok(())
 }
 
+/// The elements of a list come in order, and are counted.
+#[test]
+fn listed(rt: HostRuntime) -> Result<(), Fail> {
+    let src = Payload {
+        bytes: b"\0\0\0\x02\0\0\0\x02/a\xff\xff\xff\xff",
+    };
+    let (list, _) = TextList::read_in(&src, 0)?;
+    let mut items = list.items();
+    assert_eq!(rt; items.size_hint(), (2, Some(2)));
+    assert!(rt; matches!(items.next(), Some(TextRef::Full(_))));
+    assert!(rt; matches!(items.next(), Some(TextRef::Null)));
+    assert!(rt; items.next().is_none());
+    Ok(())
+}
+
 #[test]
 fn names(rt: HostRuntime) {
     let order = Reason::XidOrder {

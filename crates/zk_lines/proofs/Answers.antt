@@ -3,13 +3,12 @@ use Rattle.std.proofs.Common.{◌≡◌, ℕ, ℤ, List, [], ◌∷◌, ◌++◌
 use Rattle.std.specs.List.{AllByRecursion}
 use Rattle.zk_records.specs.declared.op.Op.{Op}
 use Rattle.zk_records.specs.declared.op.Op.TheVariants as ops
-use Rattle.zk_answers.specs.declared.frame.PartDone.{PartDone}
-use Rattle.zk_answers.specs.declared.frame.PartDone.TheVariants as done
-use Rattle.zk_answers.specs.declared.frame.Body.{Body}
-use Rattle.zk_answers.specs.declared.frame.Body.TheVariants as body
-use Rattle.zk_answers.specs.declared.frame.Outcome.{Outcome}
-use Rattle.zk_answers.specs.declared.frame.Outcome.TheVariants as outcome
-use Rattle.zk_answers.specs.Frames.{op_of_body, op_of_outcome}
+use Rattle.zk_answers.specs.Held.{PartDone, Body, Outcome}
+use Rattle.zk_answers.specs.declared.frame.PartDoneOf.TheVariants as done
+use Rattle.zk_answers.specs.declared.frame.BodyOf.TheVariants as body
+use Rattle.zk_answers.specs.declared.frame.OutcomeOf.TheVariants as outcome
+use Rattle.zk_answers.specs.Frames.{op_of_outcome}
+use Rattle.zk_answers.specs.Rows.{op_of_body}
 use Rattle.zk_items.specs.Form.{Read, ◌>>=◌, read_map, stops, word_at}
 use Rattle.zk_items.specs.Leaf.{int, long, ro, text, blob, in_name}
 use Rattle.zk_items.specs.Codes.{error_code, failure_code, event_code, error_name, type_name}

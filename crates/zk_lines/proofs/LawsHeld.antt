@@ -12,25 +12,23 @@ use Rattle.zk_records.specs.Records as records
 use Rattle.zk_records.specs.declared.stat.Stat.{Stat}
 use Rattle.zk_records.specs.Held.{ConnectRequest, ConnectResponse, CreateAsk, DeleteAsk, SetDataAsk, SetAclAsk, CheckAsk, WatchAsk, PathAsk, AuthAsk, SetWatchesAsk}
 use Rattle.zk_records.specs.declared.profile.Profile.{Profile}
-use Rattle.zk_asks.specs.declared.frame.Part.{Part}
-use Rattle.zk_asks.specs.declared.frame.Part.TheVariants as part
-use Rattle.zk_asks.specs.declared.frame.Ask.{Ask}
-use Rattle.zk_asks.specs.declared.frame.Ask.TheVariants as ask
-use Rattle.zk_asks.specs.declared.frame.ClientFrame.{ClientFrame}
-use Rattle.zk_asks.specs.declared.frame.ClientFrame.TheVariants as client
+use Rattle.zk_asks.specs.Held.{Part}
+use Rattle.zk_asks.specs.declared.frame.PartOf.TheVariants as part
+use Rattle.zk_asks.specs.Held.{Ask}
+use Rattle.zk_asks.specs.declared.frame.AskOf.TheVariants as ask
+use Rattle.zk_asks.specs.Held.{ClientFrame}
+use Rattle.zk_asks.specs.declared.frame.ClientFrameOf.TheVariants as client
 use Rattle.zk_asks.specs.Parts.{part_header, end_header, marked, op_of_part, record_of, part_items}
 use Rattle.zk_asks.specs.Rows.{body_items}
 use Rattle.zk_asks.specs.Frames as sent
-use Rattle.zk_answers.specs.declared.frame.PartDone.{PartDone}
-use Rattle.zk_answers.specs.declared.frame.PartDone.TheVariants as done
-use Rattle.zk_answers.specs.declared.frame.Body.{Body}
-use Rattle.zk_answers.specs.declared.frame.Body.TheVariants as body
-use Rattle.zk_answers.specs.declared.frame.Outcome.{Outcome}
-use Rattle.zk_answers.specs.declared.frame.Outcome.TheVariants as outcome
-use Rattle.zk_answers.specs.declared.frame.ServerFrame.{ServerFrame}
-use Rattle.zk_answers.specs.declared.frame.ServerFrame.TheVariants as server
+use Rattle.zk_answers.specs.Held.{PartDone, Body, Outcome, ServerFrame}
+use Rattle.zk_answers.specs.declared.frame.PartDoneOf.TheVariants as done
+use Rattle.zk_answers.specs.declared.frame.BodyOf.TheVariants as body
+use Rattle.zk_answers.specs.declared.frame.OutcomeOf.TheVariants as outcome
+use Rattle.zk_answers.specs.declared.frame.ServerFrameOf.TheVariants as server
 use Rattle.zk_answers.specs.Results as results
 use Rattle.zk_answers.specs.Frames as given
+use Rattle.zk_answers.specs.Rows as rows
 use Rattle.zk_items.specs.Form.{Form}
 use Rattle.zk_items.specs.Form as form
 use Rattle.zk_items.specs.Leaf as leaf
@@ -213,7 +211,7 @@ dones_held : (ds : List PartDone) → HaveBytes (flat_map results.done_items ds)
 dones_held [] h = tt
 dones_held (d ∷ ds) h = let r = parted (results.done_items d) (flat_map results.done_items ds) h in (done_held d r.0, dones_held ds r.1)
 
-body_held : (b : Body) → HaveBytes (given.body_items b) → answers.body_fits b
+body_held : (b : Body) → HaveBytes (rows.body_items b) → answers.body_fits b
 body_held (body.Create p) h = text_held.held p h
 body_held body.Delete h = tt
 body_held (body.Exists s) h = stat_held s h

@@ -4,12 +4,11 @@ use Rattle.std.specs.Prelude.{codes}
 use Rattle.std.specs.Fmt.{signed_decimal}
 use Rattle.std.specs.List.{prefix_len, AllByRecursion}
 use Rattle.std.proofs.lemmas.List.{append-nil}
-use Rattle.zk_asks.specs.declared.frame.Ask.{Ask}
-use Rattle.zk_asks.specs.declared.frame.ClientFrame.{ClientFrame}
-use Rattle.zk_asks.specs.declared.frame.ClientFrame.TheVariants as client
-use Rattle.zk_answers.specs.declared.frame.Reply.{Reply}
-use Rattle.zk_answers.specs.declared.frame.ServerFrame.{ServerFrame}
-use Rattle.zk_answers.specs.declared.frame.ServerFrame.TheVariants as server
+use Rattle.zk_asks.specs.Held.{Ask}
+use Rattle.zk_asks.specs.Held.{ClientFrame}
+use Rattle.zk_asks.specs.declared.frame.ClientFrameOf.TheVariants as client
+use Rattle.zk_answers.specs.Held.{Reply, ServerFrame}
+use Rattle.zk_answers.specs.declared.frame.ServerFrameOf.TheVariants as server
 use Rattle.zk_talk.specs.declared.message.Message.{Message}
 use Rattle.zk_talk.specs.declared.message.Message.TheVariants as message
 use Rattle.zk_items.specs.declared.fault.LineFault.{LineFault}

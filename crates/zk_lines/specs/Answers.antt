@@ -6,13 +6,10 @@ use Rattle.zk_records.specs.declared.stat.Stat.{Stat}
 use Rattle.zk_records.specs.declared.op.Op.{Op}
 use Rattle.zk_records.specs.declared.op.Op.TheVariants as ops
 use Rattle.zk_records.specs.Names.{op_name}
-use Rattle.zk_answers.specs.declared.frame.PartDone.{PartDone}
-use Rattle.zk_answers.specs.declared.frame.PartDone.TheVariants as done
-use Rattle.zk_answers.specs.declared.frame.Body.{Body}
-use Rattle.zk_answers.specs.declared.frame.Body.TheVariants as body
-use Rattle.zk_answers.specs.declared.frame.Outcome.{Outcome}
-use Rattle.zk_answers.specs.declared.frame.Outcome.TheVariants as outcome
-use Rattle.zk_answers.specs.declared.frame.Reply.{Reply}
+use Rattle.zk_answers.specs.Held.{PartDone, Body, Outcome, Reply}
+use Rattle.zk_answers.specs.declared.frame.PartDoneOf.TheVariants as done
+use Rattle.zk_answers.specs.declared.frame.BodyOf.TheVariants as body
+use Rattle.zk_answers.specs.declared.frame.OutcomeOf.TheVariants as outcome
 use Rattle.zk_answers.specs.Frames.{op_of_outcome}
 use Rattle.zk_items.specs.Form.{Form, Read, ◌>>=◌, read_map, fields, ◌and◌, word_at}
 use Rattle.zk_items.specs.Leaf.{int, long, ro, text, blob}

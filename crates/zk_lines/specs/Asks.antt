@@ -6,10 +6,10 @@ use Rattle.zk_records.specs.declared.op.Op.TheVariants as ops
 use Rattle.zk_records.specs.declared.op.PartOp.{PartOp}
 use Rattle.zk_records.specs.declared.op.PartOp.TheVariants as parts
 use Rattle.zk_records.specs.Names.{op_name, part_name}
-use Rattle.zk_asks.specs.declared.frame.Part.{Part}
-use Rattle.zk_asks.specs.declared.frame.Part.TheVariants as part
-use Rattle.zk_asks.specs.declared.frame.Ask.{Ask}
-use Rattle.zk_asks.specs.declared.frame.Ask.TheVariants as ask
+use Rattle.zk_asks.specs.Held.{Part}
+use Rattle.zk_asks.specs.declared.frame.PartOf.TheVariants as part
+use Rattle.zk_asks.specs.Held.{Ask}
+use Rattle.zk_asks.specs.declared.frame.AskOf.TheVariants as ask
 use Rattle.zk_asks.specs.Parts.{op_of_part}
 use Rattle.zk_asks.specs.Rows.{op_of_ask}
 use Rattle.zk_items.specs.Form.{Form, Read, read_map, fields, ◌and◌}

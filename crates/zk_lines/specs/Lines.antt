@@ -1,10 +1,10 @@
 -- The line of each message, and which message's line some bytes are.
 use Rattle.std.specs.Prelude.{◌≡◌, ℕ, List, [], ◌∷◌, ◌++◌, Option, Some, None, Result, Ok, Err, codes, take, bytes_eq, if◌then◌else◌}
 use Rattle.std.specs.List.{prefix_len}
-use Rattle.zk_asks.specs.declared.frame.ClientFrame.{ClientFrame}
-use Rattle.zk_asks.specs.declared.frame.ClientFrame.TheVariants as client
-use Rattle.zk_answers.specs.declared.frame.ServerFrame.{ServerFrame}
-use Rattle.zk_answers.specs.declared.frame.ServerFrame.TheVariants as server
+use Rattle.zk_asks.specs.Held.{ClientFrame}
+use Rattle.zk_asks.specs.declared.frame.ClientFrameOf.TheVariants as client
+use Rattle.zk_answers.specs.Held.{ServerFrame}
+use Rattle.zk_answers.specs.declared.frame.ServerFrameOf.TheVariants as server
 use Rattle.zk_items.specs.Form.{Read, ◌>>=◌, read_map, led, word_at}
 use Rattle.zk_items.specs.Leaf.{in_word}
 use Rattle.zk_items.specs.declared.fault.LineFault.{LineFault}

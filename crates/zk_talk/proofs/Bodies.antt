@@ -22,7 +22,7 @@ use Rattle.zk_answers.specs.declared.layout.Layout.{Layout as Kind}
 use Rattle.zk_answers.specs.declared.layout.Layout.TheVariants as layouts
 use Rattle.zk_records.specs.declared.header.ReplyHeader.{ReplyHeader}
 use Rattle.zk_records.specs.declared.op.Op.TheVariants as ops
-use Rattle.zk_asks.specs.declared.frame.Ask.{Ask as Asked}
+use Rattle.zk_asks.specs.Held.{Ask as Asked}
 use Rattle.zk_asks.specs.Codes.{event_xid}
 use Rattle.zk_asks.specs.Rows.{op_of_ask}
 use Rattle.zk_answers.specs.Faults.{IsHead, IsHeadFault}

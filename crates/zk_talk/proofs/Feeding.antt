@@ -30,7 +30,7 @@ feed_more old mid new side bytes at' used before now more inv goes h st =
 
 pub feed_fails : (old mid new : TalkState) (side : Side) (bytes : List ℕ) (at' : ℕ) (before now : List Message) (fault : Fault) →
     ((h : History) → Stands old h before → Stands mid (h ++ on side (take at' bytes)) now) → (fault.reason ≡ NoMemory → ⊥) → Fails mid side (drop at' bytes) fault new → Feeds old before side bytes (Some fault) new now
-feed_fails old mid new side bytes at' before now fault inv known (inl w) h st = absurd (known (ap (λ z. z.reason) w.0))
+feed_fails old mid new side bytes at' before now fault inv known (inl w) h st = absurd (known (ap (λ z. z.reason) w.told))
 feed_fails old mid new side bytes at' before now fault inv known (inr r) h st =
     let joined : (h ++ on side (take at' bytes)) ++ on side (drop at' bytes) ≡ h ++ on side bytes =
     append_assoc h (on side (take at' bytes)) (on side (drop at' bytes)) ∙ ap (λ z. h ++ z) (sym (on-append side (take at' bytes) (drop at' bytes)) ∙ ap (on side) (take-append-drop at' bytes)) in

@@ -1,9 +1,9 @@
 -- The frame of a payload, as it is written.
 use Rattle.std.proofs.Common.{◌≡◌, ℕ, List, ◌++◌, length, pos, ap, ◌∙◌, append_assoc}
 use Rattle.zk_jute.specs.Item as jute
-use Rattle.zk_asks.specs.declared.frame.ClientFrame.{ClientFrame}
+use Rattle.zk_asks.specs.Held.{ClientFrame}
 use Rattle.zk_asks.specs.Frames as asks
-use Rattle.zk_answers.specs.declared.frame.ServerFrame.{ServerFrame}
+use Rattle.zk_answers.specs.Held.{ServerFrame}
 use Rattle.zk_answers.specs.Frames as answers
 use Rattle.zk_frames.specs.Framing.{int_bytes, frame}
 use Rattle.zk_talk.specs.Payloads.{client_payload, server_payload}

@@ -1,26 +1,26 @@
 -- What is judged, over plain values.
-use Rattle.std.proofs.Common.{◌≡◌, ◌≢◌, ℕ, ◌+◌, ◌<◌, ◌≤◌, ◌⊎◌, inl, inr, List, [], ◌∷◌, ◌++◌, length, drop, filter, refl, sym, ap, ◌∙◌, subst, arith, Some, None, length-drop}
+use Rattle.std.proofs.Common.{◌≡◌, ◌≢◌, ℕ, ◌+◌, ◌<◌, ◌≤◌, ◌⊎◌, inl, inr, List, [], ◌∷◌, ◌++◌, length, drop, filter, refl, sym, ap, ◌∙◌, subst, arith, Option, Some, None, length-drop}
 use Rattle.std.specs.Prelude.{slice_get, true}
 use Rattle.zk_jute.specs.declared.fault.Reason.{Reason}
 use Rattle.zk_jute.specs.declared.fault.Reason.TheVariants.{QueueFull, Unasked, XidOrder}
 use Rattle.zk_records.specs.declared.header.ReplyHeader.{ReplyHeader}
 use Rattle.zk_records.specs.declared.profile.Profile.{Profile}
-use Rattle.zk_asks.specs.declared.frame.Ask.{Ask as Asked}
-use Rattle.zk_asks.specs.declared.frame.ClientFrame.{ClientFrame}
-use Rattle.zk_asks.specs.declared.frame.ClientFrame.TheVariants.{Connect, Ask}
+use Rattle.zk_asks.specs.Held.{Ask as Asked}
+use Rattle.zk_asks.specs.Held.{ClientFrame}
+use Rattle.zk_asks.specs.declared.frame.ClientFrameOf.TheVariants.{Connect, Ask}
 use Rattle.zk_asks.specs.Codes.{event_xid}
 use Rattle.zk_asks.specs.Frames.{IsFirst, IsLater, IsOfProfile, ops_of_ask}
 use Rattle.zk_asks.specs.Rows.{op_of_ask}
 use Rattle.zk_asks.specs.Frames as asks
 use Rattle.zk_asks.specs.Faults.{IsFirstFault, IsAskFault}
-use Rattle.zk_answers.specs.declared.frame.ServerFrame.{ServerFrame}
-use Rattle.zk_answers.specs.declared.frame.ServerFrame.TheVariants.{Connected, Answered, Event}
+use Rattle.zk_answers.specs.Held.{Reply, ServerFrame}
+use Rattle.zk_answers.specs.declared.frame.ServerFrameOf.TheVariants.{Connected, Answered, Event}
 use Rattle.zk_answers.specs.Frames.{IsConnected, IsEvent, IsReplyTo, Fits}
 use Rattle.zk_answers.specs.Frames as answers
 use Rattle.zk_answers.specs.Faults.{IsHead, IsConnectedFault, IsHeadFault, IsReplyFault, IsEventFault}
 use Rattle.zk_waiting.specs.declared.lane.Lane.{Lane}
 use Rattle.zk_waiting.specs.Lane.{lane_of}
-use Rattle.zk_waiting.specs.Waiting.{Request, Lanes, queue_on, weight_of}
+use Rattle.zk_waiting.specs.Waiting.{Request, Lanes, IsFit, asked_parts, queue_on, weight_of}
 use Rattle.zk_talk.specs.declared.limits.Limits.{Limits}
 use Rattle.zk_talk.specs.Payloads.{client_payload, server_payload}
 use Rattle.zk_talk.specs.Conversation.{Conversation, is_ask_on, asks_on, replies_on, ClientMay, ServerMay, IsAnswered, load, weight}
@@ -31,7 +31,7 @@ use Rattle.zk_talk.specs.Queues.{IsRequest, AreRequests}
 use Rattle.zk_talk.specs.Describes.{Describes}
 use Rattle.std.proofs.lemmas.Bool.{cases_order}
 use Rattle.zk_jute.specs.declared.fault.ItemFault.{ItemFault}
-use Rattle.zk_talk.specs.Judged.{Tells, IsInTurn, IsRemembered, HasAsk}
+use Rattle.zk_talk.specs.Judged.{Tells, IsInTurn, IsRemembered, HasRoomFor, IsDue, HasAsk}
 use Rattle.zk_talk.proofs.Turns.{first_left}
 use Rattle.zk_talk.proofs.Loads.{load_ask, lanes_same}
 use Rattle.zk_talk.proofs.Queues.{weight_is_load, requests-head, requests-length}
@@ -44,6 +44,9 @@ some_of n xs e h z = h (e ∙ ap length z)
 none_of : {X : Type 0} (n : ℕ) (xs : List X) → n ≡ length xs → n ≡ 0 → xs ≡ []
 none_of n [] e h = refl
 none_of n (x ∷ xs) e h = absurd (omega arith)
+
+some_same : {X : Type 0} (o : Option X) (x y : X) → o ≡ Some x → o ≡ Some y → x ≡ y
+some_same o x y a b = cc
 
 pub front_none : {X : Type 0} (xs : List X) → slice_get xs 0 ≡ None → xs ≡ []
 front_none [] e = refl
@@ -204,21 +207,39 @@ module _ (n m : ℕ) (w : Lanes) (v : Conversation) (d : Describes n m w v) wher
       go [] e a = absurd (e refl)
       go (x ∷ xs) e a = (sent, a)
 
--- a reply that was found has its ask
-pub reply_waits : (w : Lanes) (p : List ℕ) (header : ReplyHeader) (rest : List ℕ) (r : Request) (s : ServerFrame) → IsHead p header rest → slice_get (queue_on (lane_of header.xid) w) 0 ≡ Some r → IsReplyTo r.op r.parts s → answers.IsSent s → server_payload s ≡ p → HasAsk s w
-reply_waits w p header rest r (Connected t g) h some a sent e = absurd a
-reply_waits w p header rest r (Event t g) h some a sent e = absurd a
-reply_waits w p header rest r (Answered q) h some a sent e =
+-- what there is no room for is a request
+pub no_room : (f : ClientFrame) (w : Lanes) → (HasRoomFor f w → ⊥) → IsLater f × (w.max < weight_of w + weight f)
+no_room (Connect t g) w n = absurd (n tt)
+no_room (Ask xid ask) w n = (tt, omega (arith, n))
+
+-- a reply that was found fits its ask
+pub reply_due : (w : Lanes) (p : List ℕ) (header : ReplyHeader) (rest : List ℕ) (r : Request) (s : ServerFrame) → IsHead p header rest → slice_get (queue_on (lane_of header.xid) w) 0 ≡ Some r → IsReplyTo r.op r.parts s → answers.IsSent s → server_payload s ≡ p → IsDue s w
+reply_due w p header rest r (Connected t g) h some a sent e = absurd a
+reply_due w p header rest r (Event t g) h some a sent e = absurd a
+reply_due w p header rest r (Answered q) h some a sent e =
     let k = reply_head_is p q sent e in
     let xids : q.xid ≡ header.xid = sym k.xid_is ∙ ap (λ z. z.xid) (same_head p k.header header k.rest rest k.is h) in
-    (r, subst (λ z. slice_get (queue_on (lane_of z) w) 0 ≡ Some r) (sym xids) some)
+    (r, subst (λ z. slice_get (queue_on (lane_of z) w) 0 ≡ Some r) (sym xids) some, a)
 
-pub connected_waits : (w : Lanes) (s : ServerFrame) → IsConnected s → HasAsk s w
-connected_waits w (Connected t g) a = tt
-connected_waits w (Answered r) a = absurd a
-connected_waits w (Event t g) a = absurd a
+pub due_waits : (w : Lanes) (s : ServerFrame) → IsDue s w → HasAsk s w
+due_waits w (Connected t g) d = tt
+due_waits w (Answered q) d = (d.0, d.1)
+due_waits w (Event t g) d = tt
 
-pub event_waits : (w : Lanes) (s : ServerFrame) → IsEvent s → HasAsk s w
-event_waits w (Connected t g) a = absurd a
-event_waits w (Answered r) a = absurd a
-event_waits w (Event t g) a = tt
+-- the oldest request of its lane is the ask that it fits
+pub due_fits : (w : Lanes) (s : ServerFrame) (q : Reply) → s ≡ Answered q → IsDue s w → (slot : Request) → slice_get (queue_on (lane_of q.xid) w) 0 ≡ Some slot → IsFit slot → IsReplyTo slot.op (asked_parts slot) s
+due_fits w s q e d slot is fit =
+    let x = subst (λ z. IsDue z w) e d in
+    let same : x.0 ≡ slot = some_same (slice_get (queue_on (lane_of q.xid) w) 0) x.0 slot x.1 is in
+    let fits = subst (λ (z : Request). IsReplyTo z.op z.parts (Answered q)) same x.2 in
+    subst (IsReplyTo slot.op (asked_parts slot)) (sym e) (subst (λ z. IsReplyTo slot.op z (Answered q)) (sym fit.parts) fits)
+
+pub connected_due : (w : Lanes) (s : ServerFrame) → IsConnected s → IsDue s w
+connected_due w (Connected t g) a = tt
+connected_due w (Answered r) a = absurd a
+connected_due w (Event t g) a = absurd a
+
+pub event_due : (w : Lanes) (s : ServerFrame) → IsEvent s → IsDue s w
+event_due w (Connected t g) a = absurd a
+event_due w (Answered r) a = absurd a
+event_due w (Event t g) a = tt

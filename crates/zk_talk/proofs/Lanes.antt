@@ -1,12 +1,12 @@
 -- The lanes after a frame more.
 use Rattle.std.proofs.Common.{◌≡◌, ℕ, List, [], ◌∷◌, ◌++◌, drop, refl, sym, ap, ◌∙◌, subst, Bool, true, false, cond, Some}
 use Rattle.std.specs.Prelude.{slice_get}
-use Rattle.zk_asks.specs.declared.frame.ClientFrame.{ClientFrame}
-use Rattle.zk_asks.specs.declared.frame.ClientFrame.TheVariants.{Connect, Ask}
+use Rattle.zk_asks.specs.Held.{ClientFrame}
+use Rattle.zk_asks.specs.declared.frame.ClientFrameOf.TheVariants.{Connect, Ask}
 use Rattle.zk_asks.specs.Rows.{op_of_ask}
 use Rattle.zk_asks.specs.Frames.{ops_of_ask}
-use Rattle.zk_answers.specs.declared.frame.ServerFrame.{ServerFrame}
-use Rattle.zk_answers.specs.declared.frame.ServerFrame.TheVariants.{Connected, Answered, Event}
+use Rattle.zk_answers.specs.Held.{ServerFrame}
+use Rattle.zk_answers.specs.declared.frame.ServerFrameOf.TheVariants.{Connected, Answered, Event}
 use Rattle.zk_waiting.specs.declared.lane.Lane.{Lane}
 use Rattle.zk_waiting.specs.declared.lane.Lane.TheVariants.{Ping, Auth, Watches, Plain}
 use Rattle.zk_waiting.specs.Lane.{lane_of, same_lane}
@@ -14,7 +14,7 @@ use Rattle.zk_waiting.specs.Waiting.{Request, Lanes, queue_on, IsPut, IsDropped}
 use Rattle.zk_talk.specs.Conversation.{Conversation, with_client, with_server}
 use Rattle.zk_talk.specs.Queues.{IsQueue}
 use Rattle.zk_talk.specs.Describes.{Describes}
-use Rattle.zk_talk.specs.Judged.{IsRemembered, HasAsk, IsForgotten}
+use Rattle.zk_talk.specs.Judged.{HasRoomFor, IsRemembered, HasAsk, IsForgotten}
 use Rattle.zk_talk.proofs.Loads.{lanes_same}
 use Rattle.zk_talk.proofs.Queues.{queue_ask, queue_skip, queue_keep, queue_pop}
 
@@ -86,3 +86,25 @@ module _ (n m : ℕ) (w x : Lanes) (v : Conversation) (d : Describes n m w v) wh
           let left : queue_on k x ≡ first.0 = drop_on (lane_of r.xid) k w x e ∙ ap (λ z. cond z (drop 1 (queue_on k w)) (queue_on k w)) q ∙ ap (drop 1) queue in
           subst (IsQueue k (with_server v (Answered r))) (sym left) (queue_pop k v a.0 first.0 (Answered r) q (subst (IsQueue k v) queue (d.queues k)))
       go false q = subst (IsQueue k (with_server v (Answered r))) (sym (drop_on (lane_of r.xid) k w x e ∙ ap (λ z. cond z (drop 1 (queue_on k w)) (queue_on k w)) q)) (queue_keep k v (queue_on k w) (Answered r) q (d.queues k))
+
+-- there are lanes with one request more, and with one less
+put_there : (lane : Lane) (r : Request) (w : Lanes) → (x : Lanes) × IsPut lane r w x
+put_there Ping r w = (record w { ping = w.ping ++ r ∷ [] }, refl)
+put_there Auth r w = (record w { auth = w.auth ++ r ∷ [] }, refl)
+put_there Watches r w = (record w { watches = w.watches ++ r ∷ [] }, refl)
+put_there Plain r w = (record w { plain = w.plain ++ r ∷ [] }, refl)
+
+drop_there : (lane : Lane) (w : Lanes) → (x : Lanes) × IsDropped lane w x
+drop_there Ping w = (record w { ping = drop 1 w.ping }, refl)
+drop_there Auth w = (record w { auth = drop 1 w.auth }, refl)
+drop_there Watches w = (record w { watches = drop 1 w.watches }, refl)
+drop_there Plain w = (record w { plain = drop 1 w.plain }, refl)
+
+pub remembered_there : (f : ClientFrame) (w : Lanes) → HasRoomFor f w → (x : Lanes) × IsRemembered f w x
+remembered_there (Connect t g) w room = (w, refl)
+remembered_there (Ask xid ask) w room = let x = put_there (lane_of xid) (record { xid = xid; op = op_of_ask ask; parts = ops_of_ask ask }) w in (x.0, (room, x.1))
+
+pub forgotten_there : (s : ServerFrame) (w : Lanes) → (x : Lanes) × IsForgotten s w x
+forgotten_there (Connected t g) w = (w, refl)
+forgotten_there (Answered r) w = drop_there (lane_of r.xid) w
+forgotten_there (Event z k) w = (w, refl)

@@ -26,9 +26,12 @@ pub mod Pieces
 pub mod Lanes
 pub mod Judging
 pub mod Advancing
+pub mod Kept
 pub mod Telling
 pub mod Sides
+pub mod Seen
 pub mod Answering
+pub mod Stepping
 pub mod Framed
 pub mod Saying
 pub mod Speaking

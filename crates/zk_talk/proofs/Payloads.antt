@@ -8,8 +8,8 @@ use Rattle.zk_jute.proofs.Layouts.{bytes_both}
 use Rattle.zk_records.specs.declared.header.MultiHeader.{MultiHeader}
 use Rattle.zk_records.specs.Codes.{op_number}
 use Rattle.zk_records.specs.Records.{reply_header, watcher_event}
-use Rattle.zk_asks.specs.declared.frame.Part.{Part}
-use Rattle.zk_asks.specs.declared.frame.Ask.TheVariants as asked
+use Rattle.zk_asks.specs.Held.{Part}
+use Rattle.zk_asks.specs.declared.frame.AskOf.TheVariants as asked
 use Rattle.zk_asks.specs.Parts.{marked, part_header, end_header}
 use Rattle.zk_asks.specs.Forms.{header_items}
 use Rattle.zk_asks.specs.Parts.{op_of_part, record_of, part_items}
@@ -27,16 +27,15 @@ use Rattle.zk_records.specs.declared.header.ReplyHeader.{ReplyHeader}
 use Rattle.zk_records.specs.declared.op.Op.{Op}
 use Rattle.zk_records.specs.declared.profile.Profile.{Profile}
 use Rattle.zk_records.specs.declared.op.PartOp.{PartOp}
-use Rattle.zk_asks.specs.declared.frame.Ask.{Ask as Asked}
-use Rattle.zk_asks.specs.declared.frame.ClientFrame.{ClientFrame}
-use Rattle.zk_asks.specs.declared.frame.ClientFrame.TheVariants.{Ask}
+use Rattle.zk_asks.specs.Held.{Ask as Asked}
+use Rattle.zk_asks.specs.Held.{ClientFrame}
+use Rattle.zk_asks.specs.declared.frame.ClientFrameOf.TheVariants.{Ask}
 use Rattle.zk_asks.specs.Codes.{event_xid}
 use Rattle.zk_asks.specs.Frames.{IsFirst, IsLater, IsOfProfile, ops_of_ask}
 use Rattle.zk_asks.specs.Frames as asks
 use Rattle.zk_asks.specs.Faults.{IsFirstFault, IsAskFault}
-use Rattle.zk_answers.specs.declared.frame.Reply.{Reply}
-use Rattle.zk_answers.specs.declared.frame.ServerFrame.{ServerFrame}
-use Rattle.zk_answers.specs.declared.frame.ServerFrame.TheVariants.{Connected, Answered, Event}
+use Rattle.zk_answers.specs.Held.{Reply, ServerFrame}
+use Rattle.zk_answers.specs.declared.frame.ServerFrameOf.TheVariants.{Connected, Answered, Event}
 use Rattle.zk_answers.specs.Frames.{IsConnected, IsEvent, Fits}
 use Rattle.zk_answers.specs.Frames as answers
 use Rattle.zk_answers.specs.Faults.{IsConnectedFault, IsHead, IsHeadFault, IsReplyFault, IsEventFault}
@@ -52,6 +51,14 @@ client_is f p e = sym e
 pub server_is : (s : ServerFrame) (p : List ℕ) → p ≡ answers.payload s → server_payload s ≡ p
 unfolding server_payload
 server_is s p e = sym e
+
+pub client_of : (f : ClientFrame) (p : List ℕ) → client_payload f ≡ p → p ≡ asks.payload f
+unfolding client_payload
+client_of f p e = sym e
+
+pub server_of : (s : ServerFrame) (p : List ℕ) → server_payload s ≡ p → p ≡ answers.payload s
+unfolding server_payload
+server_of s p e = sym e
 
 -- ---- the client's first frame, and the others
 
@@ -137,7 +144,7 @@ same_head p a b r s x y = (head_unique p a b r s x y).0
 
 -- ---- replies
 
-pub reply_inj : (op : Op) (parts : List PartOp) (r q : Reply) → Fits op parts r → Fits op parts q → answers.IsSent (Answered r) → answers.IsSent (Answered q) → server_payload (Answered r) ≡ server_payload (Answered q) → Answered r ≡ Answered q
+pub reply_inj : (op : Op) (parts : List PartOp) (r q : Reply) → Fits op parts r → Fits op parts q → answers.IsSent (Answered r) → answers.IsSent (Answered q) → server_payload (Answered r) ≡ server_payload (Answered q) → ◌≡◌ {A = ServerFrame} (Answered r) (Answered q)
 unfolding server_payload
 reply_inj op parts r q a b c d e = reply_injective op parts (Answered r) (Answered q) a b c d e
 
@@ -173,3 +180,7 @@ unfolding server_payload
 event_head_is p (Event z k) a c e = record { header = event_header z; rest = bytes_of (watcher_event.items k); is = subst (λ y. IsHead y (event_header z) (bytes_of (watcher_event.items k))) e (event_head z k c); xid_is = refl }
 event_head_is p (Connected t g) a c e = absurd a
 event_head_is p (Answered r) a c e = absurd a
+
+-- its other headers have this xid too
+pub heads_as : (p : List ℕ) (xid : ℤ) → HasHead p xid → (header : ReplyHeader) (rest : List ℕ) → IsHead p header rest → header.xid ≡ xid
+heads_as p xid k header rest h = ap (λ (z : ReplyHeader). z.xid) (same_head p header k.header rest k.rest h k.is) ∙ k.xid_is

@@ -1,11 +1,11 @@
 -- What a piece does to a talk, by what it does to its side.
-use Rattle.std.proofs.Common.{◌≡◌, ℕ, ◌+◌, inr, List, [], ◌∷◌, ◌++◌, length, take, drop, Some, refl, sym, ap, ◌∙◌, subst, arith}
+use Rattle.std.proofs.Common.{◌≡◌, ℕ, ◌+◌, List, [], ◌∷◌, ◌++◌, length, take, drop, Some, refl, sym, ap, ◌∙◌, subst, arith}
 use Rattle.std.proofs.lemmas.List.{length-take-le, take-append-drop, take_all}
 use Rattle.zk_jute.specs.declared.fault.ItemFault.{ItemFault}
 use Rattle.zk_jute.specs.declared.fault.Reason.{Reason}
 use Rattle.zk_jute.specs.declared.fault.Reason.TheVariants.{StreamEnd, LengthRange}
-use Rattle.zk_asks.specs.declared.frame.ClientFrame.{ClientFrame}
-use Rattle.zk_answers.specs.declared.frame.ServerFrame.{ServerFrame}
+use Rattle.zk_asks.specs.Held.{ClientFrame}
+use Rattle.zk_answers.specs.Held.{ServerFrame}
 use Rattle.zk_frames.specs.Framing.{frame}
 use Rattle.zk_frames.proofs.Cuts.{drop-frame}
 use Rattle.zk_waiting.specs.Waiting.{Lanes}
@@ -23,7 +23,7 @@ use Rattle.zk_talk.specs.Describes.{Describes}
 use Rattle.zk_talk.specs.Judged.{Tells, IsNextOf, IsRemembered, HasAsk, IsForgotten}
 use Rattle.zk_talk.specs.Advance.{IsAdvance, IsStop}
 use Rattle.zk_talk.specs.Advance.IsStop.{too_many, out_of_range}
-use Rattle.zk_talk.specs.Taking.{GoesOn, Fails}
+use Rattle.zk_talk.specs.Taking.{GoesOn, IsRefused}
 use Rattle.zk_talk.proofs.Lanes.{remembered, forgotten}
 use Rattle.zk_talk.proofs.Pieces.{described, go_more_client, go_whole_client, fail_client_here, fail_length_client, fail_end_client, go_more_server, go_whole_server, fail_server_here, fail_length_server, fail_end_server}
 
@@ -41,8 +41,8 @@ module _ (t : TalkState) (piece after : List ℕ) where
       (subst (λ z. GoesOn t Client z [] (record t { client_held = t.client_held ++ piece; client_size = t.client_size + n })) (sym all) (go_more_client t piece n e a.1 (omega (arith, a.2, e))))
 
   pub client_stopped : (used : ℕ) (reason : Reason) → IsAdvance t.limits.client t.client_size t.client_held piece (Refused used reason) after →
-      Fails t Client piece (fault_of Client t.client_frames (t.client_size + used) 0 reason) (record t { client_held = after; fault = Some (fault_of Client t.client_frames (t.client_size + used) 0 reason) })
-  client_stopped used reason a = inr (go a.0)
+      IsRefused t Client piece (fault_of Client t.client_frames (t.client_size + used) 0 reason) (record t { client_held = after; fault = Some (fault_of Client t.client_frames (t.client_size + used) 0 reason) })
+  client_stopped used reason a = go a.0
     where
       go : IsStop t.limits.client t.client_size t.client_held piece used reason → (h : History) (M : List Message) → Stands t h M →
           Refuses (record t { client_held = after; fault = Some (fault_of Client t.client_frames (t.client_size + used) 0 reason) }) (h ++ on Client piece) M (fault_of Client t.client_frames (t.client_size + used) 0 reason)
@@ -69,8 +69,8 @@ module _ (t : TalkState) (piece after : List ℕ) where
 
   pub client_judged : (used : ℕ) (e : ItemFault) → IsAdvance t.limits.client t.client_size t.client_held piece (Whole used) after → t.waiting.max ≡ t.limits.waiting →
       ((limits : Limits) (m : ℕ) (v : Conversation) → limits.waiting ≡ t.waiting.max → limits.profile ≡ t.limits.profile → Describes t.client_frames m t.waiting v → Tells (IsClientFault limits v (drop 4 after)) e) →
-      Fails t Client piece (fault_of Client t.client_frames (t.client_size + used) e.place e.reason) (record t { client_held = after; fault = Some (fault_of Client t.client_frames (t.client_size + used) e.place e.reason) })
-  client_judged used e a max judged = inr go
+      IsRefused t Client piece (fault_of Client t.client_frames (t.client_size + used) e.place e.reason) (record t { client_held = after; fault = Some (fault_of Client t.client_frames (t.client_size + used) e.place e.reason) })
+  client_judged used e a max judged = go
     where
       go : (h : History) (M : List Message) → Stands t h M → Refuses (record t { client_held = after; fault = Some (fault_of Client t.client_frames (t.client_size + used) e.place e.reason) }) (h ++ on Client piece) M (fault_of Client t.client_frames (t.client_size + used) e.place e.reason)
       go h M st =
@@ -92,8 +92,8 @@ module _ (t : TalkState) (piece after : List ℕ) where
       (subst (λ z. GoesOn t Server z [] (record t { server_held = t.server_held ++ piece; server_size = t.server_size + n })) (sym all) (go_more_server t piece n e a.1 (omega (arith, a.2, e))))
 
   pub server_stopped : (used : ℕ) (reason : Reason) → IsAdvance t.limits.server t.server_size t.server_held piece (Refused used reason) after →
-      Fails t Server piece (fault_of Server t.server_frames (t.server_size + used) 0 reason) (record t { server_held = after; fault = Some (fault_of Server t.server_frames (t.server_size + used) 0 reason) })
-  server_stopped used reason a = inr (go a.0)
+      IsRefused t Server piece (fault_of Server t.server_frames (t.server_size + used) 0 reason) (record t { server_held = after; fault = Some (fault_of Server t.server_frames (t.server_size + used) 0 reason) })
+  server_stopped used reason a = go a.0
     where
       go : IsStop t.limits.server t.server_size t.server_held piece used reason → (h : History) (M : List Message) → Stands t h M →
           Refuses (record t { server_held = after; fault = Some (fault_of Server t.server_frames (t.server_size + used) 0 reason) }) (h ++ on Server piece) M (fault_of Server t.server_frames (t.server_size + used) 0 reason)
@@ -120,8 +120,8 @@ module _ (t : TalkState) (piece after : List ℕ) where
 
   pub server_judged : (used : ℕ) (e : ItemFault) → IsAdvance t.limits.server t.server_size t.server_held piece (Whole used) after →
       ((v : Conversation) → Describes t.client_frames t.server_frames t.waiting v → Tells (IsServerFault v (drop 4 after)) e) →
-      Fails t Server piece (fault_of Server t.server_frames (t.server_size + used) e.place e.reason) (record t { server_held = after; fault = Some (fault_of Server t.server_frames (t.server_size + used) e.place e.reason) })
-  server_judged used e a judged = inr go
+      IsRefused t Server piece (fault_of Server t.server_frames (t.server_size + used) e.place e.reason) (record t { server_held = after; fault = Some (fault_of Server t.server_frames (t.server_size + used) e.place e.reason) })
+  server_judged used e a judged = go
     where
       go : (h : History) (M : List Message) → Stands t h M → Refuses (record t { server_held = after; fault = Some (fault_of Server t.server_frames (t.server_size + used) e.place e.reason) }) (h ++ on Server piece) M (fault_of Server t.server_frames (t.server_size + used) e.place e.reason)
       go h M st =

@@ -2,8 +2,8 @@
 use Rattle.std.proofs.Common.{Option, Some, None, ◌≡◌, ℕ, ◌+◌, ◌<◌, ◌≤◌, ◌^◌, ◌⊎◌, inl, inr, List, [], ◌∷◌, ◌++◌, length, refl, sym, ap, ◌∙◌, subst, arith, append_assoc}
 use Rattle.std.proofs.lemmas.List.{append-nil, append_cancel_left, length_push}
 use Rattle.std.proofs.lemmas.List.Concat.{flat_map-append}
-use Rattle.zk_asks.specs.declared.frame.ClientFrame.{ClientFrame}
-use Rattle.zk_answers.specs.declared.frame.ServerFrame.{ServerFrame}
+use Rattle.zk_asks.specs.Held.{ClientFrame}
+use Rattle.zk_answers.specs.Held.{ServerFrame}
 use Rattle.zk_frames.specs.Framing.{frame, AreWithin}
 use Rattle.zk_frames.proofs.Cuts.{length-frame}
 use Rattle.zk_talk.specs.declared.limits.Limits.{Limits}

@@ -5,10 +5,10 @@ use Rattle.std.proofs.lemmas.List.Concat.{flat_map-append}
 use Rattle.std.proofs.lemmas.List.Elements.{filter-append}
 use Rattle.std.proofs.lemmas.Bool.{leb-true, leb-false}
 use Rattle.zk_records.specs.declared.profile.Profile.{Profile}
-use Rattle.zk_asks.specs.declared.frame.ClientFrame.{ClientFrame}
-use Rattle.zk_asks.specs.declared.frame.ClientFrame.TheVariants.{Connect, Ask}
-use Rattle.zk_answers.specs.declared.frame.ServerFrame.{ServerFrame}
-use Rattle.zk_answers.specs.declared.frame.ServerFrame.TheVariants.{Connected, Answered, Event}
+use Rattle.zk_asks.specs.Held.{ClientFrame}
+use Rattle.zk_asks.specs.declared.frame.ClientFrameOf.TheVariants.{Connect, Ask}
+use Rattle.zk_answers.specs.Held.{ServerFrame}
+use Rattle.zk_answers.specs.declared.frame.ServerFrameOf.TheVariants.{Connected, Answered, Event}
 use Rattle.zk_talk.specs.Payloads.{client_payload, server_payload}
 use Rattle.zk_talk.specs.declared.message.Side.{Side}
 use Rattle.zk_talk.specs.declared.message.Side.TheVariants.{Client, Server}

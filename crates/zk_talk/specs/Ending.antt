@@ -1,7 +1,7 @@
 -- How a history ends.
 use Rattle.std.specs.Prelude.{◌≡◌, ◌≢◌, ℕ, ◌+◌, List, [], ◌∷◌, length}
-use Rattle.zk_asks.specs.declared.frame.ClientFrame.{ClientFrame}
-use Rattle.zk_answers.specs.declared.frame.ServerFrame.{ServerFrame}
+use Rattle.zk_asks.specs.Held.{ClientFrame}
+use Rattle.zk_answers.specs.Held.{ServerFrame}
 use Rattle.zk_talk.specs.declared.message.Side.{Side}
 use Rattle.zk_talk.specs.declared.message.Side.TheVariants.{Client, Server}
 use Rattle.zk_talk.specs.declared.limits.Limits.{Limits}

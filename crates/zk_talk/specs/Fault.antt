@@ -5,9 +5,9 @@ use Rattle.zk_jute.specs.declared.fault.Reason.TheVariants as reasons
 use Rattle.zk_jute.specs.declared.fault.Reason.TheVariants.{StreamEnd, LengthRange, QueueFull, Unasked, XidOrder}
 use Rattle.zk_jute.specs.Reading.{told_place}
 use Rattle.zk_records.specs.declared.header.ReplyHeader.{ReplyHeader}
-use Rattle.zk_asks.specs.declared.frame.Ask.{Ask as Asked}
-use Rattle.zk_asks.specs.declared.frame.ClientFrame.{ClientFrame}
-use Rattle.zk_asks.specs.declared.frame.ClientFrame.TheVariants.{Ask}
+use Rattle.zk_asks.specs.Held.{Ask as Asked}
+use Rattle.zk_asks.specs.Held.{ClientFrame}
+use Rattle.zk_asks.specs.declared.frame.ClientFrameOf.TheVariants.{Ask}
 use Rattle.zk_asks.specs.Codes.{event_xid}
 use Rattle.zk_asks.specs.Frames.{IsLater, IsSent, IsOfProfile, ops_of_ask}
 use Rattle.zk_asks.specs.Rows.{op_of_ask}

@@ -5,17 +5,20 @@ use Rattle.zk_jute.specs.declared.fault.Reason.{Reason}
 use Rattle.zk_jute.specs.declared.fault.Reason.TheVariants.{QueueFull}
 use Rattle.zk_jute.specs.Reading.{told_place, no_memory}
 use Rattle.zk_records.specs.declared.profile.Profile.{Profile}
-use Rattle.zk_asks.specs.declared.frame.ClientFrame.{ClientFrame}
-use Rattle.zk_asks.specs.declared.frame.ClientFrame.TheVariants.{Connect, Ask}
+use Rattle.zk_asks.specs.Held.{ClientFrame}
+use Rattle.zk_asks.specs.declared.frame.ClientFrameOf.TheVariants.{Connect, Ask}
 use Rattle.zk_asks.specs.Frames.{IsFirst, IsLater, IsOfProfile, ops_of_ask}
 use Rattle.zk_asks.specs.Rows.{op_of_ask}
 use Rattle.zk_asks.specs.Faults.{IsFirstFault, IsAskFault}
-use Rattle.zk_answers.specs.declared.frame.ServerFrame.{ServerFrame}
-use Rattle.zk_answers.specs.declared.frame.ServerFrame.TheVariants.{Connected, Answered, Event}
+use Rattle.zk_answers.specs.Frames.{IsReplyTo}
+use Rattle.zk_answers.specs.Held.{ServerFrame}
+use Rattle.zk_answers.specs.declared.frame.ServerFrameOf.TheVariants.{Connected, Answered, Event}
 use Rattle.zk_waiting.specs.Lane.{lane_of}
 use Rattle.zk_waiting.specs.Waiting.{Lanes, Request, queue_on, weight_of, IsPut, IsDropped}
-use Rattle.zk_talk.specs.Payloads.{client_payload}
-use Rattle.zk_talk.specs.Conversation.{Conversation, ClientMay, load, weight}
+use Rattle.zk_asks.specs.Frames as asks
+use Rattle.zk_talk.specs.Payloads.{client_payload, server_payload}
+use Rattle.zk_talk.specs.Describes.{Describes}
+use Rattle.zk_talk.specs.Conversation.{Conversation, ClientMay, ServerMay, load, weight}
 
 -- the fault, its place told in 32 bits
 abbrev pub Tells : (ℕ → Reason → Type 0) → ItemFault → Type 0
@@ -37,6 +40,11 @@ IsPutRefusal f old e = (e ≡ no_memory) ⊎ (IsLater f × (e ≡ record { place
 abbrev pub IsNextOf : Profile → Lanes → List ℕ → Conversation → ClientFrame → Type 0
 IsNextOf profile old p v f = (client_payload f ≡ p) × ClientMay profile v.client f × (load v.client v.server ≤ old.max → load (v.client ++ f ∷ []) v.server ≤ old.max)
 
+-- there is room for what is to wait for the frame's reply
+abbrev pub HasRoomFor : ClientFrame → Lanes → Type 0
+HasRoomFor (Connect hello read_only) w = Unit {0}
+HasRoomFor (Ask xid ask) w = weight_of w + weight (Ask xid ask) ≤ w.max
+
 -- the frame waits for its reply, if it is to have one
 abbrev pub IsRemembered : ClientFrame → Lanes → Lanes → Type 0
 IsRemembered (Connect hello read_only) old new = new ≡ old
@@ -48,8 +56,27 @@ HasAsk (Connected hello read_only) w = Unit {0}
 HasAsk (Answered reply) w = (r : Request) × (slice_get (queue_on (lane_of reply.xid) w) 0 ≡ Some r)
 HasAsk (Event zxid event) w = Unit {0}
 
+-- it fits the oldest ask of its lane
+abbrev pub IsDue : ServerFrame → Lanes → Type 0
+IsDue (Connected hello read_only) w = Unit {0}
+IsDue (Answered reply) w = (r : Request) × (slice_get (queue_on (lane_of reply.xid) w) 0 ≡ Some r) × IsReplyTo r.op r.parts (Answered reply)
+IsDue (Event zxid event) w = Unit {0}
+
 -- what it answers waits no more
 abbrev pub IsForgotten : ServerFrame → Lanes → Lanes → Type 0
 IsForgotten (Connected hello read_only) old new = new ≡ old
 IsForgotten (Answered reply) old new = IsDropped (lane_of reply.xid) old new
 IsForgotten (Event zxid event) old new = new ≡ old
+
+-- the client's frame with this payload, behind so many: it may come now, and there is room for it
+pub record IsNextClient (profile : Profile) (count : ℕ) (waiting : Lanes) (p : List ℕ) (f : ClientFrame) : Type 0 where
+  pub turn : IsInTurn profile count f
+  pub sent : asks.IsSent f
+  pub is : client_payload f ≡ p
+  pub room : HasRoomFor f waiting
+
+-- the server's frame with this payload, behind so many of the client and so many of the server: it may come now
+pub record IsNextServer (asked count : ℕ) (waiting : Lanes) (p : List ℕ) (s : ServerFrame) : Type 0 where
+  pub due : HasAsk s waiting
+  pub is : server_payload s ≡ p
+  pub may : (v : Conversation) → Describes asked count waiting v → ServerMay v.client v.server s

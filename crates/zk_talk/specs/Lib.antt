@@ -10,6 +10,7 @@ pub mod Refused
 pub mod Queues
 pub mod Stands
 pub mod Describes
+pub mod Streams
 pub mod Sound
 pub mod Judged
 pub mod Advance

@@ -1,8 +1,8 @@
 -- The payload of a frame, by its side's grammar.
 use Rattle.std.specs.Prelude.{ℕ, List}
-use Rattle.zk_asks.specs.declared.frame.ClientFrame.{ClientFrame}
+use Rattle.zk_asks.specs.Held.{ClientFrame}
 use Rattle.zk_asks.specs.Frames as asks
-use Rattle.zk_answers.specs.declared.frame.ServerFrame.{ServerFrame}
+use Rattle.zk_answers.specs.Held.{ServerFrame}
 use Rattle.zk_answers.specs.Frames as answers
 
 unfoldable pub client_payload : ClientFrame → List ℕ

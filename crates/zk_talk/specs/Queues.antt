@@ -1,7 +1,7 @@
 -- The lanes of a conversation: the asks that no reply answers, oldest first.
 use Rattle.std.specs.Prelude.{◌≡◌, List, [], ◌∷◌, filter, drop}
-use Rattle.zk_asks.specs.declared.frame.ClientFrame.{ClientFrame}
-use Rattle.zk_asks.specs.declared.frame.ClientFrame.TheVariants.{Connect, Ask}
+use Rattle.zk_asks.specs.Held.{ClientFrame}
+use Rattle.zk_asks.specs.declared.frame.ClientFrameOf.TheVariants.{Connect, Ask}
 use Rattle.zk_asks.specs.Rows.{op_of_ask}
 use Rattle.zk_asks.specs.Frames.{ops_of_ask}
 use Rattle.zk_waiting.specs.declared.lane.Lane.{Lane}

@@ -6,7 +6,7 @@ use Rattle.zk_records.specs.declared.header.ReplyHeader.{ReplyHeader}
 use Rattle.zk_records.specs.declared.op.Op.{Op}
 use Rattle.zk_records.specs.declared.op.Op.TheVariants as ops
 use Rattle.zk_records.specs.Codes.{op_number}
-use Rattle.zk_asks.specs.declared.frame.Ask.{Ask as Asked}
+use Rattle.zk_asks.specs.Held.{Ask as Asked}
 use Rattle.zk_asks.specs.Codes.{event_xid}
 use Rattle.zk_asks.specs.Forms.{header_items}
 use Rattle.zk_asks.specs.Rows.{op_of_ask}

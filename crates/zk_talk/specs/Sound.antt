@@ -1,12 +1,18 @@
 -- What is true of every talk, whatever it was fed.
-use Rattle.std.specs.Prelude.{◌≡◌, ℕ, ◌<◌, ◌≤◌, ◌^◌, Option, None}
+use Rattle.std.specs.Prelude.{◌≡◌, ◌≢◌, ℕ, ◌<◌, ◌≤◌, ◌^◌, Option, Some, None}
+use Rattle.zk_jute.specs.declared.fault.Reason.TheVariants.{NoMemory}
 use Rattle.zk_frames.specs.Framing.{IsBeginning}
 use Rattle.zk_talk.specs.declared.message.Fault.{Fault}
-use Rattle.zk_talk.specs.declared.stream.Stream.{Stream}
+use Rattle.zk_talk.specs.Streams.{StreamState}
 
 -- of a side with this limit: as long as no fault is kept it is at the beginning of a frame
-pub record IsSide (limit : ℕ) (fault : Option Fault) (side : Stream) : Type 0 where
-  pub begins : fault ≡ None → IsBeginning limit side.frames.bytes
-  pub same : side.frames.limit ≡ limit
+pub record IsSide (limit : ℕ) (fault : Option Fault) (side : StreamState) : Type 0 where
+  pub begins : fault ≡ None → IsBeginning limit side.held
+  pub same : side.limit ≡ limit
   pub size : side.size < 2 ^ 62
   pub count : side.count ≤ side.size
+
+-- the fault that is kept, if one is, isn't want of memory
+abbrev pub IsKnown : Option Fault → Type 0
+IsKnown None = Unit {0}
+IsKnown (Some f) = f.reason ≢ NoMemory

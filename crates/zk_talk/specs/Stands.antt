@@ -18,6 +18,8 @@ pub record TalkState : Type 0 where
   pub limits : Limits
   pub client_held : List ℕ
   pub server_held : List ℕ
+  pub client_kept : List ℕ
+  pub server_kept : List ℕ
   pub waiting : Lanes
   pub client_frames : ℕ
   pub server_frames : ℕ
@@ -28,6 +30,11 @@ pub record TalkState : Type 0 where
 abbrev pub held_on : Side → TalkState → List ℕ
 held_on Client t = t.client_held
 held_on Server t = t.server_held
+
+-- the side's frame that is counted, and kept until the side's next call
+abbrev pub kept_on : Side → TalkState → List ℕ
+kept_on Client t = t.client_kept
+kept_on Server t = t.server_kept
 
 -- The talk has come through this history, and has given these messages.
 pub record Stands (t : TalkState) (h : History) (messages : List Message) : Type 0 where

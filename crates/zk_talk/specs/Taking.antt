@@ -1,12 +1,15 @@
 -- What a talk does with a piece.
-use Rattle.std.specs.Prelude.{◌≡◌, ℕ, ◌⊎◌, List, ◌++◌}
+use Rattle.std.specs.Prelude.{◌≡◌, ℕ, ◌≤◌, ◌⊎◌, Bool, true, false, List, [], ◌∷◌, ◌++◌, length, take}
+use Rattle.zk_frames.specs.Framing.{frame}
 use Rattle.zk_jute.specs.declared.fault.Reason.TheVariants.{NoMemory}
 use Rattle.zk_talk.specs.declared.message.Side.{Side}
+use Rattle.zk_talk.specs.declared.message.Side.TheVariants.{Client, Server}
 use Rattle.zk_talk.specs.declared.message.Message.{Message}
 use Rattle.zk_talk.specs.declared.message.Fault.{Fault}
 use Rattle.zk_talk.specs.History.{History, on}
 use Rattle.zk_talk.specs.Fault.{fault_of}
-use Rattle.zk_talk.specs.Stands.{TalkState, Stands, Refuses, frames_on, size_on}
+use Rattle.zk_talk.specs.Stands.{TalkState, Stands, Refuses, held_on, kept_on, frames_on, size_on}
+use Rattle.zk_talk.specs.Said.{payload_of}
 
 -- these bytes of the piece were used, and these messages came
 abbrev pub GoesOn : TalkState → Side → List ℕ → List Message → TalkState → Type 0
@@ -16,7 +19,30 @@ GoesOn old side used messages new = (h : History) (M : List Message) → Stands 
 abbrev pub lacks_memory : TalkState → Side → Fault
 lacks_memory t side = fault_of side (frames_on side t) (size_on side t) 0 NoMemory
 
--- want of memory changed nothing, or the history with the piece has the fault
+-- the frame that was kept on the side is given up
+abbrev pub given_up : Side → TalkState → TalkState
+given_up Client t = record t { client_kept = [] }
+given_up Server t = record t { server_kept = [] }
+
+-- these bytes of the piece were used; where they made a frame whole it is kept, and is one message's
+abbrev pub Steps : TalkState → Side → List ℕ → Bool → TalkState → Type 0
+Steps old side used false new = GoesOn old side used [] new × (kept_on side new ≡ [])
+Steps old side used true new = (m : Message) × GoesOn old side used (m ∷ []) new × (kept_on side new ≡ frame (payload_of m)) × (held_on side new ≡ [])
+
+-- Memory was wanted for a message that bytes of the piece make whole, and nothing is changed.
+pub record Lacks (old : TalkState) (side : Side) (piece : List ℕ) (fault : Fault) (new : TalkState) : Type 0 where
+  pub told : fault ≡ lacks_memory old side
+  pub same : new ≡ given_up side old
+  pub used : ℕ
+  pub part : used ≤ length piece
+  pub message : Message
+  pub after : TalkState
+  pub goes : GoesOn old side (take used piece) (message ∷ []) after
+
+-- the history with the piece has the fault
+abbrev pub IsRefused : TalkState → Side → List ℕ → Fault → TalkState → Type 0
+IsRefused old side piece fault new = (h : History) (M : List Message) → Stands old h M → Refuses new (h ++ on side piece) M fault
+
+-- memory was wanted for a message, or the history with the piece has the fault
 abbrev pub Fails : TalkState → Side → List ℕ → Fault → TalkState → Type 0
-Fails old side piece fault new =
-    ((fault ≡ lacks_memory old side) × (new ≡ old)) ⊎ ((h : History) (M : List Message) → Stands old h M → Refuses new (h ++ on side piece) M fault)
+Fails old side piece fault new = Lacks old side piece fault new ⊎ IsRefused old side piece fault new

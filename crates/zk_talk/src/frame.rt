@@ -1,15 +1,20 @@
-//! Whole frames: each is read, and then done with.
-ghost use Rattle.std.specs.Prelude.{◌≡◌, ◌≤◌, ◌<◌, ◌+◌, ◌^◌, ◌++◌, ◌↔◌, ℕ, List, [], length, drop, IfOk, IfErr, IsTrue};
+//! Whole frames: each is decided, and then kept or done with.
+ghost use Rattle.std.specs.Prelude.{◌≡◌, ◌≢◌, ◌≤◌, ◌<◌, ◌+◌, ◌^◌, ◌++◌, ◌↔◌, ℕ, List, [], length, drop, IfOk, IfErr, OnOk, IsTrue};
 ghost use Rattle.zk_jute.specs.declared.fault.Reason.TheVariants.{NoMemory};
+ghost use Rattle.zk_jute.specs.Reading.{no_memory};
 ghost use Rattle.zk_frames.specs.Framing.{IsFrame};
+ghost use Rattle.zk_asks.specs.Held as asks;
+ghost use Rattle.zk_answers.specs.Held as answers;
 ghost use Rattle.zk_talk.specs.declared.limits.Limits.{Limits};
-ghost use Rattle.zk_talk.specs.Payloads.{server_payload};
-ghost use Rattle.zk_talk.specs.Conversation.{Conversation, ServerMay};
+ghost use Rattle.zk_talk.specs.Conversation.{Conversation};
 ghost use Rattle.zk_talk.specs.Fault.{IsClientFault, IsServerFault};
 ghost use Rattle.zk_talk.specs.Describes.{Describes};
-ghost use Rattle.zk_talk.specs.Judged.{Tells, IsNextOf, IsRemembered, HasAsk, IsForgotten};
+ghost use Rattle.zk_talk.specs.Judged.{Tells, IsNextClient, IsNextServer, IsRemembered, IsForgotten};
+ghost use Rattle.zk_talk.specs.Streams.{IsAtFrame, passed, kept_now};
 
-use crate::judge::{next_client, next_server};
+use crate::judge::{
+    await_reply, build_client, build_server, forget_seen, next_client, next_server,
+};
 use crate::stream::Stream;
 use std::alloc::Global;
 use zk_answers::ServerFrame;
@@ -28,8 +33,27 @@ pub fn is_no_memory(item: ItemFault) -> bool
     }
 }
 
-/// The client's frame, which so many bytes have made whole, under this profile. Where memory is wanted they are not
-/// taken after all.
+/// The client's frame, which so many bytes have made whole, is decided under this profile, and kept.
+pub fn client_step(
+    profile: Profile,
+    stream: &mut Stream,
+    waiting: &mut Waiting,
+    used: usize,
+) -> Result<(), ItemFault>
+    requires { IsAtFrame stream.old used }
+    ensures max { waiting.new.max ≡ waiting.old.max }
+    ensures found { OnOk result ((f : asks.ClientFrame) × IsNextClient profile stream.old.count waiting.old (drop 4 stream.old.held) f × IsRemembered f waiting.old waiting.new) }
+    ensures kept { OnOk result (stream.new ≡ kept_now stream.old used) }
+    ensures same { IfErr result (λ e. (waiting.new ≡ waiting.old) × (stream.new ≡ stream.old)) }
+    ensures fault { IfErr result (λ e. (e.reason ≢ NoMemory) × ((limits : Limits) (m : ℕ) (v : Conversation) → limits.waiting ≡ waiting.old.max → limits.profile ≡ profile → Describes stream.old.count m waiting.old v → Tells (IsClientFault limits v (drop 4 stream.old.held)) e)) }
+{
+    let frame = next_client(profile, stream.count(), waiting, stream.payload())?;
+    await_reply(waiting, &frame);
+    stream.keep(used);
+    Ok(())
+}
+
+/// Likewise, and its message is made. Where memory is wanted the bytes are not taken after all.
 pub fn client_frame(
     alloc: Global,
     profile: Profile,
@@ -37,41 +61,53 @@ pub fn client_frame(
     waiting: &mut Waiting,
     used: usize,
 ) -> Result<ClientFrame, ItemFault>
-    requires whole { IsFrame stream.old.frames.limit stream.old.frames.bytes }
-    requires limit { stream.old.frames.limit ≤ 16777216 }
-    requires part { used ≤ length stream.old.frames.bytes }
-    requires size { stream.old.size + used < 2 ^ 62 }
-    requires count { stream.old.count ≤ stream.old.size }
+    requires { IsAtFrame stream.old used }
     ensures max { waiting.new.max ≡ waiting.old.max }
-    ensures found { IfOk result (λ f. (m : ℕ) (v : Conversation) → Describes stream.old.count m waiting.old v → IsNextOf profile waiting.old (drop 4 stream.old.frames.bytes) v f) }
-    ensures waits { IfOk result (λ f. IsRemembered f waiting.old waiting.new) }
-    ensures passed { IfOk result (λ f. stream.new ≡ record { frames = record { limit = stream.old.frames.limit; bytes = [] }; count = stream.old.count + 1; size = stream.old.size + used }) }
+    ensures found { IfOk result (λ f. IsNextClient profile stream.old.count waiting.old (drop 4 stream.old.held) f × IsRemembered f waiting.old waiting.new) }
+    ensures passed { IfOk result (λ f. stream.new ≡ passed stream.old used) }
     ensures same { IfErr result (λ e. waiting.new ≡ waiting.old) }
-    ensures back { IfErr result (λ e. e.reason ≡ NoMemory → (held part : List ℕ) → stream.old.frames.bytes ≡ held ++ part → length part ≡ used → stream.new ≡ record { frames = record { limit = stream.old.frames.limit; bytes = held }; count = stream.old.count; size = stream.old.size }) }
+    ensures lacks { IfErr result (λ e. e.reason ≡ NoMemory → (f : asks.ClientFrame) × IsNextClient profile stream.old.count waiting.old (drop 4 stream.old.held) f) }
+    ensures back { IfErr result (λ e. e.reason ≡ NoMemory → (before part : List ℕ) → stream.old.held ≡ before ++ part → length part ≡ used → stream.new ≡ record stream.old { held = before }) }
     ensures stays { IfErr result (λ e. (e.reason ≡ NoMemory → ⊥) → stream.new ≡ stream.old) }
-    ensures fault { IfErr result (λ e. (e.reason ≡ NoMemory → ⊥) → (limits : Limits) (m : ℕ) (v : Conversation) → limits.waiting ≡ waiting.old.max → limits.profile ≡ profile → Describes stream.old.count m waiting.old v → Tells (IsClientFault limits v (drop 4 stream.old.frames.bytes)) e) }
+    ensures fault { IfErr result (λ e. (e.reason ≡ NoMemory → ⊥) → (limits : Limits) (m : ℕ) (v : Conversation) → limits.waiting ≡ waiting.old.max → limits.profile ≡ profile → Describes stream.old.count m waiting.old v → Tells (IsClientFault limits v (drop 4 stream.old.held)) e) }
 {
-    match next_client(
-        alloc,
-        profile,
-        stream.count,
-        waiting,
-        stream.frames.payload(),
-    ) {
+    let payload = stream.payload();
+    let count = stream.count();
+    let seen = next_client(profile, count, waiting, payload)?;
+    match build_client(alloc, profile, count, payload) {
         Ok(frame) => {
+            await_reply(waiting, &seen);
             stream.pass(used);
             Ok(frame)
         }
         Err(item) => {
-            if is_no_memory(item) {
-                stream.take_back(used);
-            }
+            stream.take_back(used);
             Err(item)
         }
     }
 }
 
 /// The server's frame, likewise, where the client has sent so many.
+pub fn server_step(
+    asked: u64,
+    stream: &mut Stream,
+    waiting: &mut Waiting,
+    used: usize,
+) -> Result<(), ItemFault>
+    requires { IsAtFrame stream.old used }
+    ensures max { waiting.new.max ≡ waiting.old.max }
+    ensures found { OnOk result ((s : answers.ServerFrame) × IsNextServer asked stream.old.count waiting.old (drop 4 stream.old.held) s × IsForgotten s waiting.old waiting.new) }
+    ensures kept { OnOk result (stream.new ≡ kept_now stream.old used) }
+    ensures same { IfErr result (λ e. (waiting.new ≡ waiting.old) × (stream.new ≡ stream.old)) }
+    ensures fault { IfErr result (λ e. (e.reason ≢ NoMemory) × ((v : Conversation) → Describes asked stream.old.count waiting.old v → Tells (IsServerFault v (drop 4 stream.old.held)) e)) }
+{
+    let frame = next_server(asked, stream.count(), waiting, stream.payload())?;
+    forget_seen(waiting, &frame);
+    stream.keep(used);
+    Ok(())
+}
+
+/// Likewise, and its message is made.
 pub fn server_frame(
     alloc: Global,
     asked: u64,
@@ -79,29 +115,26 @@ pub fn server_frame(
     waiting: &mut Waiting,
     used: usize,
 ) -> Result<ServerFrame, ItemFault>
-    requires whole { IsFrame stream.old.frames.limit stream.old.frames.bytes }
-    requires limit { stream.old.frames.limit ≤ 16777216 }
-    requires part { used ≤ length stream.old.frames.bytes }
-    requires size { stream.old.size + used < 2 ^ 62 }
-    requires count { stream.old.count ≤ stream.old.size }
+    requires { IsAtFrame stream.old used }
     ensures max { waiting.new.max ≡ waiting.old.max }
-    ensures found { IfOk result (λ s. (v : Conversation) → Describes asked stream.old.count waiting.old v → (server_payload s ≡ drop 4 stream.old.frames.bytes) × ServerMay v.client v.server s) }
-    ensures waits { IfOk result (λ s. HasAsk s waiting.old × IsForgotten s waiting.old waiting.new) }
-    ensures passed { IfOk result (λ s. stream.new ≡ record { frames = record { limit = stream.old.frames.limit; bytes = [] }; count = stream.old.count + 1; size = stream.old.size + used }) }
+    ensures found { IfOk result (λ s. IsNextServer asked stream.old.count waiting.old (drop 4 stream.old.held) s × IsForgotten s waiting.old waiting.new) }
+    ensures passed { IfOk result (λ s. stream.new ≡ passed stream.old used) }
     ensures same { IfErr result (λ e. waiting.new ≡ waiting.old) }
-    ensures back { IfErr result (λ e. e.reason ≡ NoMemory → (held part : List ℕ) → stream.old.frames.bytes ≡ held ++ part → length part ≡ used → stream.new ≡ record { frames = record { limit = stream.old.frames.limit; bytes = held }; count = stream.old.count; size = stream.old.size }) }
+    ensures lacks { IfErr result (λ e. e.reason ≡ NoMemory → (s : answers.ServerFrame) × IsNextServer asked stream.old.count waiting.old (drop 4 stream.old.held) s) }
+    ensures back { IfErr result (λ e. e.reason ≡ NoMemory → (before part : List ℕ) → stream.old.held ≡ before ++ part → length part ≡ used → stream.new ≡ record stream.old { held = before }) }
     ensures stays { IfErr result (λ e. (e.reason ≡ NoMemory → ⊥) → stream.new ≡ stream.old) }
-    ensures fault { IfErr result (λ e. (e.reason ≡ NoMemory → ⊥) → (v : Conversation) → Describes asked stream.old.count waiting.old v → Tells (IsServerFault v (drop 4 stream.old.frames.bytes)) e) }
+    ensures fault { IfErr result (λ e. (e.reason ≡ NoMemory → ⊥) → (v : Conversation) → Describes asked stream.old.count waiting.old v → Tells (IsServerFault v (drop 4 stream.old.held)) e) }
 {
-    match next_server(alloc, asked, stream.count, waiting, stream.frames.payload()) {
+    let payload = stream.payload();
+    let seen = next_server(asked, stream.count(), waiting, payload)?;
+    match build_server(alloc, waiting, &seen, payload) {
         Ok(frame) => {
+            forget_seen(waiting, &seen);
             stream.pass(used);
             Ok(frame)
         }
         Err(item) => {
-            if is_no_memory(item) {
-                stream.take_back(used);
-            }
+            stream.take_back(used);
             Err(item)
         }
     }

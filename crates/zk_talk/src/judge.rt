@@ -1,9 +1,12 @@
 //! Whether a payload may come now.
-ghost use Rattle.std.specs.Prelude.{◌≡◌, ◌≢◌, ◌≤◌, ◌<◌, ◌+◌, ◌^◌, ◌⊎◌, ℕ, List, length, IfOk, IfErr, OnOk, Some, slice_get};
-ghost use Rattle.zk_jute.specs.Reading.{no_memory};
+ghost use Rattle.std.specs.Prelude.{◌≡◌, ◌≢◌, ◌≤◌, ◌<◌, ◌+◌, ◌^◌, ◌⊎◌, ◌↔◌, ℕ, List, length, IfOk, IfErr, OnOk, IsTrue, Some, slice_get};
+ghost use Rattle.zk_jute.specs.declared.fault.Reason.TheVariants.{NoMemory};
+ghost use Rattle.zk_jute.specs.Told.{IsReadAs};
 ghost use Rattle.zk_asks.specs.Codes.{event_xid};
+ghost use Rattle.zk_asks.specs.Held as held;
 ghost use Rattle.zk_asks.specs.Frames.{IsSent};
 ghost use Rattle.zk_answers.specs.Faults.{IsHead};
+ghost use Rattle.zk_answers.specs.Frames as answers;
 ghost use Rattle.zk_waiting.specs.Lane.{lane_of};
 ghost use Rattle.zk_waiting.specs.Waiting.{queue_on};
 ghost use Rattle.zk_talk.specs.declared.limits.Limits.{Limits};
@@ -11,29 +14,91 @@ ghost use Rattle.zk_talk.specs.Payloads.{client_payload, server_payload};
 ghost use Rattle.zk_talk.specs.Conversation.{Conversation, ServerMay};
 ghost use Rattle.zk_talk.specs.Fault.{IsClientFault, IsServerFault};
 ghost use Rattle.zk_talk.specs.Describes.{Describes};
-ghost use Rattle.zk_talk.specs.Judged.{Tells, IsInTurn, IsTurnFault, IsPutRefusal, IsNextOf, IsRemembered, HasAsk, IsForgotten};
+ghost use Rattle.zk_talk.specs.Judged.{Tells, IsInTurn, IsTurnFault, IsPutRefusal, HasRoomFor, IsRemembered, IsDue, HasAsk, IsForgotten};
 
 use std::alloc::Global;
-use zk_answers::{ServerFrame, form_of, read_connected, read_event, read_reply, reply_head};
-use zk_asks::{ClientFrame, read_ask, read_first};
+use zk_answers::{
+    ServerFrame, ServerFrameOf, ServerRef, form_of, read_connected, read_event, read_reply,
+    reply_head, scan_connected, scan_event, scan_reply,
+};
+use zk_asks::{
+    ClientFrame, ClientFrameOf, ClientRef, RequestRef, read_ask, read_first, scan_ask, scan_first,
+};
 use zk_jute::{ItemFault, Reason};
 use zk_records::{Profile, ReplyHeader};
 use zk_waiting::{PutFault, Waiting, lane_of};
 
-/// The frame after so many of the client.
-fn read_client(
+/// The frame after so many of the client, where it lies.
+fn seen_client(profile: Profile, count: u64, payload: &[u8]) -> Result<ClientRef<'_>, ItemFault>
+    ensures found { IfOk result (λ f. IsInTurn profile count f × IsSent f × (client_payload f ≡ payload.now)) }
+    ensures fault { IfErr result (λ e. (e.reason ≢ NoMemory) × IsTurnFault profile count payload.now e) }
+{
+    if count == 0 {
+        scan_first(payload)
+    } else {
+        scan_ask(profile, payload)
+    }
+}
+
+/// Whether there is room for what is to wait for the frame's reply.
+fn has_room(waiting: &Waiting, frame: &ClientRef<'_>) -> bool
+    requires { length (client_payload frame.now) < 2 ^ 32 }
+    ensures { IsTrue result ↔ HasRoomFor frame.now waiting.now }
+{
+    match frame {
+        ClientFrameOf::Connect { .. } => true,
+        ClientFrameOf::Ask { ask, .. } => waiting.has_room(&RequestRef::of(ask)),
+    }
+}
+
+/// The client's next frame, where it lies; there is room for what is to wait for its reply.
+pub fn next_client<'a>(
+    profile: Profile,
+    count: u64,
+    waiting: &Waiting,
+    payload: &'a [u8],
+) -> Result<ClientRef<'a>, ItemFault>
+    requires { length payload.now < 2 ^ 32 }
+    ensures found { IfOk result (λ f. IsInTurn profile count f × IsSent f × (client_payload f ≡ payload.now)) }
+    ensures room { IfOk result (λ f. HasRoomFor f waiting.now) }
+    ensures fault { IfErr result (λ e. (e.reason ≢ NoMemory) × ((limits : Limits) (m : ℕ) (v : Conversation) → limits.waiting ≡ waiting.now.max → limits.profile ≡ profile → Describes count m waiting.now v → Tells (IsClientFault limits v payload.now) e)) }
+{
+    let frame = seen_client(profile, count, payload)?;
+    if has_room(waiting, &frame) {
+        Ok(frame)
+    } else {
+        Err(ItemFault::at(0, Reason::QueueFull))
+    }
+}
+
+/// The frame that the client's payload is known to be, with memory of its own.
+pub fn build_client(
     alloc: Global,
     profile: Profile,
     count: u64,
     payload: &[u8],
 ) -> Result<ClientFrame, ItemFault>
-    ensures found { IfOk result (λ f. IsInTurn profile count f × IsSent f × (client_payload f ≡ payload.now)) }
-    ensures fault { IfErr result (λ e. (e ≡ no_memory) ⊎ IsTurnFault profile count payload.now e) }
+    ensures { (f : held.ClientFrame) → IsInTurn profile count f → IsSent f → client_payload f ≡ payload.now → IsReadAs f result }
 {
     if count == 0 {
         read_first(alloc, payload)
     } else {
         read_ask(alloc, profile, payload)
+    }
+}
+
+/// The client's frame, for which there is room, waits for its reply, if it is to have one.
+pub fn await_reply(waiting: &mut Waiting, frame: &ClientRef<'_>)
+    requires small { length (client_payload frame.now) < 2 ^ 32 }
+    requires room { HasRoomFor frame.now waiting.old }
+    ensures max { waiting.new.max ≡ waiting.old.max }
+    ensures waits { IsRemembered frame.now waiting.old waiting.new }
+{
+    if let ClientFrameOf::Ask { xid, ask } = frame {
+        match waiting.put(*xid, &RequestRef::of(ask)) {
+            Ok(()) => {}
+            Err(PutFault::QueueFull) => unreachable!(),
+        }
     }
 }
 
@@ -56,43 +121,17 @@ pub fn remember(alloc: Global, waiting: &mut Waiting, frame: &ClientFrame) -> Re
     }
 }
 
-/// The client's next frame, which then waits for its reply.
-pub fn next_client(
-    alloc: Global,
-    profile: Profile,
-    count: u64,
-    waiting: &mut Waiting,
-    payload: &[u8],
-) -> Result<ClientFrame, ItemFault>
-    requires { length payload.now < 2 ^ 32 }
-    ensures max { waiting.new.max ≡ waiting.old.max }
-    ensures found { IfOk result (λ f. (m : ℕ) (v : Conversation) → Describes count m waiting.old v → IsNextOf profile waiting.old payload.now v f) }
-    ensures waits { IfOk result (λ f. IsRemembered f waiting.old waiting.new) }
-    ensures same { IfErr result (λ e. waiting.new ≡ waiting.old) }
-    ensures fault { IfErr result (λ e. (e ≡ no_memory) ⊎ ((limits : Limits) (m : ℕ) (v : Conversation) → limits.waiting ≡ waiting.old.max → limits.profile ≡ profile → Describes count m waiting.old v → Tells (IsClientFault limits v payload.now) e)) }
-{
-    let frame = match read_client(alloc, profile, count, payload) {
-        Ok(frame) => frame,
-        Err(e) => return Err(e),
-    };
-    match remember(alloc, waiting, &frame) {
-        Ok(()) => Ok(frame),
-        Err(e) => Err(e),
-    }
-}
-
-/// The reply under this header to the oldest request of its lane.
-fn read_answer(
-    alloc: Global,
+/// The reply under this header to the oldest request of its lane, where it lies.
+fn seen_answer<'a>(
     head: &ReplyHeader,
     waiting: &Waiting,
-    payload: &[u8],
-) -> Result<ServerFrame, ItemFault>
+    payload: &'a [u8],
+) -> Result<ServerRef<'a>, ItemFault>
     requires head { (rest : List ℕ) × IsHead payload.now head.now rest }
     requires reply { head.now.xid ≢ event_xid }
-    ensures waits { IfOk result (λ s. HasAsk s waiting.now) }
-    ensures found { IfOk result (λ s. (n m : ℕ) (v : Conversation) → (m ≡ 0 → ⊥) → Describes n m waiting.now v → (server_payload s ≡ payload.now) × ServerMay v.client v.server s) }
-    ensures fault { IfErr result (λ e. (e ≡ no_memory) ⊎ ((n m : ℕ) (v : Conversation) → (m ≡ 0 → ⊥) → Describes n m waiting.now v → Tells (IsServerFault v payload.now) e)) }
+    ensures due { IfOk result (λ s. IsDue s waiting.now × answers.IsSent s × (server_payload s ≡ payload.now)) }
+    ensures may { IfOk result (λ s. (n m : ℕ) (v : Conversation) → (m ≡ 0 → ⊥) → Describes n m waiting.now v → ServerMay v.client v.server s) }
+    ensures fault { IfErr result (λ e. (e.reason ≢ NoMemory) × ((n m : ℕ) (v : Conversation) → (m ≡ 0 → ⊥) → Describes n m waiting.now v → Tells (IsServerFault v payload.now) e)) }
 {
     match waiting.oldest(lane_of(head.xid)) {
         None => Err(ItemFault::at(0, Reason::Unasked)),
@@ -102,37 +141,53 @@ fn read_answer(
                 let got = head.xid;
                 return Err(ItemFault::at(0, Reason::XidOrder { expected, got }));
             }
-            read_reply(alloc, &slot, payload)
+            scan_reply(&slot, payload)
         }
     }
 }
 
-/// The frame after so many of the server, where the client has sent so many.
-fn read_server(
-    alloc: Global,
+/// The server's next frame, where it lies: the client has sent so many, the server so many.
+pub fn next_server<'a>(
     asked: u64,
     count: u64,
     waiting: &Waiting,
-    payload: &[u8],
-) -> Result<ServerFrame, ItemFault>
-    ensures waits { IfOk result (λ s. HasAsk s waiting.now) }
-    ensures found { IfOk result (λ s. (v : Conversation) → Describes asked count waiting.now v → (server_payload s ≡ payload.now) × ServerMay v.client v.server s) }
-    ensures fault { IfErr result (λ e. (e ≡ no_memory) ⊎ ((v : Conversation) → Describes asked count waiting.now v → Tells (IsServerFault v payload.now) e)) }
+    payload: &'a [u8],
+) -> Result<ServerRef<'a>, ItemFault>
+    ensures due { IfOk result (λ s. IsDue s waiting.now × answers.IsSent s × (server_payload s ≡ payload.now)) }
+    ensures may { IfOk result (λ s. (v : Conversation) → Describes asked count waiting.now v → ServerMay v.client v.server s) }
+    ensures fault { IfErr result (λ e. (e.reason ≢ NoMemory) × ((v : Conversation) → Describes asked count waiting.now v → Tells (IsServerFault v payload.now) e)) }
 {
     if count == 0 {
         if asked == 0 {
             return Err(ItemFault::at(0, Reason::Unasked));
         }
-        return read_connected(alloc, payload);
+        return scan_connected(payload);
     }
-    let head = match reply_head(payload) {
-        Ok(head) => head,
-        Err(e) => return Err(e),
-    };
+    let head = reply_head(payload)?;
     if head.xid == -1 {
-        return read_event(alloc, payload);
+        return scan_event(payload);
     }
-    read_answer(alloc, &head, waiting, payload)
+    seen_answer(&head, waiting, payload)
+}
+
+/// The frame that the server's payload is known to be, with memory of its own.
+pub fn build_server(
+    alloc: Global,
+    waiting: &Waiting,
+    frame: &ServerRef<'_>,
+    payload: &[u8],
+) -> Result<ServerFrame, ItemFault>
+    requires { IsDue frame.now waiting.now × answers.IsSent frame.now × (server_payload frame.now ≡ payload.now) }
+    ensures { IsReadAs frame.now result }
+{
+    match frame {
+        ServerFrameOf::Connected { .. } => read_connected(alloc, payload),
+        ServerFrameOf::Event { .. } => read_event(alloc, payload),
+        ServerFrameOf::Answered(reply) => match waiting.oldest(lane_of(reply.xid)) {
+            Some(slot) => read_reply(alloc, &slot, payload),
+            None => unreachable!(),
+        },
+    }
 }
 
 /// What the server's frame answers waits no more.
@@ -146,24 +201,13 @@ pub fn forget(waiting: &mut Waiting, frame: &ServerFrame)
     }
 }
 
-/// The server's next frame; what it answers then waits no more.
-pub fn next_server(
-    alloc: Global,
-    asked: u64,
-    count: u64,
-    waiting: &mut Waiting,
-    payload: &[u8],
-) -> Result<ServerFrame, ItemFault>
+/// Likewise, where the frame lies.
+pub fn forget_seen(waiting: &mut Waiting, frame: &ServerRef<'_>)
+    requires { HasAsk frame.now waiting.old }
     ensures max { waiting.new.max ≡ waiting.old.max }
-    ensures found { IfOk result (λ s. (v : Conversation) → Describes asked count waiting.old v → (server_payload s ≡ payload.now) × ServerMay v.client v.server s) }
-    ensures waits { IfOk result (λ s. HasAsk s waiting.old × IsForgotten s waiting.old waiting.new) }
-    ensures same { IfErr result (λ e. waiting.new ≡ waiting.old) }
-    ensures fault { IfErr result (λ e. (e ≡ no_memory) ⊎ ((v : Conversation) → Describes asked count waiting.old v → Tells (IsServerFault v payload.now) e)) }
+    ensures forgotten { IsForgotten frame.now waiting.old waiting.new }
 {
-    let frame = match read_server(alloc, asked, count, waiting, payload) {
-        Ok(frame) => frame,
-        Err(e) => return Err(e),
-    };
-    forget(waiting, &frame);
-    Ok(frame)
+    if let ServerFrameOf::Answered(reply) = frame {
+        waiting.drop_oldest(lane_of(reply.xid));
+    }
 }

@@ -23,7 +23,7 @@ pub use read::read_all;
 pub use round::{order_is_said, read_is_said, said_is_read, say_laws};
 pub use say::{SayFault, say_name};
 pub use speaker::Speaker;
-pub use talk::{Taken, Talk};
+pub use talk::{Stepped, Taken, Talk};
 
 #[cfg(test)]
 mod library_tests;

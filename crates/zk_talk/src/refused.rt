@@ -65,17 +65,6 @@ pub fn is_in_body(fault: Fault) -> bool
     is_of_items(fault.reason)
 }
 
-/// What the whole frame carries.
-pub fn whole_payload(frames: &Frames) -> Option<&[u8]>
-    ensures { MatchOption result (IsWhole frames.now → ⊥) (λ p. (frames.now.bytes ≡ frame p.now) × (length p.now ≤ frames.now.limit)) }
-{
-    if frames.is_whole() {
-        Some(frames.payload())
-    } else {
-        None
-    }
-}
-
 /// The body behind a request's header.
 pub fn asked_body(payload: &[u8]) -> Option<(Layout, &[u8])>
     ensures found { (v : Conversation) → MatchOption result ((layout : Kind) (body : List ℕ) → HasBody v payload.now Client layout body → ⊥) (λ b. HasBody v payload.now Client b.0 b.1.now) }

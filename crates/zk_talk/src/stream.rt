@@ -1,10 +1,12 @@
 //! One side's bytes, and what a piece does to its frame.
-ghost use Rattle.std.specs.Prelude.{◌≡◌, ◌≤◌, ◌<◌, ◌+◌, ◌^◌, ◌++◌, ℕ, List, [], length, take, IfOk};
+ghost use Rattle.std.specs.Prelude.{◌≡◌, ◌≤◌, ◌<◌, ◌+◌, ◌^◌, ◌++◌, ℕ, List, [], length, take, IfOk, MatchOption};
 ghost use Rattle.zk_frames.specs.Framing.{frame, IsBeginning, IsFrame};
 ghost use Rattle.zk_talk.specs.Advance.{IsAdvance};
+ghost use Rattle.zk_talk.specs.Streams.{IsAtFrame, passed, kept_now};
 ghost use Rattle.zk_talk.specs.declared.stream.Advance.TheVariants.{Within};
 
 use std::alloc::{AllocError, Global};
+use std::marker::Model;
 use zk_frames::{FrameFault, Frames};
 use zk_jute::Reason;
 
@@ -21,11 +23,23 @@ pub enum Advance {
 /// One side of a conversation.
 #[derive(Drop)]
 pub struct Stream {
-    pub frames: Frames,
-    /// How many frames were whole.
-    pub count: u64,
-    /// How many bytes came before the frame that is whole now, or in all.
-    pub size: u64,
+    frames: Frames,
+    /// Whether the frame is whole and counted, and kept until the side's next call.
+    kept: bool,
+    count: u64,
+    size: u64,
+}
+
+impl Model for Stream {
+    ghost use Rattle.std.specs.Prelude.{◌≡◌, true};
+    ghost use Rattle.zk_frames.specs.Framing.{IsFrame};
+    ghost use Rattle.zk_talk.specs.Streams.{StreamState, held_where, kept_where};
+
+    ghost Value = { StreamState };
+
+    ghost view = { λ s. record { limit = s.frames.limit; held = held_where s.kept s.frames.bytes; kept = kept_where s.kept s.frames.bytes; count = s.count; size = s.size } };
+
+    ghost invariant = { λ s. s.kept ≡ true → IsFrame s.frames.limit s.frames.bytes };
 }
 
 /// How many bytes of the piece the side may still send.
@@ -50,64 +64,145 @@ fn front(piece: &[u8], used: usize) -> &[u8]
     &piece[..used]
 }
 
+/// What the piece does to the frame of a side of so many bytes.
+fn go_forward(frames: &mut Frames, size: u64, piece: &[u8]) -> Advance
+    requires begins { IsBeginning frames.old.limit frames.old.bytes }
+    requires size { size < 2 ^ 62 }
+    ensures limit { frames.new.limit ≡ frames.old.limit }
+    ensures advance { IsAdvance frames.old.limit size frames.old.bytes piece.now result frames.new.bytes }
+{
+    let room = within(size, piece);
+    let held = frames.held();
+    match frames.take(front(piece, room)) {
+        Ok(took) => {
+            if took.whole {
+                Advance::Whole(took.used)
+            } else if room < piece.len() {
+                Advance::Refused(room + 1, Reason::StreamEnd)
+            } else {
+                Advance::Within
+            }
+        }
+        Err(FrameFault::LengthRange) => Advance::Refused(4 - held as usize, Reason::LengthRange),
+    }
+}
+
 impl Stream {
     pub fn new(alloc: Global, limit: u32) -> Result<Self, AllocError>
         requires { limit ≤ 16777216 }
-        ensures { IfOk result (λ s. s ≡ record { frames = record { limit = limit; bytes = [] }; count = 0; size = 0 }) }
+        ensures { IfOk result (λ s. s ≡ record { limit = limit; held = []; kept = []; count = 0; size = 0 }) }
     {
         let frames = Frames::new(alloc, limit)?;
         Ok(Stream {
             frames,
+            kept: false,
             count: 0,
             size: 0,
         })
     }
 
+    /// How many frames were whole.
+    pub fn count(&self) -> u64
+        ensures { result ≡ self.now.count }
+    {
+        self.count
+    }
+
+    /// How many bytes came before the frame that is whole now, or in all.
+    pub fn size(&self) -> u64
+        ensures { result ≡ self.now.size }
+    {
+        self.size
+    }
+
+    /// How many bytes of a frame that isn't counted are held.
+    pub fn held(&self) -> u32
+        ensures count { result ≡ length self.now.held }
+        ensures within { result ≤ 4 + self.now.limit }
+    {
+        if self.kept { 0 } else { self.frames.held() }
+    }
+
+    /// How many bytes are held, those of a frame that is kept too.
+    pub fn lies(&self) -> u32
+        ensures count { result ≡ length self.now.held + length self.now.kept }
+        ensures within { result ≤ 4 + self.now.limit }
+    {
+        self.frames.held()
+    }
+
+    /// What the frame carries that is whole and isn't counted.
+    pub fn payload(&self) -> &[u8]
+        requires { IsFrame self.now.limit self.now.held }
+        ensures { self.now.held ≡ frame result.now }
+    {
+        self.frames.payload()
+    }
+
+    /// What the frame carries that is whole and isn't counted; None where there is none.
+    pub fn refused_payload(&self) -> Option<&[u8]>
+        ensures { MatchOption result (IsFrame self.now.limit self.now.held → ⊥) (λ p. (self.now.held ≡ frame p.now) × (length p.now ≤ self.now.limit)) }
+    {
+        if !self.kept && self.frames.is_whole() {
+            Some(self.frames.payload())
+        } else {
+            None
+        }
+    }
+
+    /// The frame that was kept is given up.
+    pub fn give_up(&mut self)
+        ensures { self.new ≡ record self.old { kept = [] } }
+    {
+        if self.kept {
+            self.frames.drop_frame();
+            self.kept = false;
+        }
+    }
+
     /// Takes the piece up to the end of the first frame that becomes whole, or all of it.
     pub fn take(&mut self, piece: &[u8]) -> Advance
-        requires begins { IsBeginning self.old.frames.limit self.old.frames.bytes }
+        requires begins { IsBeginning self.old.limit self.old.held }
+        requires given_up { self.old.kept ≡ [] }
         requires size { self.old.size < 2 ^ 62 }
-        ensures limit { self.new.frames.limit ≡ self.old.frames.limit }
-        ensures count { self.new.count ≡ self.old.count }
-        ensures size { self.new.size ≡ self.old.size }
-        ensures advance { IsAdvance self.old.frames.limit self.old.size self.old.frames.bytes piece.now result self.new.frames.bytes }
+        ensures stays { self.new ≡ record self.old { held = self.new.held } }
+        ensures advance { IsAdvance self.old.limit self.old.size self.old.held piece.now result self.new.held }
     {
-        let room = within(self.size, piece);
-        let held = self.frames.held();
-        match self.frames.take(front(piece, room)) {
-            Ok(took) => {
-                if took.whole {
-                    Advance::Whole(took.used)
-                } else if room < piece.len() {
-                    Advance::Refused(room + 1, Reason::StreamEnd)
-                } else {
-                    Advance::Within
-                }
-            }
-            Err(FrameFault::LengthRange) => {
-                Advance::Refused(4 - held as usize, Reason::LengthRange)
-            }
-        }
+        go_forward(&mut self.frames, self.size, piece)
+    }
+
+    /// So many bytes came, and the frame isn't whole.
+    pub fn go_on(&mut self, used: usize)
+        requires size { self.old.size + used < 2 ^ 62 }
+        ensures { self.new ≡ record self.old { size = self.old.size + used } }
+    {
+        self.size += used as u64;
     }
 
     /// The last `used` bytes are not taken after all.
     pub fn take_back(&mut self, used: usize)
-        requires whole { IsFrame self.old.frames.limit self.old.frames.bytes }
-        requires held { used ≤ length self.old.frames.bytes }
-        requires fits { used < 2 ^ 32 }
-        ensures { (held part : List ℕ) → self.old.frames.bytes ≡ held ++ part → length part ≡ used → self.new ≡ record { frames = record { limit = self.old.frames.limit; bytes = held }; count = self.old.count; size = self.old.size } }
+        requires { IsAtFrame self.old used }
+        ensures { (before part : List ℕ) → self.old.held ≡ before ++ part → length part ≡ used → self.new ≡ record self.old { held = before } }
     {
         self.frames.untake(used as u32);
     }
 
     /// The whole frame, with which so many bytes came, is done with.
     pub fn pass(&mut self, used: usize)
-        requires whole { IsFrame self.old.frames.limit self.old.frames.bytes }
-        requires size { self.old.size + used < 2 ^ 62 }
-        requires count { self.old.count ≤ self.old.size }
-        ensures { self.new ≡ record { frames = record { limit = self.old.frames.limit; bytes = [] }; count = self.old.count + 1; size = self.old.size + used } }
+        requires { IsAtFrame self.old used }
+        ensures { self.new ≡ passed self.old used }
     {
         self.frames.drop_frame();
+        self.count += 1;
+        self.size += used as u64;
+    }
+
+    /// The whole frame, with which so many bytes came, is counted and kept.
+    pub fn keep(&mut self, used: usize)
+        requires { IsAtFrame self.old used }
+        ensures { self.new ≡ kept_now self.old used }
+    {
+        self.kept = true;
         self.count += 1;
         self.size += used as u64;
     }

@@ -1,5 +1,5 @@
 //! The conversation, as it comes.
-ghost use Rattle.std.specs.Prelude.{◌≡◌, ◌≢◌, ◌≤◌, ◌<◌, ◌+◌, ◌^◌, ℕ, List, [], length, take, Some, None, Err, IsOk, IfOk, IfErr, IfSome, MatchOption};
+ghost use Rattle.std.specs.Prelude.{false, ◌≡◌, ◌≢◌, ◌≤◌, ◌<◌, ◌+◌, ◌^◌, ℕ, List, [], length, take, Some, None, Err, IsOk, IfOk, IfErr, IfSome, MatchOption};
 ghost use Rattle.std.specs.Option.{option_to_list};
 ghost use Rattle.zk_jute.specs.declared.fault.Reason.TheVariants.{NoMemory};
 ghost use Rattle.zk_jute.specs.Reading.{no_memory};
@@ -12,17 +12,18 @@ ghost use Rattle.zk_talk.specs.Conversation.{Conversation, load};
 ghost use Rattle.zk_talk.specs.Good.{Good};
 ghost use Rattle.zk_talk.specs.Fault.{fault_of, side_limit, rest_on};
 ghost use Rattle.zk_talk.specs.Ending.{IsEnding};
-ghost use Rattle.zk_talk.specs.Stands.{held_on, Stands, Refuses};
+ghost use Rattle.zk_talk.specs.Sound.{IsKnown};
+ghost use Rattle.zk_talk.specs.Stands.{held_on, kept_on, Stands, Refuses};
 ghost use Rattle.zk_talk.specs.Refused.{IsRefusedBody};
 ghost use Rattle.zk_records.specs.declared.op.Op.TheVariants as ops;
 ghost use Rattle.zk_answers.specs.declared.layout.Layout.{Layout as Kind};
 ghost use Rattle.zk_answers.specs.declared.layout.Layout.TheVariants as layouts;
-ghost use Rattle.zk_talk.specs.Taking.{GoesOn, Fails};
+ghost use Rattle.zk_talk.specs.Taking.{GoesOn, Steps, IsRefused, Fails, given_up};
 
-use crate::frame::{client_frame, is_no_memory, server_frame};
+use crate::frame::{client_frame, client_step, is_no_memory, server_frame, server_step};
 use crate::limits::Limits;
 use crate::message::{Ending, Fault, Message, Side};
-use crate::refused::{answered_body, asked_body, is_in_body, whole_payload};
+use crate::refused::{answered_body, asked_body, is_in_body};
 use crate::stream::{Advance, Stream};
 use std::alloc::{AllocError, Global};
 use std::marker::Model;
@@ -37,6 +38,15 @@ pub struct Taken {
     pub used: usize,
     /// The message that the last of them made whole.
     pub message: Option<Message>,
+}
+
+/// What a piece gave to a step.
+#[derive(Clone, Copy, Debug, PartialEq, Eq)]
+pub struct Stepped {
+    /// So many of the piece's bytes were used.
+    pub used: usize,
+    /// The last of them made a frame whole: a message of the conversation.
+    pub whole: bool,
 }
 
 /// What is known of a conversation after the bytes so far. The bytes of both sides come in any
@@ -54,13 +64,13 @@ pub struct Talk {
 impl Model for Talk {
     ghost use Rattle.std.specs.Prelude.{◌≡◌};
     ghost use Rattle.zk_talk.specs.Stands.{TalkState};
-    ghost use Rattle.zk_talk.specs.Sound.{IsSide};
+    ghost use Rattle.zk_talk.specs.Sound.{IsSide, IsKnown};
 
     ghost Value = { TalkState };
 
-    ghost view = { λ t. record { limits = t.limits; client_held = t.client.frames.bytes; server_held = t.server.frames.bytes; waiting = t.waiting; client_frames = t.client.count; server_frames = t.server.count; client_size = t.client.size; server_size = t.server.size; fault = t.fault } };
+    ghost view = { λ t. record { limits = t.limits; client_held = t.client.held; server_held = t.server.held; client_kept = t.client.kept; server_kept = t.server.kept; waiting = t.waiting; client_frames = t.client.count; server_frames = t.server.count; client_size = t.client.size; server_size = t.server.size; fault = t.fault } };
 
-    ghost invariant = { λ t. IsSide t.limits.client t.fault t.client × IsSide t.limits.server t.fault t.server × (t.waiting.max ≡ t.limits.waiting) };
+    ghost invariant = { λ t. IsSide t.limits.client t.fault t.client × IsSide t.limits.server t.fault t.server × (t.waiting.max ≡ t.limits.waiting) × IsKnown t.fault };
 }
 
 /// The fault of an item of this side's frame, behind so many bytes of the side.
@@ -98,11 +108,12 @@ fn refuse(
     requires { stream.now.size + used < 2 ^ 64 }
     ensures wanting { item.reason ≡ NoMemory → (result ≡ fault_of side stream.now.count stream.now.size 0 NoMemory) × (kept.new ≡ kept.old) }
     ensures refused { (item.reason ≡ NoMemory → ⊥) → (result ≡ fault_of side stream.now.count (stream.now.size + used) item.place item.reason) × (kept.new ≡ Some result) }
+    ensures known { IsKnown kept.old → IsKnown kept.new }
 {
     if is_no_memory(item) {
-        return fault_at(side, stream.count, stream.size, wanting());
+        return fault_at(side, stream.count(), stream.size(), wanting());
     }
-    let fault = fault_at(side, stream.count, stream.size + used as u64, item);
+    let fault = fault_at(side, stream.count(), stream.size() + used as u64, item);
     *kept = Some(fault);
     fault
 }
@@ -127,16 +138,18 @@ impl Talk {
     }
 
     fn client_piece(&mut self, piece: &[u8]) -> Result<Taken, Fault>
-        requires { self.old.fault ≡ None }
+        requires good { self.old.fault ≡ None }
+        requires given_up { self.old.client_kept ≡ [] }
         ensures limits { self.new.limits ≡ self.old.limits }
         ensures ok { IfOk result (λ t. (t.used ≤ length piece.now) × (0 < length piece.now → 0 < t.used) × GoesOn self.old Client (take t.used piece.now) (option_to_list t.message) self.new) }
         ensures exact { IfOk result (λ t. MatchOption t.message (t.used ≡ length piece.now) (λ m. self.new.client_held ≡ [])) }
         ensures err { IfErr result (λ e. Fails self.old Client piece.now e self.new) }
+        ensures given_up { self.new.client_kept ≡ [] }
         ensures empty { length piece.now ≡ 0 → IsOk result }
     {
         match self.client.take(piece) {
             Advance::Within => {
-                self.client.size += piece.len() as u64;
+                self.client.go_on(piece.len());
                 Ok(Taken {
                     used: piece.len(),
                     message: None,
@@ -169,23 +182,25 @@ impl Talk {
     }
 
     fn server_piece(&mut self, piece: &[u8]) -> Result<Taken, Fault>
-        requires { self.old.fault ≡ None }
+        requires good { self.old.fault ≡ None }
+        requires given_up { self.old.server_kept ≡ [] }
         ensures limits { self.new.limits ≡ self.old.limits }
         ensures ok { IfOk result (λ t. (t.used ≤ length piece.now) × (0 < length piece.now → 0 < t.used) × GoesOn self.old Server (take t.used piece.now) (option_to_list t.message) self.new) }
         ensures exact { IfOk result (λ t. MatchOption t.message (t.used ≡ length piece.now) (λ m. self.new.server_held ≡ [])) }
         ensures err { IfErr result (λ e. Fails self.old Server piece.now e self.new) }
+        ensures given_up { self.new.server_kept ≡ [] }
         ensures empty { length piece.now ≡ 0 → IsOk result }
     {
         match self.server.take(piece) {
             Advance::Within => {
-                self.server.size += piece.len() as u64;
+                self.server.go_on(piece.len());
                 Ok(Taken {
                     used: piece.len(),
                     message: None,
                 })
             }
             Advance::Whole(used) => {
-                let asked = self.client.count;
+                let asked = self.client.count();
                 match server_frame(self.alloc, asked, &mut self.server, &mut self.waiting, used) {
                     Ok(frame) => Ok(Taken {
                         used,
@@ -204,26 +219,133 @@ impl Talk {
         }
     }
 
+    fn step_client(&mut self, piece: &[u8]) -> Result<Stepped, Fault>
+        requires good { self.old.fault ≡ None }
+        requires given_up { self.old.client_kept ≡ [] }
+        ensures limits { self.new.limits ≡ self.old.limits }
+        ensures ok { IfOk result (λ s. (s.used ≤ length piece.now) × (0 < length piece.now → 0 < s.used) × Steps self.old Client (take s.used piece.now) s.whole self.new) }
+        ensures exact { IfOk result (λ s. s.whole ≡ false → s.used ≡ length piece.now) }
+        ensures err { IfErr result (λ e. (e.reason ≢ NoMemory) × IsRefused self.old Client piece.now e self.new) }
+    {
+        match self.client.take(piece) {
+            Advance::Within => {
+                self.client.go_on(piece.len());
+                Ok(Stepped {
+                    used: piece.len(),
+                    whole: false,
+                })
+            }
+            Advance::Whole(used) => {
+                let profile = self.limits.profile();
+                match client_step(profile, &mut self.client, &mut self.waiting, used) {
+                    Ok(()) => Ok(Stepped { used, whole: true }),
+                    Err(item) => {
+                        let stream = &self.client;
+                        Err(refuse(&mut self.fault, Side::Client, stream, used, item))
+                    }
+                }
+            }
+            Advance::Refused(used, reason) => {
+                let item = ItemFault { place: 0, reason };
+                Err(refuse(&mut self.fault, Side::Client, &self.client, used, item))
+            }
+        }
+    }
+
+    fn step_server(&mut self, piece: &[u8]) -> Result<Stepped, Fault>
+        requires good { self.old.fault ≡ None }
+        requires given_up { self.old.server_kept ≡ [] }
+        ensures limits { self.new.limits ≡ self.old.limits }
+        ensures ok { IfOk result (λ s. (s.used ≤ length piece.now) × (0 < length piece.now → 0 < s.used) × Steps self.old Server (take s.used piece.now) s.whole self.new) }
+        ensures exact { IfOk result (λ s. s.whole ≡ false → s.used ≡ length piece.now) }
+        ensures err { IfErr result (λ e. (e.reason ≢ NoMemory) × IsRefused self.old Server piece.now e self.new) }
+    {
+        match self.server.take(piece) {
+            Advance::Within => {
+                self.server.go_on(piece.len());
+                Ok(Stepped {
+                    used: piece.len(),
+                    whole: false,
+                })
+            }
+            Advance::Whole(used) => {
+                let asked = self.client.count();
+                match server_step(asked, &mut self.server, &mut self.waiting, used) {
+                    Ok(()) => Ok(Stepped { used, whole: true }),
+                    Err(item) => {
+                        let stream = &self.server;
+                        Err(refuse(&mut self.fault, Side::Server, stream, used, item))
+                    }
+                }
+            }
+            Advance::Refused(used, reason) => {
+                let item = ItemFault { place: 0, reason };
+                Err(refuse(&mut self.fault, Side::Server, &self.server, used, item))
+            }
+        }
+    }
+
+    /// The side's frame that was kept is given up.
+    fn give_up(&mut self, side: Side)
+        ensures { self.new ≡ given_up side self.old }
+    {
+        match side {
+            Side::Client => self.client.give_up(),
+            Side::Server => self.server.give_up(),
+        }
+    }
+
+    /// Takes the piece up to the end of the first frame that becomes whole, or all of it. What is
+    /// whole is decided where it lies and kept until the side's next call; no memory is taken.
+    ///
+    /// # Errors
+    ///
+    /// The fault of the history so far with the piece: it is kept, and each later call answers it
+    /// and uses nothing. Never `NoMemory`.
+    pub fn step(&mut self, side: Side, piece: &[u8]) -> Result<Stepped, Fault>
+        ensures limits { self.new.limits ≡ self.old.limits }
+        // What is used goes on with the history; a frame that it makes whole is the newest message's.
+        ensures ok { IfOk result (λ s. (s.used ≤ length piece.now) × (0 < length piece.now → 0 < s.used) × Steps self.old side (take s.used piece.now) s.whole self.new) }
+        // With no whole frame all was used.
+        ensures exact { IfOk result (λ s. s.whole ≡ false → s.used ≡ length piece.now) }
+        // A refusal is the history's fault, and never want of memory.
+        ensures err { IfErr result (λ e. (e.reason ≢ NoMemory) × IsRefused self.old side piece.now e self.new) }
+        // A fault is kept.
+        ensures kept { (f : Fault) → self.old.fault ≡ Some f → (result ≡ Err f) × (self.new ≡ given_up side self.old) }
+    {
+        self.give_up(side);
+        if let Some(fault) = self.fault {
+            return Err(fault);
+        }
+        match side {
+            Side::Client => self.step_client(piece),
+            Side::Server => self.step_server(piece),
+        }
+    }
+
     /// Takes the piece up to the end of the first frame that becomes whole, or all of it.
     ///
     /// # Errors
     ///
     /// The fault of the history so far with the piece: it is kept, and each later call answers it
-    /// and uses nothing. NoMemory where a growth was refused: the talk is then as before the call,
-    /// and the piece isn't empty.
+    /// and uses nothing. NoMemory in place of a message whose memory was refused: the talk is then
+    /// as before the call.
     pub fn take(&mut self, side: Side, piece: &[u8]) -> Result<Taken, Fault>
         ensures limits { self.new.limits ≡ self.old.limits }
         // What is used goes on with the history, and what it makes whole is the newest message.
         ensures ok { IfOk result (λ t. (t.used ≤ length piece.now) × (0 < length piece.now → 0 < t.used) × GoesOn self.old side (take t.used piece.now) (option_to_list t.message) self.new) }
         // With no message all was used, and with one nothing past its frame.
         ensures exact { IfOk result (λ t. MatchOption t.message (t.used ≡ length piece.now) (λ m. held_on side self.new ≡ [])) }
-        // Want of memory changes nothing; another refusal is the history's fault.
+        // Want of memory stands for a message and changes nothing; another refusal is the history's fault.
         ensures err { IfErr result (λ e. Fails self.old side piece.now e self.new) }
+        // What a step kept on the side is given up.
+        ensures given_up { kept_on side self.new ≡ [] }
         // No memory is wanted of an empty piece.
         ensures empty { length piece.now ≡ 0 → self.old.fault ≡ None → IsOk result }
         // A fault is kept.
-        ensures kept { (f : Fault) → self.old.fault ≡ Some f → (result ≡ Err f) × (self.new ≡ self.old) }
+        ensures kept { (f : Fault) → self.old.fault ≡ Some f → (result ≡ Err f) × (self.new ≡ given_up side self.old) }
     {
+        self.give_up(side);
         if let Some(fault) = self.fault {
             return Err(fault);
         }
@@ -241,18 +363,18 @@ impl Talk {
         if let Some(fault) = self.fault {
             return Ending::Refused(fault);
         }
-        let got = self.client.frames.held();
+        let got = self.client.held();
         if got > 0 {
-            let frame = self.client.count;
+            let frame = self.client.count();
             return Ending::Cut {
                 side: Side::Client,
                 frame,
                 got,
             };
         }
-        let got = self.server.frames.held();
+        let got = self.server.held();
         if got > 0 {
-            let frame = self.server.count;
+            let frame = self.server.count();
             return Ending::Cut {
                 side: Side::Server,
                 frame,
@@ -260,7 +382,7 @@ impl Talk {
             };
         }
         let asks = self.waiting.count();
-        if self.client.count > 0 && self.server.count == 0 {
+        if self.client.count() > 0 && self.server.count() == 0 {
             Ending::Whole {
                 unanswered: asks + 1,
             }
@@ -283,22 +405,22 @@ impl Talk {
             return None;
         }
         match fault.side {
-            Side::Client => asked_body(whole_payload(&self.client.frames)?),
-            Side::Server => answered_body(whole_payload(&self.server.frames)?, &self.waiting),
+            Side::Client => asked_body(self.client.refused_payload()?),
+            Side::Server => answered_body(self.server.refused_payload()?, &self.waiting),
         }
     }
 
-    /// The number of the side's bytes that are held: those of the frame that isn't whole, its
-    /// length included.
+    /// The number of the side's bytes that are held: those of the frame that isn't whole, or of the
+    /// frame that a step kept, its length included.
     pub fn held(&self, side: Side) -> u32
-        ensures value { result ≡ length (held_on side self.now) }
-        // It is the length of the side's beginning.
-        ensures stands { (h : History) (M : List Message) (v : Conversation) (client_rest server_rest : List ℕ) → Stands self.now h M → Good self.now.limits h v client_rest server_rest → result ≡ length (rest_on side client_rest server_rest) }
+        ensures value { result ≡ length (held_on side self.now) + length (kept_on side self.now) }
+        // Where no frame is kept it is the length of the side's beginning.
+        ensures stands { (h : History) (M : List Message) (v : Conversation) (client_rest server_rest : List ℕ) → Stands self.now h M → Good self.now.limits h v client_rest server_rest → result ≡ length (rest_on side client_rest server_rest) + length (kept_on side self.now) }
         ensures most { result ≤ 4 + side_limit self.now.limits side }
     {
         match side {
-            Side::Client => self.client.frames.held(),
-            Side::Server => self.server.frames.held(),
+            Side::Client => self.client.lies(),
+            Side::Server => self.server.lies(),
         }
     }
 

@@ -51,7 +51,24 @@ fn label(alloc: Global, message: &Message) -> Result<String, Fail> {
     })
 }
 
-/// The pieces are read as these messages, and end so.
+/// How many frames are whole where the pieces are judged step by step.
+fn judged(talk: &mut Talk, pieces: &[(Side, &[u8])]) -> usize {
+    let mut whole: usize = 0;
+    for piece in pieces {
+        let mut rest = piece.1;
+        for _ in 0..piece.1.len() {
+            let Ok(stepped) = talk.step(piece.0, rest) else {
+                return whole;
+            };
+            whole = whole.saturating_add(usize::from(stepped.whole));
+            rest = &rest[stepped.used..];
+        }
+    }
+    whole
+}
+
+/// The pieces are read as these messages, and end so; judged step by step they are as many frames,
+/// and end likewise.
 pub fn reads(
     rt: &impl Abort,
     alloc: Global,
@@ -67,6 +84,9 @@ pub fn reads(
         let told = label(alloc, message)?;
         assert_eq!(rt; told.as_str(), *wanted);
     }
+    let mut talk = Talk::new(alloc, limits)?;
+    assert_eq!(rt; judged(&mut talk, pieces), labels.len());
+    assert_eq!(rt; talk.finish(), ending);
     Ok(())
 }
 
@@ -325,6 +345,38 @@ fn held_and_waiting(rt: HostRuntime) -> Result<(), Fail> {
     let whole = takes(&mut talk, Side::Client, &EXISTS[18..]);
     assert_eq!(&rt; whole, Some((1, true)));
     assert_eq!(&rt; holds(&talk), (0, 0, 1));
+    Ok(())
+}
+
+/// How much of the piece a step uses, and whether a frame is whole.
+fn steps(talk: &mut Talk, side: Side, piece: &[u8]) -> Option<(usize, bool)> {
+    match talk.step(side, piece) {
+        Ok(stepped) => Some((stepped.used, stepped.whole)),
+        Err(_) => None,
+    }
+}
+
+/// A frame that a step made whole is held until the side's next call.
+#[test]
+fn frame_is_kept(rt: HostRuntime) -> Result<(), Fail> {
+    let mut talk = Talk::new(rt.alloc(), usual()?)?;
+    takes(&mut talk, Side::Client, CONNECT);
+    takes(&mut talk, Side::Server, CONNECTED);
+    let asked = steps(&mut talk, Side::Client, EXISTS);
+    assert_eq!(&rt; asked, Some((19, true)));
+    assert_eq!(&rt; holds(&talk), (19, 0, 1));
+    let empty = steps(&mut talk, Side::Client, b"");
+    assert_eq!(&rt; empty, Some((0, false)));
+    assert_eq!(&rt; holds(&talk), (0, 0, 1));
+    let answered = steps(&mut talk, Side::Server, NO_NODE);
+    assert_eq!(&rt; answered, Some((NO_NODE.len(), true)));
+    assert_eq!(&rt; holds(&talk), (0, 20, 0));
+    let within = steps(&mut talk, Side::Client, &EXISTS[..18]);
+    assert_eq!(&rt; within, Some((18, false)));
+    assert_eq!(&rt; holds(&talk), (18, 20, 0));
+    let empty = takes(&mut talk, Side::Server, b"");
+    assert_eq!(&rt; empty, Some((0, false)));
+    assert_eq!(&rt; holds(&talk), (18, 0, 0));
     Ok(())
 }
 

@@ -1,5 +1,5 @@
 -- Bytes of one side that are given in several calls.
-use Rattle.std.proofs.Common.{◌≡◌, ◌≢◌, ℕ, ◌+◌, List, [], ◌++◌, length, take, drop, Option, None, Some, refl, sym, ◌∙◌, ap, subst, append_assoc, inl, inr}
+use Rattle.std.proofs.Common.{◌≡◌, ◌≢◌, ℕ, ◌+◌, Bool, true, false, List, [], ◌∷◌, ◌++◌, length, take, drop, Option, None, Some, refl, sym, ◌∙◌, ap, subst, append_assoc, inl, inr}
 use Rattle.std.specs.Io.KnownBytes.{Appends}
 use Rattle.std.proofs.lemmas.List.{map-append, take-append-drop, append-nil}
 use Rattle.std.proofs.lemmas.List.Concat.{flat_map-append}
@@ -12,7 +12,7 @@ use Rattle.zk_talk.specs.declared.limits.Limits.{Limits}
 use Rattle.zk_talk.specs.History.{History, on}
 use Rattle.zk_talk.specs.Stands.{TalkState, Stands, Refuses}
 use Rattle.zk_talk.specs.Good.{Good, IsOrder}
-use Rattle.zk_talk.specs.Taking.{GoesOn, Fails}
+use Rattle.zk_talk.specs.Taking.{GoesOn, Steps, Fails}
 use Rattle.zkdump.specs.declared.listing.Listing.{Listing}
 use Rattle.zkdump.specs.declared.listing.Listing.TheVariants.{All, Last}
 use Rattle.zkdump.specs.Lines.{message_line, text_of}
@@ -66,6 +66,11 @@ pub takes-none : (listing : Listing) (t : TalkState) (lines : List ℕ) (side : 
 takes-none listing t lines side h messages i =
     ([], subst (λ k. Stands t k (messages ++ [])) (sym (append-nil h)) (subst (Stands t h) (sym (append-nil messages)) i), listed-none listing lines)
 
+-- a step goes on with the history, by a message or by none
+pub stepped-goes : (old : TalkState) (side : Side) (used : List ℕ) (whole : Bool) (new : TalkState) → Steps old side used whole new → (messages : List Message) × GoesOn old side used messages new
+stepped-goes old side used true new s = (s.0 ∷ [], s.1)
+stepped-goes old side used false new s = ([], s.0)
+
 module _ (listing : Listing) (old mid new : TalkState) (before during after : List ℕ) (side : Side) (bytes : List ℕ) (at' : ℕ) (taken : Takes listing old before (on side (take at' bytes)) None mid during) where
   pub takes-more : (used : ℕ) (now : List Message) → GoesOn mid side (take used (drop at' bytes)) now new → after ≡ during ++ text_of listing now →
       Takes listing old before (on side (take (at' + used) bytes)) None new after
@@ -80,7 +85,7 @@ module _ (listing : Listing) (old mid new : TalkState) (before during after : Li
       )
 
   pub rejects-later : (fault : Fault) → (fault.reason ≡ NoMemory → ⊥) → Fails mid side (drop at' bytes) fault new → Takes listing old before (on side bytes) (Some fault) new during
-  rejects-later fault known (inl w) h messages i = absurd (known (ap (λ (f : Fault). f.reason) w.0))
+  rejects-later fault known (inl w) h messages i = absurd (known (ap (λ (f : Fault). f.reason) w.told))
   rejects-later fault known (inr r) h messages i =
       let b = taken h messages i in
       let joined : (h ++ on side (take at' bytes)) ++ on side (drop at' bytes) ≡ h ++ on side bytes =

@@ -2,6 +2,7 @@
 ghost use Rattle.std.specs.Prelude.{◌≡◌, ◌++◌, OnOk};
 ghost use Rattle.std.specs.Option.{option_to_list};
 ghost use Rattle.zkdump.specs.Lines.{text_of, message_line};
+ghost use Rattle.zkdump.specs.declared.listing.Listing.TheVariants.{All};
 
 use crate::streams::Failed;
 use std::alloc::AllocError;
@@ -58,17 +59,12 @@ fn put_message(message: &Message, lines: &mut Vec<u8>) -> Result<(), AllocError>
     lines.extend_from_slice(b"\n")
 }
 
-impl Listing {
-    /// Appends the line of a message, with its line feed, where there is one and it belongs to the listing.
-    pub fn tell(self, message: Option<Message>, lines: &mut Vec<u8>) -> Result<(), AllocError>
-        ensures { OnOk result (lines.new.items ≡ lines.old.items ++ text_of self (option_to_list message)) }
-    {
-        let Some(message) = message else {
-            return Ok(());
-        };
-        match self {
-            Listing::All => put_message(&message, lines),
-            Listing::Last => Ok(()),
-        }
+/// Appends the line of a message, with its line feed, where there is one.
+pub fn tell(message: Option<Message>, lines: &mut Vec<u8>) -> Result<(), AllocError>
+    ensures { OnOk result (lines.new.items ≡ lines.old.items ++ text_of All (option_to_list message)) }
+{
+    match message {
+        Some(message) => put_message(&message, lines),
+        None => Ok(()),
     }
 }

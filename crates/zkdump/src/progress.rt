@@ -8,11 +8,12 @@ ghost use Rattle.zk_talk.specs.Stands.{Stands};
 ghost use Rattle.zk_talk.specs.declared.message.Fault.{Fault as fault_of};
 ghost use Rattle.zk_records.specs.declared.op.Op.TheVariants as ops;
 ghost use Rattle.zk_answers.specs.declared.layout.Layout.TheVariants as layouts;
+ghost use Rattle.zkdump.specs.declared.listing.Listing.TheVariants.{All, Last};
 ghost use Rattle.zkdump.specs.Earliest.{TellsBody};
 ghost use Rattle.zkdump.specs.Reading.{content_of, place_in};
 ghost use Rattle.zkdump.specs.Following.{Follows, Finishes, HasRefused, Takes, Gives, Has, Advances, Steps, IsWithin};
 
-use crate::listing::Listing;
+use crate::listing::{Listing, tell};
 use crate::recording::RecordingReader;
 use crate::summary::Summary;
 use std::alloc::{AllocError, Global};
@@ -48,7 +49,45 @@ pub fn rest(bytes: &[u8], at: usize) -> &[u8]
     &bytes[at..]
 }
 
+/// Gives bytes of one side to the conversation, which judges them where they lie; no line is
+/// appended.
+fn judge(talk: &mut Talk, side: Side, bytes: &[u8]) -> Option<Fault>
+    ensures limits { talk.new.limits ≡ talk.old.limits }
+    ensures taken { (lines : List ℕ) → Takes Last talk.old lines (on side bytes.now) result talk.new lines }
+{
+    let mut at = 0;
+    while at < bytes.len() {
+        match talk.step(side, rest(bytes, at)) {
+            Ok(stepped) => at += stepped.used,
+            Err(fault) => return Some(fault),
+        }
+    }
+    None
+}
+
 /// Gives bytes of one side to the conversation, and appends the lines of its messages.
+fn list(
+    talk: &mut Talk,
+    side: Side,
+    bytes: &[u8],
+    lines: &mut Vec<u8>,
+) -> Result<Option<Fault>, AllocError>
+    ensures limits { talk.new.limits ≡ talk.old.limits }
+    ensures taken { IfOk result (λ refused. Takes All talk.old lines.old.items (on side bytes.now) refused talk.new lines.new.items) }
+{
+    let mut at = 0;
+    while at < bytes.len() {
+        let taken = match talk.take(side, rest(bytes, at)) {
+            Ok(taken) => taken,
+            Err(fault) => return Ok(Some(known(fault)?)),
+        };
+        at += taken.used;
+        tell(taken.message, lines)?;
+    }
+    Ok(None)
+}
+
+/// Gives bytes of one side to the conversation, and appends what is listed of its messages.
 fn feed(
     talk: &mut Talk,
     side: Side,
@@ -59,16 +98,10 @@ fn feed(
     ensures limits { talk.new.limits ≡ talk.old.limits }
     ensures taken { IfOk result (λ refused. Takes listing talk.old lines.old.items (on side bytes.now) refused talk.new lines.new.items) }
 {
-    let mut at = 0;
-    while at < bytes.len() {
-        let taken = match talk.take(side, rest(bytes, at)) {
-            Ok(taken) => taken,
-            Err(fault) => return Ok(Some(known(fault)?)),
-        };
-        at += taken.used;
-        listing.tell(taken.message, lines)?;
+    match listing {
+        Listing::All => list(talk, side, bytes, lines),
+        Listing::Last => Ok(judge(talk, side, bytes)),
     }
-    Ok(None)
 }
 
 /// The talk, which begins where there is none.

@@ -3,7 +3,7 @@ use Rattle.std.specs.List.{slice_get}
 use Rattle.std.proofs.lemmas.List.{take_more}
 use Rattle.std.proofs.lemmas.Option.{slice_get_read}
 use Rattle.zk_records.specs.declared.op.PartOp.{PartOp}
-use Rattle.zk_answers.specs.declared.frame.PartDone.{PartDone}
+use Rattle.zk_answers.specs.Held.{PartDone}
 use Rattle.zk_answers.specs.Results.{AnswerAll}
 use Rattle.zk_answers.proofs.Outcomes.{answers_push, take_some}
 use Rattle.zk_answers.proofs.Forms.{answers_length, answered_at, some_below}

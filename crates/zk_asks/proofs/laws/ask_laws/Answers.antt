@@ -1,3 +1,4 @@
+use Rattle.zk_asks.proofs.Counted.{few_parts}
 use Rattle.zk_asks.proofs.Later.{ask_injective, ask_excludes, ask_unique}
 use Rattle.zk_asks.proofs.laws.ask_laws.Goals as goal
 
@@ -9,3 +10,6 @@ returns-clause-excludes c = ask_excludes
 
 pub returns-clause-unique : goal.returns-clause-unique
 returns-clause-unique c = ask_unique
+
+pub returns-clause-parts : goal.returns-clause-parts
+returns-clause-parts c = few_parts

@@ -1,21 +1,32 @@
-use Rattle.std.proofs.Common.{length, ap, subst, arith, inl, inr}
-use Rattle.zk_frames.proofs.Cuts.{length-frame}
-use Rattle.zk_talk.proofs.Sides.{carried}
-use Rattle.zk_talk.specs.Fault.{IsClientFault}
-use Rattle.zk_talk.specs.Judged.{Tells, IsNextOf}
+use Rattle.std.proofs.Common.{◌≡◌, subst, sym, length, ap, ◌∙◌, arith}
+use Rattle.zk_jute.specs.declared.fault.Reason.TheVariants.{NoMemory}
+use Rattle.zk_talk.specs.Judged.{IsNextClient, IsRemembered}
+use Rattle.std.proofs.lemmas.Result.{err_from_is_err_and}
+use Rattle.zk_talk.proofs.Seen.{payload_small, client_seen, client_told}
 use Rattle.zk_talk.proofs.frame.client_frame.Goals as goal
 
-pub take_back-requires-clause-fits : goal.take_back-requires-clause-fits
-take_back-requires-clause-fits c = omega (arith, c.requires.part, ap length c.requires.whole.1, length-frame c.requires.whole.0, c.requires.whole.2, c.requires.limit)
-
 pub next_client-requires : goal.next_client-requires
-next_client-requires c = omega (arith, ap length c.requires.whole.1, length-frame c.requires.whole.0, ap length c.payload.ensures, length-frame c.payload.result.now, c.requires.whole.2, c.requires.limit)
+next_client-requires c = payload_small c.args.stream.now c.args.used c.count-count.result c.requires c.payload-payload.result.now c.payload-payload.ensures c.count-count.ensures c.args.waiting.now
+
+pub returns-in_err-seen-clause-fault : goal.returns-in_err-seen-clause-fault
+returns-in_err-seen-clause-fault c =
+    let p = err_from_is_err_and c.from_residual.result c.from_residual.ensures.1 in
+    rw (p.1, p.2) (λ known. (client_told c.args.stream.now c.args.used c.count-count.result c.requires c.payload-payload.result.now c.payload-payload.ensures c.count-count.ensures c.args.waiting.now c.args.profile c.in_err-seen.field-0.0 c.in_err-seen.ensures.fault).1)
+
+pub await_reply-requires-clause-small : goal.await_reply-requires-clause-small
+await_reply-requires-clause-small c =
+    omega (arith, payload_small c.args.stream.now c.args.used c.count-count.result c.requires c.payload-payload.result.now c.payload-payload.ensures c.count-count.ensures c.args.waiting.now, ap length c.in_ok-seen.ensures.found.2)
 
 pub returns-in-Ok-clause-found : goal.returns-in-Ok-clause-found
-returns-in-Ok-clause-found c = λ m v d. subst (λ z. IsNextOf c.args.profile c.args.waiting.now z v c.in-Ok.frame) (carried c.args.stream.now.frames.bytes c.payload.result.now c.payload.ensures) ((c.in-Ok.ensures).found m v d)
+returns-in-Ok-clause-found c =
+    let k = c.in_ok-seen.ensures in
+    let f = c.in_ok-seen.seen in
+    let same : c.in-Ok.frame ≡ f = c.in-Ok.ensures f k.found.0 k.found.1 k.found.2 in
+    let next = client_seen c.args.stream.now c.args.used c.count-count.result c.requires c.payload-payload.result.now c.payload-payload.ensures c.count-count.ensures c.args.waiting.now c.args.profile f k.found.0 k.found.1 k.found.2 k.room in
+    rw same (next, c.await_reply.ensures.waits)
 
-pub returns-after-is_no_memory-clause-fault : goal.returns-after-is_no_memory-clause-fault
-returns-after-is_no_memory-clause-fault c = λ n. elim (c.in-Err.ensures).fault [
-  | inl q ↦ absurd (n (ap (λ z. z.reason) q))
-  | inr k ↦ λ limits m v q o d. subst (λ z. Tells (IsClientFault limits v z) c.in-Err.item) (carried c.args.stream.now.frames.bytes c.payload.result.now c.payload.ensures) (k limits m v q o d)
-]
+pub returns-in-Err-clause-lacks : goal.returns-in-Err-clause-lacks
+returns-in-Err-clause-lacks c =
+    let k = c.in_ok-seen.ensures in
+    let f = c.in_ok-seen.seen in
+    λ wanted. (f, client_seen c.args.stream.now c.args.used c.count-count.result c.requires c.payload-payload.result.now c.payload-payload.ensures c.count-count.ensures c.args.waiting.now c.args.profile f k.found.0 k.found.1 k.found.2 k.room)

@@ -1,20 +1,23 @@
-use Rattle.std.proofs.Common.{length, ap, subst, arith, inl, inr, ◌≡◌}
-use Rattle.zk_frames.proofs.Cuts.{length-frame}
-use Rattle.zk_talk.proofs.Sides.{carried}
-use Rattle.zk_talk.specs.Conversation.{ServerMay}
-use Rattle.zk_talk.specs.Fault.{IsServerFault}
-use Rattle.zk_talk.specs.Payloads.{server_payload}
-use Rattle.zk_talk.specs.Judged.{Tells}
+use Rattle.std.proofs.Common.{◌≡◌}
+use Rattle.std.proofs.lemmas.Result.{err_from_is_err_and}
+use Rattle.zk_talk.proofs.Seen.{server_seen, server_told}
 use Rattle.zk_talk.proofs.frame.server_frame.Goals as goal
 
-pub take_back-requires-clause-fits : goal.take_back-requires-clause-fits
-take_back-requires-clause-fits c = omega (arith, c.requires.part, ap length c.requires.whole.1, length-frame c.requires.whole.0, c.requires.whole.2, c.requires.limit)
+pub returns-in_err-seen-clause-fault : goal.returns-in_err-seen-clause-fault
+returns-in_err-seen-clause-fault c =
+    let p = err_from_is_err_and c.from_residual.result c.from_residual.ensures.1 in
+    rw (p.1, p.2) (λ known. (server_told c.args.stream.now c.args.used c.count.result c.requires c.payload-payload.result.now c.payload-payload.ensures c.count.ensures c.args.waiting.now c.args.asked c.in_err-seen.field-0.0 c.in_err-seen.ensures.fault).1)
 
 pub returns-in-Ok-clause-found : goal.returns-in-Ok-clause-found
-returns-in-Ok-clause-found c = λ v d. subst (λ z. (server_payload c.in-Ok.frame ≡ z) × ServerMay v.client v.server c.in-Ok.frame) (carried c.args.stream.now.frames.bytes c.payload.result.now c.payload.ensures) ((c.in-Ok.ensures).found v d)
+returns-in-Ok-clause-found c =
+    let k = c.in_ok-seen.ensures in
+    let s = c.in_ok-seen.seen in
+    let same : c.in-Ok.frame ≡ s = c.in-Ok.ensures in
+    let next = server_seen c.args.stream.now c.args.used c.count.result c.requires c.payload-payload.result.now c.payload-payload.ensures c.count.ensures c.args.waiting.now c.args.asked s k.due.0 k.due.2 k.may in
+    rw same (next, c.forget_seen.ensures.forgotten)
 
-pub returns-after-is_no_memory-clause-fault : goal.returns-after-is_no_memory-clause-fault
-returns-after-is_no_memory-clause-fault c = λ n. elim (c.in-Err.ensures).fault [
-  | inl q ↦ absurd (n (ap (λ z. z.reason) q))
-  | inr k ↦ λ v d. subst (λ z. Tells (IsServerFault v z) c.in-Err.item) (carried c.args.stream.now.frames.bytes c.payload.result.now c.payload.ensures) (k v d)
-]
+pub returns-in-Err-clause-lacks : goal.returns-in-Err-clause-lacks
+returns-in-Err-clause-lacks c =
+    let k = c.in_ok-seen.ensures in
+    let s = c.in_ok-seen.seen in
+    λ wanted. (s, server_seen c.args.stream.now c.args.used c.count.result c.requires c.payload-payload.result.now c.payload-payload.ensures c.count.ensures c.args.waiting.now c.args.asked s k.due.0 k.due.2 k.may)

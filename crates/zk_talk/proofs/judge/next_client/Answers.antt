@@ -1,17 +1,17 @@
-use Rattle.std.proofs.Common.{inl, inr, sym, subst}
+use Rattle.std.proofs.Common.{sym, ap, subst}
+use Rattle.std.proofs.lemmas.Bool.{false≢true}
 use Rattle.zk_talk.specs.Conversation.{ClientMay}
 use Rattle.zk_talk.proofs.Judging as J
+use Rattle.zk_talk.proofs.Telling.{full_known}
 use Rattle.zk_talk.proofs.judge.next_client.Goals as goal
 
-pub returns-in-Ok-remember-clause-found : goal.returns-in-Ok-remember-clause-found
-returns-in-Ok-remember-clause-found c = λ m v d.
-    let f = (c.in-Ok.ensures).found in
-    (f.2, J.in_turn _ _ _ v d c.args.profile c.in-Ok.frame f.0 f.1, J.next_load _ _ _ v d c.remember.new.waiting c.in-Ok.frame (c.in-Ok-remember.ensures).ok)
-
-pub returns-in-Err-remember-clause-fault : goal.returns-in-Err-remember-clause-fault
-returns-in-Err-remember-clause-fault c =
-    let f = (c.in-Ok.ensures).found in
-    elim (c.in-Err-remember.ensures).err.1 [
-      | inl q ↦ inl q
-      | inr r ↦ inr (λ limits m v q o d. J.put_refused _ _ _ v d limits c.args.payload.now c.in-Ok.frame c.in-Err-remember.e q (subst (λ z. ClientMay z v.client c.in-Ok.frame) (sym o) (J.in_turn _ _ _ v d c.args.profile c.in-Ok.frame f.0 f.1)) f.2 r)
-    ]
+pub returns-else-has_room-clause-fault : goal.returns-else-has_room-clause-fault
+returns-else-has_room-clause-fault c =
+    let f = c.in_ok-frame.frame in
+    let w = c.args.waiting.now in
+    let k = c.in_ok-frame.ensures.found in
+    let full = J.no_room f w (λ room. false≢true (c.if-has_room.ensures.1 room)) in (
+      full_known c.at.result (ap (λ z. z.reason) c.at.ensures),
+      λ limits m v q o d.
+          J.put_refused c.args.count m w v d limits c.args.payload.now f c.at.result q (subst (λ z. ClientMay z v.client f) (sym o) (J.in_turn c.args.count m w v d c.args.profile f k.0 k.1)) k.2 (full.0, c.at.ensures, full.1),
+    )

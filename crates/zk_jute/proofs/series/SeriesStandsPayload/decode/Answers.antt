@@ -2,8 +2,8 @@ use Rattle.std.proofs.Common.{ℕ, Option, Ok, ap, ◌∙◌}
 use Rattle.zk_jute.proofs.Lists.{all_stand, list_shows}
 use Rattle.zk_jute.proofs.series.SeriesStandsPayload.decode.Goals as goal
 
-pub lying-requires-in-Some : goal.lying-requires-in-Some
-lying-requires-in-Some g c =
+pub lying-requires-in-Some-clause-stand : goal.lying-requires-in-Some-clause-stand
+lying-requires-in-Some-clause-stand g c =
     let w = g.R.Form.wired in
     let src = c.args.src.now.bytes.now in
     let end = c.in_ok-end-in-Some in

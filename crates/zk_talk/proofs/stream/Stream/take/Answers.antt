@@ -1,34 +1,41 @@
-use Rattle.std.proofs.Common.{inl, refl, arith, subst}
-use Rattle.zk_frames.specs.Held.{IsRefusal}
-use Rattle.zk_talk.proofs.Advancing.{only_fault, whole_taken, end_taken, within_taken, range_taken}
+use Rattle.std.proofs.Common.{◌≡◌, sym, ap, subst, [], ◌∙◌}
+use Rattle.std.proofs.lemmas.Bool.{false≢true}
+use Rattle.zk_frames.specs.Framing.{IsBeginning}
+use Rattle.zk_talk.specs.Advance.{IsAdvance}
+use Rattle.zk_talk.specs.Streams.{StreamState, held_where}
+use Rattle.zk_talk.proofs.Kept.{nothing_kept, held_all, kept_none}
 use Rattle.zk_talk.proofs.stream.Stream.take.Goals as goal
 
-pub overflow_sub-result : goal.overflow_sub-result
-overflow_sub-result c =
-    let s = c.args.self.now in
-    let r = subst (λ z. IsRefusal s.frames.limit s.frames.bytes c.front.result.now z c.take.new.self.bytes) (only_fault c.in-Err-LengthRange.field-0) ((c.in-Err-LengthRange.ensures).err s.frames.bytes (inl (c.requires.begins, refl))) in
-    omega (arith, c.held-held.ensures.count, r.3)
+pub go_forward-requires-clause-begins : goal.go_forward-requires-clause-begins
+go_forward-requires-clause-begins c =
+    let s = c.self.inside in
+    let none = subst (λ (t : StreamState). t.kept ≡ []) (sym c.self.view_is) c.requires.given_up in
+    let open' = nothing_kept s.kept s.frames.limit s.frames.bytes c.self.invariant none in
+    subst (IsBeginning s.frames.limit) (held_all s.kept s.frames.bytes open') (subst (λ (t : StreamState). IsBeginning t.limit t.held) (sym c.self.view_is) c.requires.begins)
 
-pub returns-then-took-clause-advance : goal.returns-then-took-clause-advance
-returns-then-took-clause-advance c =
-    let s = c.args.self.now in
-    whole_taken s.frames.limit s.size s.frames.bytes c.args.piece.now c.front.result.now c.take.new.self.bytes c.within-room.result c.front.ensures c.within-room.ensures.part c.within-room.ensures.fits c.in-Ok.took
-    ((c.in-Ok.ensures).ok s.frames.bytes (inl (c.requires.begins, refl))) c.if-took.true
+pub invariant_of-self : goal.invariant_of-self
+invariant_of-self c =
+    let s = c.self.inside in
+    let none = subst (λ (t : StreamState). t.kept ≡ []) (sym c.self.view_is) c.requires.given_up in
+    let open' = nothing_kept s.kept s.frames.limit s.frames.bytes c.self.invariant none in
+    λ closed. absurd (false≢true (sym open' ∙ closed))
 
-pub returns-then-room-piece-clause-advance : goal.returns-then-room-piece-clause-advance
-returns-then-room-piece-clause-advance c =
-    let s = c.args.self.now in
-    end_taken s.frames.limit s.size s.frames.bytes c.args.piece.now c.front.result.now c.take.new.self.bytes c.within-room.result c.front.ensures c.within-room.ensures.part c.within-room.ensures.fits c.in-Ok.took
-    ((c.in-Ok.ensures).ok s.frames.bytes (inl (c.requires.begins, refl))) c.if-took.false c.if-room-piece.true (c.within-room.ensures.rest c.if-room-piece.true)
+pub returns-clause-stays : goal.returns-clause-stays
+returns-clause-stays c =
+    let s = c.self.inside in
+    let f = c.go_forward.new.frames in
+    let none = subst (λ (t : StreamState). t.kept ≡ []) (sym c.self.view_is) c.requires.given_up in
+    let open' = nothing_kept s.kept s.frames.limit s.frames.bytes c.self.invariant none in
+    let kept = kept_none s.kept f.bytes open' ∙ sym (kept_none s.kept s.frames.bytes open') in
+    rw (← c.self.view_is) (λ i. record { limit = c.go_forward.ensures.limit i; held = held_where s.kept f.bytes; kept = kept i; count = s.count; size = s.size })
 
-pub returns-else-room-piece-clause-advance : goal.returns-else-room-piece-clause-advance
-returns-else-room-piece-clause-advance c =
-    let s = c.args.self.now in
-    within_taken s.frames.limit s.size s.frames.bytes c.args.piece.now c.front.result.now c.take.new.self.bytes c.within-room.result c.front.ensures c.within-room.ensures.part c.within-room.ensures.fits c.in-Ok.took
-    ((c.in-Ok.ensures).ok s.frames.bytes (inl (c.requires.begins, refl))) c.if-took.false (λ l. omega (arith, l, c.if-room-piece.false))
-
-pub returns-in-Err-LengthRange-clause-advance : goal.returns-in-Err-LengthRange-clause-advance
-returns-in-Err-LengthRange-clause-advance c =
-    let s = c.args.self.now in
-    range_taken s.frames.limit s.size s.frames.bytes c.args.piece.now c.front.result.now c.take.new.self.bytes c.within-room.result c.front.ensures c.within-room.ensures.part c.within-room.ensures.fits c.held-held.result c.held-held.ensures.count
-    (subst (λ z. IsRefusal s.frames.limit s.frames.bytes c.front.result.now z c.take.new.self.bytes) (only_fault c.in-Err-LengthRange.field-0) ((c.in-Err-LengthRange.ensures).err s.frames.bytes (inl (c.requires.begins, refl))))
+pub returns-clause-advance : goal.returns-clause-advance
+returns-clause-advance c =
+    let s = c.self.inside in
+    let f = c.go_forward.new.frames in
+    let none = subst (λ (t : StreamState). t.kept ≡ []) (sym c.self.view_is) c.requires.given_up in
+    let open' = nothing_kept s.kept s.frames.limit s.frames.bytes c.self.invariant none in
+    let was = sym (held_all s.kept s.frames.bytes open') in
+    let is = sym (held_all s.kept f.bytes open') in
+    rw (← c.self.view_is) (subst (λ z. IsAdvance s.frames.limit s.size z c.args.piece.now c.go_forward.result (held_where s.kept f.bytes)) was
+    (subst (IsAdvance s.frames.limit s.size s.frames.bytes c.args.piece.now c.go_forward.result) is c.go_forward.ensures.advance))

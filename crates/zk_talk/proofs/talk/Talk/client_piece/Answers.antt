@@ -1,8 +1,9 @@
-use Rattle.std.proofs.Common.{◌∙◌, drop, sym, subst, arith}
+use Rattle.std.proofs.Common.{◌≡◌, ◌∙◌, [], inr, drop, sym, subst, arith}
 use Rattle.zk_talk.specs.contracts.talk.Talk.{the_view}
 use Rattle.zk_talk.specs.declared.stream.Advance.TheVariants.{Within, Whole, Refused}
 use Rattle.zk_talk.specs.Advance.{IsAdvance}
-use Rattle.zk_talk.specs.Judged.{IsNextOf}
+use Rattle.zk_talk.specs.Stands.{TalkState}
+use Rattle.zk_talk.specs.Judged.{IsNextClient}
 use Rattle.zk_talk.proofs.Answering.{client_goes, client_stops, client_makes, client_fails}
 use Rattle.zk_talk.proofs.Empty.{no_bytes_whole, no_bytes_refused}
 use Rattle.zk_talk.proofs.talk.Talk.client_piece.Goals as goal
@@ -11,33 +12,37 @@ pub returns-in-Within-clause-ok : goal.returns-in-Within-clause-ok
 returns-in-Within-clause-ok c =
     let T = the_view c.self.inside in
     let s = c.take.new.self in
-    let a = subst (λ z. IsAdvance z T.client_size T.client_held c.args.piece.now Within s.frames.bytes) c.self.invariant.0.same (c.in-Within.ensures).advance in
-    rw (← c.self.view_is) (omega arith, (λ l. l), client_goes T c.args.piece.now s s (c.in-Within.ensures).count (c.in-Within.ensures).size a)
+    let k = c.in-Within.ensures in
+    let a = subst (λ z. IsAdvance z T.client_size T.client_held c.args.piece.now Within s.held) c.self.invariant.0.same k.advance in
+    rw (← c.self.view_is) (omega arith, (λ l. l), client_goes T c.args.piece.now s c.go_on.new.self k.stays a c.go_on.ensures)
 
 pub returns-in-Ok-clause-ok : goal.returns-in-Ok-clause-ok
 returns-in-Ok-clause-ok c =
     let T = the_view c.self.inside in
     let s = c.take.new.self in
     let k = c.in-Ok.ensures in
-    let a = subst (λ z. IsAdvance z T.client_size T.client_held c.args.piece.now (Whole c.in-Whole.used) s.frames.bytes) c.self.invariant.0.same (c.in-Whole.ensures).advance in
-    rw (← c.self.view_is) (a.1, (λ l. a.0), client_makes T c.args.piece.now s c.client_frame.new.stream (c.in-Whole.ensures).count (c.in-Whole.ensures).size c.in-Whole.used c.in-Ok.frame c.client_frame.new.waiting a c.self.invariant.2 k.waits (λ m v d. subst (λ z. IsNextOf z T.waiting (drop 4 s.frames.bytes) v c.in-Ok.frame) c.profile-profile.ensures (k.found m v d)) k.passed)
+    let t = c.in-Whole.ensures in
+    let a = subst (λ z. IsAdvance z T.client_size T.client_held c.args.piece.now (Whole c.in-Whole.used) s.held) c.self.invariant.0.same t.advance in
+    rw (← c.self.view_is) (a.1, (λ l. a.0), client_makes T c.args.piece.now s c.client_frame.new.stream t.stays c.in-Whole.used c.in-Ok.frame c.client_frame.new.waiting a c.self.invariant.2 (subst (λ z. IsNextClient z s.count T.waiting (drop 4 s.held) c.in-Ok.frame) c.profile-profile.ensures k.found.0, k.found.1) k.passed)
 
 pub returns-in-Err-clause-err : goal.returns-in-Err-clause-err
 returns-in-Err-clause-err c =
     let T = the_view c.self.inside in
     let s = c.take.new.self in
     let k = c.in-Err.ensures in
-    let a = subst (λ z. IsAdvance z T.client_size T.client_held c.args.piece.now (Whole c.in-Whole.used) s.frames.bytes) c.self.invariant.0.same (c.in-Whole.ensures).advance in
-    rw (← c.self.view_is) (client_fails T c.args.piece.now s c.client_frame.new.stream (c.in-Whole.ensures).count (c.in-Whole.ensures).size c.client_frame.new.waiting c.refuse.new.kept c.in-Whole.used c.in-Err.item c.refuse.result a c.self.invariant.2
-    c.refuse.ensures.wanting c.refuse.ensures.refused k.same k.back k.stays (λ n limits m v q o d. k.fault n limits m v q (o ∙ sym c.profile-profile.ensures) d))
+    let t = c.in-Whole.ensures in
+    let none = subst (λ (z : TalkState). z.client_kept ≡ []) (sym c.self.view_is) c.requires.given_up in
+    let a = subst (λ z. IsAdvance z T.client_size T.client_held c.args.piece.now (Whole c.in-Whole.used) s.held) c.self.invariant.0.same t.advance in
+    rw (← c.self.view_is) (client_fails T c.args.piece.now s c.client_frame.new.stream t.stays c.client_frame.new.waiting c.refuse.new.kept c.in-Whole.used c.in-Err.item c.refuse.result a c.self.invariant.2 none
+    c.refuse.ensures.wanting c.refuse.ensures.refused k.same (λ n. let f = k.lacks n in (f.0, subst (λ z. IsNextClient z s.count T.waiting (drop 4 s.held) f.0) c.profile-profile.ensures f.1)) k.back k.stays (λ n limits m v q o d. k.fault n limits m v q (o ∙ sym c.profile-profile.ensures) d))
 
 pub returns-in-Refused-clause-err : goal.returns-in-Refused-clause-err
 returns-in-Refused-clause-err c =
     let T = the_view c.self.inside in
     let s = c.take.new.self in
     let k = c.in-Refused.ensures in
-    let a = subst (λ z. IsAdvance z T.client_size T.client_held c.args.piece.now (Refused c.in-Refused.used c.in-Refused.reason) s.frames.bytes) c.self.invariant.0.same k.advance in
-    rw (← c.self.view_is) (client_stops T c.args.piece.now s s k.count k.size c.refuse-in-Refused.new.kept c.in-Refused.used c.in-Refused.reason c.refuse-in-Refused.result a c.refuse-in-Refused.ensures.refused)
+    let a = subst (λ z. IsAdvance z T.client_size T.client_held c.args.piece.now (Refused c.in-Refused.used c.in-Refused.reason) s.held) c.self.invariant.0.same k.advance in
+    rw (← c.self.view_is) (inr (client_stops T c.args.piece.now s s k.stays c.refuse-in-Refused.new.kept c.in-Refused.used c.in-Refused.reason c.refuse-in-Refused.result a c.refuse-in-Refused.ensures.refused).1)
 
 pub returns-in-Err-clause-empty : goal.returns-in-Err-clause-empty
 returns-in-Err-clause-empty c = λ none. absurd (let a = (c.in-Whole.ensures).advance in no_bytes_whole a.0 a.1 none)

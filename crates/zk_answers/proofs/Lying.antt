@@ -1,0 +1,281 @@
+-- Results that lie in a payload: what stands there is their value, and what reads them.
+use Rattle.std.proofs.Common.{◌≡◌, ℕ, ◌+◌, ◌≤◌, List, [], ◌∷◌, ◌++◌, length, drop, Some, None, Ok, Err, inr, refl, sym, ap, subst, ◌∙◌, arith}
+use Rattle.std.specs.Prelude.{ℤ, pos, negsuc, Result, IfOk, IfErr, Option, ◌≢◌}
+use Rattle.std.specs.List.{flat_map}
+use Rattle.std.proofs.lemmas.List.{append-nil}
+use Rattle.zk_jute.specs.declared.fault.ItemFault.{ItemFault}
+use Rattle.zk_jute.specs.declared.fault.Reason.TheVariants.{NoMemory}
+use Rattle.zk_jute.specs.Held.{Text}
+use Rattle.zk_jute.specs.Item.{Item, AnInt, bytes_of, HaveBytes}
+use Rattle.zk_jute.specs.Layout.{IsValueOf, Unfolds, One, End}
+use Rattle.zk_jute.specs.Item.{Int}
+use Rattle.zk_jute.specs.Reading.{Read, ◌>>=◌, read_map, int_at, long_at, items_at}
+use Rattle.zk_jute.specs.Told.{StandsAt, HasToldFault, IsToldAt}
+use Rattle.zk_jute.specs.Values.{text_items, text_unfolds}
+use Rattle.zk_jute.specs.Wired.{Wired, int, long, ustring, ◌and◌}
+use Rattle.zk_jute.specs.Shown.{text_value, both_at, text_is_value, Stretch, Begins}
+use Rattle.zk_jute.proofs.Layouts.{items_again, bytes_only, have_both, have_parts}
+use Rattle.zk_jute.proofs.Sequels.{excluded, stands_then}
+use Rattle.zk_jute.proofs.Stretches.{stands_split, values_told, values_counted}
+use Rattle.zk_jute.proofs.Valued.{IsValued, int_valued, long_valued, both_valued, value_read, recast}
+use Rattle.zk_records.specs.Records.{multi_header, stat}
+use Rattle.zk_records.specs.Codes.{part_number}
+use Rattle.zk_records.specs.declared.header.MultiHeader.{MultiHeader}
+use Rattle.zk_records.specs.declared.op.PartOp.{PartOp}
+use Rattle.zk_records.specs.declared.op.PartOp.TheVariants as parts
+use Rattle.zk_records.proofs.Numbers.{part_number_apart}
+use Rattle.zk_asks.specs.Parts.{marked, end_header}
+use Rattle.zk_asks.specs.Shown.{part_numbered}
+use Rattle.zk_answers.specs.Held.{PartDone}
+use Rattle.zk_answers.specs.declared.frame.PartDoneOf.TheVariants as done
+use Rattle.zk_answers.specs.Results.{result_header, error_header, done_items, mark_before, result_of, result_layout, multi_items, Answers, AnswerAll, Own, IsDoneFault}
+use Rattle.zk_answers.specs.Shown.{stat_of, counts_value, stat_value, result_value, done_value, dones_at}
+use Rattle.zk_answers.proofs.Dones.{mark_is, mark_same}
+use Rattle.zk_answers.proofs.Outcomes.{result_inside}
+
+-- ---- the records
+
+module _ (src : List ℕ) where
+  ints_valued : IsValued (int and (int and long)) src (both_at (int_at src) (both_at (int_at src) (long_at src)))
+  ints_valued = both_valued int (int and long) src (int_at src) (both_at (int_at src) (long_at src)) (int_valued src) (both_valued int long src (int_at src) (long_at src) (int_valued src) (long_valued src))
+
+  owned_valued : IsValued (long and (int and (int and long))) src (both_at (long_at src) (both_at (int_at src) (both_at (int_at src) (long_at src))))
+  owned_valued = both_valued long (int and (int and long)) src (long_at src) (both_at (int_at src) (both_at (int_at src) (long_at src))) (long_valued src) ints_valued
+
+  counts_valued : IsValued (int and (int and (int and (long and (int and (int and long)))))) src (counts_value src)
+  counts_valued =
+      let w = long and (int and (int and long)) in
+      let v = both_at (long_at src) (both_at (int_at src) (both_at (int_at src) (long_at src))) in
+      both_valued int (int and (int and w)) src (int_at src) (both_at (int_at src) (both_at (int_at src) v)) (int_valued src)
+      (both_valued int (int and w) src (int_at src) (both_at (int_at src) v) (int_valued src) (both_valued int w src (int_at src) v (int_valued src) owned_valued))
+
+  stat_valued : IsValued stat src (stat_value src)
+  stat_valued place =
+      let w = int and (int and (int and (long and (int and (int and long))))) in
+      let v = counts_value src in
+      let one = both_valued long w src (long_at src) v (long_valued src) counts_valued in
+      let two = both_valued long (long and w) src (long_at src) (both_at (long_at src) v) (long_valued src) one in
+      let three = both_valued long (long and (long and w)) src (long_at src) (both_at (long_at src) (both_at (long_at src) v)) (long_valued src) two in
+      let value = both_at (long_at src) (both_at (long_at src) (both_at (long_at src) v)) in
+      both_valued long (long and (long and (long and w))) src (long_at src) value (long_valued src) three place
+      ∙ recast (long and (long and (long and (long and w)))) stat.items stat_of (λ p. refl) (both_at (long_at src) value place)
+
+-- ---- what a result is made of
+
+pub items_are : (d : PartDone) → done_items d ≡ marked (mark_before d) ++ result_of d
+items_are (done.Created path) = refl
+items_are done.Deleted = sym (append-nil (marked (result_header parts.Delete)))
+items_are (done.DataSet s) = refl
+items_are done.Checked = sym (append-nil (marked (result_header parts.Check)))
+items_are (done.PartFailed e) = refl
+
+nine : (d : PartDone) → length (bytes_of (marked (mark_before d))) ≡ 9
+nine (done.Created path) = refl
+nine done.Deleted = refl
+nine (done.DataSet s) = refl
+nine done.Checked = refl
+nine (done.PartFailed e) = refl
+
+numbered : (op : PartOp) → part_numbered (part_number op) ≡ Some op
+numbered parts.Create = refl
+numbered parts.Delete = refl
+numbered parts.SetData = refl
+numbered parts.Check = refl
+
+-- a value that stands is told
+stands_told : {X : Type 0} (w : Wired X) (src : List ℕ) (v : ℕ → Read X) → IsValued w src v → (x : X) (place end : ℕ) → HaveBytes (w.items x) → place ≤ length src → StandsAt (w.items x) src place end → v place ≡ Ok (x, end)
+stands_told w src v is x place end have le s =
+    let read = items_again w.layout src (w.items x) (drop end src) place (w.unfolds x) have le s.0 in
+    value_read w (v place) (items_at w.layout src place) x end (is place) (read ∙ ap (λ (n : ℕ). Ok (w.items x, n)) (sym s.1))
+
+behind_told : (src : List ℕ) (d : PartDone) (place end : ℕ) → place ≤ length src → HaveBytes (result_of d) → StandsAt (result_of d) src place end → result_value (part_numbered (mark_before d).kind) src place ≡ Ok (d, end)
+behind_told src (done.Created path) place end le have s = ap (read_map done.Created) (stands_told ustring src (text_value src) (text_is_value src) path place end have le s)
+behind_told src done.Deleted place end le have s = let same : place ≡ end = omega (arith, s.1) in ap (λ (n : ℕ). Ok (done.Deleted, n)) same
+behind_told src (done.DataSet x) place end le have s = ap (read_map done.DataSet) (stands_told stat src (stat_value src) (stat_valued src) x place end have le s)
+behind_told src done.Checked place end le have s = let same : place ≡ end = omega (arith, s.1) in ap (λ (n : ℕ). Ok (done.Checked, n)) same
+behind_told src (done.PartFailed e) place end le have s = ap (read_map done.PartFailed) (stands_told int src (int_at src) (int_valued src) e place end have le s)
+
+module _ (src : List ℕ) (d : PartDone) (place end : ℕ) (le : place ≤ length src) (have : HaveBytes (done_items d)) (stands : StandsAt (done_items d) src place end) where
+  abbrev mark : List Item
+  mark = marked (mark_before d)
+
+  both : HaveBytes (mark ++ result_of d) × StandsAt (mark ++ result_of d) src place end
+  both = (subst HaveBytes (items_are d) have, subst (λ (i : List Item). StandsAt i src place end) (items_are d) stands)
+
+  pub header_there : HaveBytes mark × StandsAt mark src place (place + 9)
+  header_there =
+      let s = stands_split mark (result_of d) src place end le both.1 in
+      ((have_parts mark (result_of d) both.0).0, subst (λ (n : ℕ). StandsAt mark src place (place + n)) (nine d) s.0)
+
+  pub behind_there : HaveBytes (result_of d) × StandsAt (result_of d) src (place + 9) end × (place + 9 ≤ length src)
+  behind_there =
+      let s = stands_split mark (result_of d) src place end le both.1 in
+      ((have_parts mark (result_of d) both.0).1, subst (λ (n : ℕ). StandsAt (result_of d) src (place + n) end) (nine d) s.1, subst (λ (n : ℕ). place + n ≤ length src) (nine d) s.2)
+
+  -- the number in front
+  number_there : (after : ℕ) × (int_at src place ≡ Ok ((mark_before d).kind, after))
+  number_there =
+      let h = mark_before d in
+      let one = AnInt h.kind ∷ [] in
+      let t = header_there in
+      let s = stands_split one (drop 1 mark) src place (place + 9) le t.1 in
+      let p = have_parts one (drop 1 mark) t.0 in
+      (place + length (bytes_of one), stands_told int src (int_at src) (int_valued src) h.kind place (place + length (bytes_of one)) p.0 le s.0)
+
+  -- a header that was read here is the result's own
+  pub header_read : (header : MultiHeader) (after : ℕ) → IsValueOf multi_header.layout (marked header) → StandsAt (marked header) src place after → (header ≡ mark_before d) × (after ≡ place + 9)
+  header_read header after v s =
+      let t = header_there in
+      let same = bytes_only multi_header.layout (marked header) mark (drop after src) (drop (place + 9) src) v (mark_is (mark_before d) t.0) (sym s.0 ∙ t.1.0) in
+      (mark_same header (mark_before d) same.0, omega (arith, s.1, t.1.1, ap (λ (i : List Item). length (bytes_of i)) same.0))
+
+  pub no_header_fault : (e : ItemFault) → HasToldFault (IsValueOf multi_header.layout) src place e → ⊥
+  no_header_fault e f = excluded multi_header.layout mark (drop place src) (drop (place + 9) src) f.0 e.reason (mark_is (mark_before d) header_there.0) header_there.1.0 f.1
+
+  done_there : done_value src place ≡ Ok (d, end)
+  done_there =
+      let b = behind_there in
+      ap (λ (r : Read ℤ). r >>= λ kind. result_value (part_numbered kind.0) src (place + 9)) number_there.1
+      ∙ behind_told src d (place + 9) end b.2 b.0 b.1
+
+pub done_read : (src : List ℕ) (d : PartDone) (place end : ℕ) → place ≤ length src → HaveBytes (done_items d) → StandsAt (done_items d) src place end → done_value src place ≡ Ok (d, end)
+done_read src d place end le have stands = done_there src d place end le have stands
+
+-- ---- what its header tells of a result
+
+not_failed : (op : PartOp) → negsuc 0 ≡ part_number op → ⊥
+not_failed parts.Create e = absurd cc
+not_failed parts.Delete e = absurd cc
+not_failed parts.SetData e = absurd cc
+not_failed parts.Check e = absurd cc
+
+pub own_of : (d : PartDone) (op : PartOp) → (mark_before d).kind ≡ part_number op → Own op d
+own_of (done.Created path) op e = sym (part_number_apart parts.Create op e)
+own_of done.Deleted op e = sym (part_number_apart parts.Delete op e)
+own_of (done.DataSet s) op e = sym (part_number_apart parts.SetData op e)
+own_of done.Checked op e = sym (part_number_apart parts.Check op e)
+own_of (done.PartFailed n) op e = not_failed op e
+
+pub failed_of : (d : PartDone) → ((op : PartOp) → (mark_before d).kind ≢ part_number op) → (e : ℤ) × (d ≡ done.PartFailed e)
+failed_of (done.Created path) not = absurd (not parts.Create refl)
+failed_of done.Deleted not = absurd (not parts.Delete refl)
+failed_of (done.DataSet s) not = absurd (not parts.SetData refl)
+failed_of done.Checked not = absurd (not parts.Check refl)
+failed_of (done.PartFailed e) not = (e, refl)
+
+own_kind : (op : PartOp) (d : PartDone) → Own op d → (mark_before d).kind ≡ part_number op
+own_kind op (done.Created path) own = ap part_number (sym own)
+own_kind op done.Deleted own = ap part_number (sym own)
+own_kind op (done.DataSet s) own = ap part_number (sym own)
+own_kind op done.Checked own = ap part_number (sym own)
+own_kind op (done.PartFailed e) own = absurd own
+
+own_is : (op : PartOp) (d : PartDone) → Own op d → Unfolds (result_layout op) (result_of d)
+own_is op (done.Created path) own = subst (λ (o : PartOp). Unfolds (result_layout o) (text_items path)) (sym own) (text_unfolds path)
+own_is op done.Deleted own = subst (λ (o : PartOp). Unfolds (result_layout o) []) (sym own) refl
+own_is op (done.DataSet s) own = subst (λ (o : PartOp). Unfolds (result_layout o) (stat.items s)) (sym own) (stat.unfolds s)
+own_is op done.Checked own = subst (λ (o : PartOp). Unfolds (result_layout o) []) (sym own) refl
+own_is op (done.PartFailed e) own = absurd own
+
+-- ---- one answer
+
+abbrev told : PartDone × ℕ → Read PartDone → PartDone × ℕ
+told other (Ok x) = x
+told other (Err e) = other
+
+one_value : (r : Read PartDone) (a b : PartDone × ℕ) → r ≡ Ok a → r ≡ Ok b → a ≡ b
+one_value r a b x y = ap (told a) (sym x ∙ y)
+
+module _ (src : List ℕ) (place : ℕ) (le : place ≤ length src) (op : PartOp) (d : PartDone) (end : ℕ) (own : Own op d) (have : HaveBytes (result_of d)) (stands : StandsAt (result_of d) src place end) where
+  own_told : (x : PartDone) (at : ℕ) → Own op x → HaveBytes (result_of x) → StandsAt (result_of x) src place at → result_value (part_numbered (part_number op)) src place ≡ Ok (x, at)
+  own_told x at o h s = subst (λ (k : ℤ). result_value (part_numbered k) src place ≡ Ok (x, at)) (own_kind op x o) (behind_told src x place at le h s)
+
+  pub result_only : (r : Result (PartDone × ℕ) ItemFault) → IfOk r (λ x. Own op x.0 × IsValueOf (result_layout op) (result_of x.0) × StandsAt (result_of x.0) src place x.1)
+      → IfErr r (λ e. HasToldFault (IsValueOf (result_layout op)) src place e × (e.reason ≢ NoMemory)) → r ≡ Ok (d, end)
+  result_only (Ok x) found fault =
+      let same = one_value (result_value (part_numbered (part_number op)) src place) x (d, end) (own_told x.0 x.1 found.0 found.1.1 found.2) (own_told d end own have stands) in
+      ap (λ (y : PartDone × ℕ). Ok y) same
+  result_only (Err e) found fault = absurd (excluded (result_layout op) (result_of d) (drop place src) (drop end src) fault.0.0 e.reason (own_is op d own, have) stands.0 fault.0.1)
+
+module _ (src : List ℕ) (d : PartDone) (place end : ℕ) (le : place ≤ length src) (have : HaveBytes (done_items d)) (stands : StandsAt (done_items d) src place end)
+    (header : MultiHeader) (after : ℕ) (v : IsValueOf multi_header.layout (marked header)) (s : StandsAt (marked header) src place after) where
+  h : (header ≡ mark_before d) × (after ≡ place + 9)
+  h = header_read src d place end le have stands header after v s
+
+  b : HaveBytes (result_of d) × StandsAt (result_of d) src after end × (after ≤ length src)
+  b = let t = behind_there src d place end le have stands in (t.0, subst (λ (n : ℕ). StandsAt (result_of d) src n end) (sym h.1) t.1, omega (arith, h.1, t.2))
+
+  -- a part's own result, which is read behind its header
+  pub own_only : (op : PartOp) → header.kind ≡ part_number op → (r : Result (PartDone × ℕ) ItemFault) → IfOk r (λ x. Own op x.0 × IsValueOf (result_layout op) (result_of x.0) × StandsAt (result_of x.0) src after x.1)
+      → IfErr r (λ e. HasToldFault (IsValueOf (result_layout op)) src after e × (e.reason ≢ NoMemory)) → r ≡ Ok (d, end)
+  own_only op kind = result_only src after b.2 op d end (own_of d op (sym (ap (λ (m : MultiHeader). m.kind) h.0) ∙ kind)) b.0 b.1
+
+  -- an error
+  module _ (not : (op : PartOp) → header.kind ≢ part_number op) where
+    failed : (e : ℤ) × (d ≡ done.PartFailed e)
+    failed = failed_of d (λ op k. not op (ap (λ (m : MultiHeader). m.kind) h.0 ∙ k))
+
+    number : HaveBytes (AnInt failed.0 ∷ []) × StandsAt (AnInt failed.0 ∷ []) src after end
+    number = subst (λ (x : PartDone). HaveBytes (result_of x) × StandsAt (result_of x) src after end) failed.1 (b.0, b.1)
+
+    pub number_only : (n : ℤ) (at : ℕ) → HaveBytes (AnInt n ∷ []) → StandsAt (AnInt n ∷ []) src after at → ◌≡◌ {A = Result (PartDone × ℕ) ItemFault} (Ok (done.PartFailed n, at)) (Ok (d, end))
+    number_only n at has t =
+        let told_of = λ (m : ℤ) (e : ℕ) (p : HaveBytes (AnInt m ∷ [])) (q : StandsAt (AnInt m ∷ []) src after e). behind_told src (done.PartFailed m) after e b.2 p q in
+        let same = one_value (result_value None src after) (done.PartFailed n, at) (done.PartFailed failed.0, end) (told_of n at has t) (told_of failed.0 end number.0 number.1) in
+        ap (λ (y : PartDone × ℕ). Ok y) same ∙ ap (λ (x : PartDone). Ok (x, end)) (sym failed.1)
+
+    pub number_stands : (e : ItemFault) → HasToldFault (IsValueOf int.layout) src after e → ⊥
+    number_stands e f = excluded int.layout (AnInt failed.0 ∷ []) (drop after src) (drop end src) f.0 e.reason (int.unfolds failed.0, number.0) number.1.0 f.1
+
+pub dones_counted : (src : List ℕ) (count place : ℕ) → Begins done_items src count place → length (dones_at src count place) ≡ count
+dones_counted src = values_counted done_items src (done_value src) (done_read src)
+
+-- ---- a part's own result behind its header
+
+own_answers : (op : PartOp) (d : PartDone) → Own op d → Answers op d
+own_answers op (done.Created path) own = own
+own_answers op done.Deleted own = own
+own_answers op (done.DataSet s) own = own
+own_answers op done.Checked own = own
+own_answers op (done.PartFailed e) own = absurd own
+
+own_mark : (op : PartOp) (d : PartDone) → Own op d → mark_before d ≡ result_header op
+own_mark op (done.Created path) own = ap result_header (sym own)
+own_mark op done.Deleted own = ap result_header (sym own)
+own_mark op (done.DataSet s) own = ap result_header (sym own)
+own_mark op done.Checked own = ap result_header (sym own)
+own_mark op (done.PartFailed e) own = absurd own
+
+module _ (op : PartOp) (src : List ℕ) (place after : ℕ) (header : MultiHeader) where
+  pub own_found : HaveBytes (marked header) → StandsAt (marked header) src place after → header ≡ result_header op
+      → (r : Result (PartDone × ℕ) ItemFault) → IfOk r (λ x. Own op x.0 × IsValueOf (result_layout op) (result_of x.0) × StandsAt (result_of x.0) src after x.1)
+      → IfOk r (λ x. Answers op x.0 × HaveBytes (done_items x.0) × StandsAt (done_items x.0) src place x.1)
+  own_found have s is (Ok x) found =
+      let mark : header ≡ mark_before x.0 = is ∙ sym (own_mark op x.0 found.0) in
+      let m = marked (mark_before x.0) in
+      let has : HaveBytes m = subst (λ (h : MultiHeader). HaveBytes (marked h)) mark have in
+      let t : StandsAt m src place after = subst (λ (h : MultiHeader). StandsAt (marked h) src place after) mark s in
+      let items = items_are x.0 in (
+        own_answers op x.0 found.0,
+        subst HaveBytes (sym items) (have_both m (result_of x.0) has found.1.1),
+        subst (λ (i : List Item). StandsAt i src place x.1) (sym items) (stands_then m (result_of x.0) src place after x.1 t found.2),
+      )
+  own_found have s is (Err e) found = tt
+
+  pub own_fault : StandsAt (marked header) src place after → header ≡ result_header op
+      → (r : Result (PartDone × ℕ) ItemFault) → IfErr r (λ e. HasToldFault (IsValueOf (result_layout op)) src after e × (e.reason ≢ NoMemory))
+      → IfErr r (λ e. ((ops : List PartOp) → IsToldAt (IsDoneFault (op ∷ ops)) src place e) × (e.reason ≢ NoMemory))
+  own_fault s is (Ok x) fault = tt
+  own_fault s is (Err e) fault = (λ ops. result_inside op ops src place after header e s is (inr fault.0), fault.1)
+
+-- what is told of the list, once its end is passed
+pub dones_passed : (src : List ℕ) (place at count after : ℕ) (header : MultiHeader) (ops : List PartOp) → place ≤ length src → (s : Stretch done_items src place at count) → AnswerAll ops s.values
+    → HaveBytes (marked header) → StandsAt (marked header) src at after → header ≡ end_header
+    → AnswerAll ops (dones_at src count place) × HaveBytes (multi_items (dones_at src count place)) × StandsAt (multi_items (dones_at src count place)) src place after
+dones_passed src place at count after header ops le s answers v t is =
+    let ds = s.values in
+    let end = marked end_header in
+    let have = have_both (flat_map done_items ds) end s.have (subst (λ (h : MultiHeader). HaveBytes (marked h)) is v) in
+    let stands = stands_then (flat_map done_items ds) end src place at after s.stands (subst (λ (h : MultiHeader). StandsAt (marked h) src at after) is t) in
+    let told_as = sym (values_told done_items src (done_value src) (done_read src) place at count le s) in
+    subst (λ (xs : List PartDone). AnswerAll ops xs × HaveBytes (multi_items xs) × StandsAt (multi_items xs) src place after) told_as (answers, have, stands)

@@ -1,0 +1,94 @@
+use Rattle.std.proofs.Common.{◌≡◌, ℕ, ◌+◌, ◌∷◌, ◌++◌, List, Bool, true, false, Some, inr, length, take, drop, [], sym, ap, subst, ◌∙◌, arith}
+use Rattle.std.proofs.lemmas.Result.{err_from_is_err_and}
+use Rattle.zk_jute.specs.Reading.{told_place}
+use Rattle.zk_jute.specs.Told.{StandsAt, IsToldAt}
+use Rattle.zk_jute.specs.declared.fault.Reason.TheVariants.{BadPart}
+use Rattle.zk_jute.proofs.Stretches.{none_passed, one_passed}
+use Rattle.zk_records.specs.declared.op.PartOp.{PartOp}
+use Rattle.zk_asks.specs.Parts.{end_header}
+use Rattle.zk_jute.specs.Item.{HaveBytes}
+use Rattle.zk_jute.specs.Shown.{Stretch}
+use Rattle.zk_answers.specs.Held.{PartDone}
+use Rattle.zk_answers.specs.Results.{done_items, multi_items, AnswerAll, MayAnswer, IsDoneFault}
+use Rattle.zk_answers.specs.Shown.{dones_at}
+use Rattle.zk_answers.proofs.Outcomes.{result_mark, result_bad, loop_fault, drop_all, drop_some, take_all, take_some, answers_push}
+use Rattle.zk_answers.proofs.Lying.{dones_passed}
+use Rattle.zk_answers.proofs.done_list.results_ref.Goals as goal
+
+pub loop-j-init : goal.loop-j-init
+loop-j-init g c = record { within = c.requires; passed = none_passed done_items c.args.src.now.bytes.now c.args.place c.requires; answers = tt }
+
+pub returns-in_err-next-clause-fault : goal.returns-in_err-next-clause-fault
+returns-in_err-next-clause-fault g c =
+    let p = err_from_is_err_and c.from_residual.result c.from_residual.ensures.1 in
+    let i = c.loop-j.invariant in
+    let n = c.loop-j.j in
+    let ops = g.F.Asked.part_ops c.args.form.now in
+    let src = c.args.src.now.bytes.now in
+    let e = c.in_err-next.field-0.0 in
+    let some = sym c.part.ensures ∙ c.unwrap-op.ensures in
+    let f = c.in_err-next.ensures.fault in
+    let told = subst (λ (o : List PartOp). IsToldAt (IsDoneFault o) src c.loop-j.at e) (sym (drop_some ops n c.unwrap-op.result some)) (f.0 (drop (n + 1) ops)) in
+    rw (p.1, p.2) (loop_fault ops n i.passed.values src c.args.place c.loop-j.at i.answers i.passed.have i.passed.stands e told, f.1)
+
+pub loop-j-preserved : goal.loop-j-preserved
+loop-j-preserved g c =
+    let f = c.in_ok-next.ensures.found in
+    let i = c.loop-j.invariant in
+    let n = c.loop-j.j in
+    let ops = g.F.Asked.part_ops c.args.form.now in
+    let op = c.unwrap-op.result in
+    let ds = i.passed.values in
+    let d = c.in_ok-next.field-0-0 in
+    let more = take_some ops n op (sym c.part.ensures ∙ c.unwrap-op.ensures) in
+    record {
+      within = c.in_ok-next.ensures.within;
+      passed = one_passed done_items c.args.src.now.bytes.now c.args.place c.loop-j.at c.in_ok-next.next n i.passed d f.1 f.2;
+      answers = subst (λ (o : List PartOp). AnswerAll o (ds ++ d ∷ [])) (sym more) (answers_push (take n ops) op ds d i.answers f.0);
+    }
+
+pub returns-in_err-header-clause-fault : goal.returns-in_err-header-clause-fault
+returns-in_err-header-clause-fault g c =
+    let p = err_from_is_err_and c.from_residual-in_err-header.result c.from_residual-in_err-header.ensures.1 in
+    let i = c.loop-j.invariant in
+    let n = c.loop-j.j in
+    let ops = g.F.Asked.part_ops c.args.form.now in
+    let src = c.args.src.now.bytes.now in
+    let e = c.in_err-header.field-0.0 in
+    let f = c.in_err-header.ensures.fault in
+    rw (p.1, p.2) (loop_fault ops n i.passed.values src c.args.place c.loop-j.at i.answers i.passed.have i.passed.stands e (result_mark (drop n ops) src c.loop-j.at e (inr f.0)), f.1)
+
+pub returns-then-not-is_end-clause-fault : goal.returns-then-not-is_end-clause-fault
+returns-then-not-is_end-clause-fault g c =
+    let i = c.loop-j.invariant in
+    let n = c.loop-j.j in
+    let ops = g.F.Asked.part_ops c.args.form.now in
+    let src = c.args.src.now.bytes.now in
+    let f = c.in_ok-header.ensures.found in
+    let h = c.in_ok-header.header in
+    let none = drop_all ops n (omega (arith, c.loop-j-test.false, c.parts-j-end.ensures)) in
+    let test = c.if-not-is_end.true in
+    let not : (MayAnswer (drop n ops) h → ⊥) = λ may. let m : h ≡ end_header = subst (λ (o : List PartOp). MayAnswer o h) none may in let e : ◌≡◌ {A = Bool} true false = sym (c.is_end.ensures.1 m) ∙ test in absurd cc in
+    let told = result_bad (drop n ops) src c.loop-j.at c.in_ok-header.end h f.0 f.1 not in
+    rw c.at.ensures (loop_fault ops n i.passed.values src c.args.place c.loop-j.at i.answers i.passed.have i.passed.stands (record { place = told_place c.loop-j.at; reason = BadPart }) told, λ e. cc)
+
+pub lying-requires : goal.lying-requires
+lying-requires g c =
+    let i = c.loop-j.invariant in
+    let src = c.args.src.now.bytes.now in
+    let count : c.parts.result ≡ c.loop-j.j = omega (arith, c.parts.ensures, c.parts-j-end.ensures, c.loop-j-test.false, c.loop-j.auto.j-end) in
+    (c.requires, c.loop-j.at, subst (λ (n : ℕ). Stretch done_items src c.args.place c.loop-j.at n) (sym count) i.passed)
+
+pub returns-clause-found : goal.returns-clause-found
+returns-clause-found g c =
+    let i = c.loop-j.invariant in
+    let n = c.loop-j.j in
+    let src = c.args.src.now.bytes.now in
+    let ops = g.F.Asked.part_ops c.args.form.now in
+    let f = c.in_ok-header.ensures.found in
+    let h = c.in_ok-header.header in
+    let count : c.parts.result ≡ n = omega (arith, c.parts.ensures, c.parts-j-end.ensures, c.loop-j-test.false, c.loop-j.auto.j-end) in
+    let is : c.lying.result ≡ dones_at src n c.args.place = c.lying.ensures ∙ ap (λ (m : ℕ). dones_at src m c.args.place) count in
+    let all = subst (λ (o : List PartOp). AnswerAll o i.passed.values) (take_all ops n (omega (arith, c.loop-j-test.false, c.parts-j-end.ensures))) i.answers in
+    subst (λ (xs : List PartDone). AnswerAll ops xs × HaveBytes (multi_items xs) × StandsAt (multi_items xs) src c.args.place c.in_ok-header.end) (sym is)
+    (dones_passed src c.args.place c.loop-j.at n c.in_ok-header.end h ops c.requires i.passed all f.0.1 f.1 (c.is_end.ensures.0 c.if-not-is_end.false))

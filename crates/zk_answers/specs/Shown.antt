@@ -1,0 +1,54 @@
+-- Results that lie in a payload, as values of its bytes.
+use Rattle.std.specs.Prelude.{◌≡◌, ℕ, ◌+◌, ℤ, List, Option, Some, None, Ok}
+use Rattle.zk_jute.specs.Reading.{Read, ◌>>=◌, read_map, int_at, long_at}
+use Rattle.zk_jute.specs.Shown.{text_value, both_at, values_at}
+use Rattle.zk_records.specs.declared.stat.Stat.{Stat}
+use Rattle.zk_records.specs.declared.op.PartOp.{PartOp}
+use Rattle.zk_records.specs.declared.op.PartOp.TheVariants as parts
+use Rattle.zk_asks.specs.Shown.{part_numbered}
+use Rattle.zk_answers.specs.Held.{PartDone}
+use Rattle.zk_answers.specs.declared.frame.PartDoneOf.TheVariants as done
+
+-- ---- what is known of a node
+
+abbrev pub Counts : Type 0
+Counts = ℤ × (ℤ × (ℤ × (ℤ × (ℤ × (ℤ × ℤ)))))
+
+abbrev pub stat_of : ℤ × (ℤ × (ℤ × (ℤ × Counts))) → Stat
+stat_of p = record {
+  czxid = p.0;
+  mzxid = p.1.0;
+  ctime = p.1.1.0;
+  mtime = p.1.1.1.0;
+  version = p.1.1.1.1.0;
+  cversion = p.1.1.1.1.1.0;
+  aversion = p.1.1.1.1.1.1.0;
+  ephemeral_owner = p.1.1.1.1.1.1.1.0;
+  data_length = p.1.1.1.1.1.1.1.1.0;
+  num_children = p.1.1.1.1.1.1.1.1.1.0;
+  pzxid = p.1.1.1.1.1.1.1.1.1.1;
+}
+
+abbrev pub counts_value : List ℕ → ℕ → Read Counts
+counts_value src = both_at (int_at src) (both_at (int_at src) (both_at (int_at src) (both_at (long_at src) (both_at (int_at src) (both_at (int_at src) (long_at src))))))
+
+abbrev pub stat_value : List ℕ → ℕ → Read Stat
+stat_value src place = read_map stat_of (both_at (long_at src) (both_at (long_at src) (both_at (long_at src) (both_at (long_at src) (counts_value src)))) place)
+
+-- ---- the results
+
+-- behind the header of an error, or of a part's result
+abbrev pub result_value : Option PartOp → List ℕ → ℕ → Read PartDone
+result_value None src place = read_map done.PartFailed (int_at src place)
+result_value (Some parts.Create) src place = read_map done.Created (text_value src place)
+result_value (Some parts.Delete) src place = Ok (done.Deleted, place)
+result_value (Some parts.SetData) src place = read_map done.DataSet (stat_value src place)
+result_value (Some parts.Check) src place = Ok (done.Checked, place)
+
+-- the result that stands at a place, behind the nine bytes of its header
+abbrev pub done_value : List ℕ → ℕ → Read PartDone
+done_value src place = int_at src place >>= λ kind. result_value (part_numbered kind.0) src (place + 9)
+
+-- so many of them
+abbrev pub dones_at : List ℕ → ℕ → ℕ → List PartDone
+dones_at src count place = values_at (done_value src) count place

@@ -1,0 +1,230 @@
+//! The results of a multi where they lie in a payload.
+ghost use Rattle.std.specs.Prelude.{List, ◌≡◌, ◌≢◌, ◌≤◌, ◌∷◌, ℕ, Ok, Some, length, IfOk, IfErr, IfSome};
+ghost use Rattle.std.specs.Iterator.{YieldsFirst, UpTo, item_count};
+ghost use Rattle.std.specs.Iterator.SizeHint.{IsWithinCount};
+ghost use Rattle.zk_jute.specs.declared.fault.Reason.TheVariants.{NoMemory};
+ghost use Rattle.zk_jute.specs.Item.{HaveBytes};
+ghost use Rattle.zk_jute.specs.Shown.{Begins};
+ghost use Rattle.zk_jute.specs.Layout.{IsValueOf};
+ghost use Rattle.zk_jute.specs.Told.{StandsAt, HasToldFault, IsToldAt};
+ghost use Rattle.zk_records.specs.declared.op.PartOp as codes;
+ghost use Rattle.zk_answers.specs.Held.{PartDone};
+ghost use Rattle.zk_answers.specs.Results.{done_items, multi_items, result_layout, result_of, Answers, AnswerAll, IsDoneFault, Own};
+ghost use Rattle.zk_answers.specs.Shown.{dones_at};
+
+use crate::frame::{PartDoneOf, PartDoneRef};
+use crate::multi::{Mark, is_end, mark_of};
+use std::marker::Model;
+use zk_asks::Asked;
+use zk_jute::{ItemFault, Payload, Reason, TextRef, read_ref};
+use zk_records::{MultiHeader, PartOp, Stat, part_of};
+
+/// The results of a multi's parts where they lie.
+#[derive(Drop)]
+pub struct DoneList<'a> {
+    payload: &'a [u8],
+    count: usize,
+    place: usize,
+}
+
+impl<'a> Model for DoneList<'a> {
+    ghost use Rattle.std.specs.Prelude.{List};
+    ghost use Rattle.zk_jute.specs.Shown.{Begins};
+    ghost use Rattle.zk_answers.specs.Held.{PartDone};
+    ghost use Rattle.zk_answers.specs.Results.{done_items};
+    ghost use Rattle.zk_answers.specs.Shown.{dones_at};
+
+    ghost Value = { List PartDone };
+
+    ghost view = { λ l. dones_at l.payload.now l.count l.place };
+
+    ghost invariant = { λ l. Begins done_items l.payload.now l.count l.place };
+}
+
+#[tactic(auto, using(crate::proofs::Lying::dones_counted))]
+impl<'a> DoneList<'a> {
+    /// The number of results.
+    pub fn count(&self) -> usize
+        ensures { result ≡ length self.now }
+    {
+        self.count
+    }
+
+    /// The results, in the order of the parts.
+    pub fn items(&self) -> DoneItems<'a>
+        ensures { result ≡ self.now }
+    {
+        DoneItems {
+            payload: self.payload,
+            left: self.count,
+            place: self.place,
+        }
+    }
+}
+
+/// The results of a multi's parts that are left.
+#[derive(Drop)]
+pub struct DoneItems<'a> {
+    payload: &'a [u8],
+    left: usize,
+    place: usize,
+}
+
+impl<'a> Model for DoneItems<'a> {
+    ghost use Rattle.std.specs.Prelude.{List};
+    ghost use Rattle.zk_jute.specs.Shown.{Begins};
+    ghost use Rattle.zk_answers.specs.Held.{PartDone};
+    ghost use Rattle.zk_answers.specs.Results.{done_items};
+    ghost use Rattle.zk_answers.specs.Shown.{dones_at};
+
+    ghost Value = { List PartDone };
+
+    ghost view = { λ l. dones_at l.payload.now l.left l.place };
+
+    ghost invariant = { λ l. Begins done_items l.payload.now l.left l.place };
+}
+
+impl<'a> Iterator for DoneItems<'a> {
+    type Item = PartDoneRef<'a>;
+
+    ghost next_gives = { YieldsFirst (λ s. s) };
+
+    ghost remaining = { item_count (λ s. s) };
+
+    fn next(&mut self) -> Option<PartDoneRef<'a>> {
+        if self.left == 0 {
+            return None;
+        }
+        let src = Payload {
+            bytes: self.payload,
+        };
+        match done_in(&src, self.place) {
+            Ok((done, place)) => {
+                self.place = place;
+                self.left -= 1;
+                Some(done)
+            }
+            // All that are left stand there.
+            Err(_) => None,
+        }
+    }
+
+    fn size_hint(&self) -> (usize, Option<usize>)
+        ensures lower { IsWithinCount result.0 (item_count (λ s. s) self.now) }
+        ensures upper { IfSome result.1 (UpTo (item_count (λ s. s) self.now)) }
+        ensures exact { (result.0 ≡ length self.now) × (result.1 ≡ Some (length self.now)) }
+    {
+        let left = self.len();
+        (left, Some(left))
+    }
+}
+
+impl<'a> ExactSizeIterator for DoneItems<'a> {
+    #[tactic(auto, using(crate::proofs::Lying::dones_counted))]
+    fn len(&self) -> usize {
+        let DoneItems { left, .. } = self;
+        *left
+    }
+}
+
+/// A part's own result behind its header, and the place behind it.
+fn result_ref<'a>(
+    src: &Payload<'a>,
+    place: usize,
+    op: PartOp,
+) -> Result<(PartDoneRef<'a>, usize), ItemFault>
+    requires { place ≤ length src.now.bytes.now }
+    ensures found { IfOk result (λ x. Own op x.0 × IsValueOf (result_layout op) (result_of x.0) × StandsAt (result_of x.0) src.now.bytes.now place x.1) }
+    ensures fault { IfErr result (λ e. HasToldFault (IsValueOf (result_layout op)) src.now.bytes.now place e × (e.reason ≢ NoMemory)) }
+    ensures within { IfOk result (λ x. x.1 ≤ length src.now.bytes.now) }
+{
+    match op {
+        PartOp::Create => {
+            let (path, end) = read_ref::<TextRef>(src, place)?;
+            Ok((PartDoneOf::Created(path), end))
+        }
+        PartOp::Delete => Ok((PartDoneOf::Deleted, place)),
+        PartOp::SetData => {
+            let (stat, end) = read_ref::<Stat>(src, place)?;
+            Ok((PartDoneOf::DataSet(stat), end))
+        }
+        PartOp::Check => Ok((PartDoneOf::Checked, place)),
+    }
+}
+
+/// What became of one part, and the place behind it.
+fn done_ref<'a>(
+    src: &Payload<'a>,
+    place: usize,
+    op: PartOp,
+) -> Result<(PartDoneRef<'a>, usize), ItemFault>
+    requires { place ≤ length src.now.bytes.now }
+    ensures found { IfOk result (λ x. Answers op x.0 × HaveBytes (done_items x.0) × StandsAt (done_items x.0) src.now.bytes.now place x.1) }
+    ensures fault { IfErr result (λ e. ((ops : List codes.PartOp) → IsToldAt (IsDoneFault (op ∷ ops)) src.now.bytes.now place e) × (e.reason ≢ NoMemory)) }
+    ensures within { IfOk result (λ x. x.1 ≤ length src.now.bytes.now) }
+{
+    let (header, after) = read_ref::<MultiHeader>(src, place)?;
+    match mark_of(&header, op) {
+        Mark::Bad => Err(ItemFault::at(place, Reason::BadPart)),
+        Mark::Error => {
+            let (number, end) = read_ref::<i32>(src, after)?;
+            if number != header.err {
+                return Err(ItemFault::at(place, Reason::BadPart));
+            }
+            Ok((PartDoneOf::PartFailed(number), end))
+        }
+        Mark::Result => result_ref(src, after, op),
+    }
+}
+
+/// The result that stands at a place, told by its own header, and the place behind it.
+fn done_in<'a>(src: &Payload<'a>, place: usize) -> Result<(PartDoneRef<'a>, usize), ItemFault>
+    requires { place ≤ length src.now.bytes.now }
+    ensures only { (d : PartDone) (end : ℕ) → HaveBytes (done_items d) → StandsAt (done_items d) src.now.bytes.now place end → result ≡ Ok (d, end) }
+    ensures within { IfOk result (λ x. x.1 ≤ length src.now.bytes.now) }
+{
+    let (header, after) = read_ref::<MultiHeader>(src, place)?;
+    match part_of(header.kind) {
+        Some(op) => result_ref(src, after, op),
+        None => {
+            let (number, end) = read_ref::<i32>(src, after)?;
+            Ok((PartDoneOf::PartFailed(number), end))
+        }
+    }
+}
+
+/// So many results of the payload, from a place on.
+fn lying<'a>(payload: &'a [u8], count: usize, place: usize) -> DoneList<'a>
+    requires { Begins done_items payload.now count place }
+    ensures { result ≡ dones_at payload.now count place }
+{
+    DoneList {
+        payload,
+        count,
+        place,
+    }
+}
+
+/// What became of each part of what was asked, and the place behind the end marker.
+pub(crate) fn results_ref<'a, F: Asked>(
+    src: &Payload<'a>,
+    place: usize,
+    form: &F,
+) -> Result<(DoneList<'a>, usize), ItemFault>
+    requires { place ≤ length src.now.bytes.now }
+    ensures found { IfOk result (λ x. AnswerAll (F.part_ops form.now) x.0 × HaveBytes (multi_items x.0) × StandsAt (multi_items x.0) src.now.bytes.now place x.1) }
+    ensures fault { IfErr result (λ e. IsToldAt (IsDoneFault (F.part_ops form.now)) src.now.bytes.now place e × (e.reason ≢ NoMemory)) }
+    ensures within { IfOk result (λ x. x.1 ≤ length src.now.bytes.now) }
+{
+    let mut at = place;
+    for j in 0..form.parts() {
+        let op = form.part(j).unwrap();
+        let (_, next) = done_ref(src, at, op)?;
+        at = next;
+    }
+    let (header, end) = read_ref::<MultiHeader>(src, at)?;
+    if !is_end(&header) {
+        return Err(ItemFault::at(at, Reason::BadPart));
+    }
+    Ok((lying(src.bytes, form.parts() as usize, place), end))
+}

@@ -1,0 +1,175 @@
+//! Server payloads where they lie: what their readers decide, without memory.
+ghost use Rattle.std.specs.Prelude.{◌≡◌, ◌≢◌, ◌≤◌, ℕ, List, Ok, length, negsuc, IfOk, IfErr};
+ghost use Rattle.zk_jute.specs.declared.fault.Reason.TheVariants.{NoMemory};
+ghost use Rattle.zk_jute.specs.Item.{HaveBytes};
+ghost use Rattle.zk_jute.specs.Told.{StandsAt, IsTold, IsToldAt};
+ghost use Rattle.zk_records.specs.declared.header.ReplyHeader as records;
+ghost use Rattle.zk_answers.specs.Held as frames;
+ghost use Rattle.zk_answers.specs.Rows.{op_of_body, body_items};
+ghost use Rattle.zk_answers.specs.Frames.{BodyFits, err_of, rest_items, IsOutcome, OutcomeFits, IsConnected, IsEvent, IsReplyTo, IsSent};
+ghost use Rattle.zk_answers.specs.Frames as sent;
+ghost use Rattle.zk_answers.specs.Faults.{IsShapeFault, body_shape, rest_shape, IsConnectedFault, IsHead, IsReplyFault, IsEventFault};
+
+use crate::done_list::results_ref;
+use crate::frame::{
+    BodyOf, BodyRef, Failure, OutcomeOf, OutcomeRef, ReplyOf, ServerFrameOf, ServerRef,
+};
+use zk_asks::Asked;
+use zk_jute::{ItemFault, Payload, Reason, TextList, TextRef, read_ref, scan_flagged};
+use zk_records::{
+    AclBodyOf, AclBodyRef, ChildrenBodyOf, ChildrenBodyRef, ConnectResponseRef, CreateBodyOf,
+    CreateBodyRef, DataBodyOf, DataBodyRef, Op, ReplyHeader, Stat, WatcherEventRef,
+};
+
+/// The body of a reply to what was asked, and the place behind it.
+#[tactic(auto, unfolding(zk_jute::specs::Told::IsToldAt))]
+fn body_ref<'a, F: Asked>(
+    src: &Payload<'a>,
+    place: usize,
+    form: &F,
+) -> Result<(BodyRef<'a>, usize), ItemFault>
+    requires { place ≤ length src.now.bytes.now }
+    ensures found { IfOk result (λ x. (op_of_body x.0 ≡ F.operation form.now) × BodyFits (F.part_ops form.now) x.0 × HaveBytes (body_items x.0) × StandsAt (body_items x.0) src.now.bytes.now place x.1) }
+    ensures fault { IfErr result (λ e. IsToldAt (IsShapeFault (body_shape (F.operation form.now) (F.part_ops form.now))) src.now.bytes.now place e × (e.reason ≢ NoMemory)) }
+    ensures within { IfOk result (λ x. x.1 ≤ length src.now.bytes.now) }
+{
+    macro_rules! body {
+        ($read:ty, $value:pat => $body:expr) => {{
+            let ($value, end) = read_ref::<$read>(src, place)?;
+            Ok(($body, end))
+        }};
+    }
+    match form.op() {
+        Op::Create => body!(TextRef, path => BodyOf::Create { path }),
+        Op::Delete => Ok((BodyOf::Delete, place)),
+        Op::Exists => body!(Stat, stat => BodyOf::Exists { stat }),
+        Op::GetData => {
+            body!(DataBodyRef, DataBodyOf { blob, stat } => BodyOf::GetData { blob, stat })
+        }
+        Op::SetData => body!(Stat, stat => BodyOf::SetData { stat }),
+        Op::GetAcl => body!(AclBodyRef, AclBodyOf { acl, stat } => BodyOf::GetAcl { acl, stat }),
+        Op::SetAcl => body!(Stat, stat => BodyOf::SetAcl { stat }),
+        Op::GetChildren => body!(TextList, names => BodyOf::GetChildren { names }),
+        Op::Sync => body!(TextRef, path => BodyOf::Sync { path }),
+        Op::Ping => Ok((BodyOf::Ping, place)),
+        Op::GetChildren2 => {
+            body!(ChildrenBodyRef, ChildrenBodyOf { names, stat } => BodyOf::GetChildren2 { names, stat })
+        }
+        Op::Multi => {
+            let (dones, end) = results_ref(src, place, form)?;
+            Ok((BodyOf::Multi(dones), end))
+        }
+        Op::Create2 => {
+            body!(CreateBodyRef, CreateBodyOf { path, stat } => BodyOf::Create2 { path, stat })
+        }
+        Op::Auth => Ok((BodyOf::Auth, place)),
+        Op::SetWatches => Ok((BodyOf::SetWatches, place)),
+        Op::CloseSession => Ok((BodyOf::CloseSession, place)),
+    }
+}
+
+/// What a header with this err leaves: a failure and no more, or the body.
+fn outcome_ref<'a, F: Asked>(
+    src: &Payload<'a>,
+    place: usize,
+    form: &F,
+    err: i32,
+) -> Result<(OutcomeRef<'a>, usize), ItemFault>
+    requires { place ≤ length src.now.bytes.now }
+    ensures found { IfOk result (λ x. OutcomeFits (F.operation form.now) (F.part_ops form.now) x.0 × IsOutcome x.0 × (err_of x.0 ≡ err) × HaveBytes (rest_items x.0) × StandsAt (rest_items x.0) src.now.bytes.now place x.1) }
+    ensures fault { IfErr result (λ e. IsToldAt (IsShapeFault (rest_shape (F.operation form.now) (F.part_ops form.now) err)) src.now.bytes.now place e × (e.reason ≢ NoMemory)) }
+    ensures within { IfOk result (λ x. x.1 ≤ length src.now.bytes.now) }
+{
+    match Failure::new(err) {
+        Some(failure) => Ok((OutcomeOf::Failed(form.op(), failure), place)),
+        None => {
+            let (body, end) = body_ref(src, place, form)?;
+            Ok((OutcomeOf::Done(body), end))
+        }
+    }
+}
+
+fn connected_in<'a>(payload: &'a [u8]) -> Result<ServerRef<'a>, ItemFault>
+    ensures found { IfOk result (λ s. IsConnected s × IsSent s × (payload.now ≡ sent.payload s)) }
+    ensures fault { IfErr result (λ e. IsTold (IsConnectedFault payload.now) e × (e.reason ≢ NoMemory)) }
+{
+    let (hello, read_only) = scan_flagged::<ConnectResponseRef>(payload)?;
+    Ok(ServerFrameOf::Connected { hello, read_only })
+}
+
+/// The answer to the connect request, where it lies: decides as `read_connected` does, takes no
+/// memory, and never answers `NoMemory`.
+pub fn scan_connected<'a>(payload: &'a [u8]) -> Result<ServerRef<'a>, ItemFault>
+    // What is read has the form, and is the payload's one value.
+    ensures found { IfOk result (λ s. IsConnected s × IsSent s × (payload.now ≡ sent.payload s)) }
+    // What has the form is read.
+    ensures only { (s : frames.ServerFrame) → IsConnected s → IsSent s → payload.now ≡ sent.payload s → result ≡ Ok s }
+    // Else the first case that applies is told.
+    ensures fault { IfErr result (λ e. IsTold (IsConnectedFault payload.now) e × (e.reason ≢ NoMemory)) }
+{
+    connected_in(payload)
+}
+
+fn reply_in<'a, F: Asked>(form: &F, src: &Payload<'a>) -> Result<ServerRef<'a>, ItemFault>
+    requires { (header : records.ReplyHeader) (rest : List ℕ) → IsHead src.now.bytes.now header rest → header.xid ≢ negsuc 0 }
+    ensures found { IfOk result (λ s. IsReplyTo (F.operation form.now) (F.part_ops form.now) s × IsSent s × (src.now.bytes.now ≡ sent.payload s)) }
+    ensures fault { IfErr result (λ e. IsTold (IsReplyFault (F.operation form.now) (F.part_ops form.now) src.now.bytes.now) e × (e.reason ≢ NoMemory)) }
+{
+    let (header, place) = read_ref::<ReplyHeader>(src, 0)?;
+    let (outcome, place) = outcome_ref(src, place, form, header.err)?;
+    if place < src.bytes.len() {
+        return Err(ItemFault::at(place, Reason::Trailing));
+    }
+    Ok(ServerFrameOf::Answered(ReplyOf {
+        xid: header.xid,
+        zxid: header.zxid,
+        outcome,
+    }))
+}
+
+/// A reply to what was asked, where it lies: decides as `read_reply` does, takes no memory, and
+/// never answers `NoMemory`. Its header, where it is whole, has another xid than -1.
+pub fn scan_reply<'a, F: Asked>(form: &F, payload: &'a [u8]) -> Result<ServerRef<'a>, ItemFault>
+    requires { (header : records.ReplyHeader) (rest : List ℕ) → IsHead payload.now header rest → header.xid ≢ negsuc 0 }
+    // What is read has the form that the request fixes, and is the payload's one value.
+    ensures found { IfOk result (λ s. IsReplyTo (F.operation form.now) (F.part_ops form.now) s × IsSent s × (payload.now ≡ sent.payload s)) }
+    // What has the form is read.
+    ensures only { (s : frames.ServerFrame) → IsReplyTo (F.operation form.now) (F.part_ops form.now) s → IsSent s → payload.now ≡ sent.payload s → result ≡ Ok s }
+    // Else the first case that applies is told.
+    ensures fault { IfErr result (λ e. IsTold (IsReplyFault (F.operation form.now) (F.part_ops form.now) payload.now) e × (e.reason ≢ NoMemory)) }
+{
+    reply_in(form, &Payload { bytes: payload })
+}
+
+fn event_in<'a>(src: &Payload<'a>) -> Result<ServerRef<'a>, ItemFault>
+    requires { (header : records.ReplyHeader) (rest : List ℕ) → IsHead src.now.bytes.now header rest → header.xid ≡ negsuc 0 }
+    ensures found { IfOk result (λ s. IsEvent s × IsSent s × (src.now.bytes.now ≡ sent.payload s)) }
+    ensures fault { IfErr result (λ e. IsTold (IsEventFault src.now.bytes.now) e × (e.reason ≢ NoMemory)) }
+{
+    let (header, place) = read_ref::<ReplyHeader>(src, 0)?;
+    if header.err != 0 {
+        return Err(ItemFault::at(12, Reason::EventErr));
+    }
+    let (event, place) = read_ref::<WatcherEventRef>(src, place)?;
+    if place < src.bytes.len() {
+        return Err(ItemFault::at(place, Reason::Trailing));
+    }
+    Ok(ServerFrameOf::Event {
+        zxid: header.zxid,
+        event,
+    })
+}
+
+/// What a watch saw, where it lies: decides as `read_event` does, takes no memory, and never
+/// answers `NoMemory`. Its header, where it is whole, has the xid -1.
+pub fn scan_event<'a>(payload: &'a [u8]) -> Result<ServerRef<'a>, ItemFault>
+    requires { (header : records.ReplyHeader) (rest : List ℕ) → IsHead payload.now header rest → header.xid ≡ negsuc 0 }
+    // What is read has the form, and is the payload's one value.
+    ensures found { IfOk result (λ s. IsEvent s × IsSent s × (payload.now ≡ sent.payload s)) }
+    // What has the form is read.
+    ensures only { (s : frames.ServerFrame) → IsEvent s → IsSent s → payload.now ≡ sent.payload s → result ≡ Ok s }
+    // Else the first case that applies is told.
+    ensures fault { IfErr result (λ e. IsTold (IsEventFault payload.now) e × (e.reason ≢ NoMemory)) }
+{
+    event_in(&Payload { bytes: payload })
+}

@@ -1,0 +1,80 @@
+//! Server payloads where they lie.
+use super::*;
+use std::alloc::Global;
+use std::process::Abort;
+use std::test::Fail;
+use zk_asks::Asked;
+use zk_jute::{ItemFault, Reason};
+use zk_records::{Op, PartOp};
+
+/// A connect response of time-out 30,000, a null password and the boolean.
+const HELLO: &[u8] = b"\0\0\0\0\0\0\x75\x30\0\0\0\0\0\0\0\x01\xff\xff\xff\xff\0";
+
+/// A node's data has changed.
+const EVENT: &[u8] =
+    b"\xff\xff\xff\xff\xff\xff\xff\xff\xff\xff\xff\xff\0\0\0\0\0\0\0\x03\0\0\0\x03\0\0\0\x02/a";
+
+/// A multi's reply with a created path and a deletion.
+const TWO: &[u8] =
+    b"\0\0\0\x01\0\0\0\0\0\0\0\x06\0\0\0\0\0\0\0\x01\0\0\0\0\0\0\0\0\x02/a\0\0\0\x02\0\0\0\0\0\xff\xff\xff\xff\x01\xff\xff\xff\xff";
+
+#[test]
+fn connected(rt: HostRuntime) -> Result<(), Fail> {
+    let ServerFrameOf::Connected { hello, read_only } = scan_connected(HELLO)? else {
+        return Err("no connect response")?;
+    };
+    assert_eq!(rt; (hello.time_out, read_only), (30_000, Some(false)));
+    Ok(())
+}
+
+/// The event, where the payload is one.
+fn event(payload: &[u8]) -> Result<ServerRef<'_>, ItemFault> {
+    if reply_head(payload)?.xid != -1 {
+        return Err(ItemFault::at(0, Reason::Unasked));
+    }
+    scan_event(payload)
+}
+
+#[test]
+fn events(rt: HostRuntime) -> Result<(), Fail> {
+    assert!(rt; matches!(event(EVENT), Ok(ServerFrameOf::Event { zxid: -1, .. })));
+    Ok(())
+}
+
+/// The reply to what left the form, where the payload is no event.
+fn reply<'a>(form: &Form, payload: &'a [u8]) -> Result<ServerRef<'a>, ItemFault> {
+    if reply_head(payload)?.xid == -1 {
+        return Err(ItemFault::at(0, Reason::Unasked));
+    }
+    scan_reply(form, payload)
+}
+
+/// What a multi of a creation and a deletion leaves.
+fn two(alloc: Global) -> Result<Form, Fail> {
+    let mut parts = Vec::new(alloc);
+    parts.push(PartOp::Create)?;
+    parts.push(PartOp::Delete)?;
+    Ok(Form {
+        op: Op::Multi,
+        parts,
+    })
+}
+
+#[test]
+fn results_in_order(rt: HostRuntime) -> Result<(), Fail> {
+    let form = two(rt.alloc())?;
+    let ServerFrameOf::Answered(answer) = reply(&form, TWO)? else {
+        return Err("no reply")?;
+    };
+    assert_eq!(rt; answer.op(), Op::Multi);
+    let OutcomeOf::Done(BodyOf::Multi(dones)) = answer.outcome else {
+        return Err("no multi")?;
+    };
+    assert_eq!(rt; dones.count(), 2);
+    let mut items = dones.items();
+    assert_eq!(rt; items.len(), 2);
+    assert!(rt; matches!(items.next(), Some(PartDoneOf::Created(_))));
+    assert!(rt; matches!(items.next(), Some(PartDoneOf::Deleted)));
+    assert!(rt; items.next().is_none());
+    Ok(())
+}

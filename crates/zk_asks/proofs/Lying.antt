@@ -1,0 +1,219 @@
+-- Parts that lie in a payload: what stands there is their value, and where they are passed.
+use Rattle.std.proofs.Common.{◌≡◌, ℕ, ◌+◌, ◌≤◌, ◌<◌, inl, inr, List, [], ◌∷◌, ◌++◌, length, drop, Some, Ok, Err, refl, sym, ap, subst, ◌∙◌, arith}
+use Rattle.std.specs.Prelude.{ℤ, negsuc, false, Result, IfOk, IfErr, Option, None, map, slice_get, get_or, ◌≢◌}
+use Rattle.std.specs.List.{flat_map}
+use Rattle.std.proofs.lemmas.List.{append-nil, length-drop, length-map, drop-drop, get_or-drop}
+use Rattle.std.proofs.lemmas.Option.{slice_get_past, slice_get-map, slice_get-get_or}
+use Rattle.std.specs.Option.{option_map}
+use Rattle.zk_jute.specs.declared.fault.ItemFault.{ItemFault}
+use Rattle.zk_jute.specs.declared.fault.Reason.TheVariants.{NoMemory}
+use Rattle.zk_jute.specs.Item.{Item, AnInt, ABoolean, bytes_of, HaveBytes}
+use Rattle.zk_jute.specs.Layout.{Layout, IsValueOf, Unfolds}
+use Rattle.zk_jute.specs.Reading.{Read, ◌>>=◌, read_map, int_at, items_at}
+use Rattle.zk_jute.specs.Faults.{IsFault}
+use Rattle.zk_jute.specs.Told.{StandsAt, HasToldFault, IsToldAt}
+use Rattle.zk_jute.specs.Wired.{int, ustring, buffer, vector, ◌and◌}
+use Rattle.zk_jute.specs.Shown.{text_value, blob_value, list_value, both_at, text_is_value, Stretch, Begins}
+use Rattle.zk_jute.proofs.Layouts.{items_again, bytes_only, have_both, have_parts}
+use Rattle.zk_jute.proofs.Sequels.{excluded, stands_then, none_left}
+use Rattle.zk_jute.proofs.Stretches.{stands_split, values_told, values_counted, one_passed}
+use Rattle.zk_jute.proofs.Valued.{IsValued, int_valued, blob_valued, both_valued, list_valued, value_read, recast}
+use Rattle.zk_records.specs.Records.{multi_header, acl, create_ask, delete_ask, set_data_ask, check_ask}
+use Rattle.zk_records.specs.Shown.{acl_value, acl_is_value}
+use Rattle.zk_records.specs.Codes.{op_number, part_number}
+use Rattle.zk_records.specs.declared.header.MultiHeader.{MultiHeader}
+use Rattle.zk_records.specs.declared.op.PartOp.{PartOp}
+use Rattle.zk_records.specs.declared.op.PartOp.TheVariants as parts
+use Rattle.zk_asks.specs.Held.{Part, Ask}
+use Rattle.zk_asks.specs.declared.frame.ClientFrameOf.TheVariants as frame
+use Rattle.zk_asks.specs.Codes.{IsAllowed}
+use Rattle.zk_asks.specs.Forms.{header_items}
+use Rattle.zk_asks.specs.Rows.{op_of_ask, body_items}
+use Rattle.zk_asks.specs.Frames.{IsSent, payload}
+use Rattle.zk_asks.specs.declared.frame.PartOf.TheVariants as part
+use Rattle.zk_asks.specs.Parts.{part_layout, part_header, end_header, marked, MayStand, op_of_part, record_of, part_items, multi_items}
+use Rattle.zk_asks.specs.Shown.{create_of, delete_of, set_data_of, check_of, create_value, delete_value, set_data_value, check_value, part_numbered, record_value, part_value, parts_at}
+use Rattle.zk_asks.proofs.Parts.{record_is}
+use Rattle.zk_asks.proofs.Parted.{record_same, op_same, mark_same, not_end}
+
+-- ---- the records
+
+module _ (src : List ℕ) where
+  create_valued : IsValued create_ask src (create_value src)
+  create_valued place =
+      let rights = list_valued acl src acl_value (acl_is_value src) in
+      let third = both_valued (vector acl) int src (list_value acl_value src) (int_at src) rights (int_valued src) in
+      let second = both_valued buffer (vector acl and int) src (blob_value src) (both_at (list_value acl_value src) (int_at src)) (blob_valued src) third in
+      let value = both_at (blob_value src) (both_at (list_value acl_value src) (int_at src)) in
+      both_valued ustring (buffer and (vector acl and int)) src (text_value src) value (text_is_value src) second place
+      ∙ recast (ustring and (buffer and (vector acl and int))) create_ask.items create_of (λ p. refl) (both_at (text_value src) value place)
+
+  delete_valued : IsValued delete_ask src (delete_value src)
+  delete_valued place =
+      both_valued ustring int src (text_value src) (int_at src) (text_is_value src) (int_valued src) place ∙ recast (ustring and int) delete_ask.items delete_of (λ p. refl) (both_at (text_value src) (int_at src) place)
+
+  set_data_valued : IsValued set_data_ask src (set_data_value src)
+  set_data_valued place =
+      let value = both_at (blob_value src) (int_at src) in
+      both_valued ustring (buffer and int) src (text_value src) value (text_is_value src) (both_valued buffer int src (blob_value src) (int_at src) (blob_valued src) (int_valued src)) place
+      ∙ recast (ustring and (buffer and int)) set_data_ask.items set_data_of (λ p. refl) (both_at (text_value src) value place)
+
+  check_valued : IsValued check_ask src (check_value src)
+  check_valued place = both_valued ustring int src (text_value src) (int_at src) (text_is_value src) (int_valued src) place ∙ recast (ustring and int) check_ask.items check_of (λ p. refl) (both_at (text_value src) (int_at src) place)
+
+  record_there : (p : Part) (place end : ℕ) → items_at (part_layout (op_of_part p)) src place ≡ Ok (record_of p, end) → record_value (Some (op_of_part p)) src place ≡ Ok (p, end)
+  record_there (part.Create a) place end e = ap (read_map part.Create) (value_read create_ask (create_value src place) (items_at create_ask.layout src place) a end (create_valued place) e)
+  record_there (part.Delete a) place end e = ap (read_map part.Delete) (value_read delete_ask (delete_value src place) (items_at delete_ask.layout src place) a end (delete_valued place) e)
+  record_there (part.SetData a) place end e = ap (read_map part.SetData) (value_read set_data_ask (set_data_value src place) (items_at set_data_ask.layout src place) a end (set_data_valued place) e)
+  record_there (part.Check a) place end e = ap (read_map part.Check) (value_read check_ask (check_value src place) (items_at check_ask.layout src place) a end (check_valued place) e)
+
+-- ---- a record that stands is read
+
+module _ (src : List ℕ) (place : ℕ) (op : PartOp) (p : Part) (end : ℕ) (is : op_of_part p ≡ op) (have : HaveBytes (record_of p)) (stands : StandsAt (record_of p) src place end) where
+  value : IsValueOf (part_layout op) (record_of p)
+  value = (subst (λ (o : PartOp). Unfolds (part_layout o) (record_of p)) is (record_is p), have)
+
+  pub record_only : (answer : Result (Part × ℕ) ItemFault) → IfOk answer (λ x. (op_of_part x.0 ≡ op) × IsValueOf (part_layout op) (record_of x.0) × StandsAt (record_of x.0) src place x.1)
+      → IfErr answer (λ e. HasToldFault (IsValueOf (part_layout op)) src place e × (e.reason ≢ NoMemory)) → answer ≡ Ok (p, end)
+  record_only (Ok x) found fault =
+      let same = bytes_only (part_layout op) (record_of x.0) (record_of p) (drop x.1 src) (drop end src) found.1 value (sym found.2.0 ∙ stands.0) in
+      let parts : x.0 ≡ p = record_same x.0 p (found.0 ∙ sym is) same.0 in
+      let ends : x.1 ≡ end = omega (arith, found.2.1, stands.1, ap (λ (i : List Item). length (bytes_of i)) same.0) in
+      ap (λ (q : Part). Ok (q, x.1)) parts ∙ ap (λ (n : ℕ). Ok (p, n)) ends
+  record_only (Err e) found fault = absurd (excluded (part_layout op) (record_of p) (drop place src) (drop end src) fault.0.0 e.reason value stands.0 fault.0.1)
+
+-- ---- a part
+
+pub nine : (op : PartOp) → length (bytes_of (marked (part_header op))) ≡ 9
+nine parts.Create = refl
+nine parts.Delete = refl
+nine parts.SetData = refl
+nine parts.Check = refl
+
+numbered : (op : PartOp) → part_numbered (part_number op) ≡ Some op
+numbered parts.Create = refl
+numbered parts.Delete = refl
+numbered parts.SetData = refl
+numbered parts.Check = refl
+
+module _ (p : Part) (src : List ℕ) (place end : ℕ) (le : place ≤ length src) (have : HaveBytes (part_items p)) (stands : StandsAt (part_items p) src place end) where
+  abbrev op : PartOp
+  op = op_of_part p
+
+  -- the number in front
+  number_there : int_at src place ≡ Ok (part_number op, place + length (bytes_of (AnInt (part_number op) ∷ [])))
+  number_there =
+      let one = AnInt (part_number op) ∷ [] in
+      let s = stands_split one ((ABoolean false ∷ AnInt (negsuc 0) ∷ []) ++ record_of p) src place end le stands in
+      let h = have_parts one ((ABoolean false ∷ AnInt (negsuc 0) ∷ []) ++ record_of p) have in
+      let after = place + length (bytes_of one) in
+      value_read int (int_at src place) (items_at int.layout src place) (part_number op) after (int_valued src place) (items_again int.layout src one (drop after src) place (int.unfolds (part_number op)) h.0 le s.0.0)
+
+  pub header_there : StandsAt (marked (part_header op)) src place (place + 9)
+  header_there =
+      let s = stands_split (marked (part_header op)) (record_of p) src place end le stands in
+      subst (λ (n : ℕ). StandsAt (marked (part_header op)) src place (place + n)) (nine op) s.0
+
+  pub behind_header : StandsAt (record_of p) src (place + 9) end
+  behind_header =
+      let s = stands_split (marked (part_header op)) (record_of p) src place end le stands in
+      subst (λ (n : ℕ). StandsAt (record_of p) src (place + n) end) (nine op) s.1
+
+  head_value : IsValueOf multi_header.layout (marked (part_header op))
+  head_value = (multi_header.unfolds (part_header op), (have_parts (marked (part_header op)) (record_of p) have).0)
+
+  -- a header that was read here is that of the part
+  pub header_read : (header : MultiHeader) (after : ℕ) → IsValueOf multi_header.layout (marked header) → StandsAt (marked header) src place after → (header ≡ part_header op) × (after ≡ place + 9)
+  header_read header after v s =
+      let t = header_there in
+      let same = bytes_only multi_header.layout (marked header) (marked (part_header op)) (drop after src) (drop (place + 9) src) v head_value (sym s.0 ∙ t.0) in
+      (mark_same header (part_header op) same.0, omega (arith, s.1, t.1, ap (λ (i : List Item). length (bytes_of i)) same.0))
+
+  pub no_header_fault : (e : ItemFault) → HasToldFault (IsValueOf multi_header.layout) src place e → ⊥
+  no_header_fault e f = excluded multi_header.layout (marked (part_header op)) (drop place src) (drop (place + 9) src) f.0 e.reason head_value header_there.0 f.1
+
+  pub not_last : (header : MultiHeader) (after : ℕ) → IsValueOf multi_header.layout (marked header) → StandsAt (marked header) src place after → header ≡ end_header → ⊥
+  not_last header after v s is = not_end op (sym (header_read header after v s).0 ∙ is)
+
+  pub not_bad : (header : MultiHeader) (after : ℕ) → IsValueOf multi_header.layout (marked header) → StandsAt (marked header) src place after → (MayStand header → ⊥) → ⊥
+  not_bad header after v s not = not (inl (op, (header_read header after v s).0))
+
+  -- the record behind it is the part's
+  pub part_only : (header : MultiHeader) (after : ℕ) (other : PartOp) → IsValueOf multi_header.layout (marked header) → StandsAt (marked header) src place after → header ≡ part_header other
+      → (answer : Result (Part × ℕ) ItemFault) → IfOk answer (λ x. (op_of_part x.0 ≡ other) × IsValueOf (part_layout other) (record_of x.0) × StandsAt (record_of x.0) src after x.1)
+      → IfErr answer (λ e. HasToldFault (IsValueOf (part_layout other)) src after e × (e.reason ≢ NoMemory)) → answer ≡ Ok (p, end)
+  part_only header after other v s is answer found fault =
+      let h = header_read header after v s in
+      let same : other ≡ op = op_same other op (sym is ∙ h.0) in
+      let there : StandsAt (record_of p) src after end = subst (λ (n : ℕ). StandsAt (record_of p) src n end) (sym h.1) behind_header in
+      record_only src after other p end (sym same) (have_parts (marked (part_header op)) (record_of p) have).1 there answer found fault
+
+  part_there : part_value src place ≡ Ok (p, end)
+  part_there =
+      let s = stands_split (marked (part_header op)) (record_of p) src place end le stands in
+      let h = have_parts (marked (part_header op)) (record_of p) have in
+      let b = behind_header in
+      let within : place + 9 ≤ length src = omega (arith, s.2, nine op) in
+      let read = items_again (part_layout op) src (record_of p) (drop end src) (place + 9) (record_is p) h.1 within b.0 in
+      let there : items_at (part_layout op) src (place + 9) ≡ Ok (record_of p, end) = read ∙ ap (λ (n : ℕ). Ok (record_of p, n)) (sym b.1) in
+      ap (λ (r : Read ℤ). r >>= λ kind. record_value (part_numbered kind.0) src (place + 9)) number_there
+      ∙ ap (λ (o : Option PartOp). record_value o src (place + 9)) (numbered op)
+      ∙ record_there src p (place + 9) end there
+
+pub part_read : (src : List ℕ) (p : Part) (place end : ℕ) → place ≤ length src → HaveBytes (part_items p) → StandsAt (part_items p) src place end → part_value src place ≡ Ok (p, end)
+part_read src p place end le have stands = part_there p src place end le have stands
+
+pub parts_counted : (src : List ℕ) (count place : ℕ) → Begins part_items src count place → length (parts_at src count place) ≡ count
+parts_counted src = values_counted part_items src (part_value src) (part_read src)
+
+-- ---- parts that were passed
+
+module _ (src : List ℕ) (place at count : ℕ) (so_far : Stretch part_items src place at count) (header : MultiHeader) (after : ℕ) (v : IsValueOf multi_header.layout (marked header)) (s : StandsAt (marked header) src at after) where
+  pub part_passed : (op : PartOp) (p : Part) (end : ℕ) → header ≡ part_header op → op_of_part p ≡ op → IsValueOf (part_layout op) (record_of p) → StandsAt (record_of p) src after end → Stretch part_items src place end (count + 1)
+  part_passed op p end is same w t =
+      let mark = part_header (op_of_part p) in
+      let head : header ≡ mark = is ∙ ap part_header (sym same) in
+      let have : HaveBytes (part_items p) = have_both (marked mark) (record_of p) (subst (λ (h : MultiHeader). HaveBytes (marked h)) head v.1) w.1 in
+      let stands : StandsAt (part_items p) src at end = stands_then (marked mark) (record_of p) src at after end (subst (λ (h : MultiHeader). StandsAt (marked h) src at after) head s) t in
+      one_passed part_items src place at end count so_far p have stands
+
+  -- what is told of the list, once its end is passed
+  pub all_passed : place ≤ length src → header ≡ end_header → HaveBytes (multi_items (parts_at src count place)) × StandsAt (multi_items (parts_at src count place)) src place after
+  all_passed le is =
+      let ps = so_far.values in
+      let have = have_both (flat_map part_items ps) (marked end_header) so_far.have (subst (λ (h : MultiHeader). HaveBytes (marked h)) is v.1) in
+      let stands = stands_then (flat_map part_items ps) (marked end_header) src place at after so_far.stands (subst (λ (h : MultiHeader). StandsAt (marked h) src at after) is s) in
+      let told = values_told part_items src (part_value src) (part_read src) place at count le so_far in
+      (subst (λ (qs : List Part). HaveBytes (multi_items qs)) (sym told) have, subst (λ (qs : List Part). StandsAt (multi_items qs) src place after) (sym told) stands)
+
+-- ---- what is refused
+
+pub fields_lying : (l : Layout) (src : List ℕ) (place : ℕ) (e : ItemFault) → HasToldFault (IsValueOf l) src place e → IsToldAt (IsFault (IsValueOf l)) src place e
+unfolding IsToldAt
+fields_lying l src place e h = inr h
+
+-- a header, a body and nothing else
+pub ask_sent : (src : List ℕ) (xid kind : ℤ) (after end : ℕ) (a : Ask) → HaveBytes (header_items xid kind) → StandsAt (header_items xid kind) src 0 after → kind ≡ op_number (op_of_ask a) → IsAllowed xid (op_of_ask a)
+    → HaveBytes (body_items a) → StandsAt (body_items a) src after end → length src ≤ end → IsSent (frame.Ask xid a) × (src ≡ payload (frame.Ask xid a))
+ask_sent src xid kind after end a have s is may has t all =
+    let items = header_items xid (op_number (op_of_ask a)) in
+    let head = subst (λ (k : ℤ). HaveBytes (header_items xid k)) is have in
+    let opens = subst (λ (k : ℤ). StandsAt (header_items xid k) src 0 after) is s in
+    let both = stands_then items (body_items a) src 0 after end opens t in
+    let none = none_left src end all in
+    ((may, have_both items (body_items a) head has), both.0 ∙ ap (λ (b : List ℕ). bytes_of (items ++ body_items a) ++ b) none ∙ append-nil (bytes_of (items ++ body_items a)))
+
+-- a walk over the parts: what is left behind the next, and the part at a place
+module _ (ps : List Part) (k : ℕ) where
+  pub one_less : (p : Part) (left : List Part) → drop k ps ≡ p ∷ left → left ≡ drop (k + 1) ps
+  one_less p left e = ap (drop 1) (sym e) ∙ drop-drop 1 k ps
+
+  pub none_at : (j : ℕ) → drop k ps ≡ [] → k ≤ j → None ≡ slice_get (map op_of_part ps) j
+  none_at j e l = sym (slice_get_past (map op_of_part ps) j (omega (arith, l, ap length e, length-drop k ps, length-map ps op_of_part)))
+
+  pub op_at : (p : Part) (left : List Part) → drop k ps ≡ p ∷ left → Some (op_of_part p) ≡ slice_get (map op_of_part ps) k
+  op_at p left e =
+      let ahead : k < length ps = omega (arith, ap length e, length-drop k ps) in
+      let none : k + 0 ≡ k = omega arith in
+      let first : get_or ps k p ≡ p = sym (get_or-drop k ps 0 p ∙ ap (λ (n : ℕ). get_or ps n p) none) ∙ ap (λ (z : List Part). get_or z 0 p) e in
+      sym (slice_get-map op_of_part ps k ∙ ap (option_map op_of_part) (slice_get-get_or ps k p ahead ∙ ap Some first))

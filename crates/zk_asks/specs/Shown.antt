@@ -1,0 +1,67 @@
+-- Parts that lie in a payload, as values of its bytes.
+use Rattle.std.specs.Prelude.{ℕ, ◌+◌, ℤ, List, [], ◌∷◌, Option, Some, None}
+use Rattle.std.specs.Map.{lookup}
+use Rattle.std.specs.Ordering.{int_eq}
+use Rattle.zk_jute.specs.Held.{Text, Blob, Vector}
+use Rattle.zk_jute.specs.declared.fault.Reason.TheVariants.{BadPart}
+use Rattle.zk_jute.specs.Reading.{Read, fault, ◌>>=◌, read_map, int_at}
+use Rattle.zk_jute.specs.Shown.{text_value, blob_value, list_value, both_at, values_at}
+use Rattle.zk_records.specs.Held.{Acl, CreateAsk, DeleteAsk, SetDataAsk, CheckAsk}
+use Rattle.zk_records.specs.Shown.{acl_value}
+use Rattle.zk_records.specs.Codes.{part_number}
+use Rattle.zk_records.specs.declared.op.PartOp.{PartOp}
+use Rattle.zk_records.specs.declared.op.PartOp.TheVariants as parts
+use Rattle.zk_asks.specs.Held.{Part}
+use Rattle.zk_asks.specs.declared.frame.PartOf.TheVariants as part
+
+-- ---- the records
+
+abbrev pub create_of : Text × (Blob × (Vector Acl × ℤ)) → CreateAsk
+create_of p = record { path = p.0; blob = p.1.0; acl = p.1.1.0; flags = p.1.1.1 }
+
+abbrev pub delete_of : Text × ℤ → DeleteAsk
+delete_of p = record { path = p.0; version = p.1 }
+
+abbrev pub set_data_of : Text × (Blob × ℤ) → SetDataAsk
+set_data_of p = record { path = p.0; blob = p.1.0; version = p.1.1 }
+
+abbrev pub check_of : Text × ℤ → CheckAsk
+check_of p = record { path = p.0; version = p.1 }
+
+abbrev pub create_value : List ℕ → ℕ → Read CreateAsk
+create_value src place = read_map create_of (both_at (text_value src) (both_at (blob_value src) (both_at (list_value acl_value src) (int_at src))) place)
+
+abbrev pub delete_value : List ℕ → ℕ → Read DeleteAsk
+delete_value src place = read_map delete_of (both_at (text_value src) (int_at src) place)
+
+abbrev pub set_data_value : List ℕ → ℕ → Read SetDataAsk
+set_data_value src place = read_map set_data_of (both_at (text_value src) (both_at (blob_value src) (int_at src)) place)
+
+abbrev pub check_value : List ℕ → ℕ → Read CheckAsk
+check_value src place = read_map check_of (both_at (text_value src) (int_at src) place)
+
+-- ---- the parts
+
+-- the operation whose number it is
+abbrev pub part_numbered : ℤ → Option PartOp
+part_numbered number = lookup (int_eq number) (
+    (part_number parts.Create, parts.Create) ∷
+    (part_number parts.Delete, parts.Delete) ∷
+    (part_number parts.SetData, parts.SetData) ∷
+    (part_number parts.Check, parts.Check) ∷
+    [])
+
+abbrev pub record_value : Option PartOp → List ℕ → ℕ → Read Part
+record_value None src place = fault place BadPart
+record_value (Some parts.Create) src place = read_map part.Create (create_value src place)
+record_value (Some parts.Delete) src place = read_map part.Delete (delete_value src place)
+record_value (Some parts.SetData) src place = read_map part.SetData (set_data_value src place)
+record_value (Some parts.Check) src place = read_map part.Check (check_value src place)
+
+-- the part that stands at a place, behind the nine bytes of its header
+abbrev pub part_value : List ℕ → ℕ → Read Part
+part_value src place = int_at src place >>= λ kind. record_value (part_numbered kind.0) src (place + 9)
+
+-- so many of them
+abbrev pub parts_at : List ℕ → ℕ → ℕ → List Part
+parts_at src count place = values_at (part_value src) count place

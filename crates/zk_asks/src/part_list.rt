@@ -1,0 +1,205 @@
+//! The parts of a multi where they lie in a payload.
+ghost use Rattle.std.specs.Prelude.{◌≡◌, ◌≢◌, ◌≤◌, ◌++◌, ℕ, Ok, Some, length, IfOk, IfErr, IfSome};
+ghost use Rattle.std.specs.List.{flat_map};
+ghost use Rattle.std.specs.Iterator.{YieldsFirst, UpTo, item_count};
+ghost use Rattle.std.specs.Iterator.SizeHint.{IsWithinCount};
+ghost use Rattle.zk_jute.specs.declared.fault.Reason.TheVariants.{NoMemory};
+ghost use Rattle.zk_jute.specs.Item.{HaveBytes};
+ghost use Rattle.zk_jute.specs.Layout.{IsValueOf};
+ghost use Rattle.zk_jute.specs.Told.{StandsAt, HasToldFault, IsToldAt};
+ghost use Rattle.zk_asks.specs.Held.{Part};
+ghost use Rattle.zk_asks.specs.Parts.{part_layout, op_of_part, record_of, part_items, multi_items};
+ghost use Rattle.zk_asks.specs.Faults.{IsMultiFault};
+ghost use Rattle.zk_jute.specs.Shown.{Begins};
+ghost use Rattle.zk_asks.specs.Shown.{parts_at};
+
+use crate::frame::{PartOf, PartRef};
+use crate::multi::{Mark, mark_of};
+use std::marker::Model;
+use zk_jute::{ItemFault, Payload, Reason, read_ref};
+use zk_records::{CheckAskRef, CreateAskRef, DeleteAskRef, MultiHeader, PartOp, SetDataAskRef};
+
+/// The parts of a multi where they lie.
+#[derive(Drop)]
+pub struct PartList<'a> {
+    payload: &'a [u8],
+    count: usize,
+    place: usize,
+}
+
+impl<'a> Model for PartList<'a> {
+    ghost use Rattle.std.specs.Prelude.{List};
+    ghost use Rattle.zk_asks.specs.Held.{Part};
+    ghost use Rattle.zk_jute.specs.Shown.{Begins};
+    ghost use Rattle.zk_asks.specs.Parts.{part_items};
+    ghost use Rattle.zk_asks.specs.Shown.{parts_at};
+
+    ghost Value = { List Part };
+
+    ghost view = { λ l. parts_at l.payload.now l.count l.place };
+
+    ghost invariant = { λ l. Begins part_items l.payload.now l.count l.place };
+}
+
+#[tactic(auto, using(crate::proofs::Lying::parts_counted))]
+impl<'a> PartList<'a> {
+    /// The number of parts.
+    pub fn count(&self) -> usize
+        ensures { result ≡ length self.now }
+    {
+        self.count
+    }
+
+    /// The parts, in order.
+    pub fn items(&self) -> PartItems<'a>
+        ensures { result ≡ self.now }
+    {
+        PartItems {
+            payload: self.payload,
+            left: self.count,
+            place: self.place,
+        }
+    }
+}
+
+/// The parts of a multi that are left.
+#[derive(Drop)]
+pub struct PartItems<'a> {
+    payload: &'a [u8],
+    left: usize,
+    place: usize,
+}
+
+impl<'a> Model for PartItems<'a> {
+    ghost use Rattle.std.specs.Prelude.{List};
+    ghost use Rattle.zk_asks.specs.Held.{Part};
+    ghost use Rattle.zk_jute.specs.Shown.{Begins};
+    ghost use Rattle.zk_asks.specs.Parts.{part_items};
+    ghost use Rattle.zk_asks.specs.Shown.{parts_at};
+
+    ghost Value = { List Part };
+
+    ghost view = { λ l. parts_at l.payload.now l.left l.place };
+
+    ghost invariant = { λ l. Begins part_items l.payload.now l.left l.place };
+}
+
+impl<'a> Iterator for PartItems<'a> {
+    type Item = PartRef<'a>;
+
+    ghost next_gives = { YieldsFirst (λ s. s) };
+
+    ghost remaining = { item_count (λ s. s) };
+
+    fn next(&mut self) -> Option<PartRef<'a>> {
+        if self.left == 0 {
+            return None;
+        }
+        let src = Payload {
+            bytes: self.payload,
+        };
+        match part_in(&src, self.place) {
+            Ok((part, place)) => {
+                self.place = place;
+                self.left -= 1;
+                Some(part)
+            }
+            // All that are left stand there.
+            Err(_) => None,
+        }
+    }
+
+    fn size_hint(&self) -> (usize, Option<usize>)
+        ensures lower { IsWithinCount result.0 (item_count (λ s. s) self.now) }
+        ensures upper { IfSome result.1 (UpTo (item_count (λ s. s) self.now)) }
+        ensures exact { (result.0 ≡ length self.now) × (result.1 ≡ Some (length self.now)) }
+    {
+        let left = self.len();
+        (left, Some(left))
+    }
+}
+
+impl<'a> ExactSizeIterator for PartItems<'a> {
+    #[tactic(auto, using(crate::proofs::Lying::parts_counted))]
+    fn len(&self) -> usize {
+        let PartItems { left, .. } = self;
+        *left
+    }
+}
+
+/// The record of a part.
+fn record_ref<'a>(
+    src: &Payload<'a>,
+    place: usize,
+    op: PartOp,
+) -> Result<(PartRef<'a>, usize), ItemFault>
+    requires { place ≤ length src.now.bytes.now }
+    ensures found { IfOk result (λ x. (op_of_part x.0 ≡ op) × IsValueOf (part_layout op) (record_of x.0) × StandsAt (record_of x.0) src.now.bytes.now place x.1) }
+    ensures fault { IfErr result (λ e. HasToldFault (IsValueOf (part_layout op)) src.now.bytes.now place e × (e.reason ≢ NoMemory)) }
+    ensures within { IfOk result (λ x. x.1 ≤ length src.now.bytes.now) }
+{
+    macro_rules! read {
+        ($record:ty, $part:path) => {{
+            let (body, end) = read_ref::<$record>(src, place)?;
+            Ok(($part(body), end))
+        }};
+    }
+    match op {
+        PartOp::Create => read!(CreateAskRef, PartOf::Create),
+        PartOp::Delete => read!(DeleteAskRef, PartOf::Delete),
+        PartOp::SetData => read!(SetDataAskRef, PartOf::SetData),
+        PartOp::Check => read!(CheckAskRef, PartOf::Check),
+    }
+}
+
+/// A part behind its header, and the place after it.
+fn part_in<'a>(src: &Payload<'a>, place: usize) -> Result<(PartRef<'a>, usize), ItemFault>
+    requires { place ≤ length src.now.bytes.now }
+    ensures only { (p : Part) (end : ℕ) → HaveBytes (part_items p) → StandsAt (part_items p) src.now.bytes.now place end → result ≡ Ok (p, end) }
+    ensures within { IfOk result (λ x. x.1 ≤ length src.now.bytes.now) }
+{
+    let (header, after) = read_ref::<MultiHeader>(src, place)?;
+    match mark_of(&header) {
+        Mark::Part(op) => record_ref(src, after, op),
+        Mark::End => Err(ItemFault::at(place, Reason::BadPart)),
+        Mark::Bad => Err(ItemFault::at(place, Reason::BadPart)),
+    }
+}
+
+/// So many parts of the payload, from a place on.
+fn lying<'a>(payload: &'a [u8], count: usize, place: usize) -> PartList<'a>
+    requires { Begins part_items payload.now count place }
+    ensures { result ≡ parts_at payload.now count place }
+{
+    PartList {
+        payload,
+        count,
+        place,
+    }
+}
+
+/// The parts from a place on, and the place behind the end marker.
+pub(crate) fn multi_ref<'a>(
+    src: &Payload<'a>,
+    place: usize,
+) -> Result<(PartList<'a>, usize), ItemFault>
+    requires { place ≤ length src.now.bytes.now }
+    ensures found { IfOk result (λ x. HaveBytes (multi_items x.0) × StandsAt (multi_items x.0) src.now.bytes.now place x.1) }
+    ensures fault { IfErr result (λ e. IsToldAt IsMultiFault src.now.bytes.now place e × (e.reason ≢ NoMemory)) }
+    ensures within { IfOk result (λ x. x.1 ≤ length src.now.bytes.now) }
+{
+    let mut count = 0;
+    let mut at = place;
+    loop {
+        let (header, after) = read_ref::<MultiHeader>(src, at)?;
+        match mark_of(&header) {
+            Mark::Part(op) => {
+                let (_, next) = record_ref(src, after, op)?;
+                at = next;
+                count += 1;
+            }
+            Mark::End => return Ok((lying(src.bytes, count, place), after)),
+            Mark::Bad => return Err(ItemFault::at(at, Reason::BadPart)),
+        }
+    }
+}

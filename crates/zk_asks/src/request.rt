@@ -1,0 +1,68 @@
+//! A request where it lies, as its reply is read by.
+ghost use Rattle.std.specs.Prelude.{◌≡◌, ◌<◌, ◌^◌, length};
+ghost use Rattle.zk_asks.specs.Frames.{ops_of_ask, others_have_none};
+ghost use Rattle.zk_asks.specs.Rows.{op_of_ask};
+
+use crate::asked::{Asked, Room};
+use crate::frame::{AskOf, AskRef};
+use zk_records::{Op, PartOp};
+
+/// A request where it lies, as an `Asked`: it takes no memory, and `part` walks over the parts before.
+#[derive(Drop)]
+pub struct RequestRef<'b, 'a> {
+    pub ask: &'b AskRef<'a>,
+    /// At most 4,294,967,295 parts.
+    pub ghost bounded: { length (ops_of_ask ask.now) < 2 ^ 32 },
+}
+
+impl<'b, 'a> RequestRef<'b, 'a> {
+    /// The request, which has fewer than 4,294,967,296 parts.
+    pub fn of(ask: &'b AskRef<'a>) -> Self
+        requires { length (ops_of_ask ask.now) < 2 ^ 32 }
+        ensures { result.ask.now ≡ ask.now }
+    {
+        RequestRef { ask }
+    }
+}
+
+impl<'b, 'a> Asked for RequestRef<'b, 'a> {
+    ghost operation = { λ r. op_of_ask r.ask.now };
+
+    ghost part_ops = { λ r. ops_of_ask r.ask.now };
+
+    fn op(&self) -> Op {
+        self.ask.op()
+    }
+
+    fn parts(&self) -> u32 {
+        match self.ask {
+            AskOf::Multi(parts) => parts.count() as u32,
+            _ => 0,
+        }
+    }
+
+    fn part(&self, j: u32) -> Option<PartOp> {
+        let AskOf::Multi(parts) = self.ask else {
+            return None;
+        };
+        let mut items = parts.items();
+        let mut passed = 0;
+        while passed < j {
+            items.next()?;
+            passed += 1;
+        }
+        Some(items.next()?.op())
+    }
+
+    fn put_ops<R: Room>(&self, room: &mut R) {
+        let AskOf::Multi(parts) = self.ask else {
+            return;
+        };
+        let mut items = parts.items();
+        while let Some(part) = items.next() {
+            room.push(part.op());
+        }
+    }
+
+    ghost lawful = { λ r. others_have_none r.ask.now };
+}

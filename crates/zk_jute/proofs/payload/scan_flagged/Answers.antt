@@ -1,0 +1,9 @@
+use Rattle.zk_jute.proofs.Flagged.{flagged_only, read_is_all}
+use Rattle.zk_jute.proofs.payload.scan_flagged.Goals as goal
+
+pub returns-clause-only : goal.returns-clause-only
+returns-clause-only g c = λ x flag have e.
+    let w = g.T.Form.wired in
+    let r = c.flagged_of.result in
+    let read = flagged_only w.layout w.items w.unfolds w.tells_apart c.args.payload.now r c.flagged_of.ensures.found c.flagged_of.ensures.fault x flag have e in
+    read_is_all (x, flag) r read (c.flagged_of.ensures.plain tt)

@@ -1,0 +1,56 @@
+-- What a talk does whose kept frame is given up first.
+use Rattle.std.proofs.Common.{◌≡◌, ◌⊎◌, inl, inr, ℕ, List, [], ◌∷◌, Bool, true, false, Some, None, refl, sym, ◌∙◌}
+use Rattle.zk_talk.specs.declared.message.Side.{Side}
+use Rattle.zk_talk.specs.declared.message.Side.TheVariants.{Client, Server}
+use Rattle.zk_talk.specs.declared.message.Fault.{Fault}
+use Rattle.zk_talk.specs.declared.message.Message.{Message}
+use Rattle.zk_talk.specs.History.{History}
+use Rattle.zk_talk.specs.Stands.{TalkState, Stands}
+use Rattle.zk_talk.specs.Taking.{GoesOn, Steps, IsRefused, Fails, given_up, lacks_memory}
+use Rattle.zk_talk.proofs.Answering.{rekept}
+
+stands_given : (side : Side) (t : TalkState) (h : History) (M : List Message) → Stands t h M → Stands (given_up side t) h M
+stands_given Client t h M st = rekept t [] t.server_kept h M st
+stands_given Server t h M st = rekept t t.client_kept [] h M st
+
+given_twice : (side : Side) (t : TalkState) → given_up side (given_up side t) ≡ given_up side t
+given_twice Client t = refl
+given_twice Server t = refl
+
+same_want : (side : Side) (t : TalkState) → lacks_memory (given_up side t) side ≡ lacks_memory t side
+same_want Client t = refl
+same_want Server t = refl
+
+pub fault_stays : (side : Side) (t : TalkState) → t.fault ≡ (given_up side t).fault
+fault_stays Client t = refl
+fault_stays Server t = refl
+
+module _ (side : Side) (t new : TalkState) where
+  pub goes_first : (used : List ℕ) (messages : List Message) → GoesOn (given_up side t) side used messages new → GoesOn t side used messages new
+  goes_first used messages goes h M st = goes h M (stands_given side t h M st)
+
+  pub steps_first : (used : List ℕ) (whole : Bool) → Steps (given_up side t) side used whole new → Steps t side used whole new
+  steps_first used true s = (s.0, goes_first used (s.0 ∷ []) s.1, s.2, s.3)
+  steps_first used false s = (goes_first used [] s.0, s.1)
+
+  pub refused_first : (piece : List ℕ) (fault : Fault) → IsRefused (given_up side t) side piece fault new → IsRefused t side piece fault new
+  refused_first piece fault r h M st = r h M (stands_given side t h M st)
+
+  pub fails_first : (piece : List ℕ) (fault : Fault) → Fails (given_up side t) side piece fault new → Fails t side piece fault new
+  fails_first piece fault (inl k) = inl (record {
+    told = k.told ∙ same_want side t;
+    same = k.same ∙ given_twice side t;
+    used = k.used;
+    part = k.part;
+    message = k.message;
+    after = k.after;
+    goes = λ h M st. k.goes h M (stands_given side t h M st);
+  })
+  fails_first piece fault (inr r) = inr (refused_first piece fault r)
+
+-- a fault is never want of memory where none was
+pub known_fault : (t : TalkState) (f : Fault) (side : Side) → t.fault ≡ Some f → (new : TalkState) (piece : List ℕ) → IsRefused t side piece f new
+known_fault t f side e new piece h M st = absurd (nothing (sym st.no_fault ∙ e))
+  where
+    nothing : None ≡ Some f → ⊥
+    nothing q = cc

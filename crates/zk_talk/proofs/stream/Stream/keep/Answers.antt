@@ -1,0 +1,12 @@
+use Rattle.std.proofs.Common.{sym, subst, true, [], ◌+◌}
+use Rattle.zk_frames.specs.Framing.{IsFrame}
+use Rattle.zk_talk.specs.Streams.{StreamState}
+use Rattle.zk_talk.proofs.Kept.{none_kept, held_all}
+use Rattle.zk_talk.proofs.stream.Stream.keep.Goals as goal
+
+pub returns : goal.returns
+returns c =
+    let s = c.self.inside in
+    let whole = subst (λ (t : StreamState). IsFrame t.limit t.held) (sym c.self.view_is) c.requires.whole in
+    let held = sym (held_all s.kept s.frames.bytes (none_kept s.kept s.frames.limit s.frames.bytes whole)) in
+    rw (← c.self.view_is) (λ i. record { limit = s.frames.limit; held = []; kept = held i; count = s.count + 1; size = s.size + c.args.used })

@@ -1,0 +1,41 @@
+use Rattle.std.proofs.Common.{◌≡◌, ◌≢◌, Some, take, ◌∙◌, sym, ap, subst}
+use Rattle.std.proofs.lemmas.Result.{IfErr-weaker, IfOk-weaker}
+use Rattle.zk_jute.specs.declared.fault.Reason.TheVariants.{NoMemory}
+use Rattle.zk_talk.specs.Sound.{IsKnown}
+use Rattle.zk_talk.specs.Stands.{TalkState}
+use Rattle.zk_talk.proofs.Stepping.{steps_first, refused_first, known_fault, fault_stays}
+use Rattle.zk_talk.proofs.talk.Talk.step.Goals as goal
+
+pub returns-in-Some-clause-err : goal.returns-in-Some-clause-err
+returns-in-Some-clause-err c =
+    let old = c.args.self.now in
+    let f = c.in-Some.fault in
+    let known : f.reason ≢ NoMemory = subst IsKnown c.in-Some.is c.self.invariant.3 in
+    let kept : old.fault ≡ Some f = fault_stays c.args.side old ∙ ap (λ (t : TalkState). t.fault) (sym c.give_up.ensures ∙ sym c.self.view_is) ∙ c.in-Some.is in
+    (known, known_fault old f c.args.side kept c.give_up.new.self c.args.piece.now)
+
+pub returns-in-Client-clause-ok : goal.returns-in-Client-clause-ok
+returns-in-Client-clause-ok c =
+    let old = c.args.self.now in
+    let new = c.step_client.new.self in
+    IfOk-weaker c.step_client.result _ _
+    (λ s x. (x.0, x.1, steps_first c.args.side old new (take s.used c.args.piece.now) s.whole (rw (← c.give_up.ensures, c.in-Client.is) x.2))) c.step_client.ensures.ok
+
+pub returns-in-Client-clause-err : goal.returns-in-Client-clause-err
+returns-in-Client-clause-err c =
+    let old = c.args.self.now in
+    let new = c.step_client.new.self in
+    IfErr-weaker c.step_client.result _ _ (λ e x. (x.0, refused_first c.args.side old new c.args.piece.now e (rw (← c.give_up.ensures, c.in-Client.is) x.1))) c.step_client.ensures.err
+
+pub returns-in-Server-clause-ok : goal.returns-in-Server-clause-ok
+returns-in-Server-clause-ok c =
+    let old = c.args.self.now in
+    let new = c.step_server.new.self in
+    IfOk-weaker c.step_server.result _ _
+    (λ s x. (x.0, x.1, steps_first c.args.side old new (take s.used c.args.piece.now) s.whole (rw (← c.give_up.ensures, c.in-Server.is) x.2))) c.step_server.ensures.ok
+
+pub returns-in-Server-clause-err : goal.returns-in-Server-clause-err
+returns-in-Server-clause-err c =
+    let old = c.args.self.now in
+    let new = c.step_server.new.self in
+    IfErr-weaker c.step_server.result _ _ (λ e x. (x.0, refused_first c.args.side old new c.args.piece.now e (rw (← c.give_up.ensures, c.in-Server.is) x.1))) c.step_server.ensures.err

@@ -1,0 +1,36 @@
+-- One side's bytes.
+use Rattle.std.specs.Prelude.{ℕ, ◌<◌, ◌≤◌, ◌+◌, ◌^◌, Bool, true, false, List, [], length}
+use Rattle.zk_frames.specs.Framing.{IsFrame}
+
+-- its limit; what is held of a frame that isn't counted; the frame that is counted and kept; how many frames were whole;
+-- how many bytes came before the frame that is whole now, or in all
+pub record StreamState : Type 0 where
+  pub limit : ℕ
+  pub held : List ℕ
+  pub kept : List ℕ
+  pub count : ℕ
+  pub size : ℕ
+
+abbrev pub held_where : Bool → List ℕ → List ℕ
+held_where true bytes = []
+held_where false bytes = bytes
+
+abbrev pub kept_where : Bool → List ℕ → List ℕ
+kept_where true bytes = bytes
+kept_where false bytes = []
+
+-- so many bytes have made its frame whole, and it isn't counted
+pub record IsAtFrame (s : StreamState) (used : ℕ) : Type 0 where
+  pub whole : IsFrame s.limit s.held
+  pub limit : s.limit ≤ 16777216
+  pub part : used ≤ length s.held
+  pub size : s.size + used < 2 ^ 62
+  pub count : s.count ≤ s.size
+
+-- the frame, with which so many bytes came, is done with
+abbrev pub passed : StreamState → ℕ → StreamState
+passed s used = record s { held = []; count = s.count + 1; size = s.size + used }
+
+-- it is counted and kept
+abbrev pub kept_now : StreamState → ℕ → StreamState
+kept_now s used = record s { held = []; kept = s.held; count = s.count + 1; size = s.size + used }
