@@ -34,8 +34,8 @@ use Rattle.zk_items.specs.Form as form
 use Rattle.zk_items.specs.Leaf as leaf
 use Rattle.zk_items.specs.Codes.{is_zero}
 use Rattle.zk_items.proofs.Small.{text_small}
-use Rattle.zk_talk.specs.declared.message.Message.{Message}
-use Rattle.zk_talk.specs.declared.message.Message.TheVariants as message
+use Rattle.zk_talk.specs.Held.{Message}
+use Rattle.zk_talk.specs.declared.message.MessageOf.TheVariants as message
 use Rattle.zk_talk.specs.declared.limits.Limits.{Limits}
 use Rattle.zk_talk.specs.Conversation.{ClientMay, ServerMay}
 use Rattle.zk_talk.specs.Said.{MaySay, conversation_of}

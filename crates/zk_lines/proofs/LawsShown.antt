@@ -26,8 +26,8 @@ use Rattle.zk_items.specs.Form.{Form, ◌and◌}
 use Rattle.zk_items.specs.Leaf.{bit_spell, ro_spell, int, long, bit, ro, text, blob}
 use Rattle.zk_items.specs.Codes.{name_spell, error_name, type_name, error_code, failure_code, event_code}
 use Rattle.zk_items.specs.Words.{word_of, field}
-use Rattle.zk_talk.specs.declared.message.Message.{Message}
-use Rattle.zk_talk.specs.declared.message.Message.TheVariants as message
+use Rattle.zk_talk.specs.Held.{Message}
+use Rattle.zk_talk.specs.declared.message.MessageOf.TheVariants as message
 use Rattle.zk_lines.specs.Series.{series, series_spell, list_of, list_spell, list_fits}
 use Rattle.zk_lines.specs.Records.{acl, stat, times, versions, sizes}
 use Rattle.zk_lines.specs.Asks as asks

@@ -9,8 +9,8 @@ use Rattle.zk_items.specs.Form.{Read, ◌>>=◌, read_map, led, word_at}
 use Rattle.zk_items.specs.Leaf.{in_word}
 use Rattle.zk_items.specs.declared.fault.LineFault.{LineFault}
 use Rattle.zk_items.specs.declared.fault.LineReason.TheVariants.{NoMemory}
-use Rattle.zk_talk.specs.declared.message.Message.{Message}
-use Rattle.zk_talk.specs.declared.message.Message.TheVariants as message
+use Rattle.zk_talk.specs.Held.{Message}
+use Rattle.zk_talk.specs.declared.message.MessageOf.TheVariants as message
 use Rattle.zk_lines.specs.Asks.{connect, request}
 use Rattle.zk_lines.specs.Answers.{connected, event, reply}
 use Rattle.zk_lines.specs.Series.{if_passed}

@@ -5,7 +5,7 @@ ghost use Rattle.zk_lines.specs.Endings.{ending_text};
 ghost use Rattle.zk_lines.specs.Lines.{Fits, line};
 ghost use Rattle.zk_talk.specs.declared.limits.Limits.{Limits};
 ghost use Rattle.zk_talk.specs.declared.message.Ending.{Ending};
-ghost use Rattle.zk_talk.specs.declared.message.Message.{Message};
+ghost use Rattle.zk_talk.specs.Held.{Message};
 ghost use Rattle.zk_talk.specs.Said.{MaySay};
 
 /// The laws of lines.

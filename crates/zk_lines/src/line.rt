@@ -3,7 +3,7 @@ ghost use Rattle.std.specs.Prelude.{◌≡◌, ◌++◌, IfOk, OnErr, OnOk};
 ghost use Rattle.zk_items.specs.Form.{Answers};
 ghost use Rattle.zk_lines.specs.Lines as lines;
 ghost use Rattle.zk_lines.specs.Lines.{Fits, Reads, whole, client_at, server_at, message_at};
-ghost use Rattle.zk_talk.specs.declared.message.Message.{Message};
+ghost use Rattle.zk_talk.specs.Held.{Message};
 
 use crate::answer::{put_server, read_server};
 use crate::ask::{put_client, read_client};

@@ -10,7 +10,7 @@ use Rattle.zk_waiting.specs.Waiting.{Lanes}
 use Rattle.zk_talk.specs.declared.limits.Limits.{Limits}
 use Rattle.zk_talk.specs.declared.message.Fault.{Fault}
 use Rattle.zk_talk.specs.declared.message.Side.TheVariants.{Client, Server}
-use Rattle.zk_talk.specs.declared.message.Message.TheVariants.{Client as FromClient, Server as FromServer}
+use Rattle.zk_talk.specs.declared.message.MessageOf.TheVariants.{Client as FromClient, Server as FromServer}
 use Rattle.zk_talk.specs.Streams.{StreamState, passed, kept_now}
 use Rattle.zk_talk.specs.declared.stream.Advance.TheVariants.{Within, Whole, Refused}
 use Rattle.zk_talk.specs.Payloads.{client_payload, server_payload}
@@ -24,7 +24,7 @@ use Rattle.zk_talk.specs.Advance.IsStop.{too_many, out_of_range}
 use Rattle.zk_talk.specs.Taking.{GoesOn, Steps, IsRefused, Fails}
 use Rattle.zk_talk.specs.History.{History, on}
 use Rattle.zk_talk.specs.declared.message.Side.{Side}
-use Rattle.zk_talk.specs.declared.message.Message.{Message}
+use Rattle.zk_talk.specs.Held.{Message}
 use Rattle.zk_frames.specs.Framing.{frame}
 use Rattle.zk_talk.proofs.Judging.{in_turn, next_load}
 use Rattle.zk_talk.proofs.Lanes.{remembered_there, forgotten_there}

@@ -5,7 +5,7 @@ use Rattle.zk_answers.specs.Held.{ServerFrame}
 use Rattle.zk_talk.specs.History.{History}
 use Rattle.zk_talk.specs.Conversation.{Conversation}
 use Rattle.zk_talk.specs.Good.{Good}
-use Rattle.zk_talk.specs.declared.message.Message.{Message}
+use Rattle.zk_talk.specs.Held.{Message}
 use Rattle.zk_talk.specs.Stands.{TalkState, Stands}
 use Rattle.zk_waiting.specs.Waiting.{count_of}
 use Rattle.zk_talk.specs.Ending.{unwelcomed, unanswered}

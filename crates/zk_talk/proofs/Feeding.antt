@@ -5,7 +5,7 @@ use Rattle.zk_talk.specs.declared.message.Side.{Side}
 use Rattle.zk_talk.specs.History.{History}
 use Rattle.std.proofs.Common.{Some, None, take}
 use Rattle.zk_talk.specs.declared.message.Fault.{Fault}
-use Rattle.zk_talk.specs.declared.message.Message.{Message}
+use Rattle.zk_talk.specs.Held.{Message}
 use Rattle.zk_talk.specs.History.{on}
 use Rattle.zk_talk.specs.Stands.{TalkState, Stands, Refuses}
 use Rattle.std.proofs.Common.{drop}

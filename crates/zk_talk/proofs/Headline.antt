@@ -12,7 +12,7 @@ use Rattle.zk_talk.proofs.Turns.{same_clients, same_servers}
 use Rattle.zk_talk.proofs.Steps.{same_whole}
 use Rattle.std.proofs.Common.{Option, Some, None, take}
 use Rattle.zk_talk.specs.declared.message.Fault.{Fault}
-use Rattle.zk_talk.specs.declared.message.Message.{Message}
+use Rattle.zk_talk.specs.Held.{Message}
 use Rattle.zk_talk.specs.History.{on}
 use Rattle.zk_talk.specs.Good.{IsOrder}
 use Rattle.zk_talk.specs.Fault.{IsFaultOf}

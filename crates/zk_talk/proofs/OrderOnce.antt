@@ -17,8 +17,8 @@ use Rattle.zk_talk.proofs.Cuts.{cut_front, Shorter}
 use Rattle.zk_talk.proofs.Cuts.Shorter.{within_frame, frame_end}
 use Rattle.zk_talk.proofs.Histories.{side_bytes-same, server-bytes-client, client-bytes-server}
 use Rattle.zk_talk.proofs.Steps.{same_whole}
-use Rattle.zk_talk.specs.declared.message.Message.{Message}
-use Rattle.zk_talk.specs.declared.message.Message.TheVariants.{Client as FromClient, Server as FromServer}
+use Rattle.zk_talk.specs.Held.{Message}
+use Rattle.zk_talk.specs.declared.message.MessageOf.TheVariants.{Client as FromClient, Server as FromServer}
 use Rattle.zk_talk.specs.Good.{clients, servers, IsOrder}
 use Rattle.std.proofs.lemmas.List.{append_cancel_left}
 use Rattle.zk_frames.proofs.Cuts.{same_fronts}

@@ -13,8 +13,8 @@ use Rattle.std.proofs.Common.{Some, take, get_or}
 use Rattle.std.proofs.lemmas.List.{take-append-drop, drop_more, length-take-le}
 use Rattle.zk_jute.specs.declared.fault.Reason.{Reason}
 use Rattle.zk_waiting.specs.declared.lane.Lane.{Lane}
-use Rattle.zk_talk.specs.declared.message.Message.{Message}
-use Rattle.zk_talk.specs.declared.message.Message.TheVariants.{Client as FromClient, Server as FromServer}
+use Rattle.zk_talk.specs.Held.{Message}
+use Rattle.zk_talk.specs.declared.message.MessageOf.TheVariants.{Client as FromClient, Server as FromServer}
 use Rattle.zk_talk.specs.History.{on}
 use Rattle.zk_talk.specs.Fault.IsCause.{stream_end, length_range, payload_fault}
 use Rattle.zk_waiting.specs.Waiting.{Lanes, queue_on}

@@ -5,7 +5,7 @@ use Rattle.zk_answers.specs.declared.layout.Layout.{Layout}
 use Rattle.zk_frames.specs.Framing.{frame, IsFrame}
 use Rattle.zk_talk.specs.declared.message.Side.{Side}
 use Rattle.zk_talk.specs.declared.message.Fault.{Fault}
-use Rattle.zk_talk.specs.declared.message.Message.{Message}
+use Rattle.zk_talk.specs.Held.{Message}
 use Rattle.zk_talk.specs.History.{History}
 use Rattle.zk_talk.specs.Conversation.{Conversation}
 use Rattle.zk_talk.specs.Describes.{Describes}

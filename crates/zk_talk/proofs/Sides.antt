@@ -11,8 +11,8 @@ use Rattle.zk_frames.proofs.Cuts.{drop-frame}
 use Rattle.zk_waiting.specs.Waiting.{Lanes}
 use Rattle.zk_talk.specs.declared.limits.Limits.{Limits}
 use Rattle.zk_talk.specs.declared.message.Side.TheVariants.{Client, Server}
-use Rattle.zk_talk.specs.declared.message.Message.{Message}
-use Rattle.zk_talk.specs.declared.message.Message.TheVariants.{Client as FromClient, Server as FromServer}
+use Rattle.zk_talk.specs.Held.{Message}
+use Rattle.zk_talk.specs.declared.message.MessageOf.TheVariants.{Client as FromClient, Server as FromServer}
 use Rattle.zk_talk.specs.declared.stream.Advance.TheVariants.{Within, Whole, Refused}
 use Rattle.zk_talk.specs.Payloads.{server_payload}
 use Rattle.zk_talk.specs.History.{History, on}

@@ -15,8 +15,8 @@ use Rattle.std.proofs.Common.{take}
 use Rattle.std.proofs.lemmas.List.{map_push, take-append-le}
 use Rattle.std.proofs.lemmas.Bool.{cases_lt}
 use Rattle.zk_jute.specs.declared.fault.Reason.{Reason}
-use Rattle.zk_talk.specs.declared.message.Message.{Message}
-use Rattle.zk_talk.specs.declared.message.Message.TheVariants.{Client as FromClient, Server as FromServer}
+use Rattle.zk_talk.specs.Held.{Message}
+use Rattle.zk_talk.specs.declared.message.MessageOf.TheVariants.{Client as FromClient, Server as FromServer}
 use Rattle.zk_talk.specs.History.{on}
 use Rattle.zk_talk.specs.Good.{clients, servers, IsOrder}
 use Rattle.zk_talk.specs.Fault.{IsCause}

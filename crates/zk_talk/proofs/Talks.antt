@@ -12,8 +12,8 @@ use Rattle.zk_talk.specs.Good.{Good}
 use Rattle.std.proofs.Common.{Some}
 use Rattle.zk_jute.specs.declared.fault.Reason.{Reason}
 use Rattle.zk_waiting.specs.declared.lane.Lane.{Lane}
-use Rattle.zk_talk.specs.declared.message.Message.{Message}
-use Rattle.zk_talk.specs.declared.message.Message.TheVariants.{Client as FromClient, Server as FromServer}
+use Rattle.zk_talk.specs.Held.{Message}
+use Rattle.zk_talk.specs.declared.message.MessageOf.TheVariants.{Client as FromClient, Server as FromServer}
 use Rattle.zk_talk.specs.History.{on}
 use Rattle.zk_talk.specs.Good.{clients, servers, IsOrder}
 use Rattle.zk_talk.specs.Fault.{IsCause, IsOfItems, fault_of}

@@ -17,8 +17,8 @@ use Rattle.zk_waiting.specs.Lane.{lane_of}
 use Rattle.zk_waiting.specs.Waiting.{Lanes, Request, queue_on, weight_of}
 use Rattle.zk_talk.specs.declared.message.Side.{Side}
 use Rattle.zk_talk.specs.declared.message.Side.TheVariants.{Client, Server}
-use Rattle.zk_talk.specs.declared.message.Message.{Message}
-use Rattle.zk_talk.specs.declared.message.Message.TheVariants.{Client as FromClient, Server as FromServer}
+use Rattle.zk_talk.specs.Held.{Message}
+use Rattle.zk_talk.specs.declared.message.MessageOf.TheVariants.{Client as FromClient, Server as FromServer}
 use Rattle.zk_talk.specs.declared.limits.Limits.{Limits}
 use Rattle.zk_talk.specs.declared.say.SayFault.{SayFault}
 use Rattle.zk_talk.specs.declared.say.SayFault.TheVariants.{NotFirst, Unasked, XidOrder, Misfit, TooLong, QueueFull, NoMemory}

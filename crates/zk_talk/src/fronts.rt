@@ -1,7 +1,7 @@
 //! What has come stays, whatever comes after it.
 ghost use Rattle.std.specs.Prelude.{◌≡◌, ◌++◌, ℕ, List};
 ghost use Rattle.zk_talk.specs.declared.limits.Limits.{Limits};
-ghost use Rattle.zk_talk.specs.declared.message.Message.{Message};
+ghost use Rattle.zk_talk.specs.Held.{Message};
 ghost use Rattle.zk_talk.specs.declared.message.Ending.{Ending};
 ghost use Rattle.zk_talk.specs.History.{History};
 ghost use Rattle.zk_talk.specs.Conversation.{Conversation};

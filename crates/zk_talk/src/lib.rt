@@ -18,7 +18,7 @@ mod talk;
 pub use fronts::front_comes_first;
 pub use laws::history_laws;
 pub use limits::Limits;
-pub use message::{Ended, Ending, Fault, Message, Side};
+pub use message::{Ended, Ending, Fault, Message, MessageOf, MessageRef, Side};
 pub use read::read_all;
 pub use round::{order_is_said, read_is_said, said_is_read, say_laws};
 pub use say::{SayFault, say_name};

@@ -1,7 +1,7 @@
 //! What a conversation is made of.
 
-use zk_answers::ServerFrame;
-use zk_asks::ClientFrame;
+use zk_answers::{ServerFrame, ServerRef};
+use zk_asks::{ClientFrame, ClientRef};
 use zk_jute::Reason;
 
 /// Who sends.
@@ -13,10 +13,16 @@ pub enum Side {
 
 /// What is sent in one frame.
 #[derive(Drop)]
-pub enum Message {
-    Client(ClientFrame),
-    Server(ServerFrame),
+pub enum MessageOf<C, S> {
+    Client(C),
+    Server(S),
 }
+
+/// A message with memory of its own.
+pub type Message = MessageOf<ClientFrame, ServerFrame>;
+
+/// A message where it lies in its frame's payload.
+pub type MessageRef<'a> = MessageOf<ClientRef<'a>, ServerRef<'a>>;
 
 /// Why a conversation is refused, and where.
 #[derive(Clone, Copy, Debug, PartialEq, Eq)]

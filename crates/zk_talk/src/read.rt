@@ -4,7 +4,7 @@ ghost use Rattle.std.specs.Option.{option_to_list};
 ghost use Rattle.zk_jute.specs.declared.fault.Reason.TheVariants.{NoMemory};
 ghost use Rattle.zk_talk.specs.declared.message.Ending.TheVariants.{Whole, Refused};
 ghost use Rattle.zk_talk.specs.declared.message.Fault.{Fault};
-ghost use Rattle.zk_talk.specs.declared.message.Message.{Message};
+ghost use Rattle.zk_talk.specs.Held.{Message};
 ghost use Rattle.zk_talk.specs.Conversation.{Conversation};
 ghost use Rattle.zk_talk.specs.Good.{Good, IsOrder};
 ghost use Rattle.zk_talk.specs.Fault.{IsFaultOf};

@@ -3,7 +3,7 @@ ghost use Rattle.std.specs.Prelude.{◌≡◌, List, []};
 ghost use Rattle.zk_talk.specs.declared.limits.Limits.{Limits};
 ghost use Rattle.zk_talk.specs.declared.say.SayFault.{SayFault};
 ghost use Rattle.zk_talk.specs.declared.message.Side.TheVariants.{Client, Server};
-ghost use Rattle.zk_talk.specs.declared.message.Message.{Message};
+ghost use Rattle.zk_talk.specs.Held.{Message};
 ghost use Rattle.zk_talk.specs.declared.message.Ending.{Ending};
 ghost use Rattle.zk_talk.specs.declared.message.Ending.TheVariants.{Whole};
 ghost use Rattle.zk_talk.specs.History.{History, side_bytes};

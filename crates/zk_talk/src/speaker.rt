@@ -1,7 +1,7 @@
 //! Messages to bytes.
 ghost use Rattle.std.specs.Prelude.{◌≡◌, ◌≢◌, ◌++◌, ◌⊎◌, ◌∷◌, [], List, false, OnOk, OnErr, IfOk, IfErr};
 ghost use Rattle.zk_frames.specs.Framing.{frame};
-ghost use Rattle.zk_talk.specs.declared.message.Message.{Message};
+ghost use Rattle.zk_talk.specs.Held.{Message};
 ghost use Rattle.zk_talk.specs.declared.say.SayFault.TheVariants.{NoMemory};
 ghost use Rattle.zk_talk.specs.Ending.{unanswered};
 ghost use Rattle.zk_talk.specs.Said.{Says, MaySay, IsSayFault, payload_of, conversation_of};

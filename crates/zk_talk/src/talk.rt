@@ -5,7 +5,7 @@ ghost use Rattle.zk_jute.specs.declared.fault.Reason.TheVariants.{NoMemory};
 ghost use Rattle.zk_jute.specs.Reading.{no_memory};
 ghost use Rattle.zk_talk.specs.declared.message.Side.TheVariants.{Client, Server};
 ghost use Rattle.zk_talk.specs.declared.message.Fault.{Fault};
-ghost use Rattle.zk_talk.specs.declared.message.Message.{Message};
+ghost use Rattle.zk_talk.specs.Held.{Message};
 ghost use Rattle.zk_talk.specs.declared.message.Ending.TheVariants.{Refused};
 ghost use Rattle.zk_talk.specs.History.{History};
 ghost use Rattle.zk_talk.specs.Conversation.{Conversation, load};

@@ -5,7 +5,7 @@ use Rattle.std.specs.List.{AllByRecursion, flat_map}
 use Rattle.std.specs.Int.{w32, to_be_bytes}
 use Rattle.std.proofs.lemmas.List.{map-append, length-map}
 use Rattle.zk_talk.specs.declared.limits.Limits.{Limits}
-use Rattle.zk_talk.specs.declared.message.Message.{Message}
+use Rattle.zk_talk.specs.Held.{Message}
 use Rattle.zk_talk.specs.declared.message.Ending.TheVariants.{Whole as whole}
 use Rattle.zk_talk.specs.declared.say.SayFault.{SayFault}
 use Rattle.zk_talk.specs.declared.say.SayFault.TheVariants.{NotFirst, Unasked, XidOrder, Misfit, TooLong, QueueFull, NoMemory as no_memory}
@@ -17,7 +17,7 @@ use Rattle.zk_items.specs.declared.fault.LineReason.TheVariants.{Word, Number, T
 use Rattle.zk_lines.specs.Lines.{line, Fits}
 use Rattle.zk_lines.specs.Endings.{ending_text}
 use Rattle.zk_talk.specs.declared.message.Side.{Side}
-use Rattle.zk_talk.specs.declared.message.Message.TheVariants.{Client, Server}
+use Rattle.zk_talk.specs.declared.message.MessageOf.TheVariants.{Client, Server}
 use Rattle.zk_talk.specs.Payloads.{client_payload, server_payload}
 use Rattle.zk_talk.specs.Said.{payload_of, side_of}
 use Rattle.zk_frames.specs.Framing.{frame}

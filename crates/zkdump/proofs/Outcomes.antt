@@ -7,7 +7,7 @@ use Rattle.zk_talk.specs.declared.message.Ending.{Ending}
 use Rattle.zk_talk.specs.declared.message.Ending.TheVariants.{Whole, Cut, Refused}
 use Rattle.zk_talk.specs.History.{History}
 use Rattle.zk_talk.specs.Conversation.{Conversation}
-use Rattle.zk_talk.specs.declared.message.Message.{Message}
+use Rattle.zk_talk.specs.Held.{Message}
 use Rattle.zk_talk.specs.Good.{Good, IsOrder}
 use Rattle.zk_talk.specs.Answer.{AreMessages}
 use Rattle.zk_talk.specs.Ending.{IsEnding, IsCutAt, unanswered}

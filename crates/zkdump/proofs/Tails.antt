@@ -4,7 +4,7 @@ use Rattle.zk_answers.specs.declared.layout.Layout.{Layout}
 use Rattle.zk_talk.specs.declared.limits.Limits.{Limits}
 use Rattle.zk_talk.specs.declared.message.Ending.TheVariants.{Whole, Cut, Refused}
 use Rattle.zk_talk.specs.declared.message.Fault.{Fault}
-use Rattle.zk_talk.specs.declared.message.Message.{Message}
+use Rattle.zk_talk.specs.Held.{Message}
 use Rattle.zk_talk.specs.declared.message.Side.{Side}
 use Rattle.zk_talk.specs.History.{History}
 use Rattle.zk_talk.specs.Stands.{TalkState}

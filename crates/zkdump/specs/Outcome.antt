@@ -2,7 +2,7 @@
 use Rattle.std.specs.Prelude.{◌≡◌, ◌≢◌, ℕ, ◌≤◌, ◌⊎◌, List, ◌++◌, length, take, Option, None, Some}
 use Rattle.std.specs.Io.KnownBytes.{Consumes, IsAtEnd, Appends}
 use Rattle.zk_talk.specs.declared.limits.Limits.{Limits}
-use Rattle.zk_talk.specs.declared.message.Message.{Message}
+use Rattle.zk_talk.specs.Held.{Message}
 use Rattle.zk_talk.specs.declared.message.Fault.{Fault}
 use Rattle.zk_talk.specs.declared.message.Ending.TheVariants.{Whole, Cut, Refused}
 use Rattle.zk_talk.specs.History.{History}

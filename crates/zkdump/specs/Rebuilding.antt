@@ -1,7 +1,7 @@
 -- The recording that is built of a listing, and what two answers about the same lines have in common.
 use Rattle.std.specs.Prelude.{◌≡◌, ◌≢◌, ℕ, List, ◌++◌, map}
 use Rattle.zk_talk.specs.declared.limits.Limits.{Limits}
-use Rattle.zk_talk.specs.declared.message.Message.{Message}
+use Rattle.zk_talk.specs.Held.{Message}
 use Rattle.zk_talk.specs.declared.message.Ending.TheVariants.{Whole as whole}
 use Rattle.zk_lines.specs.Lines.{line, Fits}
 use Rattle.zkdump.specs.declared.built.Built.{Built}

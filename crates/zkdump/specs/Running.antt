@@ -2,7 +2,7 @@
 use Rattle.std.specs.Prelude.{◌≡◌, ℕ, ◌+◌, ◌≤◌, ◌⊎◌, List, ◌++◌, Bool, true, Option}
 use Rattle.std.specs.Io.KnownBytes.{IsAtEnd, Appends}
 use Rattle.zk_talk.specs.declared.limits.Limits.{Limits}
-use Rattle.zk_talk.specs.declared.message.Message.{Message}
+use Rattle.zk_talk.specs.Held.{Message}
 use Rattle.zk_talk.specs.History.{History}
 use Rattle.zk_talk.specs.Stands.{TalkState}
 use Rattle.zkdump.specs.declared.listing.Listing.{Listing}

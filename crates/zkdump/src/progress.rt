@@ -1,7 +1,7 @@
 //! A recording that is read block by block, and the conversation in it.
 ghost use Rattle.std.specs.Prelude.{◌≡◌, ◌≢◌, ◌+◌, ◌^◌, ◌<◌, ◌≤◌, ℕ, List, [], Some, None, IfOk, IfSome, OnErr, MatchOption, length, drop};
 ghost use Rattle.zk_jute.specs.declared.fault.Reason.TheVariants.{NoMemory};
-ghost use Rattle.zk_talk.specs.declared.message.Message.{Message};
+ghost use Rattle.zk_talk.specs.Held.{Message};
 ghost use Rattle.zk_talk.specs.Ending.{IsEnding};
 ghost use Rattle.zk_talk.specs.History.{History, on};
 ghost use Rattle.zk_talk.specs.Stands.{Stands};

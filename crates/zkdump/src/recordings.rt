@@ -1,7 +1,7 @@
 //! What any bytes are as a recording: a law that is no call's result.
 ghost use Rattle.std.specs.Prelude.{◌≡◌, ℕ, List, ◌++◌};
 ghost use Rattle.zk_talk.specs.declared.limits.Limits.{Limits};
-ghost use Rattle.zk_talk.specs.declared.message.Message.{Message};
+ghost use Rattle.zk_talk.specs.Held.{Message};
 ghost use Rattle.zkdump.specs.declared.summary.Summary.{Summary};
 ghost use Rattle.zkdump.specs.Outcome.{IsOutcome, IsDecided};
 ghost use Rattle.zkdump.specs.Recording.{Recording, Spells};

@@ -1,6 +1,6 @@
 use Rattle.std.proofs.Common.{◌≡◌, ◌+◌, ◌*◌, ◌≤◌, List, [], ℕ, false, length}
 use Rattle.std.specs.Io.KnownBytes.{Consumes, Appends}
-use Rattle.zk_talk.specs.declared.message.Message.{Message}
+use Rattle.zk_talk.specs.Held.{Message}
 use Rattle.zkdump.specs.Lines.{text_of}
 use Rattle.zkdump.specs.Reading.{place_in}
 use Rattle.zkdump.specs.Following.{Follows}

@@ -1,5 +1,5 @@
 use Rattle.std.proofs.Common.{◌≡◌, ◌≢◌, ◌++◌, ◌∷◌, [], ◌⊎◌, List, true, subst}
-use Rattle.zk_talk.specs.declared.message.Message.{Message}
+use Rattle.zk_talk.specs.Held.{Message}
 use Rattle.zk_talk.specs.declared.say.SayFault.TheVariants.{NoMemory}
 use Rattle.zk_talk.specs.Said.{SpeakerState, Says, MaySay, IsSayFault}
 use Rattle.zk_talk.proofs.Speaking.{ok_client, ok_server, err_client, err_server}
