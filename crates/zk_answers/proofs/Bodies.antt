@@ -15,10 +15,10 @@ use Rattle.zk_answers.specs.Faults.{IsOfShape, shape_in, body_shape}
 use Rattle.zk_answers.proofs.Results.{multi_only}
 
 -- a body is its operation and its content
-unfoldable IsMade : Op → Body → Type 0
+unfoldable pub IsMade : Op → Body → Type 0
 IsMade op b = (x : Content (row_of op)) × (remake (row_of op) x ≡ b) × (items_in (row_of op) x ≡ body_items b)
 
-is_made : (b : Body) → IsMade (op_of_body b) b
+pub is_made : (b : Body) → IsMade (op_of_body b) b
 unfolding IsMade
 is_made (body.Create path) = (path, refl, refl)
 is_made body.Delete = (tt, refl, refl)

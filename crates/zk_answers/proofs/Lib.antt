@@ -16,3 +16,5 @@ pub mod Opened
 pub mod Cased
 pub mod Covered
 pub mod Lying
+pub mod Passing
+pub mod Knowing

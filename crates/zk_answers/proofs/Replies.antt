@@ -65,7 +65,7 @@ outcome_same op parts (outcome.Done b) (outcome.Failed o n) f g i j h k e s = ab
 outcome_same op parts (outcome.Failed o n) (outcome.Done b) f g i j h k e s = absurd (i e)
 outcome_same op parts (outcome.Failed o n) (outcome.Failed p m) f g i j h k e s = ap (λ (z : Op). outcome.Failed z n) (f ∙ sym g) ∙ ap (λ (z : ℤ). outcome.Failed p z) e
 
-reply_same : (a b : Reply) → a.xid ≡ b.xid → a.zxid ≡ b.zxid → a.outcome ≡ b.outcome → a ≡ b
+pub reply_same : (a b : Reply) → a.xid ≡ b.xid → a.zxid ≡ b.zxid → a.outcome ≡ b.outcome → a ≡ b
 reply_same a b x z o = ap (λ (v : ℤ). record { xid = v; zxid = a.zxid; outcome = a.outcome }) x ∙ ap (λ (v : ℤ). record { xid = b.xid; zxid = v; outcome = a.outcome }) z ∙ ap (λ (v : Outcome). record { xid = b.xid; zxid = b.zxid; outcome = v }) o
 
 pub reply_injective : (op : Op) (parts : List PartOp) (s t : ServerFrame) → IsReplyTo op parts s → IsReplyTo op parts t → IsSent s → IsSent t → payload s ≡ payload t → s ≡ t

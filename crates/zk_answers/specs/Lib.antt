@@ -1,6 +1,7 @@
 pub mod Results
 pub mod Rows
 pub mod Held
+pub mod Known
 pub mod Shown
 pub mod Frames
 pub mod Faults

@@ -178,7 +178,10 @@ fn done_ref<'a>(
 }
 
 /// The result that stands at a place, told by its own header, and the place behind it.
-fn done_in<'a>(src: &Payload<'a>, place: usize) -> Result<(PartDoneRef<'a>, usize), ItemFault>
+pub(crate) fn done_in<'a>(
+    src: &Payload<'a>,
+    place: usize,
+) -> Result<(PartDoneRef<'a>, usize), ItemFault>
     requires { place ≤ length src.now.bytes.now }
     ensures only { (d : PartDone) (end : ℕ) → HaveBytes (done_items d) → StandsAt (done_items d) src.now.bytes.now place end → result ≡ Ok (d, end) }
     ensures within { IfOk result (λ x. x.1 ≤ length src.now.bytes.now) }
@@ -194,7 +197,7 @@ fn done_in<'a>(src: &Payload<'a>, place: usize) -> Result<(PartDoneRef<'a>, usiz
 }
 
 /// So many results of the payload, from a place on.
-fn lying<'a>(payload: &'a [u8], count: usize, place: usize) -> DoneList<'a>
+pub(crate) fn lying<'a>(payload: &'a [u8], count: usize, place: usize) -> DoneList<'a>
     requires { Begins done_items payload.now count place }
     ensures { result ≡ dones_at payload.now count place }
 {

@@ -4,6 +4,7 @@
 mod asked;
 mod codes;
 mod frame;
+mod known;
 mod laws;
 mod multi;
 mod part_list;
@@ -15,6 +16,7 @@ mod write;
 pub use asked::{Asked, Room, asked_laws};
 pub use codes::allowed;
 pub use frame::{Ask, AskOf, AskRef, ClientFrame, ClientFrameOf, ClientRef, Part, PartOf, PartRef};
+pub use known::client_ref;
 pub use laws::{ask_laws, first_laws, form_laws, opening_laws};
 pub use part_list::{PartItems, PartList};
 pub use read::{read_ask, read_first};

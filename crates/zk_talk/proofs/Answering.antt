@@ -28,6 +28,8 @@ use Rattle.zk_talk.specs.Held.{Message}
 use Rattle.zk_frames.specs.Framing.{frame}
 use Rattle.zk_talk.proofs.Judging.{in_turn, next_load}
 use Rattle.zk_talk.proofs.Lanes.{remembered_there, forgotten_there}
+use Rattle.zk_talk.specs.Viewed.{ShowsClient, ShowsServer}
+use Rattle.zk_records.specs.declared.op.Op.{Op}
 use Rattle.zk_talk.proofs.Sides.{carried, client_within, client_stopped, client_passed, client_judged, server_within, server_stopped, server_passed, server_judged}
 
 lacking : (r : Reason) → (r ≡ NoMemory) ⊎ (r ≡ NoMemory → ⊥)
@@ -73,6 +75,20 @@ rekept t a b h M st = record {
 
 rekept_on : (t : TalkState) (side : Side) (used : List ℕ) (messages : List Message) (new : TalkState) (a b : List ℕ) → GoesOn t side used messages new → GoesOn t side used messages (record new { client_kept = a; server_kept = b })
 rekept_on t side used messages new a b goes h M st = rekept new a b (h ++ on side used) (M ++ messages) (goes h M st)
+
+-- nor is what operation was answered
+reanswered : (t : TalkState) (answered : Option Op) (h : History) (M : List Message) → Stands t h M → Stands (record t { answered = answered }) h M
+reanswered t answered h M st = record {
+  conversation = st.conversation;
+  good = st.good;
+  order = st.order;
+  client_frames = st.client_frames;
+  server_frames = st.server_frames;
+  client_size = st.client_size;
+  server_size = st.server_size;
+  queues = st.queues;
+  no_fault = st.no_fault;
+}
 
 -- ---- the client's side
 
@@ -134,12 +150,10 @@ module _ (t : TalkState) (piece : List ℕ) (s s' : StreamState) {limit : ℕ} (
       subst (λ (z : StreamState). GoesOn t Client (take used piece) (FromClient f ∷ []) (record (on_client t z) { waiting = w })) (sym q) (client_more used f w s.kept a max found.0 found.1)
 
   pub client_keeps : (used : ℕ) (f : ClientFrame) (w : Lanes) → IsAdvance t.limits.client t.client_size t.client_held piece (Whole used) s.held → t.waiting.max ≡ t.limits.waiting →
-      IsNextClient t.limits.profile s.count t.waiting (drop 4 s.held) f × IsRemembered f t.waiting w → s' ≡ kept_now s used → Steps t Client (take used piece) true (record (on_client t s') { waiting = w })
-  client_keeps used f w a max found q =
-      let whole = a.4 in
-      let pay : client_payload f ≡ whole.0 = found.0.is ∙ sym (carried s.held whole.0 whole.1) in
-      subst (λ (z : StreamState). Steps t Client (take used piece) true (record (on_client t z) { waiting = w })) (sym q)
-      (FromClient f, client_more used f w s.held a max found.0 found.1, whole.1 ∙ ap frame (sym pay), refl)
+      IsNextClient t.limits.profile s.count t.waiting (drop 4 s.held) f × IsRemembered f t.waiting w → ShowsClient s'.count s'.kept f → s' ≡ kept_now s used → Steps t Client (take used piece) true (record (on_client t s') { waiting = w })
+  client_keeps used f w a max found shows q =
+      let more = client_more used f w s.held a max found.0 found.1 in
+      (FromClient f, subst (λ (z : StreamState). GoesOn t Client (take used piece) (FromClient f ∷ []) (record (on_client t z) { waiting = w })) (sym q) more, shows, ap (λ (z : StreamState). z.held) q)
 
   -- what was judged bad
   pub client_bad : (w : Lanes) (k : Option Fault) (used : ℕ) (e : ItemFault) (result : Fault) → IsAdvance t.limits.client t.client_size t.client_held piece (Whole used) s.held → t.waiting.max ≡ t.limits.waiting → (e.reason ≢ NoMemory) →
@@ -240,13 +254,17 @@ module _ (t : TalkState) (piece : List ℕ) (s s' : StreamState) {limit : ℕ} (
   server_makes used f w a max found q =
       subst (λ (z : StreamState). GoesOn t Server (take used piece) (FromServer f ∷ []) (record (on_server t z) { waiting = w })) (sym q) (server_more used f w s.kept a max found.0 found.1)
 
-  pub server_keeps : (used : ℕ) (f : ServerFrame) (w : Lanes) → IsAdvance t.limits.server t.server_size t.server_held piece (Whole used) s.held → t.waiting.max ≡ t.limits.waiting →
-      IsNextServer t.client_frames s.count t.waiting (drop 4 s.held) f × IsForgotten f t.waiting w → s' ≡ kept_now s used → Steps t Server (take used piece) true (record (on_server t s') { waiting = w })
-  server_keeps used f w a max found q =
-      let whole = a.4 in
-      let pay : server_payload f ≡ whole.0 = found.0.is ∙ sym (carried s.held whole.0 whole.1) in
-      subst (λ (z : StreamState). Steps t Server (take used piece) true (record (on_server t z) { waiting = w })) (sym q)
-      (FromServer f, server_more used f w s.held a max found.0 found.1, whole.1 ∙ ap frame (sym pay), refl)
+  pub server_keeps : (used : ℕ) (f : ServerFrame) (w : Lanes) (op : Option Op) → IsAdvance t.limits.server t.server_size t.server_held piece (Whole used) s.held → t.waiting.max ≡ t.limits.waiting →
+      IsNextServer t.client_frames s.count t.waiting (drop 4 s.held) f × IsForgotten f t.waiting w → ShowsServer s'.count op s'.kept f → s' ≡ kept_now s used →
+      Steps t Server (take used piece) true (record (on_server t s') { waiting = w; answered = op })
+  server_keeps used f w op a max found shows q =
+      let more = server_more used f w s.held a max found.0 found.1 in (
+        FromServer f,
+        (λ h M st. reanswered (record (on_server t s') { waiting = w }) op (h ++ on Server (take used piece)) (M ++ FromServer f ∷ [])
+            (subst (λ (z : StreamState). Stands (record (on_server t z) { waiting = w }) (h ++ on Server (take used piece)) (M ++ FromServer f ∷ [])) (sym q) (more h M st))),
+        shows,
+        ap (λ (z : StreamState). z.held) q,
+      )
 
   -- what was judged bad
   pub server_bad : (w : Lanes) (k : Option Fault) (used : ℕ) (e : ItemFault) (result : Fault) → IsAdvance t.limits.server t.server_size t.server_held piece (Whole used) s.held → t.waiting.max ≡ t.limits.waiting → (e.reason ≢ NoMemory) →

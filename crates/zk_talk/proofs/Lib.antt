@@ -38,3 +38,4 @@ pub mod Speaking
 pub mod Spoken
 pub mod Bodies
 pub mod Refusing
+pub mod Viewing

@@ -19,7 +19,7 @@ abbrev pub no_lanes : ℕ → Lanes
 no_lanes max = record { max = max; ping = []; auth = []; watches = []; plain = [] }
 
 abbrev pub start_state : Limits → TalkState
-start_state limits = record { limits = limits; client_held = []; server_held = []; client_kept = []; server_kept = []; waiting = no_lanes limits.waiting; client_frames = 0; server_frames = 0; client_size = 0; server_size = 0; fault = None }
+start_state limits = record { limits = limits; client_held = []; server_held = []; client_kept = []; server_kept = []; waiting = no_lanes limits.waiting; client_frames = 0; server_frames = 0; client_size = 0; server_size = 0; answered = None; fault = None }
 
 abbrev pub no_conversation : Conversation
 no_conversation = record { client = []; server = [] }

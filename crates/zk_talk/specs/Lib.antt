@@ -2,6 +2,7 @@ pub mod Ranges
 pub mod Splits
 pub mod History
 pub mod Payloads
+pub mod Held
 pub mod Conversation
 pub mod Good
 pub mod Fault
@@ -11,6 +12,7 @@ pub mod Queues
 pub mod Stands
 pub mod Describes
 pub mod Streams
+pub mod Viewed
 pub mod Sound
 pub mod Judged
 pub mod Advance

@@ -1,5 +1,6 @@
 -- Which history a talk stands for.
 use Rattle.std.specs.Prelude.{◌≡◌, ℕ, List, [], ◌∷◌, ◌++◌, length, Option, Some, None}
+use Rattle.zk_records.specs.declared.op.Op.{Op}
 use Rattle.zk_waiting.specs.declared.lane.Lane.{Lane}
 use Rattle.zk_waiting.specs.Waiting.{Lanes, queue_on, weight_of}
 use Rattle.zk_talk.specs.declared.message.Side.{Side}
@@ -13,7 +14,7 @@ use Rattle.zk_talk.specs.Good.{Good, IsOrder}
 use Rattle.zk_talk.specs.Fault.{IsFaultOf, IsOfItems, rest_on}
 use Rattle.zk_talk.specs.Queues.{IsQueue}
 
--- what is known of a talk
+-- what is known of a talk; `answered` is the operation that the newest frame of the server that was kept answers
 pub record TalkState : Type 0 where
   pub limits : Limits
   pub client_held : List ℕ
@@ -25,6 +26,7 @@ pub record TalkState : Type 0 where
   pub server_frames : ℕ
   pub client_size : ℕ
   pub server_size : ℕ
+  pub answered : Option Op
   pub fault : Option Fault
 
 abbrev pub held_on : Side → TalkState → List ℕ

@@ -1,6 +1,5 @@
 -- What a talk does with a piece.
 use Rattle.std.specs.Prelude.{◌≡◌, ℕ, ◌≤◌, ◌⊎◌, Bool, true, false, List, [], ◌∷◌, ◌++◌, length, take}
-use Rattle.zk_frames.specs.Framing.{frame}
 use Rattle.zk_jute.specs.declared.fault.Reason.TheVariants.{NoMemory}
 use Rattle.zk_talk.specs.declared.message.Side.{Side}
 use Rattle.zk_talk.specs.declared.message.Side.TheVariants.{Client, Server}
@@ -9,7 +8,7 @@ use Rattle.zk_talk.specs.declared.message.Fault.{Fault}
 use Rattle.zk_talk.specs.History.{History, on}
 use Rattle.zk_talk.specs.Fault.{fault_of}
 use Rattle.zk_talk.specs.Stands.{TalkState, Stands, Refuses, held_on, kept_on, frames_on, size_on}
-use Rattle.zk_talk.specs.Said.{payload_of}
+use Rattle.zk_talk.specs.Viewed.{Shows}
 
 -- these bytes of the piece were used, and these messages came
 abbrev pub GoesOn : TalkState → Side → List ℕ → List Message → TalkState → Type 0
@@ -27,7 +26,7 @@ given_up Server t = record t { server_kept = [] }
 -- these bytes of the piece were used; where they made a frame whole it is kept, and is one message's
 abbrev pub Steps : TalkState → Side → List ℕ → Bool → TalkState → Type 0
 Steps old side used false new = GoesOn old side used [] new × (kept_on side new ≡ [])
-Steps old side used true new = (m : Message) × GoesOn old side used (m ∷ []) new × (kept_on side new ≡ frame (payload_of m)) × (held_on side new ≡ [])
+Steps old side used true new = (m : Message) × GoesOn old side used (m ∷ []) new × Shows new side m × (held_on side new ≡ [])
 
 -- Memory was wanted for a message that bytes of the piece make whole, and nothing is changed.
 pub record Lacks (old : TalkState) (side : Side) (piece : List ℕ) (fault : Fault) (new : TalkState) : Type 0 where

@@ -11,16 +11,17 @@ ghost use Rattle.zk_talk.specs.Fault.{IsClientFault, IsServerFault};
 ghost use Rattle.zk_talk.specs.Describes.{Describes};
 ghost use Rattle.zk_talk.specs.Judged.{Tells, IsNextClient, IsNextServer, IsRemembered, IsForgotten};
 ghost use Rattle.zk_talk.specs.Streams.{IsAtFrame, passed, kept_now};
+ghost use Rattle.zk_talk.specs.Viewed.{ShowsClient, ShowsServer, answered_by};
 
 use crate::judge::{
     await_reply, build_client, build_server, forget_seen, next_client, next_server,
 };
 use crate::stream::Stream;
 use std::alloc::Global;
-use zk_answers::ServerFrame;
+use zk_answers::{ServerFrame, ServerFrameOf, ServerRef};
 use zk_asks::ClientFrame;
 use zk_jute::{ItemFault, Reason};
-use zk_records::Profile;
+use zk_records::{Op, Profile};
 use zk_waiting::Waiting;
 
 /// Whether memory was wanted.
@@ -42,7 +43,7 @@ pub fn client_step(
 ) -> Result<(), ItemFault>
     requires { IsAtFrame stream.old used }
     ensures max { waiting.new.max ≡ waiting.old.max }
-    ensures found { OnOk result ((f : asks.ClientFrame) × IsNextClient profile stream.old.count waiting.old (drop 4 stream.old.held) f × IsRemembered f waiting.old waiting.new) }
+    ensures found { OnOk result ((f : asks.ClientFrame) × IsNextClient profile stream.old.count waiting.old (drop 4 stream.old.held) f × IsRemembered f waiting.old waiting.new × ShowsClient stream.new.count stream.new.kept f) }
     ensures kept { OnOk result (stream.new ≡ kept_now stream.old used) }
     ensures same { IfErr result (λ e. (waiting.new ≡ waiting.old) × (stream.new ≡ stream.old)) }
     ensures fault { IfErr result (λ e. (e.reason ≢ NoMemory) × ((limits : Limits) (m : ℕ) (v : Conversation) → limits.waiting ≡ waiting.old.max → limits.profile ≡ profile → Describes stream.old.count m waiting.old v → Tells (IsClientFault limits v (drop 4 stream.old.held)) e)) }
@@ -87,24 +88,37 @@ pub fn client_frame(
     }
 }
 
-/// The server's frame, likewise, where the client has sent so many.
+/// The operation whose request the frame answers; None where it isn't a reply.
+fn answered(frame: &ServerRef<'_>) -> Option<Op>
+    ensures { result ≡ answered_by frame.now }
+{
+    match frame {
+        ServerFrameOf::Answered(reply) => Some(reply.op()),
+        ServerFrameOf::Connected { .. } => None,
+        ServerFrameOf::Event { .. } => None,
+    }
+}
+
+/// The server's frame, likewise, where the client has sent so many; the operation whose request it
+/// answers.
 pub fn server_step(
     asked: u64,
     stream: &mut Stream,
     waiting: &mut Waiting,
     used: usize,
-) -> Result<(), ItemFault>
+) -> Result<Option<Op>, ItemFault>
     requires { IsAtFrame stream.old used }
     ensures max { waiting.new.max ≡ waiting.old.max }
-    ensures found { OnOk result ((s : answers.ServerFrame) × IsNextServer asked stream.old.count waiting.old (drop 4 stream.old.held) s × IsForgotten s waiting.old waiting.new) }
+    ensures found { IfOk result (λ op. (s : answers.ServerFrame) × IsNextServer asked stream.old.count waiting.old (drop 4 stream.old.held) s × IsForgotten s waiting.old waiting.new × ShowsServer stream.new.count op stream.new.kept s) }
     ensures kept { OnOk result (stream.new ≡ kept_now stream.old used) }
     ensures same { IfErr result (λ e. (waiting.new ≡ waiting.old) × (stream.new ≡ stream.old)) }
     ensures fault { IfErr result (λ e. (e.reason ≢ NoMemory) × ((v : Conversation) → Describes asked stream.old.count waiting.old v → Tells (IsServerFault v (drop 4 stream.old.held)) e)) }
 {
     let frame = next_server(asked, stream.count(), waiting, stream.payload())?;
+    let answered = answered(&frame);
     forget_seen(waiting, &frame);
     stream.keep(used);
-    Ok(())
+    Ok(answered)
 }
 
 /// Likewise, and its message is made.

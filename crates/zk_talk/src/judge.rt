@@ -130,6 +130,7 @@ fn seen_answer<'a>(
     requires head { (rest : List ℕ) × IsHead payload.now head.now rest }
     requires reply { head.now.xid ≢ event_xid }
     ensures due { IfOk result (λ s. IsDue s waiting.now × answers.IsSent s × (server_payload s ≡ payload.now)) }
+    ensures turn { IfOk result (λ s. answers.IsConnected s → ⊥) }
     ensures may { IfOk result (λ s. (n m : ℕ) (v : Conversation) → (m ≡ 0 → ⊥) → Describes n m waiting.now v → ServerMay v.client v.server s) }
     ensures fault { IfErr result (λ e. (e.reason ≢ NoMemory) × ((n m : ℕ) (v : Conversation) → (m ≡ 0 → ⊥) → Describes n m waiting.now v → Tells (IsServerFault v payload.now) e)) }
 {
@@ -154,6 +155,7 @@ pub fn next_server<'a>(
     payload: &'a [u8],
 ) -> Result<ServerRef<'a>, ItemFault>
     ensures due { IfOk result (λ s. IsDue s waiting.now × answers.IsSent s × (server_payload s ≡ payload.now)) }
+    ensures turn { IfOk result (λ s. (count ≡ 0 → answers.IsConnected s) × ((count ≡ 0 → ⊥) → answers.IsConnected s → ⊥)) }
     ensures may { IfOk result (λ s. (v : Conversation) → Describes asked count waiting.now v → ServerMay v.client v.server s) }
     ensures fault { IfErr result (λ e. (e.reason ≢ NoMemory) × ((v : Conversation) → Describes asked count waiting.now v → Tells (IsServerFault v payload.now) e)) }
 {

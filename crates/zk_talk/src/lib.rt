@@ -14,6 +14,7 @@ mod say;
 mod speaker;
 mod stream;
 mod talk;
+mod view;
 
 pub use fronts::front_comes_first;
 pub use laws::history_laws;

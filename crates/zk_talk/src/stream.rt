@@ -150,6 +150,17 @@ impl Stream {
         }
     }
 
+    /// What the frame carries that is kept; None where none is.
+    pub fn kept_payload(&self) -> Option<&[u8]>
+        ensures { MatchOption result (self.now.kept ≡ []) (λ p. self.now.kept ≡ frame p.now) }
+    {
+        if self.kept {
+            Some(self.frames.payload())
+        } else {
+            None
+        }
+    }
+
     /// The frame that was kept is given up.
     pub fn give_up(&mut self)
         ensures { self.new ≡ record self.old { kept = [] } }

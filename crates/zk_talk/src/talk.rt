@@ -18,17 +18,20 @@ ghost use Rattle.zk_talk.specs.Refused.{IsRefusedBody};
 ghost use Rattle.zk_records.specs.declared.op.Op.TheVariants as ops;
 ghost use Rattle.zk_answers.specs.declared.layout.Layout.{Layout as Kind};
 ghost use Rattle.zk_answers.specs.declared.layout.Layout.TheVariants as layouts;
+ghost use Rattle.zk_talk.specs.Viewed.{Shows, other_side};
 ghost use Rattle.zk_talk.specs.Taking.{GoesOn, Steps, IsRefused, Fails, given_up};
 
 use crate::frame::{client_frame, client_step, is_no_memory, server_frame, server_step};
 use crate::limits::Limits;
-use crate::message::{Ending, Fault, Message, Side};
+use crate::message::{Ending, Fault, Message, MessageOf, MessageRef, Side};
 use crate::refused::{answered_body, asked_body, is_in_body};
 use crate::stream::{Advance, Stream};
+use crate::view::{shown_client, shown_server};
 use std::alloc::{AllocError, Global};
 use std::marker::Model;
 use zk_answers::Layout;
 use zk_jute::{ItemFault, Reason};
+use zk_records::Op;
 use zk_waiting::Waiting;
 
 /// What a piece gave.
@@ -58,6 +61,8 @@ pub struct Talk {
     client: Stream,
     server: Stream,
     waiting: Waiting,
+    /// The operation whose request the server's kept frame answers; None where that isn't a reply.
+    answered: Option<Op>,
     fault: Option<Fault>,
 }
 
@@ -65,12 +70,13 @@ impl Model for Talk {
     ghost use Rattle.std.specs.Prelude.{◌≡◌};
     ghost use Rattle.zk_talk.specs.Stands.{TalkState};
     ghost use Rattle.zk_talk.specs.Sound.{IsSide, IsKnown};
+    ghost use Rattle.zk_talk.specs.Viewed.{ClientKeeps, ServerKeeps};
 
     ghost Value = { TalkState };
 
-    ghost view = { λ t. record { limits = t.limits; client_held = t.client.held; server_held = t.server.held; client_kept = t.client.kept; server_kept = t.server.kept; waiting = t.waiting; client_frames = t.client.count; server_frames = t.server.count; client_size = t.client.size; server_size = t.server.size; fault = t.fault } };
+    ghost view = { λ t. record { limits = t.limits; client_held = t.client.held; server_held = t.server.held; client_kept = t.client.kept; server_kept = t.server.kept; waiting = t.waiting; client_frames = t.client.count; server_frames = t.server.count; client_size = t.client.size; server_size = t.server.size; answered = t.answered; fault = t.fault } };
 
-    ghost invariant = { λ t. IsSide t.limits.client t.fault t.client × IsSide t.limits.server t.fault t.server × (t.waiting.max ≡ t.limits.waiting) × IsKnown t.fault };
+    ghost invariant = { λ t. IsSide t.limits.client t.fault t.client × IsSide t.limits.server t.fault t.server × (t.waiting.max ≡ t.limits.waiting) × IsKnown t.fault × ClientKeeps t.client × ServerKeeps t.server t.answered };
 }
 
 /// The fault of an item of this side's frame, behind so many bytes of the side.
@@ -133,6 +139,7 @@ impl Talk {
             client,
             server,
             waiting,
+            answered: None,
             fault: None,
         })
     }
@@ -143,6 +150,7 @@ impl Talk {
         ensures limits { self.new.limits ≡ self.old.limits }
         ensures ok { IfOk result (λ t. (t.used ≤ length piece.now) × (0 < length piece.now → 0 < t.used) × GoesOn self.old Client (take t.used piece.now) (option_to_list t.message) self.new) }
         ensures exact { IfOk result (λ t. MatchOption t.message (t.used ≡ length piece.now) (λ m. self.new.client_held ≡ [])) }
+        ensures other { (m : Message) → Shows self.old Server m → Shows self.new Server m }
         ensures err { IfErr result (λ e. Fails self.old Client piece.now e self.new) }
         ensures given_up { self.new.client_kept ≡ [] }
         ensures empty { length piece.now ≡ 0 → IsOk result }
@@ -187,6 +195,7 @@ impl Talk {
         ensures limits { self.new.limits ≡ self.old.limits }
         ensures ok { IfOk result (λ t. (t.used ≤ length piece.now) × (0 < length piece.now → 0 < t.used) × GoesOn self.old Server (take t.used piece.now) (option_to_list t.message) self.new) }
         ensures exact { IfOk result (λ t. MatchOption t.message (t.used ≡ length piece.now) (λ m. self.new.server_held ≡ [])) }
+        ensures other { (m : Message) → Shows self.old Client m → Shows self.new Client m }
         ensures err { IfErr result (λ e. Fails self.old Server piece.now e self.new) }
         ensures given_up { self.new.server_kept ≡ [] }
         ensures empty { length piece.now ≡ 0 → IsOk result }
@@ -225,6 +234,7 @@ impl Talk {
         ensures limits { self.new.limits ≡ self.old.limits }
         ensures ok { IfOk result (λ s. (s.used ≤ length piece.now) × (0 < length piece.now → 0 < s.used) × Steps self.old Client (take s.used piece.now) s.whole self.new) }
         ensures exact { IfOk result (λ s. s.whole ≡ false → s.used ≡ length piece.now) }
+        ensures other { (m : Message) → Shows self.old Server m → Shows self.new Server m }
         ensures err { IfErr result (λ e. (e.reason ≢ NoMemory) × IsRefused self.old Client piece.now e self.new) }
     {
         match self.client.take(piece) {
@@ -258,6 +268,7 @@ impl Talk {
         ensures limits { self.new.limits ≡ self.old.limits }
         ensures ok { IfOk result (λ s. (s.used ≤ length piece.now) × (0 < length piece.now → 0 < s.used) × Steps self.old Server (take s.used piece.now) s.whole self.new) }
         ensures exact { IfOk result (λ s. s.whole ≡ false → s.used ≡ length piece.now) }
+        ensures other { (m : Message) → Shows self.old Client m → Shows self.new Client m }
         ensures err { IfErr result (λ e. (e.reason ≢ NoMemory) × IsRefused self.old Server piece.now e self.new) }
     {
         match self.server.take(piece) {
@@ -271,7 +282,10 @@ impl Talk {
             Advance::Whole(used) => {
                 let asked = self.client.count();
                 match server_step(asked, &mut self.server, &mut self.waiting, used) {
-                    Ok(()) => Ok(Stepped { used, whole: true }),
+                    Ok(answered) => {
+                        self.answered = answered;
+                        Ok(Stepped { used, whole: true })
+                    }
                     Err(item) => {
                         let stream = &self.server;
                         Err(refuse(&mut self.fault, Side::Server, stream, used, item))
@@ -308,6 +322,8 @@ impl Talk {
         ensures ok { IfOk result (λ s. (s.used ≤ length piece.now) × (0 < length piece.now → 0 < s.used) × Steps self.old side (take s.used piece.now) s.whole self.new) }
         // With no whole frame all was used.
         ensures exact { IfOk result (λ s. s.whole ≡ false → s.used ≡ length piece.now) }
+        // What the other side's frame shows it goes on to show.
+        ensures other { (m : Message) → Shows self.old (other_side side) m → Shows self.new (other_side side) m }
         // A refusal is the history's fault, and never want of memory.
         ensures err { IfErr result (λ e. (e.reason ≢ NoMemory) × IsRefused self.old side piece.now e self.new) }
         // A fault is kept.
@@ -338,8 +354,9 @@ impl Talk {
         ensures exact { IfOk result (λ t. MatchOption t.message (t.used ≡ length piece.now) (λ m. held_on side self.new ≡ [])) }
         // Want of memory stands for a message and changes nothing; another refusal is the history's fault.
         ensures err { IfErr result (λ e. Fails self.old side piece.now e self.new) }
-        // What a step kept on the side is given up.
+        // What a step kept on the side is given up, and the other side's frame goes on to show what it shows.
         ensures given_up { kept_on side self.new ≡ [] }
+        ensures other { (m : Message) → Shows self.old (other_side side) m → Shows self.new (other_side side) m }
         // No memory is wanted of an empty piece.
         ensures empty { length piece.now ≡ 0 → self.old.fault ≡ None → IsOk result }
         // A fault is kept.
@@ -352,6 +369,25 @@ impl Talk {
         match side {
             Side::Client => self.client_piece(piece),
             Side::Server => self.server_piece(piece),
+        }
+    }
+
+    /// The message whose frame the side keeps, where it lies: its texts and blobs are borrowed from
+    /// the frame, its lists walked by iterators, and no memory is taken. Some exactly where the
+    /// side's last `take` or `step` was a step that made a frame whole.
+    pub fn view(&self, side: Side) -> Option<MessageRef<'_>>
+        ensures shown { MatchOption result (kept_on side self.now ≡ []) (λ m. Shows self.now side m) }
+        ensures only { (m : Message) → Shows self.now side m → result ≡ Some m }
+    {
+        match side {
+            Side::Client => {
+                let payload = self.client.kept_payload()?;
+                Some(MessageOf::Client(shown_client(self.client.count(), payload)))
+            }
+            Side::Server => {
+                let payload = self.server.kept_payload()?;
+                Some(MessageOf::Server(shown_server(self.server.count(), self.answered, payload)))
+            }
         }
     }
 

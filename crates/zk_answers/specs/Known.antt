@@ -1,0 +1,20 @@
+-- What stands behind a result of a multi.
+use Rattle.std.specs.Prelude.{◌≡◌, ℕ, ◌+◌, ◌≤◌, List, [], ◌∷◌, length, Option, Some, None}
+use Rattle.zk_jute.specs.Item.{HaveBytes}
+use Rattle.zk_jute.specs.Told.{StandsAt}
+use Rattle.zk_answers.specs.Held.{PartDone}
+use Rattle.zk_answers.specs.Results.{done_items, multi_items}
+
+-- one result is passed, and the others and the end marker stand behind it
+pub record IsPassed (d : PartDone) (ds : List PartDone) (src : List ℕ) (place end next : ℕ) : Type 0 where
+  pub have : HaveBytes (done_items d)
+  pub stands : StandsAt (done_items d) src place next
+  pub others_have : HaveBytes (multi_items ds)
+  pub others : StandsAt (multi_items ds) src next end
+  pub far : place + 9 ≤ next
+  pub within : next ≤ length src
+
+-- of these results that stand at the place: None where there is none, else the place behind the first
+abbrev pub IsBehind : List PartDone → List ℕ → ℕ → ℕ → Option ℕ → Type 0
+IsBehind [] src place end answer = answer ≡ None
+IsBehind (d ∷ ds) src place end answer = (next : ℕ) × (answer ≡ Some next) × IsPassed d ds src place end next

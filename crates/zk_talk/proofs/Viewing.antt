@@ -1,0 +1,99 @@
+-- What a frame shows that was judged and is kept.
+use Rattle.std.proofs.Common.{◌≡◌, ℕ, ◌+◌, List, [], length, Some, None, refl, sym, ap, subst, ◌∙◌, arith}
+use Rattle.std.specs.Prelude.{Option}
+use Rattle.zk_frames.specs.Framing.{frame}
+use Rattle.zk_records.specs.declared.op.Op.{Op}
+use Rattle.zk_records.specs.declared.profile.Profile.{Profile}
+use Rattle.zk_asks.specs.Held.{ClientFrame}
+use Rattle.zk_asks.specs.Frames as asks
+use Rattle.zk_answers.specs.Held.{ServerFrame, Outcome}
+use Rattle.zk_answers.specs.declared.frame.OutcomeOf.TheVariants as outcome
+use Rattle.zk_answers.specs.declared.frame.ServerFrameOf.TheVariants.{Connected, Answered, Event}
+use Rattle.zk_answers.specs.Frames as answers
+use Rattle.zk_waiting.specs.Waiting.{Lanes}
+use Rattle.zk_talk.specs.Payloads.{client_payload, server_payload}
+use Rattle.zk_talk.specs.Judged.{IsInTurn, IsDue}
+use Rattle.zk_frames.proofs.Cuts.{length-frame}
+use Rattle.zk_talk.specs.declared.message.Side.{Side}
+use Rattle.zk_talk.specs.declared.message.Side.TheVariants.{Client, Server}
+use Rattle.zk_talk.specs.Held.{Message}
+use Rattle.zk_talk.specs.declared.message.MessageOf.TheVariants.{Client as FromClient, Server as FromServer}
+use Rattle.zk_talk.specs.Stands.{TalkState, kept_on}
+use Rattle.zk_talk.proofs.Sides.{carried}
+use Rattle.zk_talk.specs.Viewed.{Shows, ShowsClient, ShowsServer, IsShownAs, answered_by}
+
+one_less : (n : ℕ) → n + 1 ≡ 1 → n ≡ 0
+one_less n e = omega (arith, e)
+
+one_more : (n : ℕ) → n ≡ 0 → n + 1 ≡ 1
+one_more n e = omega (arith, e)
+
+pub client_shown : (n : ℕ) (kept : List ℕ) (f : ClientFrame) (profile : Profile) → IsInTurn profile n f → asks.IsSent f → kept ≡ frame (client_payload f) → ShowsClient (n + 1) kept f
+client_shown n kept f profile turn sent is = record {
+  first = λ e. turn.0 (one_less n e);
+  later = λ not. (turn.1 (λ e. not (one_more n e))).0;
+  sent = sent;
+  is = is;
+}
+
+fits_its_own : (o : Outcome) → (op : Op) (parts : List _) → answers.OutcomeFits op parts o → answers.OutcomeFits (answers.op_of_outcome o) parts o
+fits_its_own (outcome.Done b) op parts fits = (refl, fits.1)
+fits_its_own (outcome.Failed o e) op parts fits = refl
+
+kind_of : (n : ℕ) (s : ServerFrame) (w : Lanes) → IsDue s w → (n ≡ 0 → answers.IsConnected s) × ((n ≡ 0 → ⊥) → answers.IsConnected s → ⊥) → IsShownAs (n + 1) (answered_by s) s
+kind_of n (Connected hello read_only) w due turn = ((λ e. tt), (λ not. absurd (turn.1 (λ e. not (one_more n e)) tt)))
+kind_of n (Answered reply) w due turn = (due.0.parts, fits_its_own reply.outcome due.0.op due.0.parts due.2)
+kind_of n (Event zxid event) w due turn = ((λ e. absurd (turn.0 (one_less n e))), (λ not. tt))
+
+pub server_shown : (n : ℕ) (kept : List ℕ) (s : ServerFrame) (w : Lanes) → IsDue s w → (n ≡ 0 → answers.IsConnected s) × ((n ≡ 0 → ⊥) → answers.IsConnected s → ⊥) → answers.IsSent s
+    → kept ≡ frame (server_payload s) → ShowsServer (n + 1) (answered_by s) kept s
+server_shown n kept s w due turn sent is = record { kind = kind_of n s w due turn; sent = sent; is = is }
+
+-- ---- what the payload of a kept frame is
+
+one_payload : (p q : List ℕ) → frame p ≡ frame q → p ≡ q
+one_payload p q e = carried (frame q) p (sym e) ∙ sym (carried (frame q) q refl)
+
+pub client_bytes : (p : List ℕ) (f : ClientFrame) → frame p ≡ frame (client_payload f) → p ≡ asks.payload f
+unfolding client_payload
+client_bytes p f e = one_payload p (client_payload f) e
+
+pub server_bytes : (p : List ℕ) (s : ServerFrame) → frame p ≡ frame (server_payload s) → p ≡ answers.payload s
+unfolding server_payload
+server_bytes p s e = one_payload p (server_payload s) e
+
+-- ---- what a talk keeps
+
+some_frame : (p : List ℕ) → frame p ≡ [] → ⊥
+some_frame p e = omega (arith, ap length e, length-frame p)
+
+-- where nothing is kept nothing is shown
+pub nothing_shown : (side : Side) (t : TalkState) (m : Message) → kept_on side t ≡ [] → Shows t side m → ⊥
+nothing_shown Client t (FromClient f) none shows = some_frame (client_payload f) (sym shows.is ∙ none)
+nothing_shown Server t (FromServer s) none shows = some_frame (server_payload s) (sym shows.is ∙ none)
+nothing_shown Client t (FromServer s) none shows = absurd shows
+nothing_shown Server t (FromClient f) none shows = absurd shows
+
+module _ (count : ℕ) (kept p : List ℕ) (is : kept ≡ frame p) where
+  not_none : kept ≡ [] → ⊥
+  not_none e = some_frame p (sym is ∙ e)
+
+  module _ (k : (kept ≡ [] → ⊥) → (f : ClientFrame) × ShowsClient count kept f) where
+    pub client_lies : (n : ℕ) → n ≡ count → (f : ClientFrame) × ShowsClient n (frame p) f
+    client_lies n e = let x = k not_none in (x.0, subst (λ (b : List ℕ). ShowsClient n b x.0) is (subst (λ (m : ℕ). ShowsClient m kept x.0) (sym e) x.1))
+
+    pub client_made : (n : ℕ) → n ≡ count → (r : ClientFrame) → ((f : ClientFrame) → ShowsClient n (frame p) f → r ≡ f) → ShowsClient count kept r
+    client_made n e r only =
+        let x = k not_none in
+        let same = only x.0 (subst (λ (b : List ℕ). ShowsClient n b x.0) is (subst (λ (m : ℕ). ShowsClient m kept x.0) (sym e) x.1)) in
+        subst (ShowsClient count kept) (sym same) x.1
+
+  module _ (op : Option Op) (k : (kept ≡ [] → ⊥) → (s : ServerFrame) × ShowsServer count op kept s) where
+    pub server_lies : (n : ℕ) → n ≡ count → (s : ServerFrame) × ShowsServer n op (frame p) s
+    server_lies n e = let x = k not_none in (x.0, subst (λ (b : List ℕ). ShowsServer n op b x.0) is (subst (λ (m : ℕ). ShowsServer m op kept x.0) (sym e) x.1))
+
+    pub server_made : (n : ℕ) → n ≡ count → (r : ServerFrame) → ((s : ServerFrame) → ShowsServer n op (frame p) s → r ≡ s) → ShowsServer count op kept r
+    server_made n e r only =
+        let x = k not_none in
+        let same = only x.0 (subst (λ (b : List ℕ). ShowsServer n op b x.0) is (subst (λ (m : ℕ). ShowsServer m op kept x.0) (sym e) x.1)) in
+        subst (ShowsServer count op kept) (sym same) x.1

@@ -1,0 +1,59 @@
+-- What the frame shows that a side keeps.
+use Rattle.std.specs.Prelude.{◌≡◌, ℕ, ◌+◌, List, [], Option, Some, None}
+use Rattle.zk_frames.specs.Framing.{frame}
+use Rattle.zk_records.specs.declared.op.Op.{Op}
+use Rattle.zk_records.specs.declared.op.PartOp.{PartOp}
+use Rattle.zk_asks.specs.Held.{ClientFrame}
+use Rattle.zk_asks.specs.Frames as asks
+use Rattle.zk_answers.specs.Held.{ServerFrame}
+use Rattle.zk_answers.specs.declared.frame.ServerFrameOf.TheVariants.{Connected, Answered, Event}
+use Rattle.zk_answers.specs.Frames as answers
+use Rattle.zk_talk.specs.declared.message.Side.{Side}
+use Rattle.zk_talk.specs.declared.message.Side.TheVariants.{Client, Server}
+use Rattle.zk_talk.specs.Held.{Message}
+use Rattle.zk_talk.specs.declared.message.MessageOf.TheVariants.{Client as FromClient, Server as FromServer}
+use Rattle.zk_talk.specs.Payloads.{client_payload, server_payload}
+use Rattle.zk_talk.specs.Stands.{TalkState}
+use Rattle.zk_talk.specs.Streams.{StreamState}
+
+-- the operation whose request the frame answers; none where it isn't a reply
+abbrev pub answered_by : ServerFrame → Option Op
+answered_by (Connected hello read_only) = None
+answered_by (Answered reply) = Some (answers.op_of_reply reply)
+answered_by (Event zxid event) = None
+
+-- the frame, the last of so many, replies to a request of this operation; or, with none, it is the first, or an event
+abbrev pub IsShownAs : ℕ → Option Op → ServerFrame → Type 0
+IsShownAs frames (Some op) s = (parts : List PartOp) × answers.IsReplyTo op parts s
+IsShownAs frames None s = (frames ≡ 1 → answers.IsConnected s) × ((frames ≡ 1 → ⊥) → answers.IsEvent s)
+
+-- the kept bytes, the client's last frame of so many, are this frame's
+pub record ShowsClient (frames : ℕ) (kept : List ℕ) (f : ClientFrame) : Type 0 where
+  pub first : frames ≡ 1 → asks.IsFirst f
+  pub later : (frames ≡ 1 → ⊥) → asks.IsLater f
+  pub sent : asks.IsSent f
+  pub is : kept ≡ frame (client_payload f)
+
+-- and those of the server
+pub record ShowsServer (frames : ℕ) (answered : Option Op) (kept : List ℕ) (s : ServerFrame) : Type 0 where
+  pub kind : IsShownAs frames answered s
+  pub sent : answers.IsSent s
+  pub is : kept ≡ frame (server_payload s)
+
+-- the frame that the side keeps is the message's
+abbrev pub Shows : TalkState → Side → Message → Type 0
+Shows t Client (FromClient f) = ShowsClient t.client_frames t.client_kept f
+Shows t Server (FromServer s) = ShowsServer t.server_frames t.answered t.server_kept s
+Shows t Client (FromServer s) = ⊥
+Shows t Server (FromClient f) = ⊥
+
+abbrev pub other_side : Side → Side
+other_side Client = Server
+other_side Server = Client
+
+-- what is kept, if anything is, is a frame's
+abbrev pub ClientKeeps : StreamState → Type 0
+ClientKeeps s = (s.kept ≡ [] → ⊥) → (f : ClientFrame) × ShowsClient s.count s.kept f
+
+abbrev pub ServerKeeps : StreamState → Option Op → Type 0
+ServerKeeps s answered = (s.kept ≡ [] → ⊥) → (f : ServerFrame) × ShowsServer s.count answered s.kept f
