@@ -75,7 +75,7 @@ nothing_shown Client t (FromServer s) none shows = absurd shows
 nothing_shown Server t (FromClient f) none shows = absurd shows
 
 module _ (count : ℕ) (kept p : List ℕ) (is : kept ≡ frame p) where
-  not_none : kept ≡ [] → ⊥
+  pub not_none : kept ≡ [] → ⊥
   not_none e = some_frame p (sym is ∙ e)
 
   module _ (k : (kept ≡ [] → ⊥) → (f : ClientFrame) × ShowsClient count kept f) where

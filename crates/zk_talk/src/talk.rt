@@ -377,6 +377,7 @@ impl Talk {
     /// side's last `take` or `step` was a step that made a frame whole.
     pub fn view(&self, side: Side) -> Option<MessageRef<'_>>
         ensures shown { MatchOption result (kept_on side self.now ≡ []) (λ m. Shows self.now side m) }
+        ensures none { kept_on side self.now ≡ [] → result ≡ None }
         ensures only { (m : Message) → Shows self.now side m → result ≡ Some m }
     {
         match side {

@@ -1,4 +1,4 @@
-use Rattle.zk_talk.proofs.Viewing.{nothing_shown, client_lies, client_made, server_lies, server_made}
+use Rattle.zk_talk.proofs.Viewing.{nothing_shown, not_none, client_lies, client_made, server_lies, server_made}
 use Rattle.zk_talk.proofs.talk.Talk.view.Goals as goal
 
 pub returns-in_err-payload-in-Client-clause-only : goal.returns-in_err-payload-in-Client-clause-only
@@ -30,3 +30,15 @@ returns-in_ok-payload-in-Server-clause-shown c =
     let x = c.self.inside.server in
     let p = c.in_ok-payload-in-Server in
     rw (c.in-Server.is, ← c.self.view_is) (server_made x.count x.kept p.payload.now p.ensures c.self.inside.answered c.self.invariant.5 c.count-in-Server.result c.count-in-Server.ensures c.shown_server.result c.shown_server.ensures)
+
+pub returns-in_ok-payload-in-Client-clause-none : goal.returns-in_ok-payload-in-Client-clause-none
+returns-in_ok-payload-in-Client-clause-none c =
+    let x = c.self.inside.client in
+    let p = c.in_ok-payload-in-Client in
+    rw (c.in-Client.is, ← c.self.view_is) (λ none. absurd (not_none x.count x.kept p.payload.now p.ensures none))
+
+pub returns-in_ok-payload-in-Server-clause-none : goal.returns-in_ok-payload-in-Server-clause-none
+returns-in_ok-payload-in-Server-clause-none c =
+    let x = c.self.inside.server in
+    let p = c.in_ok-payload-in-Server in
+    rw (c.in-Server.is, ← c.self.view_is) (λ none. absurd (not_none x.count x.kept p.payload.now p.ensures none))
