@@ -4,3 +4,4 @@ pub mod Names
 pub mod Records
 pub mod Held
 pub mod Shown
+pub mod Owned

@@ -19,5 +19,13 @@ macro_rules! decode {
     }};
 }
 
+/// `own!(self, alloc => R { a, b, c })` is the body of `own` for the record `R`.
+macro_rules! own {
+    ($record:ident, $alloc:ident => $owned:ident { $($field:ident),+ }) => {
+        Ok($owned { $($field: $record.$field.own($alloc)?),+ })
+    };
+}
+
 pub(crate) use decode;
 pub(crate) use fields;
+pub(crate) use own;

@@ -6,7 +6,7 @@ use std::alloc::Global;
 use zk_jute::{Form, ItemFault, Kept, Output, Source, Spell, Stands, Wire};
 
 /// What is known of a node: `Stat`, 68 bytes.
-#[derive(Debug, Drop)]
+#[derive(Clone, Copy, Debug)]
 pub struct Stat {
     /// The transaction that made the node.
     pub czxid: i64,

@@ -1,0 +1,347 @@
+//! Copies, with memory of their own, of what lies in a payload.
+ghost use Rattle.std.specs.Prelude.{◌≡◌, List, map, IfOk};
+ghost use Rattle.std.specs.Iterator.{Drains, IsFinite};
+ghost use Rattle.zk_records.specs.Owned.{each};
+
+use crate::acl::{Acl, AclList, AclOf, AclRef, Id, IdOf, IdRef};
+use crate::ask::{
+    CheckAsk, CheckAskOf, CheckAskRef, CreateAsk, CreateAskOf, CreateAskRef, DeleteAsk,
+    DeleteAskOf, DeleteAskRef, SetAclAsk, SetAclAskOf, SetAclAskRef, SetDataAsk, SetDataAskOf,
+    SetDataAskRef,
+};
+use crate::body::{
+    AclBody, AclBodyOf, AclBodyRef, ChildrenBody, ChildrenBodyOf, ChildrenBodyRef, CreateBody,
+    CreateBodyOf, CreateBodyRef, DataBody, DataBodyOf, DataBodyRef,
+};
+use crate::connect::{
+    ConnectRequest, ConnectRequestOf, ConnectRequestRef, ConnectResponse, ConnectResponseOf,
+    ConnectResponseRef,
+};
+use crate::event::{WatcherEvent, WatcherEventOf, WatcherEventRef};
+use crate::fields::own;
+use crate::query::{PathAsk, PathAskOf, PathAskRef, WatchAsk, WatchAskOf, WatchAskRef};
+use crate::session::{
+    AuthAsk, AuthAskOf, AuthAskRef, SetWatchesAsk, SetWatchesAskOf, SetWatchesAskRef,
+};
+use crate::stat::Stat;
+use std::alloc::{AllocError, Global};
+use zk_jute::{
+    Blob, BlobRef, Bytes, Chars, Element, Items, List, Payload, Series, Stands, Text, TextList,
+    TextRef,
+};
+
+/// What lies in a payload, and can be copied out of it.
+pub trait Own {
+    /// What the copy is.
+    type Owned: Drop;
+
+    /// The copy's value; each impl says that it is the very value that lies there.
+    ghost same: { Self → Self.Owned };
+
+    /// A copy with memory of its own. `AllocError` where memory is refused.
+    fn own(&self, alloc: Global) -> Result<Self::Owned, AllocError>
+        ensures { IfOk result (λ copy. copy ≡ same self.now) };
+}
+
+/// Copies of all that is left, in order. `AllocError` where memory is refused.
+pub fn own_all<T: Own + Drop, I: Iterator<Item = T> + Drop>(
+    items: I,
+    alloc: Global,
+) -> Result<Vec<T::Owned>, AllocError>
+    requires can { I.can_next items }
+    requires ends { IsFinite (I.remaining items) }
+    ensures { IfOk result (λ copies. (xs : List T) × Drains I.next_gives items xs × (copies.items ≡ map T.same xs)) }
+{
+    let mut copies = Vec::new(alloc);
+    for item in items {
+        copies.push(item.own(alloc)?)?;
+    }
+    Ok(copies)
+}
+
+impl Own for i32 {
+    type Owned = i32;
+
+    ghost same = { λ x. x };
+
+    fn own(&self, _alloc: Global) -> Result<i32, AllocError> {
+        Ok(*self)
+    }
+}
+
+impl Own for i64 {
+    type Owned = i64;
+
+    ghost same = { λ x. x };
+
+    fn own(&self, _alloc: Global) -> Result<i64, AllocError> {
+        Ok(*self)
+    }
+}
+
+impl Own for bool {
+    type Owned = bool;
+
+    ghost same = { λ x. x };
+
+    fn own(&self, _alloc: Global) -> Result<bool, AllocError> {
+        Ok(*self)
+    }
+}
+
+impl Own for Stat {
+    type Owned = Stat;
+
+    ghost same = { λ x. x };
+
+    fn own(&self, _alloc: Global) -> Result<Stat, AllocError> {
+        Ok(*self)
+    }
+}
+
+impl<'a> Own for TextRef<'a> {
+    type Owned = Text;
+
+    ghost same = { λ x. x };
+
+    fn own(&self, alloc: Global) -> Result<Text, AllocError> {
+        match self {
+            TextRef::Null => Ok(Text::Null),
+            TextRef::Full(text) => Ok(Text::Full(Chars::new(String::from_str(
+                alloc,
+                text.as_str(),
+            )?))),
+        }
+    }
+}
+
+impl<'a> Own for BlobRef<'a> {
+    type Owned = Blob;
+
+    ghost same = { λ x. x };
+
+    fn own(&self, alloc: Global) -> Result<Blob, AllocError> {
+        match self {
+            BlobRef::Null => Ok(Blob::Null),
+            BlobRef::Full(bytes) => Ok(Blob::Full(Bytes::new(Vec::from_slice(
+                alloc,
+                bytes.as_slice(),
+            )?))),
+        }
+    }
+}
+
+/// A list's copy: null, or a copy of each element.
+fn own_list<'a, R: Element + Stands<Payload<'a>> + Own>(
+    list: &Series<'a, R>,
+    alloc: Global,
+) -> Result<List<R::Owned>, AllocError>
+    ensures { IfOk result (λ copy. copy ≡ each R.same list.now) }
+{
+    if list.is_null() {
+        return Ok(List::Null);
+    }
+    Ok(List::Full(Items::new(own_all(list.items(), alloc)?)))
+}
+
+impl<'a> Own for TextList<'a> {
+    type Owned = List<Text>;
+
+    ghost same = { λ x. x };
+
+    #[tactic(auto, using(crate::proofs::Owned::each_same))]
+    fn own(&self, alloc: Global) -> Result<List<Text>, AllocError> {
+        own_list(self, alloc)
+    }
+}
+
+impl<'a> Own for AclList<'a> {
+    type Owned = List<Acl>;
+
+    ghost same = { λ x. x };
+
+    #[tactic(auto, using(crate::proofs::Owned::each_same))]
+    fn own(&self, alloc: Global) -> Result<List<Acl>, AllocError> {
+        own_list(self, alloc)
+    }
+}
+
+impl<'a> Own for IdRef<'a> {
+    type Owned = Id;
+
+    ghost same = { λ x. x };
+
+    fn own(&self, alloc: Global) -> Result<Id, AllocError> {
+        own!(self, alloc => IdOf { scheme, ident })
+    }
+}
+
+impl<'a> Own for AclRef<'a> {
+    type Owned = Acl;
+
+    ghost same = { λ x. x };
+
+    fn own(&self, alloc: Global) -> Result<Acl, AllocError> {
+        own!(self, alloc => AclOf { perms, who })
+    }
+}
+
+impl<'a> Own for ConnectRequestRef<'a> {
+    type Owned = ConnectRequest;
+
+    ghost same = { λ x. x };
+
+    fn own(&self, alloc: Global) -> Result<ConnectRequest, AllocError> {
+        own!(self, alloc => ConnectRequestOf { protocol_version, last_zxid_seen, time_out, session_id, passwd })
+    }
+}
+
+impl<'a> Own for ConnectResponseRef<'a> {
+    type Owned = ConnectResponse;
+
+    ghost same = { λ x. x };
+
+    fn own(&self, alloc: Global) -> Result<ConnectResponse, AllocError> {
+        own!(self, alloc => ConnectResponseOf { protocol_version, time_out, session_id, passwd })
+    }
+}
+
+impl<'a> Own for WatcherEventRef<'a> {
+    type Owned = WatcherEvent;
+
+    ghost same = { λ x. x };
+
+    fn own(&self, alloc: Global) -> Result<WatcherEvent, AllocError> {
+        own!(self, alloc => WatcherEventOf { kind, state, path })
+    }
+}
+
+impl<'a> Own for CreateAskRef<'a> {
+    type Owned = CreateAsk;
+
+    ghost same = { λ x. x };
+
+    fn own(&self, alloc: Global) -> Result<CreateAsk, AllocError> {
+        own!(self, alloc => CreateAskOf { path, blob, acl, flags })
+    }
+}
+
+impl<'a> Own for DeleteAskRef<'a> {
+    type Owned = DeleteAsk;
+
+    ghost same = { λ x. x };
+
+    fn own(&self, alloc: Global) -> Result<DeleteAsk, AllocError> {
+        own!(self, alloc => DeleteAskOf { path, version })
+    }
+}
+
+impl<'a> Own for SetDataAskRef<'a> {
+    type Owned = SetDataAsk;
+
+    ghost same = { λ x. x };
+
+    fn own(&self, alloc: Global) -> Result<SetDataAsk, AllocError> {
+        own!(self, alloc => SetDataAskOf { path, blob, version })
+    }
+}
+
+impl<'a> Own for SetAclAskRef<'a> {
+    type Owned = SetAclAsk;
+
+    ghost same = { λ x. x };
+
+    fn own(&self, alloc: Global) -> Result<SetAclAsk, AllocError> {
+        own!(self, alloc => SetAclAskOf { path, acl, version })
+    }
+}
+
+impl<'a> Own for CheckAskRef<'a> {
+    type Owned = CheckAsk;
+
+    ghost same = { λ x. x };
+
+    fn own(&self, alloc: Global) -> Result<CheckAsk, AllocError> {
+        own!(self, alloc => CheckAskOf { path, version })
+    }
+}
+
+impl<'a> Own for WatchAskRef<'a> {
+    type Owned = WatchAsk;
+
+    ghost same = { λ x. x };
+
+    fn own(&self, alloc: Global) -> Result<WatchAsk, AllocError> {
+        own!(self, alloc => WatchAskOf { path, watch })
+    }
+}
+
+impl<'a> Own for PathAskRef<'a> {
+    type Owned = PathAsk;
+
+    ghost same = { λ x. x };
+
+    fn own(&self, alloc: Global) -> Result<PathAsk, AllocError> {
+        own!(self, alloc => PathAskOf { path })
+    }
+}
+
+impl<'a> Own for AuthAskRef<'a> {
+    type Owned = AuthAsk;
+
+    ghost same = { λ x. x };
+
+    fn own(&self, alloc: Global) -> Result<AuthAsk, AllocError> {
+        own!(self, alloc => AuthAskOf { kind, scheme, auth })
+    }
+}
+
+impl<'a> Own for SetWatchesAskRef<'a> {
+    type Owned = SetWatchesAsk;
+
+    ghost same = { λ x. x };
+
+    fn own(&self, alloc: Global) -> Result<SetWatchesAsk, AllocError> {
+        own!(self, alloc => SetWatchesAskOf { zxid, data_watches, exist_watches, child_watches })
+    }
+}
+
+impl<'a> Own for DataBodyRef<'a> {
+    type Owned = DataBody;
+
+    ghost same = { λ x. x };
+
+    fn own(&self, alloc: Global) -> Result<DataBody, AllocError> {
+        own!(self, alloc => DataBodyOf { blob, stat })
+    }
+}
+
+impl<'a> Own for AclBodyRef<'a> {
+    type Owned = AclBody;
+
+    ghost same = { λ x. x };
+
+    fn own(&self, alloc: Global) -> Result<AclBody, AllocError> {
+        own!(self, alloc => AclBodyOf { acl, stat })
+    }
+}
+
+impl<'a> Own for ChildrenBodyRef<'a> {
+    type Owned = ChildrenBody;
+
+    ghost same = { λ x. x };
+
+    fn own(&self, alloc: Global) -> Result<ChildrenBody, AllocError> {
+        own!(self, alloc => ChildrenBodyOf { names, stat })
+    }
+}
+
+impl<'a> Own for CreateBodyRef<'a> {
+    type Owned = CreateBody;
+
+    ghost same = { λ x. x };
+
+    fn own(&self, alloc: Global) -> Result<CreateBody, AllocError> {
+        own!(self, alloc => CreateBodyOf { path, stat })
+    }
+}
