@@ -9,7 +9,7 @@ use zk_jute::{Blob, BlobRef, Items, List, Text, TextList, TextRef};
 use zk_records::{Acl, AclList, ConnectResponseOf, Op, Stat, WatcherEventOf};
 
 /// The number of an error (ZooKeeper 3.4, `KeeperException.Code`): never 0.
-#[derive(Debug, Drop)]
+#[derive(Clone, Copy, Debug)]
 pub struct Failure {
     number: i32,
 }
@@ -20,6 +20,8 @@ impl Model for Failure {
     ghost Value = { ℤ };
 
     ghost view = { λ f. f.number };
+
+    ghost inverse = { λ n. record { number = n } };
 
     ghost invariant = { λ f. f.number ≢ pos 0 };
 }

@@ -10,6 +10,7 @@ mod known;
 mod laws;
 mod layout;
 mod multi;
+mod own;
 mod read;
 mod scan;
 mod write;

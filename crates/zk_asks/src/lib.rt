@@ -7,6 +7,7 @@ mod frame;
 mod known;
 mod laws;
 mod multi;
+mod own;
 mod part_list;
 mod read;
 mod request;
