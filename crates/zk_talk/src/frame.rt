@@ -13,15 +13,13 @@ ghost use Rattle.zk_talk.specs.Judged.{Tells, IsNextClient, IsNextServer, IsReme
 ghost use Rattle.zk_talk.specs.Streams.{IsAtFrame, passed, kept_now};
 ghost use Rattle.zk_talk.specs.Viewed.{ShowsClient, ShowsServer, answered_by};
 
-use crate::judge::{
-    await_reply, build_client, build_server, forget_seen, next_client, next_server,
-};
+use crate::judge::{await_reply, forget_seen, next_client, next_server};
 use crate::stream::Stream;
 use std::alloc::Global;
 use zk_answers::{ServerFrame, ServerFrameOf, ServerRef};
 use zk_asks::ClientFrame;
 use zk_jute::{ItemFault, Reason};
-use zk_records::{Op, Profile};
+use zk_records::{Op, Own, Profile};
 use zk_waiting::Waiting;
 
 /// Whether memory was wanted.
@@ -72,18 +70,16 @@ pub fn client_frame(
     ensures stays { IfErr result (λ e. (e.reason ≡ NoMemory → ⊥) → stream.new ≡ stream.old) }
     ensures fault { IfErr result (λ e. (e.reason ≡ NoMemory → ⊥) → (limits : Limits) (m : ℕ) (v : Conversation) → limits.waiting ≡ waiting.old.max → limits.profile ≡ profile → Describes stream.old.count m waiting.old v → Tells (IsClientFault limits v (drop 4 stream.old.held)) e) }
 {
-    let payload = stream.payload();
-    let count = stream.count();
-    let seen = next_client(profile, count, waiting, payload)?;
-    match build_client(alloc, profile, count, payload) {
+    let seen = next_client(profile, stream.count(), waiting, stream.payload())?;
+    match seen.own(alloc) {
         Ok(frame) => {
             await_reply(waiting, &seen);
             stream.pass(used);
             Ok(frame)
         }
-        Err(item) => {
+        Err(refused) => {
             stream.take_back(used);
-            Err(item)
+            Err(ItemFault::from(refused))
         }
     }
 }
@@ -139,17 +135,16 @@ pub fn server_frame(
     ensures stays { IfErr result (λ e. (e.reason ≡ NoMemory → ⊥) → stream.new ≡ stream.old) }
     ensures fault { IfErr result (λ e. (e.reason ≡ NoMemory → ⊥) → (v : Conversation) → Describes asked stream.old.count waiting.old v → Tells (IsServerFault v (drop 4 stream.old.held)) e) }
 {
-    let payload = stream.payload();
-    let seen = next_server(asked, stream.count(), waiting, payload)?;
-    match build_server(alloc, waiting, &seen, payload) {
+    let seen = next_server(asked, stream.count(), waiting, stream.payload())?;
+    match seen.own(alloc) {
         Ok(frame) => {
             forget_seen(waiting, &seen);
             stream.pass(used);
             Ok(frame)
         }
-        Err(item) => {
+        Err(refused) => {
             stream.take_back(used);
-            Err(item)
+            Err(ItemFault::from(refused))
         }
     }
 }

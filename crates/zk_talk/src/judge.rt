@@ -1,9 +1,7 @@
 //! Whether a payload may come now.
 ghost use Rattle.std.specs.Prelude.{◌≡◌, ◌≢◌, ◌≤◌, ◌<◌, ◌+◌, ◌^◌, ◌⊎◌, ◌↔◌, ℕ, List, length, IfOk, IfErr, OnOk, IsTrue, Some, slice_get};
 ghost use Rattle.zk_jute.specs.declared.fault.Reason.TheVariants.{NoMemory};
-ghost use Rattle.zk_jute.specs.Told.{IsReadAs};
 ghost use Rattle.zk_asks.specs.Codes.{event_xid};
-ghost use Rattle.zk_asks.specs.Held as held;
 ghost use Rattle.zk_asks.specs.Frames.{IsSent};
 ghost use Rattle.zk_answers.specs.Faults.{IsHead};
 ghost use Rattle.zk_answers.specs.Frames as answers;
@@ -18,12 +16,10 @@ ghost use Rattle.zk_talk.specs.Judged.{Tells, IsInTurn, IsTurnFault, IsPutRefusa
 
 use std::alloc::Global;
 use zk_answers::{
-    ServerFrame, ServerFrameOf, ServerRef, form_of, read_connected, read_event, read_reply,
-    reply_head, scan_connected, scan_event, scan_reply,
+    ServerFrame, ServerFrameOf, ServerRef, form_of, reply_head, scan_connected, scan_event,
+    scan_reply,
 };
-use zk_asks::{
-    ClientFrame, ClientFrameOf, ClientRef, RequestRef, read_ask, read_first, scan_ask, scan_first,
-};
+use zk_asks::{ClientFrame, ClientFrameOf, ClientRef, RequestRef, scan_ask, scan_first};
 use zk_jute::{ItemFault, Reason};
 use zk_records::{Profile, ReplyHeader};
 use zk_waiting::{PutFault, Waiting, lane_of};
@@ -68,22 +64,6 @@ pub fn next_client<'a>(
         Ok(frame)
     } else {
         Err(ItemFault::at(0, Reason::QueueFull))
-    }
-}
-
-/// The frame that the client's payload is known to be, with memory of its own.
-pub fn build_client(
-    alloc: Global,
-    profile: Profile,
-    count: u64,
-    payload: &[u8],
-) -> Result<ClientFrame, ItemFault>
-    ensures { (f : held.ClientFrame) → IsInTurn profile count f → IsSent f → client_payload f ≡ payload.now → IsReadAs f result }
-{
-    if count == 0 {
-        read_first(alloc, payload)
-    } else {
-        read_ask(alloc, profile, payload)
     }
 }
 
@@ -170,26 +150,6 @@ pub fn next_server<'a>(
         return scan_event(payload);
     }
     seen_answer(&head, waiting, payload)
-}
-
-/// The frame that the server's payload is known to be, with memory of its own.
-pub fn build_server(
-    alloc: Global,
-    waiting: &Waiting,
-    frame: &ServerRef<'_>,
-    payload: &[u8],
-) -> Result<ServerFrame, ItemFault>
-    requires { IsDue frame.now waiting.now × answers.IsSent frame.now × (server_payload frame.now ≡ payload.now) }
-    ensures { IsReadAs frame.now result }
-{
-    match frame {
-        ServerFrameOf::Connected { .. } => read_connected(alloc, payload),
-        ServerFrameOf::Event { .. } => read_event(alloc, payload),
-        ServerFrameOf::Answered(reply) => match waiting.oldest(lane_of(reply.xid)) {
-            Some(slot) => read_reply(alloc, &slot, payload),
-            None => unreachable!(),
-        },
-    }
 }
 
 /// What the server's frame answers waits no more.

@@ -1,8 +1,11 @@
 //! What a conversation is made of.
+ghost use Rattle.std.specs.Prelude.{◌≡◌, IfOk};
 
+use std::alloc::{AllocError, Global};
 use zk_answers::{ServerFrame, ServerRef};
 use zk_asks::{ClientFrame, ClientRef};
 use zk_jute::Reason;
+use zk_records::Own;
 
 /// Who sends.
 #[derive(Clone, Copy, Debug, PartialEq, Eq)]
@@ -23,6 +26,18 @@ pub type Message = MessageOf<ClientFrame, ServerFrame>;
 
 /// A message where it lies in its frame's payload.
 pub type MessageRef<'a> = MessageOf<ClientRef<'a>, ServerRef<'a>>;
+
+impl MessageRef<'_> {
+    /// The same message with memory of its own. `AllocError` where memory is refused.
+    pub fn to_message(&self, alloc: Global) -> Result<Message, AllocError>
+        ensures { IfOk result (λ message. message ≡ self.now) }
+    {
+        match self {
+            MessageOf::Client(frame) => Ok(MessageOf::Client(frame.own(alloc)?)),
+            MessageOf::Server(frame) => Ok(MessageOf::Server(frame.own(alloc)?)),
+        }
+    }
+}
 
 /// Why a conversation is refused, and where.
 #[derive(Clone, Copy, Debug, PartialEq, Eq)]
