@@ -20,4 +20,3 @@ pub mod Taking
 pub mod Answer
 pub mod Said
 pub mod SayNames
-pub mod Held
