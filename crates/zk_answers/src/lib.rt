@@ -28,8 +28,3 @@ pub use layout::Layout;
 pub use read::{read_connected, read_event, read_reply, reply_head};
 pub use scan::{scan_connected, scan_event, scan_reply};
 pub use write::write_server;
-
-#[cfg(test)]
-mod scan_tests;
-#[cfg(test)]
-mod tests;

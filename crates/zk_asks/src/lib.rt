@@ -24,8 +24,3 @@ pub use read::{read_ask, read_first};
 pub use request::RequestRef;
 pub use scan::{scan_ask, scan_first};
 pub use write::write_client;
-
-#[cfg(test)]
-mod scan_tests;
-#[cfg(test)]
-mod tests;

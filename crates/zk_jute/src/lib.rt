@@ -28,6 +28,3 @@ pub use value::{
     Blob, BlobRef, Bytes, BytesRef, Chars, CharsRef, Items, List, Nullable, Text, TextRef,
 };
 pub use wire::{Spell, Wire, laws};
-
-#[cfg(test)]
-mod tests;

@@ -41,6 +41,3 @@ pub use session::{
     AuthAsk, AuthAskOf, AuthAskRef, SetWatchesAsk, SetWatchesAskOf, SetWatchesAskRef,
 };
 pub use stat::Stat;
-
-#[cfg(test)]
-mod tests;

@@ -1,9 +1,13 @@
+//! Client payloads.
 ghost use Rattle.zk_asks.specs.Frames.{MaySend};
 
-use super::*;
 use std::alloc::Global;
 use std::process::Abort;
 use std::test::Fail;
+use zk_asks::{
+    Ask, Asked, ClientFrame, Room, allowed, ask_laws, asked_laws, first_laws, form_laws,
+    opening_laws, read_ask, read_first, write_client,
+};
 use zk_jute::{Blob, ItemFault, List, Reason};
 use zk_records::{Op, PartOp, Profile};
 
@@ -15,7 +19,26 @@ const HELLO: &[u8] =
 const THREE: &[u8] =
     b"\0\0\0\x01\0\0\0\x0e\0\0\0\x01\0\xff\xff\xff\xff\0\0\0\x02/a\0\0\0\0\0\0\0\x01\0\0\0\x1f\0\0\0\x05world\0\0\0\x06anyone\0\0\0\0\0\0\0\x0d\0\xff\xff\xff\xff\0\0\0\x02/a\0\0\0\x03\0\0\0\x05\0\xff\xff\xff\xff\0\0\0\x02/a\0\0\0\x01a\0\0\0\x03\xff\xff\xff\xff\x01\xff\xff\xff\xff";
 
-/// The frame of a payload, written again as it.
+/// A create2 of `/a`.
+const CREATE2: &[u8] =
+    b"\0\0\0\x01\0\0\0\x0f\0\0\0\x02/a\xff\xff\xff\xff\0\0\0\x01\0\0\0\x1f\0\0\0\x05world\0\0\0\x06anyone\0\0\0\0";
+
+/// The frame is written again as its payload.
+fn written(rt: &impl Abort, alloc: Global, frame: &ClientFrame, payload: &[u8]) -> Result<(), Fail>
+    requires { MaySend frame.now }
+{
+    let Some(size) = frame.size_within(i32::MAX as u32) else {
+        return Err("no size")?;
+    };
+    assert_eq!(rt; size as usize, payload.len());
+    let less = frame.size_within(size.saturating_sub(1));
+    assert_eq!(rt; (frame.size_within(size), less), (Some(size), None));
+    let mut out = Vec::new(alloc);
+    write_client(frame, &mut out)?;
+    assert_eq!(rt; out.as_slice(), payload);
+    Ok(())
+}
+
 fn again(
     rt: &impl Abort,
     alloc: Global,
@@ -24,17 +47,7 @@ fn again(
 ) -> Result<ClientFrame, Fail>
     requires { MaySend frame }
 {
-    let Some(size) = frame.size_within(i32::MAX as u32) else {
-        return Err("no size")?;
-    };
-    assert_eq!(rt; size as usize, payload.len());
-    assert!(rt; frame.size_within(size).is_some());
-    if size > 0 {
-        assert!(rt; frame.size_within(size - 1).is_none());
-    }
-    let mut out = Vec::new(alloc);
-    write_client(&frame, &mut out)?;
-    assert_eq!(rt; out.as_slice(), payload);
+    written(rt, alloc, &frame, payload)?;
     Ok(frame)
 }
 
@@ -102,6 +115,18 @@ fn first_payloads(rt: HostRuntime) -> Result<(), Fail> {
     )
 }
 
+/// How many nodes are watched until they exist, and whether the list of children is null.
+fn watched(ask: &Ask) -> Option<(usize, bool)> {
+    let Ask::SetWatches(watches) = ask else {
+        return None;
+    };
+    let List::Full(nodes) = &watches.exist_watches else {
+        return None;
+    };
+    let null = matches!(&watches.child_watches, List::Null);
+    Some((nodes.as_slice().len(), null))
+}
+
 #[test]
 fn set_watches(rt: HostRuntime) -> Result<(), Fail> {
     let alloc = rt.alloc();
@@ -110,18 +135,9 @@ fn set_watches(rt: HostRuntime) -> Result<(), Fail> {
     let other =
         b"\0\0\0\x05\0\0\0\x65\0\0\0\0\0\0\0\x05\0\0\0\x01\0\0\0\x02/a\0\0\0\0\xff\xff\xff\xff";
     let (xid, ask) = asked(&rt, alloc, own)?;
-    assert_eq!(rt; xid, -8);
-    let Ask::SetWatches(watches) = ask else {
-        return Err("no watches")?;
-    };
-    assert!(rt; matches!(&watches.child_watches, List::Null));
-    let List::Full(none) = &watches.exist_watches else {
-        return Err("null")?;
-    };
-    assert_eq!(rt; none.as_slice().len(), 0);
+    assert_eq!(rt; (xid, watched(&ask)), (-8, Some((0, true))));
     let (xid, ask) = asked(&rt, alloc, other)?;
-    assert_eq!(rt; xid, 5);
-    assert_eq!(rt; ask.op(), Op::SetWatches);
+    assert_eq!(rt; (xid, ask.op()), (5, Op::SetWatches));
     Ok(())
 }
 
@@ -140,12 +156,10 @@ fn requests(rt: HostRuntime) -> Result<(), Fail> {
     ];
     for (payload, number, op) in rows {
         let (xid, ask) = asked(&rt, alloc, payload)?;
-        assert_eq!(rt; xid, number);
-        assert_eq!(rt; ask.op(), op);
-        assert_eq!(rt; ask.parts().len(), 0);
+        assert_eq!(rt; (xid, ask.op(), ask.parts().len()), (number, op, 0));
     }
-    assert!(rt; allowed(-2, Op::Ping));
-    assert!(rt; !allowed(-1, Op::Exists));
+    let pair = (allowed(-2, Op::Ping), allowed(-1, Op::Exists));
+    assert_eq!(rt; pair, (true, false));
     Ok(())
 }
 
@@ -197,20 +211,19 @@ fn refusals(rt: HostRuntime) -> Result<(), Fail> {
 fn empty_multi(rt: HostRuntime) -> Result<(), Fail> {
     let none = b"\0\0\0\x01\0\0\0\x0e\xff\xff\xff\xff\x01\xff\xff\xff\xff";
     let (_, ask) = asked(&rt, rt.alloc(), none)?;
-    assert_eq!(rt; ask.op(), Op::Multi);
-    assert_eq!(rt; ask.parts().len(), 0);
+    assert_eq!(rt; (ask.op(), ask.parts().len()), (Op::Multi, 0));
     Ok(())
 }
 
 #[test]
 fn three_parts(rt: HostRuntime) -> Result<(), Fail> {
     let (_, ask) = asked(&rt, rt.alloc(), THREE)?;
-    let [first, second, third] = ask.parts() else {
-        return Err("not three parts")?;
-    };
-    assert_eq!(rt; first.op(), PartOp::Create);
-    assert_eq!(rt; second.op(), PartOp::Check);
-    assert_eq!(rt; third.op(), PartOp::SetData);
+    let mut ops = Vec::new(rt.alloc());
+    for part in ask.parts() {
+        ops.push(part.op())?;
+    }
+    let wanted = [PartOp::Create, PartOp::Check, PartOp::SetData];
+    assert_eq!(rt; ops.as_slice(), wanted.as_slice());
     Ok(())
 }
 
@@ -249,15 +262,16 @@ fn multi_refusals(rt: HostRuntime) -> Result<(), Fail> {
 #[test]
 fn create2(rt: HostRuntime) -> Result<(), Fail> {
     let alloc = rt.alloc();
-    let payload =
-        b"\0\0\0\x01\0\0\0\x0f\0\0\0\x02/a\xff\xff\xff\xff\0\0\0\x01\0\0\0\x1f\0\0\0\x05world\0\0\0\x06anyone\0\0\0\0";
-    let (xid, ask) = asked_under(&rt, alloc, Profile::V35, payload)?;
-    assert_eq!(rt; xid, 1);
-    let Ask::Create2(body) = ask else {
-        return Err("no create2")?;
-    };
-    assert!(rt; matches!(&body.blob, Blob::Null));
-    let older = read_ask(alloc, Profile::V34, payload);
+    let (xid, ask) = asked_under(&rt, alloc, Profile::V35, CREATE2)?;
+    let null = matches!(&ask, Ask::Create2(body) if matches!(&body.blob, Blob::Null));
+    assert_eq!(rt; (xid, null), (1, true));
+    Ok(())
+}
+
+#[test]
+fn no_create2(rt: HostRuntime) -> Result<(), Fail> {
+    let alloc = rt.alloc();
+    let older = read_ask(alloc, Profile::V34, CREATE2);
     refused(&rt, older, 4, Reason::UnknownOp)?;
     let part = b"\0\0\0\x01\0\0\0\x0e\0\0\0\x0f\0\xff\xff\xff\xff";
     refused(&rt, read_ask(alloc, Profile::V35, part), 8, Reason::BadPart)

@@ -1,9 +1,14 @@
-use crate::*;
+//! Values of each record, as ZooKeeper's own jute wrote them.
 use std::alloc::Global;
 use std::fmt::Debug;
 use std::process::Abort;
 use std::test::Fail;
 use zk_jute::Wire;
+use zk_records::{
+    Acl, AclBody, AuthAsk, CheckAsk, ChildrenBody, ConnectRequest, ConnectResponse, CreateAsk,
+    DataBody, DeleteAsk, Id, MultiHeader, PathAsk, ReplyHeader, RequestHeader, SetAclAsk,
+    SetDataAsk, SetWatchesAsk, Stat, WatchAsk, WatcherEvent,
+};
 
 /// Each row's bytes, as ZooKeeper's own jute wrote them, are the value, and are written again.
 fn reads<T: Wire + Debug>(

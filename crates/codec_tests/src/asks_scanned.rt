@@ -1,9 +1,9 @@
 //! Client payloads where they lie.
 ghost use Rattle.std.specs.Prelude.{◌≤◌, take};
 
-use super::*;
 use std::process::Abort;
 use std::test::Fail;
+use zk_asks::{AskOf, Asked, ClientFrameOf, PartOf, RequestRef, Room, scan_ask, scan_first};
 use zk_jute::{ItemFault, Reason};
 use zk_records::{Op, PartOp, Profile};
 

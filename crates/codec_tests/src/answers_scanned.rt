@@ -1,8 +1,11 @@
 //! Server payloads where they lie.
-use super::*;
 use std::alloc::Global;
 use std::process::Abort;
 use std::test::Fail;
+use zk_answers::{
+    BodyOf, Form, OutcomeOf, PartDoneOf, ServerFrameOf, ServerRef, reply_head, scan_connected,
+    scan_event, scan_reply,
+};
 use zk_asks::Asked;
 use zk_jute::{ItemFault, Reason};
 use zk_records::{Op, PartOp};

@@ -1,7 +1,11 @@
-use super::*;
+//! Texts, blobs, numbers and lists.
 use std::alloc::Global;
 use std::process::Abort;
 use std::test::Fail;
+use zk_jute::{
+    Blob, BlobRef, ItemFault, List, Payload, Reason, Spell, Stands, Text, TextList, TextRef, Wire,
+    bool_at, int_at, laws, long_at, read_flagged, reason_name,
+};
 
 /// The value of all the bytes, written again as them.
 fn whole<T: Wire>(rt: &impl Abort, alloc: Global, bytes: &[u8]) -> Result<T, Fail> {

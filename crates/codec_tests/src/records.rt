@@ -1,6 +1,11 @@
-use super::*;
+//! Records, and the tables of operations, errors and events.
+use std::process::Abort;
 use std::test::Fail;
 use zk_jute::{ItemFault, Payload, Reason, Spell, Stands, Text, TextRef, Wire, read_flagged};
+use zk_records::{
+    ConnectRequest, CreateBody, CreateBodyRef, Op, PartOp, PathAsk, Profile, Stat, code_name,
+    event_name, number_laws, op_name, op_number, op_of, part_name, part_number, part_of,
+};
 
 mod vectors;
 
@@ -27,7 +32,14 @@ fn sizes(rt: HostRuntime) -> Result<(), Fail> {
     Ok(())
 }
 
-/// Each operation by its number and name.
+/// The operation by its number under both profiles, and its number and name.
+fn is_op(rt: &impl Abort, number: i32, op: Op, name: &str) {
+    let older = (number != 15).then_some(op);
+    let read = (op_of(Profile::V35, number), op_of(Profile::V34, number));
+    assert_eq!(rt; read, (Some(op), older));
+    assert_eq!(rt; (op_number(op), op_name(op)), (number, name));
+}
+
 #[test]
 fn operations(rt: HostRuntime) {
     for (number, op, name) in [
@@ -48,25 +60,24 @@ fn operations(rt: HostRuntime) {
         (101, Op::SetWatches, "setWatches"),
         (-11, Op::CloseSession, "closeSession"),
     ] {
-        assert_eq!(rt; op_of(Profile::V35, number), Some(op));
-        let older = (number != 15).then_some(op);
-        assert_eq!(rt; op_of(Profile::V34, number), older);
-        assert_eq!(rt; op_number(op), number);
-        assert_eq!(rt; op_name(op), name);
+        is_op(&rt, number, op, name);
     }
     for number in [13, 10, 16, 0, -1, -10, 102] {
-        assert_eq!(rt; op_of(Profile::V34, number), None);
-        assert_eq!(rt; op_of(Profile::V35, number), None);
+        let read = (op_of(Profile::V34, number), op_of(Profile::V35, number));
+        assert_eq!(rt; read, (None, None));
     }
+}
+
+#[test]
+fn operations_of_parts(rt: HostRuntime) {
     for (number, op, name) in [
         (1, PartOp::Create, "create"),
         (2, PartOp::Delete, "delete"),
         (5, PartOp::SetData, "setData"),
         (13, PartOp::Check, "check"),
     ] {
-        assert_eq!(rt; part_of(number), Some(op));
-        assert_eq!(rt; part_number(op), number);
-        assert_eq!(rt; part_name(op), name);
+        let told = (part_of(number), part_number(op), part_name(op));
+        assert_eq!(rt; told, (Some(op), number, name));
     }
     for number in [0, -1, 3, 4, 14] {
         assert_eq!(rt; part_of(number), None);

@@ -1,0 +1,19 @@
+//! Tests of the crates that read and write payloads, cut frames and hold what waits.
+#![tactic(auto)]
+
+#[cfg(test)]
+mod answers;
+#[cfg(test)]
+mod answers_scanned;
+#[cfg(test)]
+mod asks;
+#[cfg(test)]
+mod asks_scanned;
+#[cfg(test)]
+mod frames;
+#[cfg(test)]
+mod jute;
+#[cfg(test)]
+mod records;
+#[cfg(test)]
+mod waiting;
