@@ -15,6 +15,3 @@ mod text;
 
 pub use bodies::earliest;
 pub use laws::earliest_law;
-
-#[cfg(test)]
-mod tests;

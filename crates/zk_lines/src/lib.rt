@@ -17,8 +17,3 @@ pub use ending::ending_line;
 pub use laws::{ending_laws, line_laws};
 pub use line::{line_of, put_line, read_line};
 pub use zk_items::{LineFault, LineReason, line_reason_name};
-
-#[cfg(test)]
-mod samples;
-#[cfg(test)]
-mod tests;

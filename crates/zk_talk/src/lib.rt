@@ -25,18 +25,3 @@ pub use round::{order_is_said, read_is_said, said_is_read, say_laws};
 pub use say::{SayFault, say_name};
 pub use speaker::Speaker;
 pub use talk::{Stepped, Taken, Talk};
-
-#[cfg(test)]
-mod library_tests;
-#[cfg(test)]
-mod profile_tests;
-#[cfg(test)]
-mod refusal_tests;
-#[cfg(test)]
-mod refused_tests;
-#[cfg(test)]
-mod reply_tests;
-#[cfg(test)]
-mod speaker_tests;
-#[cfg(test)]
-mod tests;

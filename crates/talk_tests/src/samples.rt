@@ -1,6 +1,6 @@
 //! Lines, and what is wrong with others.
 
-use zk_items::LineReason;
+use zk_lines::LineReason;
 
 /// Lines of messages: all kinds, and one of each shape that clients of four languages and their
 /// servers were recorded with.

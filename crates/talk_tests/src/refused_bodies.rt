@@ -1,10 +1,10 @@
 //! The bodies in which faults lie.
-use crate::tests::{asked, fault_of};
-use crate::{Side, Talk};
+use crate::conversations::{asked, fault_of};
 use std::process::Abort;
 use std::test::Fail;
 use zk_answers::Layout;
 use zk_records::Op;
+use zk_talk::{Side, Talk};
 
 /// The fault lies in a body of this layout.
 fn tells(rt: &impl Abort, talk: &Talk, layout: Layout, bytes: &[u8]) -> Result<(), Fail> {

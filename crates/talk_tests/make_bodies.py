@@ -1,7 +1,7 @@
 #!/usr/bin/env python3
-"""Writes src/tests/bodies.rt: bodies of every layout, and what `earliest` has to answer for each.
+"""Writes src/earliest/bodies.rt: bodies of every layout, and what `earliest` has to answer for each.
 
-    make_bodies.py > src/tests/bodies.rt
+    make_bodies.py > src/earliest/bodies.rt
 
 The answers are made by the definition alone: the longest front of a body that begins some spelling of
 just as many bytes. Whether a front does is tried out: it is written as a pattern, in which each later
@@ -258,18 +258,18 @@ def literal(body):
 
 def main():
     print("//! Bodies of every layout: written by make_bodies.py.")
-    print("use super::told;\nuse std::test::Fail;\nuse zk_answers::Layout;\nuse zk_records::Op;")
+    print("use super::{Rows, all_told};\nuse std::test::Fail;\nuse zk_answers::Layout;\nuse zk_records::Op;")
     for name, layouts in LAYOUTS.items():
-        print(f"\n#[test]\nfn {name}(rt: HostRuntime) -> Result<(), Fail> {{")
+        print(f"\nconst {name.upper()}: [Rows; {len(layouts)}] = [")
         for layout, items in layouts.items():
             wanted = 20 if items == ("multi",) else 2 if items == () else 6
             # A seed of its own, so that a further layout changes no other's bodies.
-            print(f"    told(&rt, Layout::{layout}, &[")
+            print(f"    (Layout::{layout}, &[")
             for body, answer in rows(items, wanted, random.Random(layout)):
                 told = "None" if answer is None else f"Some({answer})"
                 print(f"        ({literal(body)}, {told}),")
-            print("    ])?;")
-        print("    Ok(())\n}")
+            print("    ]),")
+        print(f"];\n\n#[test]\nfn {name}(rt: HostRuntime) -> Result<(), Fail> {{\n    all_told(&rt, &{name.upper()})\n}}")
 
 
 if __name__ == "__main__":

@@ -1,5 +1,4 @@
 //! Whole conversations, limits, and what is held.
-use super::*;
 use std::alloc::Global;
 use std::process::Abort;
 use std::test::Fail;
@@ -7,6 +6,7 @@ use zk_answers::ServerFrame;
 use zk_asks::ClientFrame;
 use zk_jute::Reason;
 use zk_records::op_name;
+use zk_talk::{Ending, Fault, Limits, Message, Side, Talk, read_all};
 
 pub const CONNECT: &[u8] =
     b"\0\0\0-\0\0\0\0\0\0\0\0\0\0\0\0\0\0u0\0\0\0\0\0\0\0\0\0\0\0\x10\0\0\0\0\0\0\0\0\0\0\0\0\0\0\0\0\0";
@@ -67,6 +67,21 @@ fn judged(talk: &mut Talk, pieces: &[(Side, &[u8])]) -> usize {
     whole
 }
 
+/// The messages have these labels.
+fn labelled(
+    rt: &impl Abort,
+    alloc: Global,
+    messages: &[Message],
+    labels: &[&str],
+) -> Result<(), Fail> {
+    assert_eq!(rt; messages.len(), labels.len());
+    for (message, wanted) in messages.iter().zip(labels.iter()) {
+        let told = label(alloc, message)?;
+        assert_eq!(rt; told.as_str(), *wanted);
+    }
+    Ok(())
+}
+
 /// The pieces are read as these messages, and end so; judged step by step they are as many frames,
 /// and end likewise.
 pub fn reads(
@@ -77,33 +92,40 @@ pub fn reads(
     labels: &[&str],
     ending: Ending,
 ) -> Result<(), Fail> {
+    let mut talk = Talk::new(alloc, limits)?;
+    let whole = judged(&mut talk, pieces);
+    assert_eq!(rt; (whole, talk.finish()), (labels.len(), ending));
     let ended = read_all(alloc, limits, pieces)?;
     assert_eq!(rt; ended.ending, ending);
-    assert_eq!(rt; ended.messages.len(), labels.len());
-    for (message, wanted) in ended.messages.iter().zip(labels.iter()) {
-        let told = label(alloc, message)?;
-        assert_eq!(rt; told.as_str(), *wanted);
+    labelled(rt, alloc, &ended.messages, labels)
+}
+
+/// A conversation: its pieces, the messages that they are read as, and the ending.
+pub type Row = (
+    &'static [(Side, &'static [u8])],
+    &'static [&'static str],
+    Ending,
+);
+
+pub fn row_read(rt: &impl Abort, alloc: Global, limits: Limits, row: &Row) -> Result<(), Fail> {
+    reads(rt, alloc, limits, row.0, row.1, row.2)
+}
+
+pub fn all_read(rt: &impl Abort, alloc: Global, limits: Limits, rows: &[Row]) -> Result<(), Fail> {
+    for row in rows {
+        row_read(rt, alloc, limits, row)?;
     }
-    let mut talk = Talk::new(alloc, limits)?;
-    assert_eq!(rt; judged(&mut talk, pieces), labels.len());
-    assert_eq!(rt; talk.finish(), ending);
     Ok(())
 }
 
-#[test]
-fn connects(rt: HostRuntime) -> Result<(), Fail> {
-    reads(
-        &rt,
-        rt.alloc(),
-        usual()?,
+/// Connect messages, and what is none.
+const CONNECTS: [Row; 7] = [
+    (
         &[(Side::Client, CONNECT), (Side::Server, CONNECTED)],
         &["C connect", "S connect"],
         Ending::Whole { unanswered: 0 },
-    )?;
-    reads(
-        &rt,
-        rt.alloc(),
-        usual()?,
+    ),
+    (
         &[
             (
                 Side::Client,
@@ -116,27 +138,14 @@ fn connects(rt: HostRuntime) -> Result<(), Fail> {
         ],
         &["C connect", "S connect"],
         Ending::Whole { unanswered: 0 },
-    )?;
-    reads(
-        &rt,
-        rt.alloc(),
-        usual()?,
-        &[],
-        &[],
-        Ending::Whole { unanswered: 0 },
-    )?;
-    reads(
-        &rt,
-        rt.alloc(),
-        usual()?,
+    ),
+    (&[], &[], Ending::Whole { unanswered: 0 }),
+    (
         &[(Side::Client, CONNECT)],
         &["C connect"],
         Ending::Whole { unanswered: 1 },
-    )?;
-    reads(
-        &rt,
-        rt.alloc(),
-        usual()?,
+    ),
+    (
         &[(Side::Client, b"\0\0\0")],
         &[],
         Ending::Cut {
@@ -144,153 +153,207 @@ fn connects(rt: HostRuntime) -> Result<(), Fail> {
             frame: 0,
             got: 3,
         },
-    )?;
-    reads(
-        &rt,
-        rt.alloc(),
-        usual()?,
+    ),
+    (
         &[(Side::Client, b"\0\0\0\0")],
         &[],
-        refused(Side::Client, 0, 4, 0, Reason::Short),
-    )?;
-    reads(
-        &rt,
-        rt.alloc(),
-        usual()?,
+        Ending::Refused(Fault {
+            side: Side::Client,
+            frame: 0,
+            offset: 4,
+            place: 0,
+            reason: Reason::Short,
+        }),
+    ),
+    (
         &[(Side::Client, b"ruok")],
         &[],
-        refused(Side::Client, 0, 4, 0, Reason::LengthRange),
-    )?;
-    Ok(())
+        Ending::Refused(Fault {
+            side: Side::Client,
+            frame: 0,
+            offset: 4,
+            place: 0,
+            reason: Reason::LengthRange,
+        }),
+    ),
+];
+
+#[test]
+fn connects(rt: HostRuntime) -> Result<(), Fail> {
+    all_read(&rt, rt.alloc(), usual()?, &CONNECTS)
 }
+
+/// Frames at their limits: the limit of a payload, and a conversation.
+const FRAMES: [(u32, Row); 4] = [
+    (
+        64,
+        (
+            &[
+                (Side::Client, CONNECT),
+                (Side::Server, CONNECTED),
+                (
+                    Side::Client,
+                    b"\0\0\0@\0\0\0\x01\0\0\0\x03\0\0\03/aaaaaaaaaaaaaaaaaaaaaaaaaaaaaaaaaaaaaaaaaaaaaaaaaa\x01",
+                ),
+            ],
+            &["C connect", "S connect", "C 1 exists"],
+            Ending::Whole { unanswered: 1 },
+        ),
+    ),
+    (
+        64,
+        (
+            &[
+                (Side::Client, CONNECT),
+                (Side::Server, CONNECTED),
+                (Side::Client, b"\0\0\0A"),
+            ],
+            &["C connect", "S connect"],
+            Ending::Refused(Fault {
+                side: Side::Client,
+                frame: 1,
+                offset: 53,
+                place: 0,
+                reason: Reason::LengthRange,
+            }),
+        ),
+    ),
+    (
+        64,
+        (
+            &[
+                (Side::Client, CONNECT),
+                (Side::Server, CONNECTED),
+                (Side::Client, b"\xff\xff\xff\xff"),
+            ],
+            &["C connect", "S connect"],
+            Ending::Refused(Fault {
+                side: Side::Client,
+                frame: 1,
+                offset: 53,
+                place: 0,
+                reason: Reason::LengthRange,
+            }),
+        ),
+    ),
+    (
+        4_194_304,
+        (
+            &[
+                (Side::Client, CONNECT),
+                (Side::Server, CONNECTED),
+                (
+                    Side::Client,
+                    b"\0\0\0\x0f\0\0\0\x01\0\0\0\x04\0\0\0\x02/a\0",
+                ),
+                (Side::Server, b"\0@\0\x01"),
+            ],
+            &["C connect", "S connect", "C 1 getData"],
+            Ending::Refused(Fault {
+                side: Side::Server,
+                frame: 1,
+                offset: 45,
+                place: 0,
+                reason: Reason::LengthRange,
+            }),
+        ),
+    ),
+];
 
 #[test]
 fn limits_of_frames(rt: HostRuntime) -> Result<(), Fail> {
-    reads(
-        &rt,
-        rt.alloc(),
-        limits(64, 65_536)?,
-        &[
-            (Side::Client, CONNECT),
-            (Side::Server, CONNECTED),
-            (
-                Side::Client,
-                b"\0\0\0@\0\0\0\x01\0\0\0\x03\0\0\03/aaaaaaaaaaaaaaaaaaaaaaaaaaaaaaaaaaaaaaaaaaaaaaaaaa\x01",
-            ),
-        ],
-        &["C connect", "S connect", "C 1 exists"],
-        Ending::Whole { unanswered: 1 },
-    )?;
-    reads(
-        &rt,
-        rt.alloc(),
-        limits(64, 65_536)?,
-        &[
-            (Side::Client, CONNECT),
-            (Side::Server, CONNECTED),
-            (Side::Client, b"\0\0\0A"),
-        ],
-        &["C connect", "S connect"],
-        refused(Side::Client, 1, 53, 0, Reason::LengthRange),
-    )?;
-    reads(
-        &rt,
-        rt.alloc(),
-        limits(64, 65_536)?,
-        &[
-            (Side::Client, CONNECT),
-            (Side::Server, CONNECTED),
-            (Side::Client, b"\xff\xff\xff\xff"),
-        ],
-        &["C connect", "S connect"],
-        refused(Side::Client, 1, 53, 0, Reason::LengthRange),
-    )?;
-    reads(
-        &rt,
-        rt.alloc(),
-        usual()?,
-        &[
-            (Side::Client, CONNECT),
-            (Side::Server, CONNECTED),
-            (
-                Side::Client,
-                b"\0\0\0\x0f\0\0\0\x01\0\0\0\x04\0\0\0\x02/a\0",
-            ),
-            (Side::Server, b"\0@\0\x01"),
-        ],
-        &["C connect", "S connect", "C 1 getData"],
-        refused(Side::Server, 1, 45, 0, Reason::LengthRange),
-    )?;
+    for (limit, row) in &FRAMES {
+        row_read(&rt, rt.alloc(), limits(*limit, 65_536)?, row)?;
+    }
     Ok(())
 }
 
+/// Requests at the limit of those that wait: the limit, and a conversation.
+const WAITING: [(u32, Row); 4] = [
+    (
+        1,
+        (
+            &[
+                (Side::Client, CONNECT),
+                (Side::Server, CONNECTED),
+                (Side::Client, EXISTS),
+                (Side::Client, EXISTS),
+            ],
+            &["C connect", "S connect", "C 1 exists"],
+            Ending::Refused(Fault {
+                side: Side::Client,
+                frame: 2,
+                offset: 87,
+                place: 0,
+                reason: Reason::QueueFull,
+            }),
+        ),
+    ),
+    (
+        1,
+        (
+            &[
+                (Side::Client, CONNECT),
+                (Side::Server, CONNECTED),
+                (Side::Client, EXISTS),
+                (Side::Server, NO_NODE),
+                (Side::Client, EXISTS),
+                (Side::Server, NO_NODE),
+            ],
+            &[
+                "C connect",
+                "S connect",
+                "C 1 exists",
+                "S 1 exists",
+                "C 1 exists",
+                "S 1 exists",
+            ],
+            Ending::Whole { unanswered: 0 },
+        ),
+    ),
+    (
+        4,
+        (
+            &[
+                (Side::Client, CONNECT),
+                (Side::Server, CONNECTED),
+                (
+                    Side::Client,
+                    b"\0\0\0n\0\0\0\x01\0\0\0\x0e\0\0\0\x01\0\xff\xff\xff\xff\0\0\0\x02/a\0\0\0\0\0\0\0\x01\0\0\0\x1f\0\0\0\x05world\0\0\0\x06anyone\0\0\0\0\0\0\0\x0d\0\xff\xff\xff\xff\0\0\0\x02/a\0\0\0\x03\0\0\0\x05\0\xff\xff\xff\xff\0\0\0\x02/a\0\0\0\x01a\0\0\0\x03\xff\xff\xff\xff\x01\xff\xff\xff\xff",
+                ),
+            ],
+            &["C connect", "S connect", "C 1 multi"],
+            Ending::Whole { unanswered: 1 },
+        ),
+    ),
+    (
+        3,
+        (
+            &[
+                (Side::Client, CONNECT),
+                (Side::Server, CONNECTED),
+                (
+                    Side::Client,
+                    b"\0\0\0n\0\0\0\x01\0\0\0\x0e\0\0\0\x01\0\xff\xff\xff\xff\0\0\0\x02/a\0\0\0\0\0\0\0\x01\0\0\0\x1f\0\0\0\x05world\0\0\0\x06anyone\0\0\0\0\0\0\0\x0d\0\xff\xff\xff\xff\0\0\0\x02/a\0\0\0\x03\0\0\0\x05\0\xff\xff\xff\xff\0\0\0\x02/a\0\0\0\x01a\0\0\0\x03\xff\xff\xff\xff\x01\xff\xff\xff\xff",
+                ),
+            ],
+            &["C connect", "S connect"],
+            Ending::Refused(Fault {
+                side: Side::Client,
+                frame: 1,
+                offset: 163,
+                place: 0,
+                reason: Reason::QueueFull,
+            }),
+        ),
+    ),
+];
+
 #[test]
 fn limits_of_waiting(rt: HostRuntime) -> Result<(), Fail> {
-    reads(
-        &rt,
-        rt.alloc(),
-        limits(4_194_304, 1)?,
-        &[
-            (Side::Client, CONNECT),
-            (Side::Server, CONNECTED),
-            (Side::Client, EXISTS),
-            (Side::Client, EXISTS),
-        ],
-        &["C connect", "S connect", "C 1 exists"],
-        refused(Side::Client, 2, 87, 0, Reason::QueueFull),
-    )?;
-    reads(
-        &rt,
-        rt.alloc(),
-        limits(4_194_304, 1)?,
-        &[
-            (Side::Client, CONNECT),
-            (Side::Server, CONNECTED),
-            (Side::Client, EXISTS),
-            (Side::Server, NO_NODE),
-            (Side::Client, EXISTS),
-            (Side::Server, NO_NODE),
-        ],
-        &[
-            "C connect",
-            "S connect",
-            "C 1 exists",
-            "S 1 exists",
-            "C 1 exists",
-            "S 1 exists",
-        ],
-        Ending::Whole { unanswered: 0 },
-    )?;
-    reads(
-        &rt,
-        rt.alloc(),
-        limits(4_194_304, 4)?,
-        &[
-            (Side::Client, CONNECT),
-            (Side::Server, CONNECTED),
-            (
-                Side::Client,
-                b"\0\0\0n\0\0\0\x01\0\0\0\x0e\0\0\0\x01\0\xff\xff\xff\xff\0\0\0\x02/a\0\0\0\0\0\0\0\x01\0\0\0\x1f\0\0\0\x05world\0\0\0\x06anyone\0\0\0\0\0\0\0\x0d\0\xff\xff\xff\xff\0\0\0\x02/a\0\0\0\x03\0\0\0\x05\0\xff\xff\xff\xff\0\0\0\x02/a\0\0\0\x01a\0\0\0\x03\xff\xff\xff\xff\x01\xff\xff\xff\xff",
-            ),
-        ],
-        &["C connect", "S connect", "C 1 multi"],
-        Ending::Whole { unanswered: 1 },
-    )?;
-    reads(
-        &rt,
-        rt.alloc(),
-        limits(4_194_304, 3)?,
-        &[
-            (Side::Client, CONNECT),
-            (Side::Server, CONNECTED),
-            (
-                Side::Client,
-                b"\0\0\0n\0\0\0\x01\0\0\0\x0e\0\0\0\x01\0\xff\xff\xff\xff\0\0\0\x02/a\0\0\0\0\0\0\0\x01\0\0\0\x1f\0\0\0\x05world\0\0\0\x06anyone\0\0\0\0\0\0\0\x0d\0\xff\xff\xff\xff\0\0\0\x02/a\0\0\0\x03\0\0\0\x05\0\xff\xff\xff\xff\0\0\0\x02/a\0\0\0\x01a\0\0\0\x03\xff\xff\xff\xff\x01\xff\xff\xff\xff",
-            ),
-        ],
-        &["C connect", "S connect"],
-        refused(Side::Client, 1, 163, 0, Reason::QueueFull),
-    )?;
+    for (limit, row) in &WAITING {
+        row_read(&rt, rt.alloc(), limits(4_194_304, *limit)?, row)?;
+    }
     Ok(())
 }
 

@@ -1,13 +1,11 @@
 //! Bodies of every layout: written by make_bodies.py.
-use super::told;
+use super::{Rows, all_told};
 use std::test::Fail;
 use zk_answers::Layout;
 use zk_records::Op;
 
-#[test]
-fn connections(rt: HostRuntime) -> Result<(), Fail> {
-    told(
-        &rt,
+const CONNECTIONS: [Rows; 4] = [
+    (
         Layout::Connect,
         &[
             (
@@ -35,9 +33,8 @@ fn connections(rt: HostRuntime) -> Result<(), Fail> {
                 Some(27),
             ),
         ],
-    )?;
-    told(
-        &rt,
+    ),
+    (
         Layout::ConnectRo,
         &[
             (
@@ -65,9 +62,8 @@ fn connections(rt: HostRuntime) -> Result<(), Fail> {
                 Some(27),
             ),
         ],
-    )?;
-    told(
-        &rt,
+    ),
+    (
         Layout::Connected,
         &[
             (b"\xff\xff\xff\xff\0\0\0\x01\0\0\0\0\x04\0\0\0\0", None),
@@ -89,9 +85,8 @@ fn connections(rt: HostRuntime) -> Result<(), Fail> {
                 Some(19),
             ),
         ],
-    )?;
-    told(
-        &rt,
+    ),
+    (
         Layout::ConnectedRo,
         &[
             (b"\0\0\0\x1f\xff\0\0\0\0\0\0\0\x08\xff\xff\xff", None),
@@ -113,14 +108,16 @@ fn connections(rt: HostRuntime) -> Result<(), Fail> {
                 Some(19),
             ),
         ],
-    )?;
-    Ok(())
-}
+    ),
+];
 
 #[test]
-fn event_and_auth(rt: HostRuntime) -> Result<(), Fail> {
-    told(
-        &rt,
+fn connections(rt: HostRuntime) -> Result<(), Fail> {
+    all_told(&rt, &CONNECTIONS)
+}
+
+const EVENT_AND_AUTH: [Rows; 3] = [
+    (
         Layout::Event,
         &[
             (b"\0\0\0\x1f\xff\0\0\0", None),
@@ -130,9 +127,8 @@ fn event_and_auth(rt: HostRuntime) -> Result<(), Fail> {
             (b"\0\0\0\x1f\0\0\0\x01\0\0/a", Some(10)),
             (b"\0\0\0\x1f\0\0\0\x01\xff\xff\xff\0", Some(11)),
         ],
-    )?;
-    told(
-        &rt,
+    ),
+    (
         Layout::Asked(Op::Auth),
         &[
             (b"\0\0\0\0\0\0\0\0\0\0", None),
@@ -145,9 +141,8 @@ fn event_and_auth(rt: HostRuntime) -> Result<(), Fail> {
                 Some(13),
             ),
         ],
-    )?;
-    told(
-        &rt,
+    ),
+    (
         Layout::Asked(Op::SetWatches),
         &[
             (b"\0\0\0\0\0\0\0\0\0\0\0\0\0\0\0\0\0", None),
@@ -172,14 +167,16 @@ fn event_and_auth(rt: HostRuntime) -> Result<(), Fail> {
                 Some(26),
             ),
         ],
-    )?;
-    Ok(())
-}
+    ),
+];
 
 #[test]
-fn writes(rt: HostRuntime) -> Result<(), Fail> {
-    told(
-        &rt,
+fn event_and_auth(rt: HostRuntime) -> Result<(), Fail> {
+    all_told(&rt, &EVENT_AND_AUTH)
+}
+
+const WRITES: [Rows; 5] = [
+    (
         Layout::Asked(Op::Create),
         &[
             (b"\0\0\0\0\0\xff\xff\xff\xff\0\0\0\0\0\0", None),
@@ -201,9 +198,8 @@ fn writes(rt: HostRuntime) -> Result<(), Fail> {
                 Some(26),
             ),
         ],
-    )?;
-    told(
-        &rt,
+    ),
+    (
         Layout::Asked(Op::Create2),
         &[
             (b"\xff\0\0a\0\0\0\0\xff\xff\xff\xff", None),
@@ -228,9 +224,8 @@ fn writes(rt: HostRuntime) -> Result<(), Fail> {
                 Some(28),
             ),
         ],
-    )?;
-    told(
-        &rt,
+    ),
+    (
         Layout::Asked(Op::Delete),
         &[
             (b"\xff\0\0\0\x01", None),
@@ -240,9 +235,8 @@ fn writes(rt: HostRuntime) -> Result<(), Fail> {
             (b"\0\0\x01\0\xff\xff\xff\xff", Some(2)),
             (b"\0\0\0\x01\0\0\0\0", Some(3)),
         ],
-    )?;
-    told(
-        &rt,
+    ),
+    (
         Layout::Asked(Op::SetData),
         &[
             (b"\0\xff\xff\xff\xff\xff\xff\xff\xff", None),
@@ -255,9 +249,8 @@ fn writes(rt: HostRuntime) -> Result<(), Fail> {
             (b"\xff\xff\xff\xff\0\0a\0\x03\xe2\x82\xac\0\0\0\0", Some(6)),
             (b"\0\0\0\x02/a\0\0\0a\0\0\0\x1f", Some(9)),
         ],
-    )?;
-    told(
-        &rt,
+    ),
+    (
         Layout::Asked(Op::SetAcl),
         &[
             (b"\0\0\xff\xff\xff\xff\0\0\0\x01", None),
@@ -276,87 +269,89 @@ fn writes(rt: HostRuntime) -> Result<(), Fail> {
                 Some(20),
             ),
         ],
-    )?;
-    Ok(())
+    ),
+];
+
+#[test]
+fn writes(rt: HostRuntime) -> Result<(), Fail> {
+    all_told(&rt, &WRITES)
 }
+
+const PARTS: [Rows; 1] = [(
+    Layout::Asked(Op::Multi),
+    &[
+        (b"\xff\x01\xff\xff", None),
+        (b"\xff\xff\xff\xff\x01\xff\xff\xff\xff", Some(9)),
+        (b"\0\xff\xff\xff\x01\xff\xff\xff\xff", Some(0)),
+        (b"\xff\xff\x05\xff\x01\xff\xff\xff\xff", Some(2)),
+        (b"\xff\xff\xff\xff\x02\xff\xff\xff\xff", Some(4)),
+        (
+            b"\0\0\0\x05\0\xff\x01\xff\xff\xff\xff\xff\xff\0\0\0\x02/a\xff\xff\xff\xff\xff\xff\xff\xff\xc3\xff\xff\xff\xff",
+            Some(6),
+        ),
+        (b"\xff\xff\xff\xff\x01\xff\xff\xff\x80", Some(8)),
+        (
+            b"\0\0\0\x05\0\xff\xff\xff\xff\xff\0\xff\xff\xff\0\0\0\x02/a\0\0\0\0\xff\xff\xff\xff\x01\xff\xff\xff\xff",
+            Some(10),
+        ),
+        (
+            b"\0\0\0\x02\0\xff\xff\xff\xff\0\0\0\x02/a\0\0\x01\xff\xff\xff\xff\x01\xff\xff\xff\xff",
+            Some(12),
+        ),
+        (
+            b"\0\0\0\x0d\0\xff\xff\xff\xff\0\0\0\x03/\xff\xa9\0\0\0\0\xff\xff\xff\xff\x01\xff\xff\xff\xff",
+            Some(14),
+        ),
+        (
+            b"\0\0\0\x02\0\xff\xff\xff\xff\xff\xff\xff\xff\0\0\0\x01\xc3\xff\xff\xff\x01\xff\xff\xff\xff",
+            Some(17),
+        ),
+        (
+            b"\0\0\0\x01\0\xff\xff\xff\xff\0\0\0\x03\xe2\x82\xac\0\0\0\0\xff\xff\xff\xff\0\0\0\x01\xff\xff\xff\xff\xe2\x01\xff\xff\x05\xff",
+            Some(19),
+        ),
+        (
+            b"\0\0\0\x05\0\xff\xff\xff\xff\0\0\0\x05/\xf0\x9d\x84\x9e\0\0\0\x02/\0\0\x1f\xff\xff\xff\x0d\x01\xff\xff\xff\xff",
+            Some(21),
+        ),
+        (
+            b"\0\0\0\x02\0\xff\xff\xff\xff\xff\xff\xff\xff\0\0\0\x01\0\0\0\x0d\0\xff\x02\xff\xff\0\0\0\x03/\xc3\xa9\0\0\0\x1f\xff\xff\xff\xff\x01\xff\xff\xff\xff",
+            Some(23),
+        ),
+        (
+            b"\0\0\0\x02\0\xff\xff\xff\xff\xff\xff\xff\xff\0\0\0\0\0\0\0\x05\0\xff\xff\xff\0\0\0\x03\xe2\x82\xac\0\0\0\x03\xe2\x82\xac\xff\xff\xff\xff\xff\x01\xff\xff\xff\xff",
+            Some(25),
+        ),
+        (
+            b"\0\0\0\x0d\0\xff\xff\xff\xff\0\0\0\x05/\xf0\x9d\x84\x9e\0\0\0\0\0\0\0\x05\0\xff\x01\xff\xff\xff\0\0\0\0\0\0\0\x05/\xf0\x9d\x84\x9e\0\0\0\x1f\xff\xff\xff\xff\x01\xff\xff\xff\xff",
+            Some(28),
+        ),
+        (
+            b"\0\0\0\x02\0\xff\xff\xff\xff\0\0\0\x03/\xc3\xa9\0\0\0\x01\0\0\0\x05\0\xff\xff\xff\xff\0\x7f\0\x03/\xc3\xa9\0\0\0\x05/\xf0\x9d\x84\x9e\0\0\0\0\xff\xff\xff\xff\x01\xff\xff",
+            Some(30),
+        ),
+        (
+            b"\0\0\0\x01\0\xff\xff\xff\xff\xff\xff\xff\xff\0\0\0\x03\xe2\x82\xac\0\0\0\0\0\0\0\x1f\0\0\0\x0d\0\xff\xff\x03\xff\0\0\0\x02/a\0\0\0\x01\xff\xff\xff\xff\x08\xff\xff\xff\xff",
+            Some(35),
+        ),
+        (
+            b"\0\0\0\x01\0\xff\xff\xff\xff\0\0\0\x02/a\0\0\0\x02/a\0\0\0\x01\0\0\0\x1f\0\0\0\x03\xe2\x82\xac\0a\0\0\x02/a\0\0\0\x01\xff\xff\xff\xff\x01\xff\xff\xff\xff",
+            Some(37),
+        ),
+        (
+            b"\0\0\0\x02\0\xff\xff\xff\xff\0\0\0\x03\xe2\x82\xac\xff\xff\xff\xff\0\0\0\x02\0\xff\xff\xff\xff\0\0\0\x02/a\0\0\0\x1f\xff\xff\xff\xff\x08\xff\xff\xff\xff",
+            Some(43),
+        ),
+    ],
+)];
 
 #[test]
 fn parts(rt: HostRuntime) -> Result<(), Fail> {
-    told(
-        &rt,
-        Layout::Asked(Op::Multi),
-        &[
-            (b"\xff\x01\xff\xff", None),
-            (b"\xff\xff\xff\xff\x01\xff\xff\xff\xff", Some(9)),
-            (b"\0\xff\xff\xff\x01\xff\xff\xff\xff", Some(0)),
-            (b"\xff\xff\x05\xff\x01\xff\xff\xff\xff", Some(2)),
-            (b"\xff\xff\xff\xff\x02\xff\xff\xff\xff", Some(4)),
-            (
-                b"\0\0\0\x05\0\xff\x01\xff\xff\xff\xff\xff\xff\0\0\0\x02/a\xff\xff\xff\xff\xff\xff\xff\xff\xc3\xff\xff\xff\xff",
-                Some(6),
-            ),
-            (b"\xff\xff\xff\xff\x01\xff\xff\xff\x80", Some(8)),
-            (
-                b"\0\0\0\x05\0\xff\xff\xff\xff\xff\0\xff\xff\xff\0\0\0\x02/a\0\0\0\0\xff\xff\xff\xff\x01\xff\xff\xff\xff",
-                Some(10),
-            ),
-            (
-                b"\0\0\0\x02\0\xff\xff\xff\xff\0\0\0\x02/a\0\0\x01\xff\xff\xff\xff\x01\xff\xff\xff\xff",
-                Some(12),
-            ),
-            (
-                b"\0\0\0\x0d\0\xff\xff\xff\xff\0\0\0\x03/\xff\xa9\0\0\0\0\xff\xff\xff\xff\x01\xff\xff\xff\xff",
-                Some(14),
-            ),
-            (
-                b"\0\0\0\x02\0\xff\xff\xff\xff\xff\xff\xff\xff\0\0\0\x01\xc3\xff\xff\xff\x01\xff\xff\xff\xff",
-                Some(17),
-            ),
-            (
-                b"\0\0\0\x01\0\xff\xff\xff\xff\0\0\0\x03\xe2\x82\xac\0\0\0\0\xff\xff\xff\xff\0\0\0\x01\xff\xff\xff\xff\xe2\x01\xff\xff\x05\xff",
-                Some(19),
-            ),
-            (
-                b"\0\0\0\x05\0\xff\xff\xff\xff\0\0\0\x05/\xf0\x9d\x84\x9e\0\0\0\x02/\0\0\x1f\xff\xff\xff\x0d\x01\xff\xff\xff\xff",
-                Some(21),
-            ),
-            (
-                b"\0\0\0\x02\0\xff\xff\xff\xff\xff\xff\xff\xff\0\0\0\x01\0\0\0\x0d\0\xff\x02\xff\xff\0\0\0\x03/\xc3\xa9\0\0\0\x1f\xff\xff\xff\xff\x01\xff\xff\xff\xff",
-                Some(23),
-            ),
-            (
-                b"\0\0\0\x02\0\xff\xff\xff\xff\xff\xff\xff\xff\0\0\0\0\0\0\0\x05\0\xff\xff\xff\0\0\0\x03\xe2\x82\xac\0\0\0\x03\xe2\x82\xac\xff\xff\xff\xff\xff\x01\xff\xff\xff\xff",
-                Some(25),
-            ),
-            (
-                b"\0\0\0\x0d\0\xff\xff\xff\xff\0\0\0\x05/\xf0\x9d\x84\x9e\0\0\0\0\0\0\0\x05\0\xff\x01\xff\xff\xff\0\0\0\0\0\0\0\x05/\xf0\x9d\x84\x9e\0\0\0\x1f\xff\xff\xff\xff\x01\xff\xff\xff\xff",
-                Some(28),
-            ),
-            (
-                b"\0\0\0\x02\0\xff\xff\xff\xff\0\0\0\x03/\xc3\xa9\0\0\0\x01\0\0\0\x05\0\xff\xff\xff\xff\0\x7f\0\x03/\xc3\xa9\0\0\0\x05/\xf0\x9d\x84\x9e\0\0\0\0\xff\xff\xff\xff\x01\xff\xff",
-                Some(30),
-            ),
-            (
-                b"\0\0\0\x01\0\xff\xff\xff\xff\xff\xff\xff\xff\0\0\0\x03\xe2\x82\xac\0\0\0\0\0\0\0\x1f\0\0\0\x0d\0\xff\xff\x03\xff\0\0\0\x02/a\0\0\0\x01\xff\xff\xff\xff\x08\xff\xff\xff\xff",
-                Some(35),
-            ),
-            (
-                b"\0\0\0\x01\0\xff\xff\xff\xff\0\0\0\x02/a\0\0\0\x02/a\0\0\0\x01\0\0\0\x1f\0\0\0\x03\xe2\x82\xac\0a\0\0\x02/a\0\0\0\x01\xff\xff\xff\xff\x01\xff\xff\xff\xff",
-                Some(37),
-            ),
-            (
-                b"\0\0\0\x02\0\xff\xff\xff\xff\0\0\0\x03\xe2\x82\xac\xff\xff\xff\xff\0\0\0\x02\0\xff\xff\xff\xff\0\0\0\x02/a\0\0\0\x1f\xff\xff\xff\xff\x08\xff\xff\xff\xff",
-                Some(43),
-            ),
-        ],
-    )?;
-    Ok(())
+    all_told(&rt, &PARTS)
 }
 
-#[test]
-fn reads(rt: HostRuntime) -> Result<(), Fail> {
-    told(
-        &rt,
+const READS: [Rows; 6] = [
+    (
         Layout::Asked(Op::Exists),
         &[
             (b"\xff\x05", None),
@@ -366,9 +361,8 @@ fn reads(rt: HostRuntime) -> Result<(), Fail> {
             (b"\0\0\x01\0\0", Some(2)),
             (b"\0\0\0a\x01", Some(3)),
         ],
-    )?;
-    told(
-        &rt,
+    ),
+    (
         Layout::Asked(Op::GetData),
         &[
             (b"\xff\xff", None),
@@ -378,9 +372,8 @@ fn reads(rt: HostRuntime) -> Result<(), Fail> {
             (b"\0\0\xc3\xa9\0", Some(2)),
             (b"\0\0\0\x03\x01", Some(3)),
         ],
-    )?;
-    told(
-        &rt,
+    ),
+    (
         Layout::Asked(Op::GetChildren),
         &[
             (b"\0\0", None),
@@ -390,9 +383,8 @@ fn reads(rt: HostRuntime) -> Result<(), Fail> {
             (b"\0\0\0\0\x80", Some(4)),
             (b"\0\0\0\x03/\xc3\xa9\x02", Some(7)),
         ],
-    )?;
-    told(
-        &rt,
+    ),
+    (
         Layout::Asked(Op::GetChildren2),
         &[
             (b"\0\x01", None),
@@ -402,9 +394,8 @@ fn reads(rt: HostRuntime) -> Result<(), Fail> {
             (b"\xff\xff\xff\xff\xe2", Some(4)),
             (b"\0\0\0\x02/a\xff", Some(6)),
         ],
-    )?;
-    told(
-        &rt,
+    ),
+    (
         Layout::Asked(Op::GetAcl),
         &[
             (b"", None),
@@ -414,9 +405,8 @@ fn reads(rt: HostRuntime) -> Result<(), Fail> {
             (b"\0\0\xed\0", Some(2)),
             (b"\0\0\0\x03", Some(3)),
         ],
-    )?;
-    told(
-        &rt,
+    ),
+    (
         Layout::Asked(Op::Sync),
         &[
             (b"\xff", None),
@@ -426,54 +416,46 @@ fn reads(rt: HostRuntime) -> Result<(), Fail> {
             (b"\0\0\xc3\xa9", Some(2)),
             (b"\0\0\0\xa9", Some(3)),
         ],
-    )?;
-    Ok(())
+    ),
+];
+
+#[test]
+fn reads(rt: HostRuntime) -> Result<(), Fail> {
+    all_told(&rt, &READS)
 }
+
+const NOTHING: [Rows; 7] = [
+    (Layout::Asked(Op::Ping), &[(b"\x01", None), (b"", Some(0))]),
+    (
+        Layout::Asked(Op::CloseSession),
+        &[(b"\x7f", None), (b"", Some(0))],
+    ),
+    (
+        Layout::Answered(Op::Delete),
+        &[(b"\xe2", None), (b"", Some(0))],
+    ),
+    (Layout::Answered(Op::Ping), &[(b"a", None), (b"", Some(0))]),
+    (
+        Layout::Answered(Op::Auth),
+        &[(b"\x05", None), (b"", Some(0))],
+    ),
+    (
+        Layout::Answered(Op::SetWatches),
+        &[(b"\x80", None), (b"", Some(0))],
+    ),
+    (
+        Layout::Answered(Op::CloseSession),
+        &[(b"\x05", None), (b"", Some(0))],
+    ),
+];
 
 #[test]
 fn nothing(rt: HostRuntime) -> Result<(), Fail> {
-    told(
-        &rt,
-        Layout::Asked(Op::Ping),
-        &[(b"\x01", None), (b"", Some(0))],
-    )?;
-    told(
-        &rt,
-        Layout::Asked(Op::CloseSession),
-        &[(b"\x7f", None), (b"", Some(0))],
-    )?;
-    told(
-        &rt,
-        Layout::Answered(Op::Delete),
-        &[(b"\xe2", None), (b"", Some(0))],
-    )?;
-    told(
-        &rt,
-        Layout::Answered(Op::Ping),
-        &[(b"a", None), (b"", Some(0))],
-    )?;
-    told(
-        &rt,
-        Layout::Answered(Op::Auth),
-        &[(b"\x05", None), (b"", Some(0))],
-    )?;
-    told(
-        &rt,
-        Layout::Answered(Op::SetWatches),
-        &[(b"\x80", None), (b"", Some(0))],
-    )?;
-    told(
-        &rt,
-        Layout::Answered(Op::CloseSession),
-        &[(b"\x05", None), (b"", Some(0))],
-    )?;
-    Ok(())
+    all_told(&rt, &NOTHING)
 }
 
-#[test]
-fn paths_and_names(rt: HostRuntime) -> Result<(), Fail> {
-    told(
-        &rt,
+const PATHS_AND_NAMES: [Rows; 3] = [
+    (
         Layout::Answered(Op::Create),
         &[
             (b"", None),
@@ -483,9 +465,8 @@ fn paths_and_names(rt: HostRuntime) -> Result<(), Fail> {
             (b"\0\0\x01\xa9", Some(2)),
             (b"\xff\xff\xff\xed", Some(3)),
         ],
-    )?;
-    told(
-        &rt,
+    ),
+    (
         Layout::Answered(Op::Sync),
         &[
             (b"\0", None),
@@ -495,9 +476,8 @@ fn paths_and_names(rt: HostRuntime) -> Result<(), Fail> {
             (b"\xff\xff\x7f\xff", Some(2)),
             (b"\0\0\0\xe2", Some(3)),
         ],
-    )?;
-    told(
-        &rt,
+    ),
+    (
         Layout::Answered(Op::GetChildren),
         &[
             (b"\0", None),
@@ -507,14 +487,16 @@ fn paths_and_names(rt: HostRuntime) -> Result<(), Fail> {
             (b"\0\0\0\x01\x05\x03\xe2\x82\xac", Some(4)),
             (b"\0\0\0\x01\0\0\0\x02a/a", Some(7)),
         ],
-    )?;
-    Ok(())
-}
+    ),
+];
 
 #[test]
-fn stats(rt: HostRuntime) -> Result<(), Fail> {
-    told(
-        &rt,
+fn paths_and_names(rt: HostRuntime) -> Result<(), Fail> {
+    all_told(&rt, &PATHS_AND_NAMES)
+}
+
+const STATS: [Rows; 3] = [
+    (
         Layout::Answered(Op::Exists),
         &[
             (
@@ -526,9 +508,8 @@ fn stats(rt: HostRuntime) -> Result<(), Fail> {
                 Some(68),
             ),
         ],
-    )?;
-    told(
-        &rt,
+    ),
+    (
         Layout::Answered(Op::SetData),
         &[
             (
@@ -540,9 +521,8 @@ fn stats(rt: HostRuntime) -> Result<(), Fail> {
                 Some(68),
             ),
         ],
-    )?;
-    told(
-        &rt,
+    ),
+    (
         Layout::Answered(Op::SetAcl),
         &[
             (
@@ -554,14 +534,16 @@ fn stats(rt: HostRuntime) -> Result<(), Fail> {
                 Some(68),
             ),
         ],
-    )?;
-    Ok(())
-}
+    ),
+];
 
 #[test]
-fn with_stats(rt: HostRuntime) -> Result<(), Fail> {
-    told(
-        &rt,
+fn stats(rt: HostRuntime) -> Result<(), Fail> {
+    all_told(&rt, &STATS)
+}
+
+const WITH_STATS: [Rows; 4] = [
+    (
         Layout::Answered(Op::Create2),
         &[
             (
@@ -581,9 +563,8 @@ fn with_stats(rt: HostRuntime) -> Result<(), Fail> {
                 Some(3),
             ),
         ],
-    )?;
-    told(
-        &rt,
+    ),
+    (
         Layout::Answered(Op::GetData),
         &[
             (
@@ -611,9 +592,8 @@ fn with_stats(rt: HostRuntime) -> Result<(), Fail> {
                 Some(3),
             ),
         ],
-    )?;
-    told(
-        &rt,
+    ),
+    (
         Layout::Answered(Op::GetAcl),
         &[
             (
@@ -641,9 +621,8 @@ fn with_stats(rt: HostRuntime) -> Result<(), Fail> {
                 Some(23),
             ),
         ],
-    )?;
-    told(
-        &rt,
+    ),
+    (
         Layout::Answered(Op::GetChildren2),
         &[
             (
@@ -671,6 +650,10 @@ fn with_stats(rt: HostRuntime) -> Result<(), Fail> {
                 Some(14),
             ),
         ],
-    )?;
-    Ok(())
+    ),
+];
+
+#[test]
+fn with_stats(rt: HostRuntime) -> Result<(), Fail> {
+    all_told(&rt, &WITH_STATS)
 }

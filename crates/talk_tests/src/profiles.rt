@@ -1,9 +1,9 @@
 //! Create2, which is of profile 3.5 alone.
-use super::*;
-use crate::tests::{CONNECT, CONNECTED, reads, refused, usual};
+use crate::conversations::{CONNECT, CONNECTED, reads, refused, usual};
 use std::test::Fail;
 use zk_jute::Reason;
 use zk_records::Profile;
+use zk_talk::{Ending, Limits, Side};
 
 /// A create2 of `/a`, of null data and the usual access list.
 const CREATE2: &[u8] =

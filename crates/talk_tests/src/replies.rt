@@ -1,15 +1,12 @@
 //! Requests and their replies.
-use crate::tests::{CONNECT, CONNECTED, EXISTS, NO_NODE, reads, refused, usual};
-use crate::{Ending, Side};
+use crate::conversations::{CONNECT, CONNECTED, EXISTS, NO_NODE, Row, all_read, usual};
 use std::test::Fail;
 use zk_jute::Reason;
+use zk_talk::{Ending, Fault, Side};
 
-#[test]
-fn requests_and_replies(rt: HostRuntime) -> Result<(), Fail> {
-    reads(
-        &rt,
-        rt.alloc(),
-        usual()?,
+/// Requests and their replies.
+const ANSWERED: [Row; 6] = [
+    (
         &[
             (Side::Client, CONNECT),
             (Side::Server, CONNECTED),
@@ -18,11 +15,8 @@ fn requests_and_replies(rt: HostRuntime) -> Result<(), Fail> {
         ],
         &["C connect", "S connect", "C 1 exists", "S 1 exists"],
         Ending::Whole { unanswered: 0 },
-    )?;
-    reads(
-        &rt,
-        rt.alloc(),
-        usual()?,
+    ),
+    (
         &[
             (Side::Client, CONNECT),
             (Side::Server, CONNECTED),
@@ -62,11 +56,8 @@ fn requests_and_replies(rt: HostRuntime) -> Result<(), Fail> {
             "S 3 setACL",
         ],
         Ending::Whole { unanswered: 0 },
-    )?;
-    reads(
-        &rt,
-        rt.alloc(),
-        usual()?,
+    ),
+    (
         &[
             (Side::Client, CONNECT),
             (Side::Server, CONNECTED),
@@ -93,11 +84,8 @@ fn requests_and_replies(rt: HostRuntime) -> Result<(), Fail> {
             "S 1 create",
         ],
         Ending::Whole { unanswered: 0 },
-    )?;
-    reads(
-        &rt,
-        rt.alloc(),
-        usual()?,
+    ),
+    (
         &[
             (Side::Client, CONNECT),
             (Side::Server, CONNECTED),
@@ -127,11 +115,8 @@ fn requests_and_replies(rt: HostRuntime) -> Result<(), Fail> {
             "S 7 delete",
         ],
         Ending::Whole { unanswered: 0 },
-    )?;
-    reads(
-        &rt,
-        rt.alloc(),
-        usual()?,
+    ),
+    (
         &[
             (Side::Client, CONNECT),
             (Side::Server, CONNECTED),
@@ -150,11 +135,8 @@ fn requests_and_replies(rt: HostRuntime) -> Result<(), Fail> {
             "S 1 exists",
         ],
         Ending::Whole { unanswered: 0 },
-    )?;
-    reads(
-        &rt,
-        rt.alloc(),
-        usual()?,
+    ),
+    (
         &[
             (Side::Client, CONNECT),
             (Side::Server, CONNECTED),
@@ -167,16 +149,17 @@ fn requests_and_replies(rt: HostRuntime) -> Result<(), Fail> {
         ],
         &["C connect", "S connect", "C 1 exists", "S 1 exists"],
         Ending::Whole { unanswered: 0 },
-    )?;
-    Ok(())
-}
+    ),
+];
 
 #[test]
-fn null_and_empty(rt: HostRuntime) -> Result<(), Fail> {
-    reads(
-        &rt,
-        rt.alloc(),
-        usual()?,
+fn requests_and_replies(rt: HostRuntime) -> Result<(), Fail> {
+    all_read(&rt, rt.alloc(), usual()?, &ANSWERED)
+}
+
+/// Null and empty data, and a path of four bytes.
+const NULL_AND_EMPTY: [Row; 3] = [
+    (
         &[
             (Side::Client, CONNECT),
             (Side::Server, CONNECTED),
@@ -187,11 +170,8 @@ fn null_and_empty(rt: HostRuntime) -> Result<(), Fail> {
         ],
         &["C connect", "S connect", "C 1 create"],
         Ending::Whole { unanswered: 1 },
-    )?;
-    reads(
-        &rt,
-        rt.alloc(),
-        usual()?,
+    ),
+    (
         &[
             (Side::Client, CONNECT),
             (Side::Server, CONNECTED),
@@ -202,11 +182,8 @@ fn null_and_empty(rt: HostRuntime) -> Result<(), Fail> {
         ],
         &["C connect", "S connect", "C 1 create"],
         Ending::Whole { unanswered: 1 },
-    )?;
-    reads(
-        &rt,
-        rt.alloc(),
-        usual()?,
+    ),
+    (
         &[
             (Side::Client, CONNECT),
             (Side::Server, CONNECTED),
@@ -217,16 +194,17 @@ fn null_and_empty(rt: HostRuntime) -> Result<(), Fail> {
         ],
         &["C connect", "S connect", "C 1 exists"],
         Ending::Whole { unanswered: 1 },
-    )?;
-    Ok(())
-}
+    ),
+];
 
 #[test]
-fn lanes_of_their_own(rt: HostRuntime) -> Result<(), Fail> {
-    reads(
-        &rt,
-        rt.alloc(),
-        usual()?,
+fn null_and_empty(rt: HostRuntime) -> Result<(), Fail> {
+    all_read(&rt, rt.alloc(), usual()?, &NULL_AND_EMPTY)
+}
+
+/// Requests that wait in lanes of their own.
+const LANES: [Row; 2] = [
+    (
         &[
             (Side::Client, CONNECT),
             (Side::Server, CONNECTED),
@@ -241,11 +219,8 @@ fn lanes_of_their_own(rt: HostRuntime) -> Result<(), Fail> {
         ],
         &["C connect", "S connect", "C -4 auth", "S -4 auth"],
         Ending::Whole { unanswered: 0 },
-    )?;
-    reads(
-        &rt,
-        rt.alloc(),
-        usual()?,
+    ),
+    (
         &[
             (Side::Client, CONNECT),
             (Side::Server, CONNECTED),
@@ -265,16 +240,17 @@ fn lanes_of_their_own(rt: HostRuntime) -> Result<(), Fail> {
             "S -8 setWatches",
         ],
         Ending::Whole { unanswered: 0 },
-    )?;
-    Ok(())
-}
+    ),
+];
 
 #[test]
-fn parts_and_their_results(rt: HostRuntime) -> Result<(), Fail> {
-    reads(
-        &rt,
-        rt.alloc(),
-        usual()?,
+fn lanes_of_their_own(rt: HostRuntime) -> Result<(), Fail> {
+    all_read(&rt, rt.alloc(), usual()?, &LANES)
+}
+
+/// Parts and their results.
+const MULTIS: [Row; 3] = [
+    (
         &[
             (Side::Client, CONNECT),
             (Side::Server, CONNECTED),
@@ -289,11 +265,8 @@ fn parts_and_their_results(rt: HostRuntime) -> Result<(), Fail> {
         ],
         &["C connect", "S connect", "C 1 multi", "S 1 multi"],
         Ending::Whole { unanswered: 0 },
-    )?;
-    reads(
-        &rt,
-        rt.alloc(),
-        usual()?,
+    ),
+    (
         &[
             (Side::Client, CONNECT),
             (Side::Server, CONNECTED),
@@ -308,11 +281,8 @@ fn parts_and_their_results(rt: HostRuntime) -> Result<(), Fail> {
         ],
         &["C connect", "S connect", "C 1 multi", "S 1 multi"],
         Ending::Whole { unanswered: 0 },
-    )?;
-    reads(
-        &rt,
-        rt.alloc(),
-        usual()?,
+    ),
+    (
         &[
             (Side::Client, CONNECT),
             (Side::Server, CONNECTED),
@@ -326,7 +296,17 @@ fn parts_and_their_results(rt: HostRuntime) -> Result<(), Fail> {
             ),
         ],
         &["C connect", "S connect", "C 1 multi"],
-        refused(Side::Server, 1, 96, 42, Reason::BadPart),
-    )?;
-    Ok(())
+        Ending::Refused(Fault {
+            side: Side::Server,
+            frame: 1,
+            offset: 96,
+            place: 42,
+            reason: Reason::BadPart,
+        }),
+    ),
+];
+
+#[test]
+fn parts_and_their_results(rt: HostRuntime) -> Result<(), Fail> {
+    all_read(&rt, rt.alloc(), usual()?, &MULTIS)
 }

@@ -1,9 +1,9 @@
 //! The library as README shows it: a conversation that is read, and one that is said.
-use super::*;
-use crate::speaker_tests::{connect, ping};
-use crate::tests::{CONNECT, CONNECTED, EXISTS};
+use crate::conversations::{CONNECT, CONNECTED, EXISTS};
+use crate::speaker::{connect, ping};
 use std::process::Abort;
 use std::test::Fail;
+use zk_talk::{Ending, Limits, Side, Speaker, Talk};
 
 #[test]
 fn a_conversation_is_read(rt: HostRuntime) -> Result<(), Fail> {

@@ -1,15 +1,12 @@
 //! Frames that may not come.
-use crate::Side;
-use crate::tests::{CONNECT, CONNECTED, EXISTS, NO_NODE, reads, refused, usual};
+use crate::conversations::{CONNECT, CONNECTED, EXISTS, NO_NODE, Row, all_read, usual};
 use std::test::Fail;
 use zk_jute::Reason;
+use zk_talk::{Ending, Fault, Side};
 
-#[test]
-fn replies_that_may_not_come(rt: HostRuntime) -> Result<(), Fail> {
-    reads(
-        &rt,
-        rt.alloc(),
-        usual()?,
+/// Replies that may not come.
+const REPLIES: [Row; 6] = [
+    (
         &[
             (Side::Client, CONNECT),
             (Side::Server, CONNECTED),
@@ -24,21 +21,18 @@ fn replies_that_may_not_come(rt: HostRuntime) -> Result<(), Fail> {
             ),
         ],
         &["C connect", "S connect", "C 1 exists", "C 2 exists"],
-        refused(
-            Side::Server,
-            1,
-            61,
-            0,
-            Reason::XidOrder {
+        Ending::Refused(Fault {
+            side: Side::Server,
+            frame: 1,
+            offset: 61,
+            place: 0,
+            reason: Reason::XidOrder {
                 expected: 1,
                 got: 2,
             },
-        ),
-    )?;
-    reads(
-        &rt,
-        rt.alloc(),
-        usual()?,
+        }),
+    ),
+    (
         &[
             (Side::Client, CONNECT),
             (Side::Server, CONNECTED),
@@ -55,21 +49,18 @@ fn replies_that_may_not_come(rt: HostRuntime) -> Result<(), Fail> {
             (Side::Client, EXISTS),
         ],
         &["C connect", "S connect", "C 1 exists", "C 2 exists"],
-        refused(
-            Side::Server,
-            1,
-            61,
-            0,
-            Reason::XidOrder {
+        Ending::Refused(Fault {
+            side: Side::Server,
+            frame: 1,
+            offset: 61,
+            place: 0,
+            reason: Reason::XidOrder {
                 expected: 1,
                 got: 2,
             },
-        ),
-    )?;
-    reads(
-        &rt,
-        rt.alloc(),
-        usual()?,
+        }),
+    ),
+    (
         &[
             (Side::Client, CONNECT),
             (Side::Server, CONNECTED),
@@ -81,12 +72,15 @@ fn replies_that_may_not_come(rt: HostRuntime) -> Result<(), Fail> {
             (Side::Server, NO_NODE),
         ],
         &["C connect", "S connect", "C 1 exists"],
-        refused(Side::Server, 1, 75, 12, Reason::EventErr),
-    )?;
-    reads(
-        &rt,
-        rt.alloc(),
-        usual()?,
+        Ending::Refused(Fault {
+            side: Side::Server,
+            frame: 1,
+            offset: 75,
+            place: 12,
+            reason: Reason::EventErr,
+        }),
+    ),
+    (
         &[
             (Side::Client, CONNECT),
             (Side::Server, CONNECTED),
@@ -94,12 +88,15 @@ fn replies_that_may_not_come(rt: HostRuntime) -> Result<(), Fail> {
             (Side::Server, NO_NODE),
         ],
         &["C connect", "S connect"],
-        refused(Side::Server, 1, 61, 0, Reason::Unasked),
-    )?;
-    reads(
-        &rt,
-        rt.alloc(),
-        usual()?,
+        Ending::Refused(Fault {
+            side: Side::Server,
+            frame: 1,
+            offset: 61,
+            place: 0,
+            reason: Reason::Unasked,
+        }),
+    ),
+    (
         &[
             (Side::Client, CONNECT),
             (Side::Server, CONNECTED),
@@ -113,12 +110,15 @@ fn replies_that_may_not_come(rt: HostRuntime) -> Result<(), Fail> {
             ),
         ],
         &["C connect", "S connect", "C 1 getChildren"],
-        refused(Side::Server, 1, 70, 25, Reason::Short),
-    )?;
-    reads(
-        &rt,
-        rt.alloc(),
-        usual()?,
+        Ending::Refused(Fault {
+            side: Side::Server,
+            frame: 1,
+            offset: 70,
+            place: 25,
+            reason: Reason::Short,
+        }),
+    ),
+    (
         &[
             (Side::Client, CONNECT),
             (Side::Server, CONNECTED),
@@ -132,17 +132,24 @@ fn replies_that_may_not_come(rt: HostRuntime) -> Result<(), Fail> {
             ),
         ],
         &["C connect", "S connect", "C 1 getChildren"],
-        refused(Side::Server, 1, 65, 16, Reason::BadLength),
-    )?;
-    Ok(())
-}
+        Ending::Refused(Fault {
+            side: Side::Server,
+            frame: 1,
+            offset: 65,
+            place: 16,
+            reason: Reason::BadLength,
+        }),
+    ),
+];
 
 #[test]
-fn requests_that_have_no_form(rt: HostRuntime) -> Result<(), Fail> {
-    reads(
-        &rt,
-        rt.alloc(),
-        usual()?,
+fn replies_that_may_not_come(rt: HostRuntime) -> Result<(), Fail> {
+    all_read(&rt, rt.alloc(), usual()?, &REPLIES)
+}
+
+/// Requests that have no form.
+const REQUESTS: [Row; 5] = [
+    (
         &[
             (Side::Client, CONNECT),
             (Side::Server, CONNECTED),
@@ -152,12 +159,15 @@ fn requests_that_have_no_form(rt: HostRuntime) -> Result<(), Fail> {
             ),
         ],
         &["C connect", "S connect"],
-        refused(Side::Client, 1, 68, 14, Reason::BadBool),
-    )?;
-    reads(
-        &rt,
-        rt.alloc(),
-        usual()?,
+        Ending::Refused(Fault {
+            side: Side::Client,
+            frame: 1,
+            offset: 68,
+            place: 14,
+            reason: Reason::BadBool,
+        }),
+    ),
+    (
         &[
             (Side::Client, CONNECT),
             (Side::Server, CONNECTED),
@@ -167,12 +177,15 @@ fn requests_that_have_no_form(rt: HostRuntime) -> Result<(), Fail> {
             ),
         ],
         &["C connect", "S connect"],
-        refused(Side::Client, 1, 69, 15, Reason::Trailing),
-    )?;
-    reads(
-        &rt,
-        rt.alloc(),
-        usual()?,
+        Ending::Refused(Fault {
+            side: Side::Client,
+            frame: 1,
+            offset: 69,
+            place: 15,
+            reason: Reason::Trailing,
+        }),
+    ),
+    (
         &[
             (Side::Client, CONNECT),
             (Side::Server, CONNECTED),
@@ -182,24 +195,30 @@ fn requests_that_have_no_form(rt: HostRuntime) -> Result<(), Fail> {
             ),
         ],
         &["C connect", "S connect"],
-        refused(Side::Client, 1, 71, 4, Reason::UnknownOp),
-    )?;
-    reads(
-        &rt,
-        rt.alloc(),
-        usual()?,
+        Ending::Refused(Fault {
+            side: Side::Client,
+            frame: 1,
+            offset: 71,
+            place: 4,
+            reason: Reason::UnknownOp,
+        }),
+    ),
+    (
         &[
             (Side::Client, CONNECT),
             (Side::Server, CONNECTED),
             (Side::Client, b"\0\0\0\x08\0\0\0\x01\0\0\0\x0b"),
         ],
         &["C connect", "S connect"],
-        refused(Side::Client, 1, 61, 4, Reason::XidOp),
-    )?;
-    reads(
-        &rt,
-        rt.alloc(),
-        usual()?,
+        Ending::Refused(Fault {
+            side: Side::Client,
+            frame: 1,
+            offset: 61,
+            place: 4,
+            reason: Reason::XidOp,
+        }),
+    ),
+    (
         &[
             (Side::Client, CONNECT),
             (Side::Server, CONNECTED),
@@ -209,7 +228,17 @@ fn requests_that_have_no_form(rt: HostRuntime) -> Result<(), Fail> {
             ),
         ],
         &["C connect", "S connect"],
-        refused(Side::Client, 1, 68, 13, Reason::BadText),
-    )?;
-    Ok(())
+        Ending::Refused(Fault {
+            side: Side::Client,
+            frame: 1,
+            offset: 68,
+            place: 13,
+            reason: Reason::BadText,
+        }),
+    ),
+];
+
+#[test]
+fn requests_that_have_no_form(rt: HostRuntime) -> Result<(), Fail> {
+    all_read(&rt, rt.alloc(), usual()?, &REQUESTS)
 }

@@ -1,18 +1,33 @@
-use super::*;
+//! Lines of messages and of endings, and back.
 use crate::samples::{FAULTS, LINES};
 use std::alloc::{AllocError, Global};
 use std::process::Abort;
 use std::test::Fail;
 use zk_asks::{Ask, ClientFrame};
 use zk_jute::{Chars, Reason, Text};
+use zk_lines::{
+    LineFault, LineReason, ending_laws, ending_line, line_laws, line_of, line_reason_name,
+    put_line, read_line,
+};
 use zk_records::PathAsk;
 use zk_talk::{Ending, Fault, Message, Side};
 
+/// The message's line.
+fn shown(alloc: Global, message: Message) -> Result<Vec<u8>, AllocError> {
+    line_of(alloc, &message)
+}
+
+/// The line of the message that the line is read as.
+fn again(alloc: Global, line: &[u8]) -> Result<Vec<u8>, Fail> {
+    match read_line(alloc, line) {
+        Ok(message) => Ok(shown(alloc, message)?),
+        Err(_) => Err("not read")?,
+    }
+}
+
 fn back_and_forth(rt: &impl Abort, alloc: Global, line: &[u8]) -> Result<(), Fail> {
-    let Ok(message) = read_line(alloc, line) else {
-        return Err("not read")?;
-    };
-    assert_eq!(rt; line_of(alloc, &message)?.as_slice(), line);
+    let told = again(alloc, line)?;
+    assert_eq!(rt; told.as_slice(), line);
     Ok(())
 }
 
@@ -24,11 +39,16 @@ fn lines(rt: HostRuntime) -> Result<(), Fail> {
     Ok(())
 }
 
+/// Why the line is refused.
+fn fault_of(alloc: Global, line: &[u8]) -> Option<LineFault> {
+    read_line(alloc, line).err()
+}
+
 #[test]
 fn faults(rt: HostRuntime) -> Result<(), Fail> {
     for (line, column, reason) in FAULTS {
         let fault = LineFault { column, reason };
-        assert_eq!(rt; read_line(rt.alloc(), line).err().ok_or("read")?, fault);
+        assert_eq!(rt; fault_of(rt.alloc(), line), Some(fault));
     }
     Ok(())
 }
@@ -42,17 +62,15 @@ fn sync(path: String) -> Message {
     })
 }
 
-/// A listing of one line and the message's.
-fn listing(alloc: Global, message: &Message) -> Result<Vec<u8>, AllocError> {
-    let mut lines = Vec::from_slice(alloc, b"one\n")?;
-    put_line(&mut lines, message)?;
-    Ok(lines)
+/// The message's line behind others.
+fn append(lines: &mut Vec<u8>, message: Message) -> Result<(), AllocError> {
+    put_line(lines, &message)
 }
 
 #[test]
 fn line_behind_another(rt: HostRuntime) -> Result<(), Fail> {
-    let path = String::from_str(rt.alloc(), "/a")?;
-    let lines = listing(rt.alloc(), &sync(path))?;
+    let mut lines = Vec::from_slice(rt.alloc(), b"one\n")?;
+    append(&mut lines, sync(String::from_str(rt.alloc(), "/a")?))?;
     assert_eq!(rt; lines.as_slice(), b"one\nC 1 sync path=\"/a\"".as_slice());
     Ok(())
 }
@@ -62,7 +80,7 @@ fn every_byte_of_a_text(rt: HostRuntime) -> Result<(), Fail> {
     for byte in 0..128u8 {
         let mut path = String::new(rt.alloc());
         path.push(char::from(byte))?;
-        let line = line_of(rt.alloc(), &sync(path))?;
+        let line = shown(rt.alloc(), sync(path))?;
         let spelled = match byte {
             b'"' => format!(in rt.alloc(); "\\22")?,
             b'\\' => format!(in rt.alloc(); "\\5c")?,
