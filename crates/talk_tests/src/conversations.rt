@@ -5,6 +5,7 @@ use std::test::Fail;
 use zk_answers::ServerFrame;
 use zk_asks::ClientFrame;
 use zk_jute::Reason;
+use zk_lines::line_of;
 use zk_records::op_name;
 use zk_talk::{Ending, Fault, Limits, Message, Side, Talk, read_all};
 
@@ -51,20 +52,33 @@ fn label(alloc: Global, message: &Message) -> Result<String, Fail> {
     })
 }
 
-/// How many frames are whole where the pieces are judged step by step.
-fn judged(talk: &mut Talk, pieces: &[(Side, &[u8])]) -> usize {
-    let mut whole: usize = 0;
+/// The messages of the pieces where these are judged step by step: each is copied from the frame
+/// that a step kept.
+fn seen(alloc: Global, talk: &mut Talk, pieces: &[(Side, &[u8])]) -> Result<Vec<Message>, Fail> {
+    let mut messages = Vec::new(alloc);
     for piece in pieces {
         let mut rest = piece.1;
         for _ in 0..piece.1.len() {
             let Ok(stepped) = talk.step(piece.0, rest) else {
-                return whole;
+                return Ok(messages);
             };
-            whole = whole.saturating_add(usize::from(stepped.whole));
+            if let Some(message) = talk.view(piece.0) {
+                messages.push(message.to_message(alloc)?)?;
+            }
             rest = &rest[stepped.used..];
         }
     }
-    whole
+    Ok(messages)
+}
+
+/// The messages are the same, each by its line.
+fn alike(rt: &impl Abort, alloc: Global, some: &[Message], others: &[Message]) -> Result<(), Fail> {
+    assert_eq!(rt; some.len(), others.len());
+    for (one, other) in some.iter().zip(others.iter()) {
+        let line = line_of(alloc, one)?;
+        assert_eq!(rt; line, line_of(alloc, other)?);
+    }
+    Ok(())
 }
 
 /// The messages have these labels.
@@ -82,8 +96,8 @@ fn labelled(
     Ok(())
 }
 
-/// The pieces are read as these messages, and end so; judged step by step they are as many frames,
-/// and end likewise.
+/// The pieces are read as these messages, and end so; judged step by step each frame shows the same
+/// message, and they end likewise.
 pub fn reads(
     rt: &impl Abort,
     alloc: Global,
@@ -93,10 +107,11 @@ pub fn reads(
     ending: Ending,
 ) -> Result<(), Fail> {
     let mut talk = Talk::new(alloc, limits)?;
-    let whole = judged(&mut talk, pieces);
-    assert_eq!(rt; (whole, talk.finish()), (labels.len(), ending));
+    let seen = seen(alloc, &mut talk, pieces)?;
+    assert_eq!(rt; talk.finish(), ending);
     let ended = read_all(alloc, limits, pieces)?;
     assert_eq!(rt; ended.ending, ending);
+    alike(rt, alloc, &seen, &ended.messages)?;
     labelled(rt, alloc, &ended.messages, labels)
 }
 
