@@ -10,6 +10,8 @@ mod library;
 #[cfg(test)]
 mod lines;
 #[cfg(test)]
+mod lines_seen;
+#[cfg(test)]
 mod profiles;
 #[cfg(test)]
 mod refusals;

@@ -2,6 +2,7 @@
 ghost use Rattle.std.specs.Prelude.{◌≡◌, ◌++◌, OnOk, false};
 ghost use Rattle.std.specs.Fmt.{signed_decimal};
 ghost use Rattle.std.specs.List.{flat_map};
+ghost use Rattle.zk_jute.specs.declared.value.Nullable.TheVariants as nullable;
 ghost use Rattle.zk_items.specs.Form.{Keeps};
 ghost use Rattle.zk_items.specs.Leaf.{int, long, is_plain, text_fits, text_spell, blob_fits, blob_spell, symbol_spell, bit_spell, ro_spell};
 ghost use Rattle.hex.specs.Hex.{encode_lower};
@@ -12,7 +13,7 @@ use crate::symbol::{hex_digit, is_plain};
 use crate::word::{Word, word_bytes};
 use itoa::Buffer;
 use std::alloc::AllocError;
-use zk_jute::{Blob, Text};
+use zk_jute::{Blob, BlobRef, Text, TextRef};
 
 /// Appends a fixed word.
 #[inline(always)]
@@ -68,11 +69,30 @@ pub fn put_blob(out: &mut Vec<u8>, blob: &Blob) -> Result<(), AllocError>
 {
     match blob {
         Blob::Null => out.extend_from_slice(b"~"),
-        Blob::Full(bytes) => {
-            out.extend_from_slice(b"#")?;
-            put_digits(out, bytes.as_slice())
-        }
+        Blob::Full(bytes) => put_bytes(out, bytes.as_slice()),
     }
+}
+
+/// Appends a blob where it lies: `~`, or `#` and its bytes' digits.
+pub fn put_blob_ref(out: &mut Vec<u8>, blob: &BlobRef<'_>) -> Result<(), AllocError>
+    ensures spelled { OnOk result (out.new.items ≡ out.old.items ++ blob_spell blob.now) }
+    ensures fits { OnOk result (blob_fits blob.now) }
+    ensures keeps { Keeps out.old.items out.new.items }
+{
+    match blob {
+        BlobRef::Null => out.extend_from_slice(b"~"),
+        BlobRef::Full(bytes) => put_bytes(out, bytes.as_slice()),
+    }
+}
+
+/// Appends the bytes of a blob: `#` and their digits.
+fn put_bytes(out: &mut Vec<u8>, bytes: &[u8]) -> Result<(), AllocError>
+    ensures spelled { OnOk result (out.new.items ≡ out.old.items ++ blob_spell (nullable.Full bytes.now)) }
+    ensures fits { OnOk result (blob_fits (nullable.Full bytes.now)) }
+    ensures keeps { Keeps out.old.items out.new.items }
+{
+    out.extend_from_slice(b"#")?;
+    put_digits(out, bytes)
 }
 
 /// Appends two lower-case digits for each byte.
@@ -125,10 +145,29 @@ pub fn put_text(out: &mut Vec<u8>, text: &Text) -> Result<(), AllocError>
 {
     match text {
         Text::Null => out.extend_from_slice(b"~"),
-        Text::Full(text) => {
-            out.extend_from_slice(b"\"")?;
-            put_symbols(out, text.as_str().as_bytes())?;
-            out.extend_from_slice(b"\"")
-        }
+        Text::Full(text) => put_chars(out, text.as_str()),
     }
+}
+
+/// Appends a text where it lies: `~`, or its bytes between quotation marks.
+pub fn put_text_ref(out: &mut Vec<u8>, text: &TextRef<'_>) -> Result<(), AllocError>
+    ensures spelled { OnOk result (out.new.items ≡ out.old.items ++ text_spell text.now) }
+    ensures fits { OnOk result (text_fits text.now) }
+    ensures keeps { Keeps out.old.items out.new.items }
+{
+    match text {
+        TextRef::Null => out.extend_from_slice(b"~"),
+        TextRef::Full(text) => put_chars(out, text.as_str()),
+    }
+}
+
+/// Appends the bytes of a text between quotation marks.
+fn put_chars(out: &mut Vec<u8>, text: &str) -> Result<(), AllocError>
+    ensures spelled { OnOk result (out.new.items ≡ out.old.items ++ text_spell (nullable.Full text.now)) }
+    ensures fits { OnOk result (text_fits (nullable.Full text.now)) }
+    ensures keeps { Keeps out.old.items out.new.items }
+{
+    out.extend_from_slice(b"\"")?;
+    put_symbols(out, text.as_bytes())?;
+    out.extend_from_slice(b"\"")
 }

@@ -1,21 +1,33 @@
 //! What a server sends, as a line shows it.
 ghost use Rattle.std.specs.Prelude.{◌≡◌, ◌≢◌, ◌++◌, OnOk, pos};
+ghost use Rattle.std.specs.Fmt.{signed_decimal};
+ghost use Rattle.zk_records.specs.Names.{op_name as named};
 ghost use Rattle.zk_items.specs.Form.{Gives, Keeps};
 ghost use Rattle.zk_items.specs.Codes.{failure_code};
+ghost use Rattle.zk_items.specs.Leaf.{int, long};
+ghost use Rattle.zk_items.specs.Words.{word_of};
+ghost use Rattle.zk_items.specs.declared.word.Word.TheVariants as words;
+ghost use Rattle.zk_lines.specs.Records as records;
 ghost use Rattle.zk_lines.specs.Answers as answers;
 ghost use Rattle.zk_lines.specs.Lines as lines;
 
-use crate::done::{put_multi, read_multi};
-use crate::item::{put_field, read_field};
+use crate::done::read_multi;
+use crate::item::read_field;
 use crate::name::op_named;
+use crate::put::{Put, put_field, put_fields};
 use std::alloc::AllocError;
-use zk_answers::{Body, Failure, Outcome, Reply, ServerFrame};
+use zk_answers::{
+    Body, BodyOf, BodyRef, Failure, Outcome, OutcomeOf, OutcomeRef, Reply, ReplyRef, ServerFrame,
+    ServerFrameOf, ServerRef,
+};
 use zk_items::{
     LineFault, LineReason, Reader, Word, put_error_code, put_event_code, put_int, put_word,
     read_event_code, read_failure_code, word_bytes,
 };
 use zk_jute::{Blob, List, Text};
-use zk_records::{Acl, ConnectResponse, Op, Stat, WatcherEvent, op_name};
+use zk_records::{
+    Acl, ConnectResponse, ConnectResponseRef, Op, Stat, WatcherEvent, WatcherEventRef, op_name,
+};
 
 fn read_content(line: &mut Reader<'_>) -> Result<(Blob, Stat), LineFault>
     ensures { Gives result line.new (answers.content.at line.old) }
@@ -23,15 +35,6 @@ fn read_content(line: &mut Reader<'_>) -> Result<(Blob, Stat), LineFault>
     let blob = read_field(line, Word::Blob)?;
     let stat = read_field(line, Word::Stat)?;
     Ok((blob, stat))
-}
-
-fn put_content(out: &mut Vec<u8>, blob: &Blob, stat: &Stat) -> Result<(), AllocError>
-    ensures spelled { OnOk result (out.new.items ≡ out.old.items ++ answers.content.spell (blob.now, stat.now)) }
-    ensures fits { OnOk result (answers.content.fits (blob.now, stat.now)) }
-    ensures keeps { Keeps out.old.items out.new.items }
-{
-    put_field(out, Word::Blob, blob)?;
-    put_field(out, Word::Stat, stat)
 }
 
 fn read_acls(line: &mut Reader<'_>) -> Result<(List<Acl>, Stat), LineFault>
@@ -42,15 +45,6 @@ fn read_acls(line: &mut Reader<'_>) -> Result<(List<Acl>, Stat), LineFault>
     Ok((acl, stat))
 }
 
-fn put_acls(out: &mut Vec<u8>, acl: &List<Acl>, stat: &Stat) -> Result<(), AllocError>
-    ensures spelled { OnOk result (out.new.items ≡ out.old.items ++ answers.acls.spell (acl.now, stat.now)) }
-    ensures fits { OnOk result (answers.acls.fits (acl.now, stat.now)) }
-    ensures keeps { Keeps out.old.items out.new.items }
-{
-    put_field(out, Word::Acl, acl)?;
-    put_field(out, Word::Stat, stat)
-}
-
 fn read_children(line: &mut Reader<'_>) -> Result<(List<Text>, Stat), LineFault>
     ensures { Gives result line.new (answers.children.at line.old) }
 {
@@ -59,30 +53,12 @@ fn read_children(line: &mut Reader<'_>) -> Result<(List<Text>, Stat), LineFault>
     Ok((names, stat))
 }
 
-fn put_children(out: &mut Vec<u8>, names: &List<Text>, stat: &Stat) -> Result<(), AllocError>
-    ensures spelled { OnOk result (out.new.items ≡ out.old.items ++ answers.children.spell (names.now, stat.now)) }
-    ensures fits { OnOk result (answers.children.fits (names.now, stat.now)) }
-    ensures keeps { Keeps out.old.items out.new.items }
-{
-    put_field(out, Word::Names, names)?;
-    put_field(out, Word::Stat, stat)
-}
-
 fn read_created(line: &mut Reader<'_>) -> Result<(Text, Stat), LineFault>
     ensures { Gives result line.new (answers.created.at line.old) }
 {
     let path = read_field(line, Word::Path)?;
     let stat = read_field(line, Word::Stat)?;
     Ok((path, stat))
-}
-
-fn put_created(out: &mut Vec<u8>, path: &Text, stat: &Stat) -> Result<(), AllocError>
-    ensures spelled { OnOk result (out.new.items ≡ out.old.items ++ answers.created.spell (path.now, stat.now)) }
-    ensures fits { OnOk result (answers.created.fits (path.now, stat.now)) }
-    ensures keeps { Keeps out.old.items out.new.items }
-{
-    put_field(out, Word::Path, path)?;
-    put_field(out, Word::Stat, stat)
 }
 
 /// What an operation gives, which is next.
@@ -133,24 +109,62 @@ fn read_body(line: &mut Reader<'_>, op: Op) -> Result<Body, LineFault>
     })
 }
 
-fn put_body(out: &mut Vec<u8>, body: &Body) -> Result<(), AllocError>
-    ensures spelled { OnOk result (out.new.items ≡ out.old.items ++ answers.body_spell body.now) }
-    ensures fits { OnOk result (answers.body_fits body.now) }
+/// Appends a field, and what is known of a node behind it.
+fn put_with_stat<T: Put>(
+    out: &mut Vec<u8>,
+    word: Word,
+    value: &T,
+    stat: &Stat,
+) -> Result<(), AllocError>
+    ensures spelled { OnOk result (out.new.items ≡ out.old.items ++ ((word_of word ++ T.spell value.now) ++ (word_of words.Stat ++ records.stat.spell stat.now))) }
+    ensures fits { OnOk result (T.fits value.now × records.stat.fits stat.now) }
     ensures keeps { Keeps out.old.items out.new.items }
 {
-    match body {
-        Body::Create { path } => put_field(out, Word::Path, path),
-        Body::Exists { stat } => put_field(out, Word::Stat, stat),
-        Body::GetData { blob, stat } => put_content(out, blob, stat),
-        Body::SetData { stat } => put_field(out, Word::Stat, stat),
-        Body::GetAcl { acl, stat } => put_acls(out, acl, stat),
-        Body::SetAcl { stat } => put_field(out, Word::Stat, stat),
-        Body::GetChildren { names } => put_field(out, Word::Names, names),
-        Body::Sync { path } => put_field(out, Word::Path, path),
-        Body::GetChildren2 { names, stat } => put_children(out, names, stat),
-        Body::Multi(results) => put_multi(out, results.as_slice()),
-        Body::Create2 { path, stat } => put_created(out, path, stat),
-        Body::Delete | Body::Ping | Body::Auth | Body::SetWatches | Body::CloseSession => Ok(()),
+    put_field(out, word, value)?;
+    put_field(out, Word::Stat, stat)
+}
+
+/// `body!(out, body)` appends what an operation gives.
+macro_rules! body {
+    ($out:ident, $body:ident) => {
+        match $body {
+            BodyOf::Create { path } => put_field($out, Word::Path, path),
+            BodyOf::Exists { stat } => put_field($out, Word::Stat, stat),
+            BodyOf::GetData { blob, stat } => put_with_stat($out, Word::Blob, blob, stat),
+            BodyOf::SetData { stat } => put_field($out, Word::Stat, stat),
+            BodyOf::GetAcl { acl, stat } => put_with_stat($out, Word::Acl, acl, stat),
+            BodyOf::SetAcl { stat } => put_field($out, Word::Stat, stat),
+            BodyOf::GetChildren { names } => put_field($out, Word::Names, names),
+            BodyOf::Sync { path } => put_field($out, Word::Path, path),
+            BodyOf::GetChildren2 { names, stat } => put_with_stat($out, Word::Names, names, stat),
+            BodyOf::Multi(results) => results.put($out),
+            BodyOf::Create2 { path, stat } => put_with_stat($out, Word::Path, path, stat),
+            BodyOf::Delete
+            | BodyOf::Ping
+            | BodyOf::Auth
+            | BodyOf::SetWatches
+            | BodyOf::CloseSession => Ok(()),
+        }
+    };
+}
+
+impl Put for Body {
+    ghost fits = { answers.body_fits };
+
+    ghost spell = { answers.body_spell };
+
+    fn put(&self, out: &mut Vec<u8>) -> Result<(), AllocError> {
+        body!(out, self)
+    }
+}
+
+impl<'a> Put for BodyRef<'a> {
+    ghost fits = { answers.body_fits };
+
+    ghost spell = { answers.body_spell };
+
+    fn put(&self, out: &mut Vec<u8>) -> Result<(), AllocError> {
+        body!(out, self)
     }
 }
 
@@ -176,17 +190,42 @@ fn read_outcome(line: &mut Reader<'_>, op: Op) -> Result<Outcome, LineFault>
     }
 }
 
-fn put_outcome(out: &mut Vec<u8>, outcome: &Outcome) -> Result<(), AllocError>
-    ensures spelled { OnOk result (out.new.items ≡ out.old.items ++ answers.outcome_spell outcome.now) }
-    ensures fits { OnOk result (answers.outcome_fits outcome.now) }
+fn put_failure(out: &mut Vec<u8>, failure: &Failure) -> Result<(), AllocError>
+    ensures spelled { OnOk result (out.new.items ≡ out.old.items ++ (word_of words.Err ++ failure_code.spell failure.now)) }
+    ensures fits { OnOk result (failure_code.fits failure.now) }
     ensures keeps { Keeps out.old.items out.new.items }
 {
-    match outcome {
-        Outcome::Done(body) => put_body(out, body),
-        Outcome::Failed(_, failure) => {
-            put_word(out, Word::Err)?;
-            put_error_code(out, failure.number())
+    put_word(out, Word::Err)?;
+    put_error_code(out, failure.number())
+}
+
+/// `outcome!(out, outcome)` appends the error, or what an operation gives.
+macro_rules! outcome {
+    ($out:ident, $outcome:ident) => {
+        match $outcome {
+            OutcomeOf::Done(body) => body.put($out),
+            OutcomeOf::Failed(_, failure) => put_failure($out, failure),
         }
+    };
+}
+
+impl Put for Outcome {
+    ghost fits = { answers.outcome_fits };
+
+    ghost spell = { answers.outcome_spell };
+
+    fn put(&self, out: &mut Vec<u8>) -> Result<(), AllocError> {
+        outcome!(out, self)
+    }
+}
+
+impl<'a> Put for OutcomeRef<'a> {
+    ghost fits = { answers.outcome_fits };
+
+    ghost spell = { answers.outcome_spell };
+
+    fn put(&self, out: &mut Vec<u8>) -> Result<(), AllocError> {
+        outcome!(out, self)
     }
 }
 
@@ -212,16 +251,43 @@ fn read_reply(line: &mut Reader<'_>) -> Result<Reply, LineFault>
     Ok(Reply { xid, zxid, outcome })
 }
 
-fn put_reply(out: &mut Vec<u8>, reply: &Reply) -> Result<(), AllocError>
-    ensures spelled { OnOk result (out.new.items ≡ out.old.items ++ answers.reply.spell reply.now) }
-    ensures fits { OnOk result (answers.reply.fits reply.now) }
+/// Appends a reply: its xid, its operation's name, its zxid and its outcome.
+fn put_named<O: Put>(
+    out: &mut Vec<u8>,
+    xid: i32,
+    op: Op,
+    zxid: &i64,
+    outcome: &O,
+) -> Result<(), AllocError>
+    ensures spelled { OnOk result (out.new.items ≡ out.old.items ++ (signed_decimal xid ++ (word_of words.Blank ++ (named op ++ ((word_of words.Zxid ++ signed_decimal zxid.now) ++ O.spell outcome.now))))) }
+    ensures fits { OnOk result (int.fits xid × (long.fits zxid.now × O.fits outcome.now)) }
     ensures keeps { Keeps out.old.items out.new.items }
 {
-    put_int(out, reply.xid)?;
+    put_int(out, xid)?;
     put_word(out, Word::Blank)?;
-    out.extend_from_slice(op_name(reply.op()).as_bytes())?;
-    put_field(out, Word::Zxid, &reply.zxid)?;
-    put_outcome(out, &reply.outcome)
+    out.extend_from_slice(op_name(op).as_bytes())?;
+    put_field(out, Word::Zxid, zxid)?;
+    outcome.put(out)
+}
+
+impl Put for Reply {
+    ghost fits = { answers.reply.fits };
+
+    ghost spell = { answers.reply.spell };
+
+    fn put(&self, out: &mut Vec<u8>) -> Result<(), AllocError> {
+        put_named(out, self.xid, self.op(), &self.zxid, &self.outcome)
+    }
+}
+
+impl<'a> Put for ReplyRef<'a> {
+    ghost fits = { answers.reply.fits };
+
+    ghost spell = { answers.reply.spell };
+
+    fn put(&self, out: &mut Vec<u8>) -> Result<(), AllocError> {
+        put_named(out, self.xid, self.op(), &self.zxid, &self.outcome)
+    }
 }
 
 fn read_connected(line: &mut Reader<'_>) -> Result<(ConnectResponse, Option<bool>), LineFault>
@@ -241,6 +307,14 @@ fn read_connected(line: &mut Reader<'_>) -> Result<(ConnectResponse, Option<bool
     Ok((hello, read_only))
 }
 
+/// `connected!(out, hello, read_only)` appends the connect response's fields in order.
+macro_rules! connected {
+    ($out:ident, $hello:ident, $read_only:ident) => {{
+        put_fields!($out, $hello: Version protocol_version, Timeout time_out, Session session_id, Passwd passwd)?;
+        put_field($out, Word::ReadOnly, $read_only)
+    }};
+}
+
 fn put_connected(
     out: &mut Vec<u8>,
     hello: &ConnectResponse,
@@ -250,11 +324,19 @@ fn put_connected(
     ensures fits { OnOk result (answers.connected.fits (hello.now, read_only.now)) }
     ensures keeps { Keeps out.old.items out.new.items }
 {
-    put_field(out, Word::Version, &hello.protocol_version)?;
-    put_field(out, Word::Timeout, &hello.time_out)?;
-    put_field(out, Word::Session, &hello.session_id)?;
-    put_field(out, Word::Passwd, &hello.passwd)?;
-    put_field(out, Word::ReadOnly, read_only)
+    connected!(out, hello, read_only)
+}
+
+fn put_connected_ref(
+    out: &mut Vec<u8>,
+    hello: &ConnectResponseRef<'_>,
+    read_only: &Option<bool>,
+) -> Result<(), AllocError>
+    ensures spelled { OnOk result (out.new.items ≡ out.old.items ++ answers.connected.spell (hello.now, read_only.now)) }
+    ensures fits { OnOk result (answers.connected.fits (hello.now, read_only.now)) }
+    ensures keeps { Keeps out.old.items out.new.items }
+{
+    connected!(out, hello, read_only)
 }
 
 fn read_event(line: &mut Reader<'_>) -> Result<(i64, WatcherEvent), LineFault>
@@ -268,16 +350,34 @@ fn read_event(line: &mut Reader<'_>) -> Result<(i64, WatcherEvent), LineFault>
     Ok((zxid, WatcherEvent { kind, state, path }))
 }
 
+/// `event!(out, zxid, event)` appends the zxid and an event's fields in order.
+macro_rules! event {
+    ($out:ident, $zxid:ident, $event:ident) => {{
+        put_field($out, Word::Zxid, $zxid)?;
+        put_word($out, Word::Kind)?;
+        put_event_code($out, $event.kind)?;
+        put_fields!($out, $event: State state, Path path)
+    }};
+}
+
 fn put_event(out: &mut Vec<u8>, zxid: &i64, event: &WatcherEvent) -> Result<(), AllocError>
     ensures spelled { OnOk result (out.new.items ≡ out.old.items ++ answers.event.spell (zxid.now, event.now)) }
     ensures fits { OnOk result (answers.event.fits (zxid.now, event.now)) }
     ensures keeps { Keeps out.old.items out.new.items }
 {
-    put_field(out, Word::Zxid, zxid)?;
-    put_word(out, Word::Kind)?;
-    put_event_code(out, event.kind)?;
-    put_field(out, Word::State, &event.state)?;
-    put_field(out, Word::Path, &event.path)
+    event!(out, zxid, event)
+}
+
+fn put_event_ref(
+    out: &mut Vec<u8>,
+    zxid: &i64,
+    event: &WatcherEventRef<'_>,
+) -> Result<(), AllocError>
+    ensures spelled { OnOk result (out.new.items ≡ out.old.items ++ answers.event.spell (zxid.now, event.now)) }
+    ensures fits { OnOk result (answers.event.fits (zxid.now, event.now)) }
+    ensures keeps { Keeps out.old.items out.new.items }
+{
+    event!(out, zxid, event)
 }
 
 /// The server's message that is next, behind `S `.
@@ -297,24 +397,42 @@ pub fn read_server(line: &mut Reader<'_>) -> Result<ServerFrame, LineFault>
     }
 }
 
-/// Appends a server's line.
-pub fn put_server(out: &mut Vec<u8>, frame: &ServerFrame) -> Result<(), AllocError>
-    ensures spelled { OnOk result (out.new.items ≡ out.old.items ++ lines.server_line frame.now) }
-    ensures fits { OnOk result (lines.ServerFits frame.now) }
-    ensures keeps { Keeps out.old.items out.new.items }
-{
-    match frame {
-        ServerFrame::Connected { hello, read_only } => {
-            out.extend_from_slice(b"S connect")?;
-            put_connected(out, hello, read_only)
+/// `server!(out, frame, put_connected, put_event)` appends a server's line.
+macro_rules! server {
+    ($out:ident, $frame:ident, $put_connected:ident, $put_event:ident) => {
+        match $frame {
+            ServerFrameOf::Connected { hello, read_only } => {
+                $out.extend_from_slice(b"S connect")?;
+                $put_connected($out, hello, read_only)
+            }
+            ServerFrameOf::Answered(reply) => {
+                $out.extend_from_slice(b"S ")?;
+                reply.put($out)
+            }
+            ServerFrameOf::Event { zxid, event } => {
+                $out.extend_from_slice(b"S event")?;
+                $put_event($out, zxid, event)
+            }
         }
-        ServerFrame::Answered(reply) => {
-            out.extend_from_slice(b"S ")?;
-            put_reply(out, reply)
-        }
-        ServerFrame::Event { zxid, event } => {
-            out.extend_from_slice(b"S event")?;
-            put_event(out, zxid, event)
-        }
+    };
+}
+
+impl Put for ServerFrame {
+    ghost fits = { lines.ServerFits };
+
+    ghost spell = { lines.server_line };
+
+    fn put(&self, out: &mut Vec<u8>) -> Result<(), AllocError> {
+        server!(out, self, put_connected, put_event)
+    }
+}
+
+impl<'a> Put for ServerRef<'a> {
+    ghost fits = { lines.ServerFits };
+
+    ghost spell = { lines.server_line };
+
+    fn put(&self, out: &mut Vec<u8>) -> Result<(), AllocError> {
+        server!(out, self, put_connected_ref, put_event_ref)
     }
 }

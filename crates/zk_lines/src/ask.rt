@@ -1,17 +1,25 @@
 //! What a client sends, as a line shows it.
-ghost use Rattle.std.specs.Prelude.{◌≡◌, ◌++◌, OnOk};
+ghost use Rattle.std.specs.Prelude.{◌≡◌, ◌++◌, OnOk, codes};
+ghost use Rattle.std.specs.Fmt.{signed_decimal};
 ghost use Rattle.zk_items.specs.Form.{Gives, Keeps};
+ghost use Rattle.zk_items.specs.Leaf.{int};
+ghost use Rattle.zk_items.specs.Words.{word_of};
+ghost use Rattle.zk_items.specs.declared.word.Word.TheVariants.{Blank};
 ghost use Rattle.zk_lines.specs.Asks as asks;
 ghost use Rattle.zk_lines.specs.Lines as lines;
 
-use crate::item::{Item, put_field, read_field};
-use crate::list::{Signs, put_series, read_series};
+use crate::item::{Item, read_field};
+use crate::list::{Left, Signs, put_series, read_series};
 use crate::name::{op_named, part_named};
+use crate::put::{Put, put_field, put_fields};
 use std::alloc::AllocError;
-use zk_asks::{Ask, ClientFrame, Part};
+use zk_asks::{
+    Ask, AskOf, AskRef, ClientFrame, ClientFrameOf, ClientRef, Part, PartItems, PartList, PartOf,
+    PartRef,
+};
 use zk_items::{LineFault, LineReason, Reader, Word, put_int, put_word};
 use zk_jute::Items;
-use zk_records::{ConnectRequest, Op, PartOp, op_name, part_name};
+use zk_records::{ConnectRequest, ConnectRequestRef, Op, PartOp, op_name, part_name};
 
 /// The signs between the parts of a multi and behind the last.
 pub const PARTS: Signs = Signs {
@@ -31,27 +39,41 @@ fn read_part(line: &mut Reader<'_>, op: PartOp) -> Result<Part, LineFault>
     })
 }
 
-fn put_part(out: &mut Vec<u8>, part: &Part) -> Result<(), AllocError>
-    ensures spelled { OnOk result (out.new.items ≡ out.old.items ++ asks.part_spell part.now) }
-    ensures fits { OnOk result (asks.part_fits part.now) }
-    ensures keeps { Keeps out.old.items out.new.items }
-{
-    match part {
-        Part::Create(ask) => ask.put(out),
-        Part::Delete(ask) => ask.put(out),
-        Part::SetData(ask) => ask.put(out),
-        Part::Check(ask) => ask.put(out),
+/// `part!(out, part)` appends a part's name and its record.
+macro_rules! part {
+    ($out:ident, $part:ident) => {{
+        $out.extend_from_slice(part_name($part.op()).as_bytes())?;
+        match $part {
+            PartOf::Create(ask) => ask.put($out),
+            PartOf::Delete(ask) => ask.put($out),
+            PartOf::SetData(ask) => ask.put($out),
+            PartOf::Check(ask) => ask.put($out),
+        }
+    }};
+}
+
+impl Put for Part {
+    ghost fits = { asks.part_form.fits };
+
+    ghost spell = { asks.part_form.spell };
+
+    fn put(&self, out: &mut Vec<u8>) -> Result<(), AllocError> {
+        part!(out, self)
+    }
+}
+
+impl<'a> Put for PartRef<'a> {
+    ghost fits = { asks.part_form.fits };
+
+    ghost spell = { asks.part_form.spell };
+
+    fn put(&self, out: &mut Vec<u8>) -> Result<(), AllocError> {
+        part!(out, self)
     }
 }
 
 impl Item for Part {
-    ghost use Rattle.zk_lines.specs.Asks.{part_form};
-
-    ghost fits = { part_form.fits };
-
-    ghost spell = { part_form.spell };
-
-    ghost at = { part_form.at };
+    ghost at = { asks.part_form.at };
 
     fn read(line: &mut Reader<'_>) -> Result<Self, LineFault> {
         let fault = line.fault(LineReason::Word);
@@ -59,11 +81,6 @@ impl Item for Part {
             return Err(fault);
         };
         read_part(line, op)
-    }
-
-    fn put(&self, out: &mut Vec<u8>) -> Result<(), AllocError> {
-        out.extend_from_slice(part_name(self.op()).as_bytes())?;
-        put_part(out, self)
     }
 }
 
@@ -74,13 +91,36 @@ fn read_multi(line: &mut Reader<'_>) -> Result<Items<Part>, LineFault>
     read_series(line, PARTS)
 }
 
-fn put_multi(out: &mut Vec<u8>, parts: &[Part]) -> Result<(), AllocError>
-    ensures spelled { OnOk result (out.new.items ≡ out.old.items ++ asks.multi.spell parts.now) }
-    ensures fits { OnOk result (asks.multi.fits parts.now) }
-    ensures keeps { Keeps out.old.items out.new.items }
-{
-    put_word(out, Word::Parts)?;
-    put_series(out, parts, PARTS)
+impl Put for Items<Part> {
+    ghost fits = { asks.multi.fits };
+
+    ghost spell = { asks.multi.spell };
+
+    fn put(&self, out: &mut Vec<u8>) -> Result<(), AllocError> {
+        put_word(out, Word::Parts)?;
+        put_series(out, self.as_slice().iter(), PARTS)
+    }
+}
+
+impl<'a> Left for PartItems<'a> {
+    type One = PartRef<'a>;
+
+    ghost left = { λ parts. parts };
+
+    fn take(&mut self) -> Option<PartRef<'a>> {
+        self.next()
+    }
+}
+
+impl<'a> Put for PartList<'a> {
+    ghost fits = { asks.multi.fits };
+
+    ghost spell = { asks.multi.spell };
+
+    fn put(&self, out: &mut Vec<u8>) -> Result<(), AllocError> {
+        put_word(out, Word::Parts)?;
+        put_series(out, self.items(), PARTS)
+    }
 }
 
 /// The record of a request that is next.
@@ -107,38 +147,52 @@ fn read_body(line: &mut Reader<'_>, op: Op) -> Result<Ask, LineFault>
     })
 }
 
-fn put_body(out: &mut Vec<u8>, ask: &Ask) -> Result<(), AllocError>
-    ensures spelled { OnOk result (out.new.items ≡ out.old.items ++ asks.ask_spell ask.now) }
-    ensures fits { OnOk result (asks.ask_fits ask.now) }
-    ensures keeps { Keeps out.old.items out.new.items }
-{
-    match ask {
-        Ask::Create(ask) => ask.put(out),
-        Ask::Delete(ask) => ask.put(out),
-        Ask::Exists(ask) => ask.put(out),
-        Ask::GetData(ask) => ask.put(out),
-        Ask::SetData(ask) => ask.put(out),
-        Ask::GetAcl(ask) => ask.put(out),
-        Ask::SetAcl(ask) => ask.put(out),
-        Ask::GetChildren(ask) => ask.put(out),
-        Ask::Sync(ask) => ask.put(out),
-        Ask::GetChildren2(ask) => ask.put(out),
-        Ask::Multi(parts) => put_multi(out, parts.as_slice()),
-        Ask::Create2(ask) => ask.put(out),
-        Ask::Auth(ask) => ask.put(out),
-        Ask::SetWatches(ask) => ask.put(out),
-        Ask::Ping | Ask::CloseSession => Ok(()),
+/// `ask!(out, ask)` appends a request's name and what stands behind it.
+macro_rules! ask {
+    ($out:ident, $ask:ident) => {{
+        $out.extend_from_slice(op_name($ask.op()).as_bytes())?;
+        match $ask {
+            AskOf::Create(ask) => ask.put($out),
+            AskOf::Delete(ask) => ask.put($out),
+            AskOf::Exists(ask) => ask.put($out),
+            AskOf::GetData(ask) => ask.put($out),
+            AskOf::SetData(ask) => ask.put($out),
+            AskOf::GetAcl(ask) => ask.put($out),
+            AskOf::SetAcl(ask) => ask.put($out),
+            AskOf::GetChildren(ask) => ask.put($out),
+            AskOf::Sync(ask) => ask.put($out),
+            AskOf::GetChildren2(ask) => ask.put($out),
+            AskOf::Multi(parts) => parts.put($out),
+            AskOf::Create2(ask) => ask.put($out),
+            AskOf::Auth(ask) => ask.put($out),
+            AskOf::SetWatches(ask) => ask.put($out),
+            AskOf::Ping | AskOf::CloseSession => Ok(()),
+        }
+    }};
+}
+
+impl Put for Ask {
+    ghost fits = { asks.ask_form.fits };
+
+    ghost spell = { asks.ask_form.spell };
+
+    fn put(&self, out: &mut Vec<u8>) -> Result<(), AllocError> {
+        ask!(out, self)
+    }
+}
+
+impl<'a> Put for AskRef<'a> {
+    ghost fits = { asks.ask_form.fits };
+
+    ghost spell = { asks.ask_form.spell };
+
+    fn put(&self, out: &mut Vec<u8>) -> Result<(), AllocError> {
+        ask!(out, self)
     }
 }
 
 impl Item for Ask {
-    ghost use Rattle.zk_lines.specs.Asks.{ask_form};
-
-    ghost fits = { ask_form.fits };
-
-    ghost spell = { ask_form.spell };
-
-    ghost at = { ask_form.at };
+    ghost at = { asks.ask_form.at };
 
     fn read(line: &mut Reader<'_>) -> Result<Self, LineFault> {
         let fault = line.fault(LineReason::Word);
@@ -146,11 +200,6 @@ impl Item for Ask {
             return Err(fault);
         };
         read_body(line, op)
-    }
-
-    fn put(&self, out: &mut Vec<u8>) -> Result<(), AllocError> {
-        out.extend_from_slice(op_name(self.op()).as_bytes())?;
-        put_body(out, self)
     }
 }
 
@@ -174,6 +223,14 @@ fn read_connect(line: &mut Reader<'_>) -> Result<(ConnectRequest, Option<bool>),
     Ok((hello, read_only))
 }
 
+/// `connect!(out, hello, read_only)` appends the connect request's fields in order.
+macro_rules! connect {
+    ($out:ident, $hello:ident, $read_only:ident) => {{
+        put_fields!($out, $hello: Version protocol_version, Zxid last_zxid_seen, Timeout time_out, Session session_id, Passwd passwd)?;
+        put_field($out, Word::ReadOnly, $read_only)
+    }};
+}
+
 fn put_connect(
     out: &mut Vec<u8>,
     hello: &ConnectRequest,
@@ -183,12 +240,30 @@ fn put_connect(
     ensures fits { OnOk result (asks.connect.fits (hello.now, read_only.now)) }
     ensures keeps { Keeps out.old.items out.new.items }
 {
-    put_field(out, Word::Version, &hello.protocol_version)?;
-    put_field(out, Word::Zxid, &hello.last_zxid_seen)?;
-    put_field(out, Word::Timeout, &hello.time_out)?;
-    put_field(out, Word::Session, &hello.session_id)?;
-    put_field(out, Word::Passwd, &hello.passwd)?;
-    put_field(out, Word::ReadOnly, read_only)
+    connect!(out, hello, read_only)
+}
+
+fn put_connect_ref(
+    out: &mut Vec<u8>,
+    hello: &ConnectRequestRef<'_>,
+    read_only: &Option<bool>,
+) -> Result<(), AllocError>
+    ensures spelled { OnOk result (out.new.items ≡ out.old.items ++ asks.connect.spell (hello.now, read_only.now)) }
+    ensures fits { OnOk result (asks.connect.fits (hello.now, read_only.now)) }
+    ensures keeps { Keeps out.old.items out.new.items }
+{
+    connect!(out, hello, read_only)
+}
+
+/// Appends a request's line: its xid, and what is asked.
+fn put_request<A: Put>(out: &mut Vec<u8>, xid: i32, ask: &A) -> Result<(), AllocError>
+    ensures spelled { OnOk result (out.new.items ≡ out.old.items ++ (codes "C " ++ (signed_decimal xid ++ (word_of Blank ++ A.spell ask.now)))) }
+    ensures fits { OnOk result (int.fits xid × A.fits ask.now) }
+    ensures keeps { Keeps out.old.items out.new.items }
+{
+    out.extend_from_slice(b"C ")?;
+    put_int(out, xid)?;
+    put_field(out, Word::Blank, ask)
 }
 
 /// The client's message that is next, behind `C `.
@@ -206,21 +281,35 @@ pub fn read_client(line: &mut Reader<'_>) -> Result<ClientFrame, LineFault>
     }
 }
 
-/// Appends a client's line.
-pub fn put_client(out: &mut Vec<u8>, frame: &ClientFrame) -> Result<(), AllocError>
-    ensures spelled { OnOk result (out.new.items ≡ out.old.items ++ lines.client_line frame.now) }
-    ensures fits { OnOk result (lines.ClientFits frame.now) }
-    ensures keeps { Keeps out.old.items out.new.items }
-{
-    match frame {
-        ClientFrame::Connect { hello, read_only } => {
-            out.extend_from_slice(b"C connect")?;
-            put_connect(out, hello, read_only)
+/// `client!(out, frame, put_connect)` appends a client's line.
+macro_rules! client {
+    ($out:ident, $frame:ident, $put_connect:ident) => {
+        match $frame {
+            ClientFrameOf::Connect { hello, read_only } => {
+                $out.extend_from_slice(b"C connect")?;
+                $put_connect($out, hello, read_only)
+            }
+            ClientFrameOf::Ask { xid, ask } => put_request($out, *xid, ask),
         }
-        ClientFrame::Ask { xid, ask } => {
-            out.extend_from_slice(b"C ")?;
-            put_int(out, *xid)?;
-            put_field(out, Word::Blank, ask)
-        }
+    };
+}
+
+impl Put for ClientFrame {
+    ghost fits = { lines.ClientFits };
+
+    ghost spell = { lines.client_line };
+
+    fn put(&self, out: &mut Vec<u8>) -> Result<(), AllocError> {
+        client!(out, self, put_connect)
+    }
+}
+
+impl<'a> Put for ClientRef<'a> {
+    ghost fits = { lines.ClientFits };
+
+    ghost spell = { lines.client_line };
+
+    fn put(&self, out: &mut Vec<u8>) -> Result<(), AllocError> {
+        client!(out, self, put_connect_ref)
     }
 }

@@ -1,14 +1,18 @@
 //! The results of a multi, as a line shows them.
 ghost use Rattle.std.specs.Prelude.{◌≡◌, ◌++◌, OnOk};
 ghost use Rattle.zk_items.specs.Form.{Gives, Keeps};
+ghost use Rattle.zk_items.specs.Codes.{error_code};
+ghost use Rattle.zk_items.specs.Words.{word_of};
+ghost use Rattle.zk_items.specs.declared.word.Word.TheVariants.{Err};
 ghost use Rattle.zk_lines.specs.Answers as answers;
 
 use crate::ask::PARTS;
-use crate::item::{Item, put_field, read_field};
-use crate::list::{put_series, read_series};
+use crate::item::{Item, read_field};
+use crate::list::{Left, put_series, read_series};
 use crate::name::done_named;
+use crate::put::{Put, put_field};
 use std::alloc::AllocError;
-use zk_answers::PartDone;
+use zk_answers::{DoneItems, DoneList, PartDone, PartDoneOf, PartDoneRef};
 use zk_items::{LineFault, LineReason, Reader, Word, put_error_code, put_word, read_error_code};
 use zk_jute::Items;
 
@@ -22,16 +26,29 @@ pub enum DoneName {
     Fail,
 }
 
+/// `name_of_done!(done)` is what a result begins with.
+macro_rules! name_of_done {
+    ($done:ident) => {
+        match $done {
+            PartDoneOf::Created(_) => DoneName::Create,
+            PartDoneOf::Deleted => DoneName::Delete,
+            PartDoneOf::DataSet(_) => DoneName::SetData,
+            PartDoneOf::Checked => DoneName::Check,
+            PartDoneOf::PartFailed(_) => DoneName::Fail,
+        }
+    };
+}
+
 fn name_of(done: &PartDone) -> DoneName
     ensures { result ≡ answers.name_of_done done.now }
 {
-    match done {
-        PartDone::Created(_) => DoneName::Create,
-        PartDone::Deleted => DoneName::Delete,
-        PartDone::DataSet(_) => DoneName::SetData,
-        PartDone::Checked => DoneName::Check,
-        PartDone::PartFailed(_) => DoneName::Fail,
-    }
+    name_of_done!(done)
+}
+
+fn name_of_ref(done: &PartDoneRef<'_>) -> DoneName
+    ensures { result ≡ answers.name_of_done done.now }
+{
+    name_of_done!(done)
 }
 
 fn done_name(name: DoneName) -> &'static [u8]
@@ -62,30 +79,67 @@ fn read_done(line: &mut Reader<'_>, name: DoneName) -> Result<PartDone, LineFaul
     })
 }
 
+fn put_failed(out: &mut Vec<u8>, number: i32) -> Result<(), AllocError>
+    ensures spelled { OnOk result (out.new.items ≡ out.old.items ++ (word_of Err ++ error_code.spell number)) }
+    ensures fits { OnOk result (error_code.fits number) }
+    ensures keeps { Keeps out.old.items out.new.items }
+{
+    put_word(out, Word::Err)?;
+    put_error_code(out, number)
+}
+
+/// `done_body!(out, done)` appends what stands behind a result's name.
+macro_rules! done_body {
+    ($out:ident, $done:ident) => {
+        match $done {
+            PartDoneOf::Created(path) => put_field($out, Word::Path, path),
+            PartDoneOf::DataSet(stat) => put_field($out, Word::Stat, stat),
+            PartDoneOf::Deleted | PartDoneOf::Checked => Ok(()),
+            PartDoneOf::PartFailed(number) => put_failed($out, *number),
+        }
+    };
+}
+
 fn put_done(out: &mut Vec<u8>, done: &PartDone) -> Result<(), AllocError>
     ensures spelled { OnOk result (out.new.items ≡ out.old.items ++ answers.done_spell done.now) }
     ensures fits { OnOk result (answers.done_fits done.now) }
     ensures keeps { Keeps out.old.items out.new.items }
 {
-    match done {
-        PartDone::Created(path) => put_field(out, Word::Path, path),
-        PartDone::DataSet(stat) => put_field(out, Word::Stat, stat),
-        PartDone::Deleted | PartDone::Checked => Ok(()),
-        PartDone::PartFailed(number) => {
-            put_word(out, Word::Err)?;
-            put_error_code(out, *number)
-        }
+    done_body!(out, done)
+}
+
+fn put_done_ref(out: &mut Vec<u8>, done: &PartDoneRef<'_>) -> Result<(), AllocError>
+    ensures spelled { OnOk result (out.new.items ≡ out.old.items ++ answers.done_spell done.now) }
+    ensures fits { OnOk result (answers.done_fits done.now) }
+    ensures keeps { Keeps out.old.items out.new.items }
+{
+    done_body!(out, done)
+}
+
+impl Put for PartDone {
+    ghost fits = { answers.done_form.fits };
+
+    ghost spell = { answers.done_form.spell };
+
+    fn put(&self, out: &mut Vec<u8>) -> Result<(), AllocError> {
+        out.extend_from_slice(done_name(name_of(self)))?;
+        put_done(out, self)
+    }
+}
+
+impl<'a> Put for PartDoneRef<'a> {
+    ghost fits = { answers.done_form.fits };
+
+    ghost spell = { answers.done_form.spell };
+
+    fn put(&self, out: &mut Vec<u8>) -> Result<(), AllocError> {
+        out.extend_from_slice(done_name(name_of_ref(self)))?;
+        put_done_ref(out, self)
     }
 }
 
 impl Item for PartDone {
-    ghost use Rattle.zk_lines.specs.Answers.{done_form};
-
-    ghost fits = { done_form.fits };
-
-    ghost spell = { done_form.spell };
-
-    ghost at = { done_form.at };
+    ghost at = { answers.done_form.at };
 
     fn read(line: &mut Reader<'_>) -> Result<Self, LineFault> {
         let fault = line.fault(LineReason::Word);
@@ -93,11 +147,6 @@ impl Item for PartDone {
             return Err(fault);
         };
         read_done(line, name)
-    }
-
-    fn put(&self, out: &mut Vec<u8>) -> Result<(), AllocError> {
-        out.extend_from_slice(done_name(name_of(self)))?;
-        put_done(out, self)
     }
 }
 
@@ -109,12 +158,34 @@ pub fn read_multi(line: &mut Reader<'_>) -> Result<Items<PartDone>, LineFault>
     read_series(line, PARTS)
 }
 
-/// Appends results.
-pub fn put_multi(out: &mut Vec<u8>, results: &[PartDone]) -> Result<(), AllocError>
-    ensures spelled { OnOk result (out.new.items ≡ out.old.items ++ answers.multi.spell results.now) }
-    ensures fits { OnOk result (answers.multi.fits results.now) }
-    ensures keeps { Keeps out.old.items out.new.items }
-{
-    put_word(out, Word::Parts)?;
-    put_series(out, results, PARTS)
+impl Put for Items<PartDone> {
+    ghost fits = { answers.multi.fits };
+
+    ghost spell = { answers.multi.spell };
+
+    fn put(&self, out: &mut Vec<u8>) -> Result<(), AllocError> {
+        put_word(out, Word::Parts)?;
+        put_series(out, self.as_slice().iter(), PARTS)
+    }
+}
+
+impl<'a> Left for DoneItems<'a> {
+    type One = PartDoneRef<'a>;
+
+    ghost left = { λ dones. dones };
+
+    fn take(&mut self) -> Option<PartDoneRef<'a>> {
+        self.next()
+    }
+}
+
+impl<'a> Put for DoneList<'a> {
+    ghost fits = { answers.multi.fits };
+
+    ghost spell = { answers.multi.spell };
+
+    fn put(&self, out: &mut Vec<u8>) -> Result<(), AllocError> {
+        put_word(out, Word::Parts)?;
+        put_series(out, self.items(), PARTS)
+    }
 }

@@ -5,16 +5,71 @@ ghost use Rattle.zk_lines.specs.Lines as lines;
 ghost use Rattle.zk_lines.specs.Lines.{Fits, Reads, whole, client_at, server_at, message_at};
 ghost use Rattle.zk_talk.specs.Held.{Message};
 
-use crate::answer::{put_server, read_server};
-use crate::ask::{put_client, read_client};
+use crate::answer::read_server;
+use crate::ask::read_client;
+use crate::put::Put;
 use std::alloc::{AllocError, Global};
 use zk_answers::ServerFrame;
 use zk_asks::ClientFrame;
 use zk_items::{LineFault, LineReason, Reader};
-use zk_talk::Message;
+use zk_talk::{Message, MessageOf, MessageRef};
 
 /// Room for most lines, so that few of them grow twice.
 const USUAL: usize = 256;
+
+/// `message!(out, message)` appends what one side says.
+macro_rules! message {
+    ($out:ident, $message:ident) => {
+        match $message {
+            MessageOf::Client(frame) => frame.put($out),
+            MessageOf::Server(frame) => frame.put($out),
+        }
+    };
+}
+
+impl Put for Message {
+    ghost fits = { Fits };
+
+    ghost spell = { lines.line };
+
+    fn put(&self, out: &mut Vec<u8>) -> Result<(), AllocError> {
+        message!(out, self)
+    }
+}
+
+impl<'a> Put for MessageRef<'a> {
+    ghost fits = { Fits };
+
+    ghost spell = { lines.line };
+
+    fn put(&self, out: &mut Vec<u8>) -> Result<(), AllocError> {
+        message!(out, self)
+    }
+}
+
+/// Appends the message, or nothing.
+fn put_whole<M: Put>(out: &mut Vec<u8>, message: &M) -> Result<(), AllocError>
+    ensures line { OnOk result (out.new.items ≡ out.old.items ++ M.spell message.now) }
+    ensures fits { OnOk result (M.fits message.now) }
+    ensures unchanged { OnErr result (out.new.items ≡ out.old.items) }
+{
+    let before = out.len();
+    let put = message.put(out);
+    if put.is_err() {
+        out.truncate(before);
+    }
+    put
+}
+
+/// The message alone.
+fn spelled<M: Put>(alloc: Global, message: &M) -> Result<Vec<u8>, AllocError>
+    ensures line { IfOk result (λ line. line.items ≡ M.spell message.now) }
+    ensures fits { OnOk result (M.fits message.now) }
+{
+    let mut line = Vec::with_capacity(alloc, USUAL)?;
+    put_whole(&mut line, message)?;
+    Ok(line)
+}
 
 /// Appends the message's line, without line feed. Every message has one, also one that no conversation has.
 ///
@@ -28,15 +83,22 @@ pub fn put_line(out: &mut Vec<u8>, message: &Message) -> Result<(), AllocError>
     // Nothing of a line that isn't whole is left.
     ensures unchanged { OnErr result (out.new.items ≡ out.old.items) }
 {
-    let before = out.len();
-    let put = match message {
-        Message::Client(frame) => put_client(out, frame),
-        Message::Server(frame) => put_server(out, frame),
-    };
-    if put.is_err() {
-        out.truncate(before);
-    }
-    put
+    put_whole(out, message)
+}
+
+/// Appends the line of a message where it lies, without line feed, as `put_line` does, and without a copy of the message.
+///
+/// # Errors
+///
+/// A growth was refused: `out` then holds what it held before.
+pub fn put_line_ref(out: &mut Vec<u8>, message: &MessageRef<'_>) -> Result<(), AllocError>
+    ensures line { OnOk result (out.new.items ≡ out.old.items ++ lines.line message.now) }
+    // Two messages that fit have two lines.
+    ensures fits { OnOk result (Fits message.now) }
+    // Nothing of a line that isn't whole is left.
+    ensures unchanged { OnErr result (out.new.items ≡ out.old.items) }
+{
+    put_whole(out, message)
 }
 
 /// The message's line, without line feed.
@@ -45,9 +107,16 @@ pub fn line_of(alloc: Global, message: &Message) -> Result<Vec<u8>, AllocError>
     // Two messages that fit have two lines.
     ensures fits { OnOk result (Fits message.now) }
 {
-    let mut line = Vec::with_capacity(alloc, USUAL)?;
-    put_line(&mut line, message)?;
-    Ok(line)
+    spelled(alloc, message)
+}
+
+/// The line of a message where it lies, without line feed.
+pub fn line_of_ref(alloc: Global, message: &MessageRef<'_>) -> Result<Vec<u8>, AllocError>
+    ensures line { IfOk result (λ line. line.items ≡ lines.line message.now) }
+    // Two messages that fit have two lines.
+    ensures fits { OnOk result (Fits message.now) }
+{
+    spelled(alloc, message)
 }
 
 fn whole_client(line: &mut Reader<'_>) -> Result<ClientFrame, LineFault>

@@ -1,14 +1,19 @@
 //! Lists of items.
-ghost use Rattle.std.specs.Prelude.{◌≡◌, ◌++◌, ◌∷◌, [], length, OnOk};
+ghost use Rattle.std.specs.Prelude.{◌≡◌, ◌++◌, ◌∷◌, [], List, length, OnOk};
+ghost use Rattle.std.specs.Iterator.{YieldsFirst};
+ghost use Rattle.std.specs.Slice.Iter.{iter_rest};
 ghost use Rattle.std.specs.List.{flat_map, AllByRecursion};
 ghost use Rattle.zk_items.specs.Form.{Gives, GivesSeen, Keeps};
 ghost use Rattle.zk_lines.specs.Series.{element_at, list_at, series_at, list_fits, list_spell, series_spell};
 ghost use Rattle.zk_items.specs.Many.{many_at, with_first};
 
 use crate::item::Item;
+use crate::put::Put;
 use std::alloc::{AllocError, Global};
+use std::marker::Model;
+use std::slice::Iter;
 use zk_items::{LineFault, LineReason, Reader};
-use zk_jute::{Items, List};
+use zk_jute::{Element, Elements, Items, List, Payload, Series, Stands};
 
 /// The sign that parts the items, and the sign behind the last.
 #[derive(Clone, Copy, Debug, PartialEq, Eq)]
@@ -57,12 +62,69 @@ pub fn read_series<T: Item>(line: &mut Reader<'_>, signs: Signs) -> Result<Items
     Ok(Items::new(elements(line, signs, first)?))
 }
 
-fn put_elements<T: Item>(out: &mut Vec<u8>, items: &[T], sign: u8) -> Result<(), AllocError>
-    ensures spelled { OnOk result (out.new.items ≡ out.old.items ++ flat_map (λ y. sign ∷ T.spell y) items.now) }
-    ensures fits { OnOk result (AllByRecursion T.fits items.now) }
+/// The items that are left of a list, in memory or where it lies.
+pub trait Left: Drop {
+    type One: Put + Drop;
+
+    ghost left: { Self → List Self.One };
+
+    /// The next item, which is no longer left; None where none is.
+    fn take(&mut self) -> Option<Self::One>
+        ensures { YieldsFirst left self.old result self.new };
+}
+
+/// An item of a list in memory.
+#[derive(Drop)]
+pub struct Lent<'a, T> {
+    item: &'a T,
+}
+
+impl<'a, T> Model for Lent<'a, T> {
+    ghost Value = { T };
+
+    ghost view = { λ l. l.item.now };
+}
+
+impl<'a, T: Put> Put for Lent<'a, T> {
+    ghost fits = { T.fits };
+
+    ghost spell = { T.spell };
+
+    fn put(&self, out: &mut Vec<u8>) -> Result<(), AllocError> {
+        self.item.put(out)
+    }
+}
+
+impl<'a, T: Put> Left for Iter<'a, T> {
+    type One = Lent<'a, T>;
+
+    ghost left = { iter_rest };
+
+    fn take(&mut self) -> Option<Lent<'a, T>> {
+        match self.next() {
+            None => None,
+            Some(item) => Some(Lent { item }),
+        }
+    }
+}
+
+impl<'a, R: Element + Stands<Payload<'a>> + Put> Left for Elements<'a, R> {
+    type One = R;
+
+    ghost left = { λ items. items };
+
+    fn take(&mut self) -> Option<R> {
+        self.next()
+    }
+}
+
+fn put_elements<I: Left>(out: &mut Vec<u8>, items: I, sign: u8) -> Result<(), AllocError>
+    ensures spelled { OnOk result (out.new.items ≡ out.old.items ++ flat_map (λ y. sign ∷ I.One.spell y) (I.left items)) }
+    ensures fits { OnOk result (AllByRecursion I.One.fits (I.left items)) }
     ensures keeps { Keeps out.old.items out.new.items }
 {
-    for item in items {
+    let mut items = items;
+    while let Some(item) = items.take() {
         out.push(sign)?;
         item.put(out)?;
     }
@@ -70,26 +132,27 @@ fn put_elements<T: Item>(out: &mut Vec<u8>, items: &[T], sign: u8) -> Result<(),
 }
 
 /// Appends the items behind the first.
-fn put_others<T: Item>(out: &mut Vec<u8>, items: &[T], signs: Signs) -> Result<(), AllocError>
-    ensures spelled { OnOk result (out.new.items ≡ out.old.items ++ (flat_map (λ y. signs.between ∷ T.spell y) items.now ++ (signs.behind ∷ []))) }
-    ensures fits { OnOk result (AllByRecursion T.fits items.now) }
+fn put_others<I: Left>(out: &mut Vec<u8>, items: I, signs: Signs) -> Result<(), AllocError>
+    ensures spelled { OnOk result (out.new.items ≡ out.old.items ++ (flat_map (λ y. signs.between ∷ I.One.spell y) (I.left items) ++ (signs.behind ∷ []))) }
+    ensures fits { OnOk result (AllByRecursion I.One.fits (I.left items)) }
     ensures keeps { Keeps out.old.items out.new.items }
 {
     put_elements(out, items, signs.between)?;
     out.extend_from_slice(&[signs.behind])
 }
 
-/// Appends the items, with a sign between two and one behind the last.
-pub fn put_series<T: Item>(out: &mut Vec<u8>, items: &[T], signs: Signs) -> Result<(), AllocError>
-    ensures spelled { OnOk result (out.new.items ≡ out.old.items ++ series_spell signs.between signs.behind T.spell items.now) }
-    ensures fits { OnOk result (AllByRecursion T.fits items.now) }
+/// Appends the items that are left, with a sign between two and one behind the last.
+pub fn put_series<I: Left>(out: &mut Vec<u8>, items: I, signs: Signs) -> Result<(), AllocError>
+    ensures spelled { OnOk result (out.new.items ≡ out.old.items ++ series_spell signs.between signs.behind I.One.spell (I.left items)) }
+    ensures fits { OnOk result (AllByRecursion I.One.fits (I.left items)) }
     ensures keeps { Keeps out.old.items out.new.items }
 {
-    match items.split_first() {
+    let mut items = items;
+    match items.take() {
         None => out.extend_from_slice(&[signs.behind]),
-        Some((first, rest)) => {
+        Some(first) => {
             first.put(out)?;
-            put_others(out, rest, signs)
+            put_others(out, items, signs)
         }
     }
 }
@@ -99,14 +162,26 @@ const COMMAS: Signs = Signs {
     behind: b']',
 };
 
-impl<T: Item> Item for List<T> {
+impl<T: Put> Put for List<T> {
     ghost fits = { list_fits T.fits };
 
     ghost spell = { list_spell T.spell };
 
+    /// `~`, or the items between brackets, with commas between them.
+    fn put(&self, out: &mut Vec<u8>) -> Result<(), AllocError> {
+        match self {
+            List::Null => out.extend_from_slice(b"~"),
+            List::Full(items) => {
+                out.extend_from_slice(b"[")?;
+                put_series(out, items.as_slice().iter(), COMMAS)
+            }
+        }
+    }
+}
+
+impl<T: Item> Item for List<T> {
     ghost at = { list_at T.at };
 
-    /// `~`, or the items between brackets, with commas between them.
     #[tactic(auto, unfolding(crate::specs::Series::list_at))]
     fn read(line: &mut Reader<'_>) -> Result<Self, LineFault> {
         if line.passes(b"~") {
@@ -115,14 +190,19 @@ impl<T: Item> Item for List<T> {
         line.front(b"[")?;
         Ok(List::Full(read_series(line, COMMAS)?))
     }
+}
 
+impl<'a, R: Element + Stands<Payload<'a>> + Put> Put for Series<'a, R> {
+    ghost fits = { list_fits R.fits };
+
+    ghost spell = { list_spell R.spell };
+
+    /// `~`, or the items between brackets, with commas between them.
     fn put(&self, out: &mut Vec<u8>) -> Result<(), AllocError> {
-        match self {
-            List::Null => out.extend_from_slice(b"~"),
-            List::Full(items) => {
-                out.extend_from_slice(b"[")?;
-                put_series(out, items.as_slice(), COMMAS)
-            }
+        if self.is_null() {
+            return out.extend_from_slice(b"~");
         }
+        out.extend_from_slice(b"[")?;
+        put_series(out, self.items(), COMMAS)
     }
 }

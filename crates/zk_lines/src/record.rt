@@ -1,19 +1,55 @@
 //! The records that are items of a line: an entry of an access list, and what is known of a node.
 ghost use Rattle.std.specs.Prelude.{◌≡◌, ◌++◌, OnOk};
 ghost use Rattle.zk_items.specs.Form.{Gives, Keeps};
+ghost use Rattle.std.specs.Fmt.{signed_decimal};
+ghost use Rattle.zk_items.specs.Leaf.{int};
+ghost use Rattle.zk_items.specs.Words.{word_of};
+ghost use Rattle.zk_items.specs.declared.word.Word.TheVariants.{Colon};
 ghost use Rattle.zk_lines.specs.Records as records;
 
-use crate::item::{Item, put_field, read_field};
+use crate::item::{Item, read_field};
+use crate::put::{Put, put_field};
 use std::alloc::AllocError;
 use zk_items::{LineFault, Reader, Word, put_int, put_word};
-use zk_records::{Acl, Id, Stat};
+use zk_records::{Acl, AclRef, Id, Stat};
 
-impl Item for Acl {
+/// Appends an entry: its bits, and its two texts behind colons.
+fn put_entry<T: Put>(out: &mut Vec<u8>, perms: i32, scheme: &T, ident: &T) -> Result<(), AllocError>
+    ensures spelled { OnOk result (out.new.items ≡ out.old.items ++ (signed_decimal perms ++ ((word_of Colon ++ T.spell scheme.now) ++ (word_of Colon ++ T.spell ident.now)))) }
+    ensures fits { OnOk result (int.fits perms × (T.fits scheme.now × T.fits ident.now)) }
+    ensures keeps { Keeps out.old.items out.new.items }
+{
+    put_int(out, perms)?;
+    put_field(out, Word::Colon, scheme)?;
+    put_field(out, Word::Colon, ident)
+}
+
+impl Put for Acl {
     ghost use Rattle.zk_lines.specs.Records.{acl};
 
     ghost fits = { acl.fits };
 
     ghost spell = { acl.spell };
+
+    fn put(&self, out: &mut Vec<u8>) -> Result<(), AllocError> {
+        put_entry(out, self.perms, &self.who.scheme, &self.who.ident)
+    }
+}
+
+impl<'a> Put for AclRef<'a> {
+    ghost use Rattle.zk_lines.specs.Records.{acl};
+
+    ghost fits = { acl.fits };
+
+    ghost spell = { acl.spell };
+
+    fn put(&self, out: &mut Vec<u8>) -> Result<(), AllocError> {
+        put_entry(out, self.perms, &self.who.scheme, &self.who.ident)
+    }
+}
+
+impl Item for Acl {
+    ghost use Rattle.zk_lines.specs.Records.{acl};
 
     ghost at = { acl.at };
 
@@ -26,20 +62,10 @@ impl Item for Acl {
             who: Id { scheme, ident },
         })
     }
-
-    fn put(&self, out: &mut Vec<u8>) -> Result<(), AllocError> {
-        put_int(out, self.perms)?;
-        put_field(out, Word::Colon, &self.who.scheme)?;
-        put_field(out, Word::Colon, &self.who.ident)
-    }
 }
 
 impl Item for Stat {
     ghost use Rattle.zk_lines.specs.Records.{stat};
-
-    ghost fits = { stat.fits };
-
-    ghost spell = { stat.spell };
 
     ghost at = { stat.at };
 
@@ -62,6 +88,14 @@ impl Item for Stat {
             pzxid,
         })
     }
+}
+
+impl Put for Stat {
+    ghost use Rattle.zk_lines.specs.Records.{stat};
+
+    ghost fits = { stat.fits };
+
+    ghost spell = { stat.spell };
 
     fn put(&self, out: &mut Vec<u8>) -> Result<(), AllocError> {
         put_times(out, self)?;

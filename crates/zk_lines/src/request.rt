@@ -1,19 +1,72 @@
 //! The records of requests, field by field.
 
-use crate::item::{Item, put_field, read_field};
+use crate::item::{Item, read_field};
+use crate::put::{Put, put_field, put_fields};
 use std::alloc::AllocError;
 use zk_items::{LineFault, Reader, Word};
 use zk_records::{
-    AuthAsk, CheckAsk, CreateAsk, DeleteAsk, PathAsk, SetAclAsk, SetDataAsk, SetWatchesAsk,
-    WatchAsk,
+    AuthAsk, AuthAskRef, CheckAsk, CheckAskRef, CreateAsk, CreateAskRef, DeleteAsk, DeleteAskRef,
+    PathAsk, PathAskRef, SetAclAsk, SetAclAskRef, SetDataAsk, SetDataAskRef, SetWatchesAsk,
+    SetWatchesAskRef, WatchAsk, WatchAskRef,
 };
 
-impl Item for CreateAsk {
+/// `put_record!(out, delete: ask)` appends the fields of `DeleteAsk` or `DeleteAskRef`, in order.
+macro_rules! put_record {
+    ($out:ident, create: $ask:ident) => {
+        put_fields!($out, $ask: Path path, Blob blob, Acl acl, Flags flags)
+    };
+    ($out:ident, delete: $ask:ident) => {
+        put_fields!($out, $ask: Path path, Version version)
+    };
+    ($out:ident, watch: $ask:ident) => {
+        put_fields!($out, $ask: Path path, Watch watch)
+    };
+    ($out:ident, set_data: $ask:ident) => {
+        put_fields!($out, $ask: Path path, Blob blob, Version version)
+    };
+    ($out:ident, path: $ask:ident) => {
+        put_fields!($out, $ask: Path path)
+    };
+    ($out:ident, set_acl: $ask:ident) => {
+        put_fields!($out, $ask: Path path, Acl acl, Version version)
+    };
+    ($out:ident, auth: $ask:ident) => {
+        put_fields!($out, $ask: Kind kind, Scheme scheme, Auth auth)
+    };
+    ($out:ident, set_watches: $ask:ident) => {
+        put_fields!($out, $ask: Zxid zxid, DataWatches data_watches, ExistWatches exist_watches, ChildWatches child_watches)
+    };
+    ($out:ident, check: $ask:ident) => {
+        put_fields!($out, $ask: Path path, Version version)
+    };
+}
+
+impl Put for CreateAsk {
     ghost use Rattle.zk_lines.specs.Asks.{create};
 
     ghost fits = { create.fits };
 
     ghost spell = { create.spell };
+
+    fn put(&self, out: &mut Vec<u8>) -> Result<(), AllocError> {
+        put_record!(out, create: self)
+    }
+}
+
+impl<'a> Put for CreateAskRef<'a> {
+    ghost use Rattle.zk_lines.specs.Asks.{create};
+
+    ghost fits = { create.fits };
+
+    ghost spell = { create.spell };
+
+    fn put(&self, out: &mut Vec<u8>) -> Result<(), AllocError> {
+        put_record!(out, create: self)
+    }
+}
+
+impl Item for CreateAsk {
+    ghost use Rattle.zk_lines.specs.Asks.{create};
 
     ghost at = { create.at };
 
@@ -29,21 +82,34 @@ impl Item for CreateAsk {
             flags,
         })
     }
-
-    fn put(&self, out: &mut Vec<u8>) -> Result<(), AllocError> {
-        put_field(out, Word::Path, &self.path)?;
-        put_field(out, Word::Blob, &self.blob)?;
-        put_field(out, Word::Acl, &self.acl)?;
-        put_field(out, Word::Flags, &self.flags)
-    }
 }
 
-impl Item for DeleteAsk {
+impl Put for DeleteAsk {
     ghost use Rattle.zk_lines.specs.Asks.{delete};
 
     ghost fits = { delete.fits };
 
     ghost spell = { delete.spell };
+
+    fn put(&self, out: &mut Vec<u8>) -> Result<(), AllocError> {
+        put_record!(out, delete: self)
+    }
+}
+
+impl<'a> Put for DeleteAskRef<'a> {
+    ghost use Rattle.zk_lines.specs.Asks.{delete};
+
+    ghost fits = { delete.fits };
+
+    ghost spell = { delete.spell };
+
+    fn put(&self, out: &mut Vec<u8>) -> Result<(), AllocError> {
+        put_record!(out, delete: self)
+    }
+}
+
+impl Item for DeleteAsk {
+    ghost use Rattle.zk_lines.specs.Asks.{delete};
 
     ghost at = { delete.at };
 
@@ -52,19 +118,34 @@ impl Item for DeleteAsk {
         let version = read_field(line, Word::Version)?;
         Ok(DeleteAsk { path, version })
     }
-
-    fn put(&self, out: &mut Vec<u8>) -> Result<(), AllocError> {
-        put_field(out, Word::Path, &self.path)?;
-        put_field(out, Word::Version, &self.version)
-    }
 }
 
-impl Item for WatchAsk {
+impl Put for WatchAsk {
     ghost use Rattle.zk_lines.specs.Asks.{watch};
 
     ghost fits = { watch.fits };
 
     ghost spell = { watch.spell };
+
+    fn put(&self, out: &mut Vec<u8>) -> Result<(), AllocError> {
+        put_record!(out, watch: self)
+    }
+}
+
+impl<'a> Put for WatchAskRef<'a> {
+    ghost use Rattle.zk_lines.specs.Asks.{watch};
+
+    ghost fits = { watch.fits };
+
+    ghost spell = { watch.spell };
+
+    fn put(&self, out: &mut Vec<u8>) -> Result<(), AllocError> {
+        put_record!(out, watch: self)
+    }
+}
+
+impl Item for WatchAsk {
+    ghost use Rattle.zk_lines.specs.Asks.{watch};
 
     ghost at = { watch.at };
 
@@ -73,19 +154,34 @@ impl Item for WatchAsk {
         let watch = read_field(line, Word::Watch)?;
         Ok(WatchAsk { path, watch })
     }
-
-    fn put(&self, out: &mut Vec<u8>) -> Result<(), AllocError> {
-        put_field(out, Word::Path, &self.path)?;
-        put_field(out, Word::Watch, &self.watch)
-    }
 }
 
-impl Item for SetDataAsk {
+impl Put for SetDataAsk {
     ghost use Rattle.zk_lines.specs.Asks.{set_data};
 
     ghost fits = { set_data.fits };
 
     ghost spell = { set_data.spell };
+
+    fn put(&self, out: &mut Vec<u8>) -> Result<(), AllocError> {
+        put_record!(out, set_data: self)
+    }
+}
+
+impl<'a> Put for SetDataAskRef<'a> {
+    ghost use Rattle.zk_lines.specs.Asks.{set_data};
+
+    ghost fits = { set_data.fits };
+
+    ghost spell = { set_data.spell };
+
+    fn put(&self, out: &mut Vec<u8>) -> Result<(), AllocError> {
+        put_record!(out, set_data: self)
+    }
+}
+
+impl Item for SetDataAsk {
+    ghost use Rattle.zk_lines.specs.Asks.{set_data};
 
     ghost at = { set_data.at };
 
@@ -99,20 +195,34 @@ impl Item for SetDataAsk {
             version,
         })
     }
-
-    fn put(&self, out: &mut Vec<u8>) -> Result<(), AllocError> {
-        put_field(out, Word::Path, &self.path)?;
-        put_field(out, Word::Blob, &self.blob)?;
-        put_field(out, Word::Version, &self.version)
-    }
 }
 
-impl Item for PathAsk {
+impl Put for PathAsk {
     ghost use Rattle.zk_lines.specs.Asks.{path};
 
     ghost fits = { path.fits };
 
     ghost spell = { path.spell };
+
+    fn put(&self, out: &mut Vec<u8>) -> Result<(), AllocError> {
+        put_record!(out, path: self)
+    }
+}
+
+impl<'a> Put for PathAskRef<'a> {
+    ghost use Rattle.zk_lines.specs.Asks.{path};
+
+    ghost fits = { path.fits };
+
+    ghost spell = { path.spell };
+
+    fn put(&self, out: &mut Vec<u8>) -> Result<(), AllocError> {
+        put_record!(out, path: self)
+    }
+}
+
+impl Item for PathAsk {
+    ghost use Rattle.zk_lines.specs.Asks.{path};
 
     ghost at = { path.at };
 
@@ -120,18 +230,34 @@ impl Item for PathAsk {
         let path = read_field(line, Word::Path)?;
         Ok(PathAsk { path })
     }
-
-    fn put(&self, out: &mut Vec<u8>) -> Result<(), AllocError> {
-        put_field(out, Word::Path, &self.path)
-    }
 }
 
-impl Item for SetAclAsk {
+impl Put for SetAclAsk {
     ghost use Rattle.zk_lines.specs.Asks.{set_acl};
 
     ghost fits = { set_acl.fits };
 
     ghost spell = { set_acl.spell };
+
+    fn put(&self, out: &mut Vec<u8>) -> Result<(), AllocError> {
+        put_record!(out, set_acl: self)
+    }
+}
+
+impl<'a> Put for SetAclAskRef<'a> {
+    ghost use Rattle.zk_lines.specs.Asks.{set_acl};
+
+    ghost fits = { set_acl.fits };
+
+    ghost spell = { set_acl.spell };
+
+    fn put(&self, out: &mut Vec<u8>) -> Result<(), AllocError> {
+        put_record!(out, set_acl: self)
+    }
+}
+
+impl Item for SetAclAsk {
+    ghost use Rattle.zk_lines.specs.Asks.{set_acl};
 
     ghost at = { set_acl.at };
 
@@ -141,20 +267,34 @@ impl Item for SetAclAsk {
         let version = read_field(line, Word::Version)?;
         Ok(SetAclAsk { path, acl, version })
     }
-
-    fn put(&self, out: &mut Vec<u8>) -> Result<(), AllocError> {
-        put_field(out, Word::Path, &self.path)?;
-        put_field(out, Word::Acl, &self.acl)?;
-        put_field(out, Word::Version, &self.version)
-    }
 }
 
-impl Item for AuthAsk {
+impl Put for AuthAsk {
     ghost use Rattle.zk_lines.specs.Asks.{auth};
 
     ghost fits = { auth.fits };
 
     ghost spell = { auth.spell };
+
+    fn put(&self, out: &mut Vec<u8>) -> Result<(), AllocError> {
+        put_record!(out, auth: self)
+    }
+}
+
+impl<'a> Put for AuthAskRef<'a> {
+    ghost use Rattle.zk_lines.specs.Asks.{auth};
+
+    ghost fits = { auth.fits };
+
+    ghost spell = { auth.spell };
+
+    fn put(&self, out: &mut Vec<u8>) -> Result<(), AllocError> {
+        put_record!(out, auth: self)
+    }
+}
+
+impl Item for AuthAsk {
+    ghost use Rattle.zk_lines.specs.Asks.{auth};
 
     ghost at = { auth.at };
 
@@ -164,20 +304,34 @@ impl Item for AuthAsk {
         let auth = read_field(line, Word::Auth)?;
         Ok(AuthAsk { kind, scheme, auth })
     }
-
-    fn put(&self, out: &mut Vec<u8>) -> Result<(), AllocError> {
-        put_field(out, Word::Kind, &self.kind)?;
-        put_field(out, Word::Scheme, &self.scheme)?;
-        put_field(out, Word::Auth, &self.auth)
-    }
 }
 
-impl Item for SetWatchesAsk {
+impl Put for SetWatchesAsk {
     ghost use Rattle.zk_lines.specs.Asks.{set_watches};
 
     ghost fits = { set_watches.fits };
 
     ghost spell = { set_watches.spell };
+
+    fn put(&self, out: &mut Vec<u8>) -> Result<(), AllocError> {
+        put_record!(out, set_watches: self)
+    }
+}
+
+impl<'a> Put for SetWatchesAskRef<'a> {
+    ghost use Rattle.zk_lines.specs.Asks.{set_watches};
+
+    ghost fits = { set_watches.fits };
+
+    ghost spell = { set_watches.spell };
+
+    fn put(&self, out: &mut Vec<u8>) -> Result<(), AllocError> {
+        put_record!(out, set_watches: self)
+    }
+}
+
+impl Item for SetWatchesAsk {
+    ghost use Rattle.zk_lines.specs.Asks.{set_watches};
 
     ghost at = { set_watches.at };
 
@@ -193,21 +347,34 @@ impl Item for SetWatchesAsk {
             child_watches,
         })
     }
-
-    fn put(&self, out: &mut Vec<u8>) -> Result<(), AllocError> {
-        put_field(out, Word::Zxid, &self.zxid)?;
-        put_field(out, Word::DataWatches, &self.data_watches)?;
-        put_field(out, Word::ExistWatches, &self.exist_watches)?;
-        put_field(out, Word::ChildWatches, &self.child_watches)
-    }
 }
 
-impl Item for CheckAsk {
+impl Put for CheckAsk {
     ghost use Rattle.zk_lines.specs.Asks.{check};
 
     ghost fits = { check.fits };
 
     ghost spell = { check.spell };
+
+    fn put(&self, out: &mut Vec<u8>) -> Result<(), AllocError> {
+        put_record!(out, check: self)
+    }
+}
+
+impl<'a> Put for CheckAskRef<'a> {
+    ghost use Rattle.zk_lines.specs.Asks.{check};
+
+    ghost fits = { check.fits };
+
+    ghost spell = { check.spell };
+
+    fn put(&self, out: &mut Vec<u8>) -> Result<(), AllocError> {
+        put_record!(out, check: self)
+    }
+}
+
+impl Item for CheckAsk {
+    ghost use Rattle.zk_lines.specs.Asks.{check};
 
     ghost at = { check.at };
 
@@ -215,10 +382,5 @@ impl Item for CheckAsk {
         let path = read_field(line, Word::Path)?;
         let version = read_field(line, Word::Version)?;
         Ok(CheckAsk { path, version })
-    }
-
-    fn put(&self, out: &mut Vec<u8>) -> Result<(), AllocError> {
-        put_field(out, Word::Path, &self.path)?;
-        put_field(out, Word::Version, &self.version)
     }
 }

@@ -1,0 +1,146 @@
+//! What a line shows, written: with memory of its own, or where it lies.
+ghost use Rattle.std.specs.Prelude.{◌≡◌, ◌++◌, List, ℕ, OnOk};
+ghost use Rattle.zk_items.specs.Form.{Keeps};
+ghost use Rattle.zk_items.specs.Words.{word_of};
+
+use std::alloc::AllocError;
+use zk_items::{
+    Word, put_bit, put_blob, put_blob_ref, put_int, put_long, put_read_only, put_text,
+    put_text_ref, put_word,
+};
+use zk_jute::{Blob, BlobRef, Text, TextRef};
+
+/// A value that stands in a line.
+pub trait Put {
+    /// What every value that a program holds is.
+    ghost fits: { Self → Type 0 };
+
+    ghost spell: { Self → List ℕ };
+
+    /// Appends the value.
+    fn put(&self, out: &mut Vec<u8>) -> Result<(), AllocError>
+        ensures spelled { OnOk result (out.new.items ≡ out.old.items ++ spell self.now) }
+        ensures fits { OnOk result (fits self.now) }
+        ensures keeps { Keeps out.old.items out.new.items };
+}
+
+/// Appends the field: the word, and then the value.
+#[inline(always)]
+pub fn put_field<T: Put>(out: &mut Vec<u8>, word: Word, value: &T) -> Result<(), AllocError>
+    ensures spelled { OnOk result (out.new.items ≡ out.old.items ++ (word_of word ++ T.spell value.now)) }
+    ensures fits { OnOk result (T.fits value.now) }
+    ensures keeps { Keeps out.old.items out.new.items }
+{
+    put_word(out, word)?;
+    value.put(out)
+}
+
+/// `put_fields!(out, record: Path path, Version version)` appends these fields of a record in
+/// order, each behind its word.
+macro_rules! put_fields {
+    ($out:ident, $record:ident: $word:ident $field:ident) => {
+        put_field($out, Word::$word, &$record.$field)
+    };
+    ($out:ident, $record:ident: $word:ident $field:ident, $($rest:tt)+) => {{
+        put_field($out, Word::$word, &$record.$field)?;
+        put_fields!($out, $record: $($rest)+)
+    }};
+}
+
+pub(crate) use put_fields;
+
+impl Put for i32 {
+    ghost use Rattle.zk_items.specs.Leaf.{int};
+
+    ghost fits = { int.fits };
+
+    ghost spell = { int.spell };
+
+    fn put(&self, out: &mut Vec<u8>) -> Result<(), AllocError> {
+        put_int(out, *self)
+    }
+}
+
+impl Put for i64 {
+    ghost use Rattle.zk_items.specs.Leaf.{long};
+
+    ghost fits = { long.fits };
+
+    ghost spell = { long.spell };
+
+    fn put(&self, out: &mut Vec<u8>) -> Result<(), AllocError> {
+        put_long(out, *self)
+    }
+}
+
+impl Put for bool {
+    ghost use Rattle.zk_items.specs.Leaf.{bit};
+
+    ghost fits = { bit.fits };
+
+    ghost spell = { bit.spell };
+
+    fn put(&self, out: &mut Vec<u8>) -> Result<(), AllocError> {
+        put_bit(out, *self)
+    }
+}
+
+impl Put for Option<bool> {
+    ghost use Rattle.zk_items.specs.Leaf.{ro};
+
+    ghost fits = { ro.fits };
+
+    ghost spell = { ro.spell };
+
+    fn put(&self, out: &mut Vec<u8>) -> Result<(), AllocError> {
+        put_read_only(out, *self)
+    }
+}
+
+impl Put for Text {
+    ghost use Rattle.zk_items.specs.Leaf.{text};
+
+    ghost fits = { text.fits };
+
+    ghost spell = { text.spell };
+
+    fn put(&self, out: &mut Vec<u8>) -> Result<(), AllocError> {
+        put_text(out, self)
+    }
+}
+
+impl<'a> Put for TextRef<'a> {
+    ghost use Rattle.zk_items.specs.Leaf.{text};
+
+    ghost fits = { text.fits };
+
+    ghost spell = { text.spell };
+
+    fn put(&self, out: &mut Vec<u8>) -> Result<(), AllocError> {
+        put_text_ref(out, self)
+    }
+}
+
+impl Put for Blob {
+    ghost use Rattle.zk_items.specs.Leaf.{blob};
+
+    ghost fits = { blob.fits };
+
+    ghost spell = { blob.spell };
+
+    fn put(&self, out: &mut Vec<u8>) -> Result<(), AllocError> {
+        put_blob(out, self)
+    }
+}
+
+impl<'a> Put for BlobRef<'a> {
+    ghost use Rattle.zk_items.specs.Leaf.{blob};
+
+    ghost fits = { blob.fits };
+
+    ghost spell = { blob.spell };
+
+    fn put(&self, out: &mut Vec<u8>) -> Result<(), AllocError> {
+        put_blob_ref(out, self)
+    }
+}
