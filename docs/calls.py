@@ -3,9 +3,9 @@
 
     docs/calls.py [--check]
 
-It reads the signatures in the folders src/ of what each crate's lib.rt names as public, and for the program those of
-the modules of PROGRAM, and writes them between two marks of the page: what a call answers, its conditions, and the
-names of its clauses, by whether they speak of an answer, of a refusal or of both. Above the marks the page names
+It reads the signatures in the folders src/ of what each crate's lib.rt names as public, and writes them between two
+marks of the page: what a call answers, its conditions, and the names of its clauses, by whether they speak of an
+answer, of a refusal or of both. Above the marks the page names
 clauses as `Type::call` (clause, ..): each must be one of that call. And docs/MUST_FAIL.md names edits as `crate/edit`:
 each must be there. With --check it writes nothing and fails where the page isn't current.
 
@@ -20,11 +20,10 @@ import sys
 TOP = pathlib.Path(__file__).resolve().parent.parent
 PAGE, EDITS = TOP / "docs" / "CALLS.md", TOP / "docs" / "MUST_FAIL.md"
 BEGIN, END = "<!-- The lines from here on are written by docs/calls.py. -->", "<!-- Up to here. -->"
-PROGRAM = ("words", "engines", "earliest_run", "build", "migrate", "run", "streams", "laws", "recordings")
 
 CLAUSE = re.compile(r"\s*(requires|ensures)\*?\s+(\w+\s+)?\{")
 BLOCK = re.compile(r"^(?:pub )?(impl|trait)\b([^\n{;]*)\{", re.M)
-TAIL = re.compile(r"\n\s*(?:requires|ensures|where)\b|\s*\{|;")
+TAIL = re.compile(r"\n\s*(?:requires|ensures|where)\b|\s*\{|;\n")
 ANSWER = re.compile(r"\b(IfOk|OnOk|IsOk|Ok|IfSome|OnSome|Some)\b")
 REFUSAL = re.compile(r"\b(IfErr|OnErr|IsErr|IsErrOf|Err|is_err|IfNone|OnNone|None)\b")
 
@@ -109,9 +108,7 @@ def calls():
         if not crate:
             continue
         folder = TOP / "crates" / crate / "src"
-        if crate == "zkdump":
-            for stem in PROGRAM:
-                yield from calls_of(crate, folder / f"{stem}.rt", lambda _: True)
+        if not (folder / "lib.rt").exists():
             continue
         used = re.findall(r"^pub use (\w+)::(?:\{(.*?)\}|(\w+));", (folder / "lib.rt").read_text(), re.M | re.S)
         public = {name for _, many, one in used for name in re.findall(r"\w+", many or one)}

@@ -24,10 +24,10 @@ BEGIN, END = "<!-- The lines from here on are written by docs/proved.py. -->", "
 HEADLINES = (
     ("read_all", (("zk_talk", "read_all"),)),
     ("Speaker::say", (("zk_talk", "say"),)),
-    ("show_run and check_run", (("zkdump", "show_run"), ("zkdump", "check_run"))),
-    ("check_earliest_run", (("zkdump", "check_earliest_run"),)),
-    ("build_run", (("zkdump", "build_run"),)),
-    ("migrate_run", (("zkdump", "migrate_run"),)),
+    ("show_run and check_run", (("zk_listings", "show_run"), ("zk_listings", "check_run"))),
+    ("check_earliest_run", (("zk_listings", "check_earliest_run"),)),
+    ("build_run", (("zk_runs", "build_run"),)),
+    ("migrate_run", (("zk_runs", "migrate_run"),)),
 )
 
 WORD = re.compile(r"[^\s(){}\[\],;:`]+")

@@ -3,41 +3,11 @@
 //! of their messages, one piece a message, up to the first line that is refused.
 #![tactic(auto)]
 
-pub mod build;
-#[cfg(test)]
-mod build_tests;
-pub mod builder;
-pub mod built;
-#[cfg(test)]
-mod device_tests;
-pub mod earliest_run;
-pub mod engines;
-pub mod laws;
-pub mod listing;
-#[cfg(test)]
-mod memory;
-pub mod migrate;
-#[cfg(test)]
-mod migrate_tests;
-pub mod options;
-pub mod parts;
-pub mod progress;
-pub mod recording;
-pub mod recordings;
-pub mod run;
-pub mod streams;
-pub mod summary;
-#[cfg(test)]
-mod tests;
-pub mod words;
-
-use options::{Settings, UsageFault};
-use run::run_settings;
 use std::process::ExitCode;
 use std::rt::Env;
 use std::{env, io};
-use streams::{FromRead, FromWrite};
-use words::settings;
+use zk_listings::{FromRead, FromWrite};
+use zk_runs::{Settings, UsageFault, run_settings, settings};
 
 /// The words of the command line.
 fn arguments(rt: &(impl Env + AllocGlobal)) -> Result<Vec<String>, UsageFault> {

@@ -1,0 +1,173 @@
+//! A source and a sink over memory, for tests: they go by small steps, and fail at one call.
+ghost use Rattle.std.specs.Prelude.{◌≡◌, ◌<◌, Some, [], false};
+
+use std::alloc::Global;
+use zk_listings::{Failed, Sink, Source};
+
+/// Bytes to be read, at most `step` a call.
+#[derive(Drop)]
+pub struct MemorySource<'a> {
+    rest: &'a [u8],
+    step: usize,
+    fails_at: u64,
+    reads: u64,
+    failed: bool,
+    ghost some: { 0 < step },
+}
+
+impl<'a> MemorySource<'a> {
+    pub fn new(bytes: &'a [u8]) -> Self
+        ensures remaining { ⟦<MemorySource<'a> as Source>⟧.remaining result ≡ Some bytes.now }
+        ensures count { ⟦<MemorySource<'a> as Source>⟧.read_count result ≡ 0 }
+        ensures live { ⟦<MemorySource<'a> as Source>⟧.has_failed result ≡ false }
+    {
+        MemorySource {
+            rest: bytes,
+            step: usize::MAX,
+            fails_at: 0,
+            reads: 0,
+            failed: false,
+        }
+    }
+
+    /// Gives at most so many bytes a call.
+    pub fn by_steps(bytes: &'a [u8], step: usize) -> Self
+        requires { 0 < step }
+        ensures count { ⟦<MemorySource<'a> as Source>⟧.read_count result ≡ 0 }
+        ensures live { ⟦<MemorySource<'a> as Source>⟧.has_failed result ≡ false }
+    {
+        MemorySource {
+            rest: bytes,
+            step,
+            fails_at: 0,
+            reads: 0,
+            failed: false,
+        }
+    }
+
+    /// Fails at a call, the first being 1.
+    pub fn failing_at(bytes: &'a [u8], call: u64) -> Self
+        ensures count { ⟦<MemorySource<'a> as Source>⟧.read_count result ≡ 0 }
+        ensures live { ⟦<MemorySource<'a> as Source>⟧.has_failed result ≡ false }
+    {
+        MemorySource {
+            rest: bytes,
+            step: 1,
+            fails_at: call,
+            reads: 0,
+            failed: false,
+        }
+    }
+}
+
+impl Source for MemorySource<'_> {
+    ghost remaining = { λ s. Some s.rest.now };
+
+    ghost read_count = { λ s. s.reads };
+
+    ghost has_failed = { λ s. s.failed };
+
+    fn read(&mut self, buf: &mut [u8]) -> Result<usize, Failed> {
+        self.reads = self.reads.saturating_add(1);
+        if self.reads == self.fails_at {
+            self.failed = true;
+            return Err(Failed);
+        }
+        let count = self.rest.len().min(buf.len()).min(self.step);
+        let (front, rest) = self.rest.split_at(count);
+        buf[..count].copy_from_slice(front);
+        self.rest = rest;
+        Ok(count)
+    }
+
+    fn reads(&self) -> u64 {
+        self.reads
+    }
+
+    fn failed(&self) -> bool {
+        self.failed
+    }
+}
+
+/// Bytes that were written, at most `step` a call.
+#[derive(Drop)]
+pub struct MemorySink {
+    bytes: Vec<u8>,
+    step: usize,
+    fails_at: u64,
+    writes: u64,
+    failed: bool,
+}
+
+impl MemorySink {
+    pub fn new(alloc: Global) -> Self
+        ensures contents { ⟦<MemorySink as Sink>⟧.contents result ≡ Some [] }
+        ensures live { ⟦<MemorySink as Sink>⟧.has_failed result ≡ false }
+    {
+        MemorySink {
+            bytes: Vec::new(alloc),
+            step: usize::MAX,
+            fails_at: 0,
+            writes: 0,
+            failed: false,
+        }
+    }
+
+    /// Takes at most so many bytes a call. None is a failure at the first.
+    pub fn by_steps(alloc: Global, step: usize) -> Self
+        ensures { ⟦<MemorySink as Sink>⟧.has_failed result ≡ false }
+    {
+        MemorySink {
+            bytes: Vec::new(alloc),
+            step,
+            fails_at: 0,
+            writes: 0,
+            failed: false,
+        }
+    }
+
+    /// Takes a byte a call, and fails at one, the first being 1.
+    pub fn failing_at(alloc: Global, call: u64) -> Self
+        ensures { ⟦<MemorySink as Sink>⟧.has_failed result ≡ false }
+    {
+        MemorySink {
+            bytes: Vec::new(alloc),
+            step: 1,
+            fails_at: call,
+            writes: 0,
+            failed: false,
+        }
+    }
+
+    /// What was written.
+    pub fn bytes(&self) -> &[u8]
+        ensures { ⟦<MemorySink as Sink>⟧.contents self.now ≡ Some result.now }
+    {
+        self.bytes.as_slice()
+    }
+}
+
+impl Sink for MemorySink {
+    ghost contents = { λ s. Some s.bytes.items };
+
+    ghost has_failed = { λ s. s.failed };
+
+    fn write(&mut self, bytes: &[u8]) -> Result<usize, Failed> {
+        self.writes = self.writes.saturating_add(1);
+        if self.writes == self.fails_at {
+            self.failed = true;
+            return Err(Failed);
+        }
+        let count = bytes.len().min(self.step);
+        if self.bytes.extend_from_slice(&bytes[..count]).is_err() {
+            self.failed = true;
+            return Err(Failed);
+        }
+        self.failed = self.failed || count == 0 && !bytes.is_empty();
+        Ok(count)
+    }
+
+    fn failed(&self) -> bool {
+        self.failed
+    }
+}

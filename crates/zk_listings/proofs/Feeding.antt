@@ -1,0 +1,93 @@
+-- Bytes of one side that are given in several calls.
+use Rattle.std.proofs.Common.{◌≡◌, ◌≢◌, ℕ, ◌+◌, Bool, true, false, List, [], ◌∷◌, ◌++◌, length, take, drop, Option, None, Some, refl, sym, ◌∙◌, ap, subst, append_assoc, inl, inr}
+use Rattle.std.specs.Io.KnownBytes.{Appends}
+use Rattle.std.proofs.lemmas.List.{map-append, take-append-drop, append-nil}
+use Rattle.std.proofs.lemmas.List.Concat.{flat_map-append}
+use Rattle.std.proofs.Math.Seq.{take-add, take-append-add, take-length}
+use Rattle.zk_jute.specs.declared.fault.Reason.TheVariants.{NoMemory}
+use Rattle.zk_talk.specs.declared.message.Side.{Side}
+use Rattle.zk_talk.specs.declared.message.Fault.{Fault}
+use Rattle.zk_talk.specs.Held.{Message}
+use Rattle.zk_talk.specs.declared.limits.Limits.{Limits}
+use Rattle.zk_talk.specs.History.{History, on}
+use Rattle.zk_talk.specs.Stands.{TalkState, Stands, Refuses}
+use Rattle.zk_talk.specs.Good.{Good, IsOrder}
+use Rattle.zk_talk.specs.Taking.{GoesOn, Steps, Fails}
+use Rattle.zk_listings.specs.declared.listing.Listing.{Listing}
+use Rattle.zk_listings.specs.declared.listing.Listing.TheVariants.{All, Last}
+use Rattle.zk_listings.specs.Lines.{message_line, text_of}
+use Rattle.zk_listings.specs.Outcome.{IsGoodWith, HasGrownIn}
+use Rattle.zk_listings.specs.Following.{Takes}
+use Rattle.zk_listings.proofs.Bytes.{Appends-none, Appends-then}
+use Rattle.zk_recordings.proofs.Lists.{on-append}
+
+pub text_of-append : (listing : Listing) (a b : List Message) → text_of listing (a ++ b) ≡ text_of listing a ++ text_of listing b
+text_of-append All a b = flat_map-append message_line a b
+text_of-append Last a b = refl
+
+-- a talk that stands is good with its messages
+pub good-here : (t : TalkState) (l : Limits) (h : History) (messages : List Message) → t.limits ≡ l → Stands t h messages → IsGoodWith l h messages
+good-here t l h messages e i = record {
+  conversation = i.conversation;
+  client_rest = t.client_held;
+  server_rest = t.server_held;
+  good = subst (λ k. Good k h i.conversation t.client_held t.server_held) e i.good;
+  order = subst (λ k. IsOrder k h i.conversation messages) e i.order;
+}
+
+-- a front of more lines
+pub grown-then : (listing : Listing) (before during after : Option (List ℕ)) (now more : List Message) → Appends before during (text_of listing now) →
+    HasGrownIn during after (text_of listing more) → HasGrownIn before after (text_of listing (now ++ more))
+grown-then listing before during after now more p q = (
+  length (text_of listing now) + q.0,
+  subst (Appends before after) (sym (take-append-add (text_of listing now) (text_of listing more) q.0) ∙ ap (take (length (text_of listing now) + q.0)) (sym (text_of-append listing now more)))
+      (Appends-then before during after _ _ p q.1),
+)
+
+pub grown-whole : (before after : Option (List ℕ)) (text : List ℕ) → Appends before after text → HasGrownIn before after text
+grown-whole before after text p = (length text, subst (Appends before after) (sym (take-length text)) p)
+
+pub told-then : (listing : Listing) (before during after : Option (List ℕ)) (now more : List Message) → Appends before during (text_of listing now) →
+    Appends during after (text_of listing more) → Appends before after (text_of listing (now ++ more))
+told-then listing before during after now more p q = subst (Appends before after) (sym (text_of-append listing now more)) (Appends-then before during after _ _ p q)
+
+-- ---- lines that are appended to a buffer
+
+pub listed-none : (listing : Listing) (lines : List ℕ) → lines ≡ lines ++ text_of listing []
+listed-none All lines = sym (append-nil lines)
+listed-none Last lines = sym (append-nil lines)
+
+pub listed-then : (listing : Listing) (before during after : List ℕ) (now more : List Message) → during ≡ before ++ text_of listing now →
+    after ≡ during ++ text_of listing more → after ≡ before ++ text_of listing (now ++ more)
+listed-then listing before during after now more p q =
+    q ∙ ap (λ l. l ++ text_of listing more) p ∙ append_assoc before (text_of listing now) (text_of listing more) ∙ ap (λ l. before ++ l) (sym (text_of-append listing now more))
+
+pub takes-none : (listing : Listing) (t : TalkState) (lines : List ℕ) (side : Side) → Takes listing t lines (on side []) None t lines
+takes-none listing t lines side h messages i =
+    ([], subst (λ k. Stands t k (messages ++ [])) (sym (append-nil h)) (subst (Stands t h) (sym (append-nil messages)) i), listed-none listing lines)
+
+-- a step goes on with the history, by a message or by none
+pub stepped-goes : (old : TalkState) (side : Side) (used : List ℕ) (whole : Bool) (new : TalkState) → Steps old side used whole new → (messages : List Message) × GoesOn old side used messages new
+stepped-goes old side used true new s = (s.0 ∷ [], s.1)
+stepped-goes old side used false new s = ([], s.0)
+
+module _ (listing : Listing) (old mid new : TalkState) (before during after : List ℕ) (side : Side) (bytes : List ℕ) (at' : ℕ) (taken : Takes listing old before (on side (take at' bytes)) None mid during) where
+  pub takes-more : (used : ℕ) (now : List Message) → GoesOn mid side (take used (drop at' bytes)) now new → after ≡ during ++ text_of listing now →
+      Takes listing old before (on side (take (at' + used) bytes)) None new after
+  takes-more used now goes told h messages i =
+      let r = taken h messages i in
+      let joined : (h ++ on side (take at' bytes)) ++ on side (take used (drop at' bytes)) ≡ h ++ on side (take (at' + used) bytes) =
+      on-append side (take at' bytes) (take used (drop at' bytes)) h ∙ ap (λ b. h ++ on side b) (sym (take-add at' used bytes)) in
+      let s = subst (λ z. Stands new z ((messages ++ r.0) ++ now)) joined (goes (h ++ on side (take at' bytes)) (messages ++ r.0) r.1) in (
+        r.0 ++ now,
+        subst (Stands new (h ++ on side (take (at' + used) bytes))) (append_assoc messages r.0 now) s,
+        listed-then listing before during after r.0 now r.2 told,
+      )
+
+  pub rejects-later : (fault : Fault) → (fault.reason ≡ NoMemory → ⊥) → Fails mid side (drop at' bytes) fault new → Takes listing old before (on side bytes) (Some fault) new during
+  rejects-later fault known (inl w) h messages i = absurd (known (ap (λ (f : Fault). f.reason) w.told))
+  rejects-later fault known (inr r) h messages i =
+      let b = taken h messages i in
+      let joined : (h ++ on side (take at' bytes)) ++ on side (drop at' bytes) ≡ h ++ on side bytes =
+      on-append side (take at' bytes) (drop at' bytes) h ∙ ap (λ b. h ++ on side b) (take-append-drop at' bytes) in
+      (b.0, subst (λ z. Refuses new z (messages ++ b.0) fault) joined (r (h ++ on side (take at' bytes)) (messages ++ b.0) b.1), b.2)

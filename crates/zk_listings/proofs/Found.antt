@@ -1,0 +1,100 @@
+-- What a run of reads comes to.
+use Rattle.std.proofs.Common.{◌≡◌, ℕ, List, [], ◌++◌, ◌+◌, length, Option, inl, inr, sym, ◌∙◌, ap, subst, append-nil}
+use Rattle.std.specs.Io.KnownBytes.{Consumes, IsAtEnd, Appends}
+use Rattle.zk_talk.specs.declared.limits.Limits.{Limits}
+use Rattle.zk_talk.specs.Held.{Message}
+use Rattle.zk_talk.specs.Stands.{TalkState}
+use Rattle.zk_listings.specs.declared.progress.Progress.{Progress}
+use Rattle.zk_listings.specs.declared.summary.Summary.{Summary}
+use Rattle.zk_recordings.specs.Recording.{Recording, Spells, history_of, limits_of}
+use Rattle.zk_listings.specs.Outcome.{Reads, IsFound, IsRunning, HasBegun, HasGrownIn, IsGoodWith}
+use Rattle.zk_listings.specs.Following.{Follows, IsKept, Finishes, Decides, Opens}
+use Rattle.std.proofs.Math.Seq.{take-append-add, take-append_seam}
+use Rattle.zk_listings.proofs.Bytes.{Consumes-then, Appends-then}
+use Rattle.zk_listings.proofs.Talking.{has-good}
+use Rattle.zk_listings.proofs.Outcomes.{outcome-once, outcome-good}
+use Rattle.zk_recordings.proofs.Once.{spells-once}
+
+pub reads : (before after : Option (List ℕ)) (x : List ℕ) (r : Recording) → Consumes before after x → Spells x r → Reads before after x r
+reads before after x r p i = record { consumed = p; just = record { spells = i; only = λ s j. spells-once x r s i j } }
+
+-- what was found, of a talk that keeps its fault
+pub record FoundBy (limits : Limits) (before after : Option (List ℕ)) (messages : List Message) (talk : Option TalkState) (summary : Summary) : Type 0 where
+  pub found : IsFound limits before after messages summary
+  pub kept : IsKept (limits_of limits found.recording) talk (history_of found.recording) messages summary
+
+pub found-at_end : (limits : Limits) (before mid after : Option (List ℕ)) (x none : List ℕ) (messages : List Message) (talk : Option TalkState) (summary : Summary) →
+    Consumes before mid x → Consumes mid after none → none ≡ [] → IsAtEnd after → Finishes limits x messages talk summary → FoundBy limits before after messages talk summary
+found-at_end limits before mid after x none messages talk summary p q nothing end i = record {
+  found = record {
+    bytes = x;
+    recording = i.recording;
+    reads = reads before after x i.recording (subst (Consumes before after) (ap (λ b. x ++ b) nothing ∙ append-nil x) (Consumes-then before mid after x none p q)) i.spells;
+    is = i.is;
+    only = λ others other o. outcome-once limits i.recording messages others summary other i.is o;
+    enough = inl end;
+  };
+  kept = i.kept;
+}
+
+-- what was read has these messages and no fault
+pub running : (limits : Limits) (before after : Option (List ℕ)) (x : List ℕ) (messages : List Message) (now : Progress) →
+    Consumes before after x → Follows limits x messages now → IsRunning limits before after messages
+running limits before after x messages now p i =
+    let r = i.recording in
+    let good = has-good (limits_of limits r) now.talk (history_of r) messages i.talks.has in
+    record {
+      bytes = x;
+      recording = r;
+      reads = reads before after x r p i.at.spells;
+      good = good;
+      only = λ others summary o. outcome-good limits r messages others summary good o;
+    }
+
+pub running-begun : (limits : Limits) (before after : Option (List ℕ)) (messages : List Message) → IsRunning limits before after messages → HasBegun limits before after messages
+running-begun limits before after messages i = record {
+  bytes = i.bytes;
+  recording = i.recording;
+  reads = i.reads;
+  front = history_of i.recording;
+  rest = [];
+  splits = sym (append-nil (history_of i.recording));
+  good = i.good;
+}
+
+pub begun-by : (limits : Limits) (before after : Option (List ℕ)) (x : List ℕ) (messages : List Message) → Consumes before after x → Opens limits x messages → HasBegun limits before after messages
+begun-by limits before after x messages p i = record {
+  bytes = x;
+  recording = i.recording;
+  reads = reads before after x i.recording p i.spells;
+  front = i.front;
+  rest = i.rest;
+  splits = i.splits;
+  good = i.good;
+}
+
+-- what stands whatever follows was found
+pub found-decided : (limits : Limits) (before after : Option (List ℕ)) (x : List ℕ) (messages : List Message) (talk : Option TalkState) (summary : Summary) →
+    Consumes before after x → Decides limits x messages talk summary → FoundBy limits before after messages talk summary
+found-decided limits before after x messages talk summary p i = record {
+  found = record {
+    bytes = x;
+    recording = i.recording;
+    reads = reads before after x i.recording p i.spells;
+    is = i.is;
+    only = λ others other o. outcome-once limits i.recording messages others summary other i.is o;
+    enough = inr i.decided;
+  };
+  kept = i.kept;
+}
+
+-- what stands in the buffer, which held nothing before
+pub appended : (bytes lines before text : List ℕ) → bytes ≡ lines → lines ≡ before ++ text → before ≡ [] → bytes ≡ text
+appended bytes lines before text p q none = p ∙ q ∙ ap (λ l. l ++ text) none
+
+-- nothing, or a front, of what follows a text was written
+pub grown-front : (old new : Option (List ℕ)) (text more : List ℕ) → Appends old new text → HasGrownIn old new (text ++ more)
+grown-front old new text more p = (length text, subst (Appends old new) (sym (take-append_seam text more)) p)
+
+pub grown-further : (old mid new : Option (List ℕ)) (text more : List ℕ) → Appends old mid text → HasGrownIn mid new more → HasGrownIn old new (text ++ more)
+grown-further old mid new text more p q = (length text + q.0, subst (Appends old new) (sym (take-append-add text more q.0)) (Appends-then old mid new _ _ p q.1))

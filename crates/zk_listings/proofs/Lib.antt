@@ -1,0 +1,12 @@
+pub mod Bytes
+pub mod Feeding
+pub mod Talking
+pub mod Outcomes
+pub mod Stops
+pub mod Steps
+pub mod Found
+pub mod Opened
+pub mod Stopped
+pub mod Decided
+pub mod Lasting
+pub mod Tails

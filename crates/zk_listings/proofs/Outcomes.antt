@@ -1,0 +1,115 @@
+-- A recording comes to one thing, with one list of messages.
+use Rattle.std.proofs.Common.{◌≡◌, ℕ, List, [], ◌++◌, Option, Some, None, refl, sym, ap, ◌∙◌, subst}
+use Rattle.zk_talk.specs.declared.message.Side.{Side}
+use Rattle.zk_talk.specs.declared.message.Side.TheVariants.{Client, Server}
+use Rattle.zk_talk.specs.declared.limits.Limits.{Limits}
+use Rattle.zk_talk.specs.declared.message.Ending.{Ending}
+use Rattle.zk_talk.specs.declared.message.Ending.TheVariants.{Whole, Cut, Refused}
+use Rattle.zk_talk.specs.History.{History}
+use Rattle.zk_talk.specs.Conversation.{Conversation}
+use Rattle.zk_talk.specs.Held.{Message}
+use Rattle.zk_talk.specs.Good.{Good, IsOrder}
+use Rattle.zk_talk.specs.Answer.{AreMessages}
+use Rattle.zk_talk.specs.Ending.{IsEnding, IsCutAt, unanswered}
+use Rattle.zk_talk.proofs.Small.{small_limits}
+use Rattle.zk_talk.proofs.FaultOnce.{same_before, answer_fault}
+use Rattle.zk_talk.proofs.Headline.{same_good, fault_is_bad}
+use Rattle.zk_talk.proofs.FirstMessages.{first_of_good, first_of_any}
+use Rattle.zk_talk.proofs.OrderOnce.{order_once}
+use Rattle.zk_recordings.specs.declared.parts.DamageAt.{DamageAt}
+use Rattle.zk_listings.specs.declared.summary.Summary.{Summary}
+use Rattle.zk_listings.specs.declared.summary.Summary.TheVariants.{Ended, Broken}
+use Rattle.zk_listings.specs.Outcome.{ComesTo, HasMessages, IsGoodWith, IsOutcome}
+use Rattle.zk_recordings.specs.Recording.{Recording, history_of, limits_of, damage_of}
+
+-- one conversation ends in one place
+cut-once : (v : Conversation) (cr sr : List ℕ) (s t : Side) (n m k l : ℕ) → IsCutAt v cr sr s n k → IsCutAt v cr sr t m l → Cut s n k ≡ Cut t m l
+cut-once v cr sr Client Client n m k l p q = ap (λ a. Cut Client a k) (p.1 ∙ sym q.1) ∙ ap (Cut Client m) (p.2 ∙ sym q.2)
+cut-once v cr sr Client Server n m k l p q = absurd (p.0 q.0)
+cut-once v cr sr Server Client n m k l p q = absurd (q.0 p.0)
+cut-once v cr sr Server Server n m k l p q = ap (λ a. Cut Server a k) (p.2 ∙ sym q.2) ∙ ap (Cut Server m) (p.3 ∙ sym q.3)
+
+not-cut : (v : Conversation) (s : Side) (n k : ℕ) → IsCutAt v [] [] s n k → ⊥
+not-cut v Client n k p = p.0 refl
+not-cut v Server n k p = p.1 refl
+
+module _ (limits : Limits) (h : History) where
+  same : (v w : Conversation) (cb sb db tb : List ℕ) → Good limits h v cb sb → Good limits h w db tb → (v ≡ w) × (cb ≡ db) × (sb ≡ tb)
+  same = same_good limits (small_limits limits) h
+
+  ending-once : (d e : Ending) → IsEnding limits h d → IsEnding limits h e → d ≡ e
+  ending-once (Refused f) e p q = sym (answer_fault limits (small_limits limits) h e q f p)
+  ending-once d (Refused g) p q = answer_fault limits (small_limits limits) h d p g q
+  ending-once (Whole n) (Whole m) p q = ap Whole (p.2 ∙ ap unanswered (same p.0 q.0 [] [] [] [] p.1 q.1).0 ∙ sym q.2)
+  ending-once (Whole n) (Cut t m l) p q =
+      let s = same p.0 q.0 [] [] q.1 q.2 p.1 q.3 in
+      absurd (not-cut q.0 t m l (subst (λ b. IsCutAt q.0 [] b t m l) (sym s.2) (subst (λ b. IsCutAt q.0 b q.2 t m l) (sym s.1) q.4)))
+  ending-once (Cut s n k) (Whole m) p q =
+      let r = same q.0 p.0 [] [] p.1 p.2 q.1 p.3 in
+      absurd (not-cut p.0 s n k (subst (λ b. IsCutAt p.0 [] b s n k) (sym r.2) (subst (λ b. IsCutAt p.0 b p.2 s n k) (sym r.1) p.4)))
+  ending-once (Cut s n k) (Cut t m l) p q =
+      let r = same q.0 p.0 q.1 q.2 p.1 p.2 q.3 p.3 in
+      cut-once p.0 p.1 p.2 s t n m k l p.4
+      (subst (λ v. IsCutAt v p.1 p.2 t m l) r.0 (subst (λ b. IsCutAt q.0 p.1 b t m l) r.2 (subst (λ b. IsCutAt q.0 b q.2 t m l) r.1 q.4)))
+
+  no-damage : (damage : Option DamageAt) (d : DamageAt) → damage ≡ None → damage ≡ Some d → ⊥
+  no-damage damage d p q = cc
+
+  pub comes_to-once : (damage : Option DamageAt) (s t : Summary) → ComesTo limits h damage s → ComesTo limits h damage t → s ≡ t
+  comes_to-once damage (Ended (Refused f)) (Ended (Refused g)) p q = ap (λ e. Ended e) (ending-once (Refused f) (Refused g) p q)
+  comes_to-once damage (Ended (Refused f)) (Ended (Whole m)) p q = ap (λ e. Ended e) (ending-once (Refused f) (Whole m) p q.1)
+  comes_to-once damage (Ended (Refused f)) (Ended (Cut t m l)) p q = ap (λ e. Ended e) (ending-once (Refused f) (Cut t m l) p q.1)
+  comes_to-once damage (Ended (Refused f)) (Broken d) p q = absurd (q.0 f p)
+  comes_to-once damage (Broken d) (Ended (Refused g)) p q = absurd (p.0 g q)
+  comes_to-once damage (Broken d) (Ended (Whole m)) p q = absurd (no-damage damage d q.0 p.1)
+  comes_to-once damage (Broken d) (Ended (Cut t m l)) p q = absurd (no-damage damage d q.0 p.1)
+  comes_to-once damage (Broken d) (Broken e) p q = let b : Some d ≡ Some e = sym p.1 ∙ q.1 in ap Broken (cc)
+  comes_to-once damage (Ended (Whole n)) (Ended (Refused g)) p q = ap (λ e. Ended e) (ending-once (Whole n) (Refused g) p.1 q)
+  comes_to-once damage (Ended (Whole n)) (Ended (Whole m)) p q = ap (λ e. Ended e) (ending-once (Whole n) (Whole m) p.1 q.1)
+  comes_to-once damage (Ended (Whole n)) (Ended (Cut t m l)) p q = ap (λ e. Ended e) (ending-once (Whole n) (Cut t m l) p.1 q.1)
+  comes_to-once damage (Ended (Whole n)) (Broken d) p q = absurd (no-damage damage d p.0 q.1)
+  comes_to-once damage (Ended (Cut s n k)) (Ended (Refused g)) p q = ap (λ e. Ended e) (ending-once (Cut s n k) (Refused g) p.1 q)
+  comes_to-once damage (Ended (Cut s n k)) (Ended (Whole m)) p q = ap (λ e. Ended e) (ending-once (Cut s n k) (Whole m) p.1 q.1)
+  comes_to-once damage (Ended (Cut s n k)) (Ended (Cut t m l)) p q = ap (λ e. Ended e) (ending-once (Cut s n k) (Cut t m l) p.1 q.1)
+  comes_to-once damage (Ended (Cut s n k)) (Broken d) p q = absurd (no-damage damage d p.0 q.1)
+
+order-once : (limits : Limits) (h : History) (v w : Conversation) (cb sb db tb : List ℕ) (M N : List Message) → Good limits h v cb sb → IsOrder limits h v M → Good limits h w db tb → IsOrder limits h w N → M ≡ N
+order-once limits h v w cb sb db tb M N p a q b =
+    let s = same limits h v w cb sb db tb p q in
+    order_once limits (small_limits limits) h v M N a (subst (λ z. IsOrder limits h z N) (sym s.0) b) cb sb p.whole
+
+ended-once : (limits : Limits) (h : History) (M N : List Message) (e : Ending) → AreMessages limits h M e → AreMessages limits h N e → M ≡ N
+ended-once limits h M N (Refused f) p q =
+    let e = (same_before limits h f f p.0 q.0).0 in
+    order-once limits p.0.before p.0.conversation q.0.conversation p.0.client_rest p.0.server_rest q.0.client_rest q.0.server_rest M N p.0.good p.1
+    (subst (λ k. Good limits k q.0.conversation q.0.client_rest q.0.server_rest) (sym e) q.0.good) (subst (λ k. IsOrder limits k q.0.conversation N) (sym e) q.1)
+ended-once limits h M N (Cut side n k) p q = order-once limits h p.0 q.0 p.1 p.2 q.1 q.2 M N p.3 p.4 q.3 q.4
+ended-once limits h M N (Whole n) p q = order-once limits h p.0 q.0 p.1 p.2 q.1 q.2 M N p.3 p.4 q.3 q.4
+
+messages-once : (limits : Limits) (h : History) (M N : List Message) (s : Summary) → HasMessages limits h M s → HasMessages limits h N s → M ≡ N
+messages-once limits h M N (Ended e) p q = ended-once limits h M N e p q
+messages-once limits h M N (Broken d) p q = order-once limits h p.conversation q.conversation p.client_rest p.server_rest q.client_rest q.server_rest M N p.good p.order q.good q.order
+
+pub outcome-once : (limits : Limits) (r : Recording) (M N : List Message) (s t : Summary) → IsOutcome limits r M s → IsOutcome limits r N t → (N ≡ M) × (t ≡ s)
+outcome-once limits r M N s t p q =
+    let e = comes_to-once (limits_of limits r) (history_of r) (damage_of r) t s q.comes_to p.comes_to in
+    (messages-once (limits_of limits r) (history_of r) N M s (subst (HasMessages (limits_of limits r) (history_of r) N) e q.messages_are) p.messages_are, e)
+
+-- a recording whose history is good has no messages but those of the history
+good-once : (limits : Limits) (h : History) (M N : List Message) (s : Summary) → IsGoodWith limits h M → HasMessages limits h N s → N ≡ M
+good-once limits h M N (Ended (Refused f)) g m = absurd (fault_is_bad limits h f m.0 (g.conversation, g.client_rest, g.server_rest, g.good))
+good-once limits h M N (Ended (Cut side n k)) g m = order-once limits h m.0 g.conversation m.1 m.2 g.client_rest g.server_rest N M m.3 m.4 g.good g.order
+good-once limits h M N (Ended (Whole n)) g m = order-once limits h m.0 g.conversation m.1 m.2 g.client_rest g.server_rest N M m.3 m.4 g.good g.order
+good-once limits h M N (Broken d) g m = order-once limits h m.conversation g.conversation m.client_rest m.server_rest g.client_rest g.server_rest N M m.good m.order g.good g.order
+
+pub outcome-good : (limits : Limits) (r : Recording) (M N : List Message) (s : Summary) → IsGoodWith (limits_of limits r) (history_of r) M → IsOutcome limits r N s → N ≡ M
+outcome-good limits r M N s g o = good-once (limits_of limits r) (history_of r) M N s g o.messages_are
+
+-- the messages of a good front stand first in all that a recording comes to
+has-first : (limits : Limits) (h front rest : History) (M N : List Message) (s : Summary) → h ≡ front ++ rest → IsGoodWith limits front M → HasMessages limits h N s → (more : List Message) × (N ≡ M ++ more)
+has-first limits h front rest M N (Ended e) i g m = first_of_any limits h front rest g.conversation g.client_rest g.server_rest M N i g.good g.order e m
+has-first limits h front rest M N (Broken d) i g m =
+    first_of_good limits h front rest g.conversation g.client_rest g.server_rest M N i g.good g.order m.conversation m.client_rest m.server_rest m.good m.order
+
+pub outcome-first : (limits : Limits) (r : Recording) (front rest : History) (M N : List Message) (s : Summary) → history_of r ≡ front ++ rest → IsGoodWith (limits_of limits r) front M → IsOutcome limits r N s → (more : List Message) × (N ≡ M ++ more)
+outcome-first limits r front rest M N s i g o = has-first (limits_of limits r) (history_of r) front rest M N s i g o.messages_are

@@ -1,0 +1,10 @@
+use Rattle.std.proofs.Common.{[], refl}
+use Rattle.zk_listings.proofs.progress.Progress.new.Goals as goal
+
+pub returns-clause-start : goal.returns-clause-start
+returns-clause-start c = record {
+  options = refl;
+  recording = _;
+  at = c.new.ensures.start;
+  talks = record { headed = tt; has = (refl, refl) };
+}

@@ -1,0 +1,120 @@
+-- How far a recording was read, with the conversation in it, and which lines were appended.
+use Rattle.std.specs.Prelude.{◌≡◌, ◌<◌, ◌≤◌, ◌+◌, ℕ, List, [], ◌++◌, length, take, Option, None, Some}
+use Rattle.zk_talk.specs.declared.limits.Limits.{Limits}
+use Rattle.zk_talk.specs.Held.{Message}
+use Rattle.zk_talk.specs.declared.message.Ending.TheVariants.{Whole, Cut, Refused}
+use Rattle.zk_talk.specs.declared.message.Fault.{Fault}
+use Rattle.zk_talk.specs.History.{History}
+use Rattle.zk_talk.specs.Stands.{TalkState, Stands, Refuses}
+use Rattle.zk_listings.specs.declared.listing.Listing.{Listing}
+use Rattle.zk_listings.specs.declared.progress.Step.{Step}
+use Rattle.zk_listings.specs.declared.progress.Step.TheVariants.{Took, Found}
+use Rattle.zk_listings.specs.declared.progress.Progress.{Progress}
+use Rattle.zk_recordings.specs.declared.recording.State.{State}
+use Rattle.zk_listings.specs.declared.summary.Summary.{Summary}
+use Rattle.zk_listings.specs.declared.summary.Summary.TheVariants.{Ended, Broken}
+use Rattle.zk_recordings.specs.Recording.{Place, Recording, Spells, place_of, history_of, limits_of}
+use Rattle.zk_recordings.specs.Reading.{IsAt, IsHeaded, place_in}
+use Rattle.zk_listings.specs.Lines.{text_of}
+use Rattle.zk_listings.specs.Outcome.{IsGoodWith, IsOutcome, IsDecided}
+
+-- the history of a talk: none, where no content has come
+abbrev pub Has : Limits → Option TalkState → History → List Message → Type 0
+Has limits None h messages = (h ≡ []) × (messages ≡ [])
+Has limits (Some talk) h messages = Stands talk h messages × (talk.limits ≡ limits)
+
+-- a talk begins behind a whole head
+abbrev pub IsHeadedBy : Option TalkState → Place → Type 0
+IsHeadedBy None place = Unit {0}
+IsHeadedBy (Some talk) place = IsHeaded place
+
+pub record Talks (limits : Limits) (r : Recording) (messages : List Message) (talk : Option TalkState) : Type 0 where
+  pub headed : IsHeadedBy talk (place_of r)
+  pub has : Has (limits_of limits r) talk (history_of r) messages
+
+-- the bytes x were read, the messages in them are these, and no fault stands in them
+pub record Follows (limits : Limits) (x : List ℕ) (messages : List Message) (p : Progress) : Type 0 where
+  pub options : p.limits ≡ limits
+  pub recording : Recording
+  pub at : IsAt p.reader x recording
+  pub talks : Talks limits recording messages p.talk
+
+-- a talk that refused a history keeps the fault
+abbrev pub HasRefused : Limits → Option TalkState → History → List Message → Fault → Type 0
+HasRefused limits None h messages fault = ⊥
+HasRefused limits (Some talk) h messages fault = Refuses talk h messages fault × (talk.limits ≡ limits)
+
+-- where a history ends by a fault, the talk has refused it
+abbrev pub IsKept : Limits → Option TalkState → History → List Message → Summary → Type 0
+IsKept limits talk h messages (Ended (Refused fault)) = HasRefused limits talk h messages fault
+IsKept limits talk h messages (Ended (Cut side frame got)) = Unit {0}
+IsKept limits talk h messages (Ended (Whole unanswered)) = Unit {0}
+IsKept limits talk h messages (Broken damage) = Unit {0}
+
+-- these bytes are a recording that comes to this
+pub record Finishes (limits : Limits) (x : List ℕ) (messages : List Message) (talk : Option TalkState) (summary : Summary) : Type 0 where
+  pub recording : Recording
+  pub spells : Spells x recording
+  pub is : IsOutcome limits recording messages summary
+  pub kept : IsKept (limits_of limits recording) talk (history_of recording) messages summary
+
+-- and whatever follows them, the summary stands
+pub record Decides (limits : Limits) (x : List ℕ) (messages : List Message) (talk : Option TalkState) (summary : Summary) : Type 0 where
+  pub recording : Recording
+  pub spells : Spells x recording
+  pub is : IsOutcome limits recording messages summary
+  pub decided : IsDecided limits x recording
+  pub kept : IsKept (limits_of limits recording) talk (history_of recording) messages summary
+
+-- these bytes are a recording that begins with these messages
+pub record Opens (limits : Limits) (x : List ℕ) (messages : List Message) : Type 0 where
+  pub recording : Recording
+  pub spells : Spells x recording
+  pub front : History
+  pub rest : History
+  pub splits : history_of recording ≡ front ++ rest
+  pub good : IsGoodWith (limits_of limits recording) front messages
+
+-- ---- what some bytes do to a talk, and to the lines before them
+
+-- it has taken the bytes, or refused them
+abbrev pub Judges : TalkState → History → List Message → Option Fault → Type 0
+Judges talk h messages None = Stands talk h messages
+Judges talk h messages (Some fault) = Refuses talk h messages fault
+
+-- and the lines of their messages were appended
+abbrev pub Takes : Listing → TalkState → List ℕ → History → Option Fault → TalkState → List ℕ → Type 0
+Takes listing old lines bytes refused new lines_now = (h : History) (messages : List Message) → Stands old h messages →
+    (more : List Message) × Judges new (h ++ bytes) (messages ++ more) refused × (lines_now ≡ lines ++ text_of listing more)
+
+-- the bytes were given to the talk, which begins with its first content
+abbrev pub HasOr : Limits → Option TalkState → Option Fault → History → List Message → Type 0
+HasOr limits talk None h messages = Has limits talk h messages
+HasOr limits talk (Some fault) h messages = HasRefused limits talk h messages fault
+
+abbrev pub Gives : Limits → Listing → Option TalkState → List ℕ → History → Option Fault → Option TalkState → List ℕ → Type 0
+Gives limits listing old lines bytes refused new lines_now = (h : History) (messages : List Message) → Has limits old h messages →
+    (more : List Message) × HasOr limits new refused (h ++ bytes) (messages ++ more) × (lines_now ≡ lines ++ text_of listing more)
+
+-- ---- what a block does to a recording that is read
+
+-- it goes on, or what it comes to stands
+abbrev pub Reaches : Limits → List ℕ → List Message → Progress → Option Summary → Type 0
+Reaches limits x messages p None = Follows limits x messages p
+Reaches limits x messages p (Some summary) = Decides limits x messages p.talk summary
+
+-- and the lines of its messages were appended
+abbrev pub Advances : Listing → Progress → List ℕ → List ℕ → Option Summary → Progress → List ℕ → Type 0
+Advances listing p lines block found now lines_now =
+    (limits : Limits) (x : List ℕ) (messages : List Message) → Follows limits x messages p →
+    (more : List Message) × Reaches limits (x ++ block) (messages ++ more) now found × (lines_now ≡ lines ++ text_of listing more)
+
+-- some first bytes of a block were taken, or what the recording comes to was found in it
+abbrev pub Steps : Listing → Progress → List ℕ → List ℕ → Step → Progress → List ℕ → Type 0
+Steps listing p lines block (Took n) now lines_now = Advances listing p lines (take n block) None now lines_now
+Steps listing p lines block (Found summary) now lines_now = Advances listing p lines block (Some summary) now lines_now
+
+-- at least one byte, and no more than there are
+abbrev pub IsWithin : State → List ℕ → Step → State → Type 0
+IsWithin s block (Took n) now = (0 < n) × (n ≤ length block) × (place_in now ≤ place_in s + n)
+IsWithin s block (Found summary) now = Unit {0}

@@ -1,0 +1,98 @@
+-- What a recording comes to: the fault of its history where there is one, else its damage, else its history's ending.
+use Rattle.std.specs.Prelude.{◌≡◌, ◌≢◌, ℕ, ◌≤◌, ◌⊎◌, List, ◌++◌, length, take, Option, None, Some}
+use Rattle.std.specs.Io.KnownBytes.{Consumes, IsAtEnd, Appends}
+use Rattle.zk_talk.specs.declared.limits.Limits.{Limits}
+use Rattle.zk_talk.specs.Held.{Message}
+use Rattle.zk_talk.specs.declared.message.Fault.{Fault}
+use Rattle.zk_talk.specs.declared.message.Ending.TheVariants.{Whole, Cut, Refused}
+use Rattle.zk_talk.specs.History.{History}
+use Rattle.zk_talk.specs.Conversation.{Conversation}
+use Rattle.zk_talk.specs.Good.{Good, IsOrder}
+use Rattle.zk_talk.specs.Fault.{IsFaultOf}
+use Rattle.zk_talk.specs.Ending.{IsEnding}
+use Rattle.zk_talk.specs.Answer.{AreMessages}
+use Rattle.zk_recordings.specs.declared.parts.DamageAt.{DamageAt}
+use Rattle.zk_recordings.specs.declared.parts.Damage.TheVariants.{Short}
+use Rattle.zk_listings.specs.declared.summary.Summary.{Summary}
+use Rattle.zk_listings.specs.declared.summary.Summary.TheVariants.{Ended, Broken}
+use Rattle.zk_recordings.specs.Recording.{Recording, Spells, history_of, limits_of, damage_of}
+
+abbrev pub HasNoFault : Limits → History → Type 0
+HasNoFault limits h = (fault : Fault) → IsFaultOf limits h fault → ⊥
+
+-- a history, in a recording with this damage or with none, comes to this
+abbrev pub ComesTo : Limits → History → Option DamageAt → Summary → Type 0
+ComesTo limits h damage (Ended (Refused fault)) = IsFaultOf limits h fault
+ComesTo limits h damage (Broken d) = HasNoFault limits h × (damage ≡ Some d)
+ComesTo limits h damage (Ended (Cut side frame got)) = (damage ≡ None) × IsEnding limits h (Cut side frame got)
+ComesTo limits h damage (Ended (Whole unanswered)) = (damage ≡ None) × IsEnding limits h (Whole unanswered)
+
+-- a good history has these messages, by the places of their last bytes
+pub record IsGoodWith (limits : Limits) (h : History) (messages : List Message) : Type 0 where
+  pub conversation : Conversation
+  pub client_rest : List ℕ
+  pub server_rest : List ℕ
+  pub good : Good limits h conversation client_rest server_rest
+  pub order : IsOrder limits h conversation messages
+
+-- the messages of a history up to its fault, where there is one
+abbrev pub HasMessages : Limits → History → List Message → Summary → Type 0
+HasMessages limits h messages (Ended ending) = AreMessages limits h messages ending
+HasMessages limits h messages (Broken d) = IsGoodWith limits h messages
+
+-- under the limits that it has, or else those that are given
+pub record IsOutcome (limits : Limits) (r : Recording) (messages : List Message) (summary : Summary) : Type 0 where
+  pub comes_to : ComesTo (limits_of limits r) (history_of r) (damage_of r) summary
+  pub messages_are : HasMessages (limits_of limits r) (history_of r) messages summary
+
+-- a damage that stands whatever follows
+pub record IsBroken (x : List ℕ) (r : Recording) : Type 0 where
+  pub damage : DamageAt
+  pub is : damage_of r ≡ Some damage
+  pub decided : damage.reason ≢ Short
+  pub head_read : 4 ≤ length x
+
+-- whatever follows, the recording keeps its fault or its damage
+abbrev pub IsDecided : Limits → List ℕ → Recording → Type 0
+IsDecided limits x r = ((fault : Fault) × IsFaultOf (limits_of limits r) (history_of r) fault) ⊎ IsBroken x r
+
+-- these bytes are just one recording
+pub record IsJust (x : List ℕ) (r : Recording) : Type 0 where
+  pub spells : Spells x r
+  pub only : (s : Recording) → Spells x s → s ≡ r
+
+-- what was read of a source with these bytes left before and after
+pub record Reads (before after : Option (List ℕ)) (x : List ℕ) (r : Recording) : Type 0 where
+  pub consumed : Consumes before after x
+  pub just : IsJust x r
+
+-- what was read comes to this and to nothing else, and it is all up to the end, or it decides
+pub record IsFound (limits : Limits) (before after : Option (List ℕ)) (messages : List Message) (summary : Summary) : Type 0 where
+  pub bytes : List ℕ
+  pub recording : Recording
+  pub reads : Reads before after bytes recording
+  pub is : IsOutcome limits recording messages summary
+  pub only : (others : List Message) (other : Summary) → IsOutcome limits recording others other → (others ≡ messages) × (other ≡ summary)
+  pub enough : IsAtEnd after ⊎ IsDecided limits bytes recording
+
+-- what was read has these messages and no others, and no fault
+pub record IsRunning (limits : Limits) (before after : Option (List ℕ)) (messages : List Message) : Type 0 where
+  pub bytes : List ℕ
+  pub recording : Recording
+  pub reads : Reads before after bytes recording
+  pub good : IsGoodWith (limits_of limits recording) (history_of recording) messages
+  pub only : (others : List Message) (summary : Summary) → IsOutcome limits recording others summary → others ≡ messages
+
+-- what was read begins with these messages
+pub record HasBegun (limits : Limits) (before after : Option (List ℕ)) (messages : List Message) : Type 0 where
+  pub bytes : List ℕ
+  pub recording : Recording
+  pub reads : Reads before after bytes recording
+  pub front : History
+  pub rest : History
+  pub splits : history_of recording ≡ front ++ rest
+  pub good : IsGoodWith (limits_of limits recording) front messages
+
+-- a writer's contents have grown by a front of the text
+abbrev pub HasGrownIn : Option (List ℕ) → Option (List ℕ) → List ℕ → Type 0
+HasGrownIn old new text = (k : ℕ) × Appends old new (take k text)

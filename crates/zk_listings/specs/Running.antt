@@ -1,0 +1,65 @@
+-- What a run has read and written when it answers.
+use Rattle.std.specs.Prelude.{◌≡◌, ℕ, ◌+◌, ◌≤◌, ◌⊎◌, List, ◌++◌, Bool, true, Option}
+use Rattle.std.specs.Io.KnownBytes.{IsAtEnd, Appends}
+use Rattle.zk_talk.specs.declared.limits.Limits.{Limits}
+use Rattle.zk_talk.specs.Held.{Message}
+use Rattle.zk_talk.specs.History.{History}
+use Rattle.zk_talk.specs.Stands.{TalkState}
+use Rattle.zk_listings.specs.declared.listing.Listing.{Listing}
+use Rattle.zk_listings.specs.declared.summary.Summary.{Summary}
+use Rattle.zk_listings.specs.declared.summary.Status.{Status}
+use Rattle.zk_listings.specs.Lines.{text_of, last_line, status_of}
+use Rattle.zk_recordings.specs.Recording.{Recording, history_of, limits_of}
+use Rattle.zk_listings.specs.Following.{IsKept}
+use Rattle.zk_listings.specs.Outcome.{Reads, IsGoodWith, IsOutcome, IsDecided, IsFound, IsRunning, HasBegun, HasGrownIn}
+
+-- the reader failed, or was read as often as a run may
+abbrev pub IsSpent : Bool → ℕ → ℕ → Type 0
+IsSpent failed reads reads_now = (failed ≡ true) ⊎ (reads + 4294967296 ≤ reads_now)
+
+-- the lines of all messages in what was read were written, and it comes to this
+pub record HasFound (limits : Limits) (listing : Listing) (unread unread_now contents contents_now : Option (List ℕ)) (summary : Summary) : Type 0 where
+  pub messages : List Message
+  pub found : IsFound limits unread unread_now messages summary
+  pub written : Appends contents contents_now (text_of listing messages)
+
+-- and where it is refused, the talk has refused it
+pub record HasFoundBy (limits : Limits) (listing : Listing) (unread unread_now contents contents_now : Option (List ℕ)) (talk : Option TalkState) (summary : Summary) : Type 0 where
+  pub all : HasFound limits listing unread unread_now contents contents_now summary
+  pub kept : IsKept (limits_of limits all.found.recording) talk (history_of all.found.recording) all.messages summary
+
+-- the listing of what was read was written
+pub record HasListed (limits : Limits) (listing : Listing) (unread unread_now contents contents_now : Option (List ℕ)) (status : Status) : Type 0 where
+  pub messages : List Message
+  pub summary : Summary
+  pub found : IsFound limits unread unread_now messages summary
+  pub written : Appends contents contents_now (text_of listing messages ++ last_line summary)
+  pub status_is : status ≡ status_of summary
+
+-- the lines of all messages in what was read were written, and no more
+pub record HasReached (limits : Limits) (listing : Listing) (unread unread_now contents contents_now : Option (List ℕ)) : Type 0 where
+  pub messages : List Message
+  pub running : IsRunning limits unread unread_now messages
+  pub written : Appends contents contents_now (text_of listing messages)
+
+-- what was read begins with some messages, and a front of their lines was written
+pub record HasBegunListing (limits : Limits) (listing : Listing) (unread unread_now contents contents_now : Option (List ℕ)) : Type 0 where
+  pub messages : List Message
+  pub begun : HasBegun limits unread unread_now messages
+  pub written : HasGrownIn contents contents_now (text_of listing messages)
+
+-- a front was written of the lines of messages that stand first in a recording, or of its whole listing
+pub data HasWrittenIn (limits : Limits) (listing : Listing) (bytes : List ℕ) (recording : Recording) (unread_now contents contents_now : Option (List ℕ)) : Type 0 where
+  in_messages : (messages : List Message) (front rest : History) → history_of recording ≡ front ++ rest → IsGoodWith (limits_of limits recording) front messages →
+      HasGrownIn contents contents_now (text_of listing messages) → HasWrittenIn limits listing bytes recording unread_now contents contents_now
+  in_last_line : (messages : List Message) (summary : Summary) → IsOutcome limits recording messages summary → IsAtEnd unread_now ⊎ IsDecided limits bytes recording →
+      HasGrownIn contents contents_now (text_of listing messages ++ last_line summary) → HasWrittenIn limits listing bytes recording unread_now contents contents_now
+
+-- whatever the bytes that were read come to, a front of that listing was written
+pub record HasStopped (limits : Limits) (listing : Listing) (unread unread_now contents contents_now : Option (List ℕ)) : Type 0 where
+  pub bytes : List ℕ
+  pub recording : Recording
+  pub reads : Reads unread unread_now bytes recording
+  pub fronts : (messages : List Message) (summary : Summary) → IsOutcome limits recording messages summary →
+      HasGrownIn contents contents_now (text_of listing messages ++ last_line summary)
+  pub written : HasWrittenIn limits listing bytes recording unread_now contents contents_now

@@ -1,0 +1,164 @@
+//! The engines that read a recording: its listing, and the listing's last line alone.
+ghost use Rattle.std.specs.Prelude.{◌≡◌, ◌+◌, ◌^◌, ◌<◌, ◌≤◌, false, true, IfOk, OnErr, IsErrOf};
+ghost use Rattle.zk_listings.specs.declared.listing.Listing.TheVariants.{All, Last};
+ghost use Rattle.zk_listings.specs.Running.{IsSpent, HasFoundBy, HasBegunListing, HasListed, HasReached, HasStopped};
+
+use crate::listing::{Listing, RunFault};
+use crate::progress::Progress;
+use crate::streams::{Sink, Source, write_whole};
+use crate::summary::{Status, Summary};
+use std::alloc::Global;
+use zk_talk::Limits;
+
+/// How often a run reads at most.
+pub const MOST_READS: u64 = 4_294_967_296;
+
+/// How many bytes a run reads at once, at most.
+pub const BLOCK: usize = 65_536;
+
+/// Reads until what the recording comes to stands, or to the end, and writes the lines of its messages: those of each
+/// read before the next one. They stand in one buffer, which lives as long as the run.
+pub(crate) fn read_on<R: Source, W: Sink>(
+    alloc: Global,
+    limits: Limits,
+    listing: Listing,
+    reader: &mut R,
+    writer: &mut W,
+) -> Result<(Summary, Progress), RunFault>
+    requires reader { R.has_failed reader.old ≡ false }
+    requires reads { R.read_count reader.old < 2 ^ 62 }
+    requires writer { W.has_failed writer.old ≡ false }
+    ensures ok { IfOk result (λ f. HasFoundBy limits listing (R.remaining reader.old) (R.remaining reader.new) (W.contents writer.old) (W.contents writer.new) f.1.talk f.0) }
+    ensures read { IsErrOf result RunFault.Read → HasReached limits listing (R.remaining reader.old) (R.remaining reader.new) (W.contents writer.old) (W.contents writer.new) }
+    ensures spent { IsErrOf result RunFault.Read → IsSpent (R.has_failed reader.new) (R.read_count reader.old) (R.read_count reader.new) }
+    ensures begun { OnErr result (HasBegunListing limits listing (R.remaining reader.old) (R.remaining reader.new) (W.contents writer.old) (W.contents writer.new)) }
+    ensures write { IsErrOf result RunFault.Write → W.has_failed writer.new ≡ true }
+    ensures alive { IfOk result (λ _. R.has_failed reader.new ≡ false) }
+    ensures memory { IsErrOf result RunFault.Memory → R.has_failed reader.new ≡ false }
+    ensures open { IfOk result (λ _. W.has_failed writer.new ≡ false) }
+    ensures spared { IsErrOf result RunFault.Memory → W.has_failed writer.new ≡ false }
+    ensures bound { R.read_count reader.new ≤ R.read_count reader.old + 4294967296 }
+{
+    let mut progress = Progress::new(alloc, limits);
+    let mut lines = Vec::new(alloc);
+    let mut buf = [0; BLOCK];
+    for _turn in 0..MOST_READS {
+        let Ok(count) = reader.read(&mut buf) else {
+            return Err(RunFault::Read);
+        };
+        if count == 0 {
+            return Ok((progress.finish(), progress));
+        }
+        let found = progress.feed(&buf[..count], listing, &mut lines)?;
+        write_whole(writer, lines.as_slice())?;
+        lines.clear();
+        if let Some(summary) = found {
+            return Ok((summary, progress));
+        }
+    }
+    Err(RunFault::Read)
+}
+
+/// Reads a recording until a fault, a damage or its end, and writes its listing.
+fn run<R: Source, W: Sink>(
+    alloc: Global,
+    limits: Limits,
+    listing: Listing,
+    reader: &mut R,
+    writer: &mut W,
+) -> Result<Status, RunFault>
+    requires reader { R.has_failed reader.old ≡ false }
+    requires reads { R.read_count reader.old < 2 ^ 62 }
+    requires writer { W.has_failed writer.old ≡ false }
+    ensures ok { IfOk result (λ status. HasListed limits listing (R.remaining reader.old) (R.remaining reader.new) (W.contents writer.old) (W.contents writer.new) status) }
+    ensures read { IsErrOf result RunFault.Read → HasReached limits listing (R.remaining reader.old) (R.remaining reader.new) (W.contents writer.old) (W.contents writer.new) }
+    ensures spent { IsErrOf result RunFault.Read → IsSpent (R.has_failed reader.new) (R.read_count reader.old) (R.read_count reader.new) }
+    ensures write { IsErrOf result RunFault.Write → W.has_failed writer.new ≡ true }
+    ensures alive { IfOk result (λ _. R.has_failed reader.new ≡ false) }
+    ensures memory { IsErrOf result RunFault.Memory → R.has_failed reader.new ≡ false }
+    ensures open { IfOk result (λ _. W.has_failed writer.new ≡ false) }
+    ensures spared { IsErrOf result RunFault.Memory → W.has_failed writer.new ≡ false }
+    ensures bound { R.read_count reader.new ≤ R.read_count reader.old + 4294967296 }
+    ensures begun { OnErr result (HasStopped limits listing (R.remaining reader.old) (R.remaining reader.new) (W.contents writer.old) (W.contents writer.new)) }
+{
+    let (summary, _progress) = read_on(alloc, limits, listing, reader, writer)?;
+    let line = summary.last_line(alloc)?;
+    write_whole(writer, &line)?;
+    Ok(summary.status())
+}
+
+/// Reads a recording until a fault, a damage or its end, and writes the last line of its listing.
+///
+/// # Errors
+/// `Read` where the reader failed or was read 4,294,967,296 times and came to no end, `Write` where the writer failed
+/// or took nothing, `Memory` where a growth was refused.
+pub fn check_run<R: Source, W: Sink>(
+    alloc: Global,
+    limits: Limits,
+    reader: &mut R,
+    writer: &mut W,
+) -> Result<Status, RunFault>
+    requires reader { R.has_failed reader.old ≡ false }
+    requires reads { R.read_count reader.old < 2 ^ 62 }
+    requires writer { W.has_failed writer.old ≡ false }
+
+    // The last line is written of what was read: all there is, or what decides.
+    ensures ok { IfOk result (λ status. HasListed limits Last (R.remaining reader.old) (R.remaining reader.new) (W.contents writer.old) (W.contents writer.new) status) }
+
+    // A failed read, or one too many, leaves nothing written.
+    ensures read { IsErrOf result RunFault.Read → HasReached limits Last (R.remaining reader.old) (R.remaining reader.new) (W.contents writer.old) (W.contents writer.new) }
+    ensures spent { IsErrOf result RunFault.Read → IsSpent (R.has_failed reader.new) (R.read_count reader.old) (R.read_count reader.new) }
+
+    // A failed write, or one that takes nothing, is told as that.
+    ensures write { IsErrOf result RunFault.Write → W.has_failed writer.new ≡ true }
+    ensures open { IfOk result (λ _. W.has_failed writer.new ≡ false) }
+    ensures spared { IsErrOf result RunFault.Memory → W.has_failed writer.new ≡ false }
+
+    // A failed read is never passed over, and no more is read than that often.
+    ensures alive { IfOk result (λ _. R.has_failed reader.new ≡ false) }
+    ensures memory { IsErrOf result RunFault.Memory → R.has_failed reader.new ≡ false }
+    ensures bound { R.read_count reader.new ≤ R.read_count reader.old + 4294967296 }
+
+    // A run that stops early has written a front of the last line of every listing of what it read.
+    ensures begun { OnErr result (HasStopped limits Last (R.remaining reader.old) (R.remaining reader.new) (W.contents writer.old) (W.contents writer.new)) }
+{
+    run(alloc, limits, Listing::Last, reader, writer)
+}
+
+/// Reads a recording until a fault, a damage or its end, and writes its listing. Each message's line is written before
+/// the next read.
+///
+/// # Errors
+/// As those of `check_run`.
+pub fn show_run<R: Source, W: Sink>(
+    alloc: Global,
+    limits: Limits,
+    reader: &mut R,
+    writer: &mut W,
+) -> Result<Status, RunFault>
+    requires reader { R.has_failed reader.old ≡ false }
+    requires reads { R.read_count reader.old < 2 ^ 62 }
+    requires writer { W.has_failed writer.old ≡ false }
+
+    // The listing is written of what was read: all there is, or what decides.
+    ensures ok { IfOk result (λ status. HasListed limits All (R.remaining reader.old) (R.remaining reader.new) (W.contents writer.old) (W.contents writer.new) status) }
+
+    // After a failed read, or one too many, the line of each message that is whole in what was read stands written.
+    ensures read { IsErrOf result RunFault.Read → HasReached limits All (R.remaining reader.old) (R.remaining reader.new) (W.contents writer.old) (W.contents writer.new) }
+    ensures spent { IsErrOf result RunFault.Read → IsSpent (R.has_failed reader.new) (R.read_count reader.old) (R.read_count reader.new) }
+
+    // A failed write, or one that takes nothing, is told as that.
+    ensures write { IsErrOf result RunFault.Write → W.has_failed writer.new ≡ true }
+    ensures open { IfOk result (λ _. W.has_failed writer.new ≡ false) }
+    ensures spared { IsErrOf result RunFault.Memory → W.has_failed writer.new ≡ false }
+
+    // A failed read is never passed over, and no more is read than that often.
+    ensures alive { IfOk result (λ _. R.has_failed reader.new ≡ false) }
+    ensures memory { IsErrOf result RunFault.Memory → R.has_failed reader.new ≡ false }
+    ensures bound { R.read_count reader.new ≤ R.read_count reader.old + 4294967296 }
+
+    // A run that stops early has written a front of every listing of what it read.
+    ensures begun { OnErr result (HasStopped limits All (R.remaining reader.old) (R.remaining reader.new) (W.contents writer.old) (W.contents writer.new)) }
+{
+    run(alloc, limits, Listing::All, reader, writer)
+}

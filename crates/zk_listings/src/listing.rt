@@ -1,0 +1,70 @@
+//! What a run writes: the lines of a listing.
+ghost use Rattle.std.specs.Prelude.{◌≡◌, ◌++◌, OnOk};
+ghost use Rattle.std.specs.Option.{option_to_list};
+ghost use Rattle.zk_listings.specs.Lines.{text_of, message_line};
+ghost use Rattle.zk_listings.specs.declared.listing.Listing.TheVariants.{All};
+
+use crate::streams::Failed;
+use std::alloc::AllocError;
+use thiserror::Error;
+use zk_lines::put_line;
+use zk_talk::Message;
+
+/// Why a run came to no answer.
+#[derive(Clone, Copy, Debug, PartialEq, Eq, Error)]
+pub enum RunFault {
+    /// The reader failed, or was asked 4,294,967,296 times and came to no end.
+    #[error("zkdump: read failed")]
+    Read,
+    /// The writer failed, or took no byte.
+    #[error("zkdump: write failed")]
+    Write,
+    /// A growth was refused.
+    #[error("zkdump: out of memory")]
+    Memory,
+}
+
+impl From<AllocError> for RunFault {
+    ghost use Rattle.zk_listings.specs.declared.listing.RunFault.TheVariants.{Memory};
+
+    ghost from_gives = { λ _ fault. fault ≡ Memory };
+
+    fn from(_error: AllocError) -> RunFault {
+        RunFault::Memory
+    }
+}
+
+impl From<Failed> for RunFault {
+    ghost use Rattle.zk_listings.specs.declared.listing.RunFault.TheVariants.{Write};
+
+    ghost from_gives = { λ _ fault. fault ≡ Write };
+
+    fn from(_failed: Failed) -> RunFault {
+        RunFault::Write
+    }
+}
+
+/// Which lines are written: all of them, or the last one alone.
+#[derive(Clone, Copy, Debug, PartialEq, Eq)]
+pub enum Listing {
+    All,
+    Last,
+}
+
+/// Appends the line of a message, with its line feed.
+fn put_message(message: &Message, lines: &mut Vec<u8>) -> Result<(), AllocError>
+    ensures { OnOk result (lines.new.items ≡ lines.old.items ++ message_line message.now) }
+{
+    put_line(lines, message)?;
+    lines.extend_from_slice(b"\n")
+}
+
+/// Appends the line of a message, with its line feed, where there is one.
+pub fn tell(message: Option<Message>, lines: &mut Vec<u8>) -> Result<(), AllocError>
+    ensures { OnOk result (lines.new.items ≡ lines.old.items ++ text_of All (option_to_list message)) }
+{
+    match message {
+        Some(message) => put_message(&message, lines),
+        None => Ok(()),
+    }
+}

@@ -1,0 +1,251 @@
+//! A recording that is read block by block, and the conversation in it.
+ghost use Rattle.std.specs.Prelude.{◌≡◌, ◌≢◌, ◌+◌, ◌^◌, ◌<◌, ◌≤◌, ℕ, List, [], Some, None, IfOk, IfSome, OnErr, MatchOption, length, drop};
+ghost use Rattle.zk_jute.specs.declared.fault.Reason.TheVariants.{NoMemory};
+ghost use Rattle.zk_talk.specs.Held.{Message};
+ghost use Rattle.zk_talk.specs.Ending.{IsEnding};
+ghost use Rattle.zk_talk.specs.History.{History, on};
+ghost use Rattle.zk_talk.specs.Stands.{Stands};
+ghost use Rattle.zk_talk.specs.declared.message.Fault.{Fault as fault_of};
+ghost use Rattle.zk_records.specs.declared.op.Op.TheVariants as ops;
+ghost use Rattle.zk_answers.specs.declared.layout.Layout.TheVariants as layouts;
+ghost use Rattle.zk_listings.specs.declared.listing.Listing.TheVariants.{All, Last};
+ghost use Rattle.zk_listings.specs.Earliest.{TellsBody};
+ghost use Rattle.zk_recordings.specs.Reading.{content_of, place_in};
+ghost use Rattle.zk_listings.specs.Following.{Follows, Finishes, HasRefused, Takes, Gives, Has, Advances, Steps, IsWithin};
+
+use crate::listing::{Listing, tell};
+use crate::summary::Summary;
+use std::alloc::{AllocError, Global};
+use zk_answers::Layout;
+use zk_jute::Reason;
+use zk_recordings::RecordingReader;
+use zk_talk::{Ending, Fault, Limits, Side, Talk};
+
+/// What was done with the first bytes of a block.
+#[derive(Clone, Copy)]
+pub enum Step {
+    /// So many were taken.
+    Took(usize),
+    /// What the recording comes to stands in the block, whatever follows.
+    Found(Summary),
+}
+
+/// The fault, unless it is want of memory.
+fn known(fault: Fault) -> Result<Fault, AllocError>
+    ensures known { IfOk result (λ same. (same ≡ fault) × (fault.reason ≢ NoMemory)) }
+    ensures memory { OnErr result (fault.reason ≡ NoMemory) }
+{
+    match fault.reason {
+        Reason::NoMemory => Err(AllocError),
+        _ => Ok(fault),
+    }
+}
+
+/// The bytes from a place on.
+pub fn rest(bytes: &[u8], at: usize) -> &[u8]
+    requires { at ≤ length bytes.now }
+    ensures { result.now ≡ drop at bytes.now }
+{
+    &bytes[at..]
+}
+
+/// Gives bytes of one side to the conversation, which judges them where they lie; no line is
+/// appended.
+fn judge(talk: &mut Talk, side: Side, bytes: &[u8]) -> Option<Fault>
+    ensures limits { talk.new.limits ≡ talk.old.limits }
+    ensures taken { (lines : List ℕ) → Takes Last talk.old lines (on side bytes.now) result talk.new lines }
+{
+    let mut at = 0;
+    while at < bytes.len() {
+        match talk.step(side, rest(bytes, at)) {
+            Ok(stepped) => at += stepped.used,
+            Err(fault) => return Some(fault),
+        }
+    }
+    None
+}
+
+/// Gives bytes of one side to the conversation, and appends the lines of its messages.
+fn list(
+    talk: &mut Talk,
+    side: Side,
+    bytes: &[u8],
+    lines: &mut Vec<u8>,
+) -> Result<Option<Fault>, AllocError>
+    ensures limits { talk.new.limits ≡ talk.old.limits }
+    ensures taken { IfOk result (λ refused. Takes All talk.old lines.old.items (on side bytes.now) refused talk.new lines.new.items) }
+{
+    let mut at = 0;
+    while at < bytes.len() {
+        let taken = match talk.take(side, rest(bytes, at)) {
+            Ok(taken) => taken,
+            Err(fault) => return Ok(Some(known(fault)?)),
+        };
+        at += taken.used;
+        tell(taken.message, lines)?;
+    }
+    Ok(None)
+}
+
+/// Gives bytes of one side to the conversation, and appends what is listed of its messages.
+fn feed(
+    talk: &mut Talk,
+    side: Side,
+    bytes: &[u8],
+    listing: Listing,
+    lines: &mut Vec<u8>,
+) -> Result<Option<Fault>, AllocError>
+    ensures limits { talk.new.limits ≡ talk.old.limits }
+    ensures taken { IfOk result (λ refused. Takes listing talk.old lines.old.items (on side bytes.now) refused talk.new lines.new.items) }
+{
+    match listing {
+        Listing::All => list(talk, side, bytes, lines),
+        Listing::Last => Ok(judge(talk, side, bytes)),
+    }
+}
+
+/// The talk, which begins where there is none.
+fn begun(alloc: Global, talk: Option<Talk>, limits: Limits) -> Result<Talk, AllocError>
+    ensures { IfOk result (λ t. MatchOption talk ((t.limits ≡ limits) × Stands t [] []) (λ old. t ≡ old)) }
+{
+    match talk {
+        Some(talk) => Ok(talk),
+        None => Talk::new(alloc, limits),
+    }
+}
+
+/// Gives the first bytes of a block to the conversation, where they are content of a side.
+fn give(
+    alloc: Global,
+    limits: Limits,
+    talk: &mut Option<Talk>,
+    side: Option<Side>,
+    bytes: &[u8],
+    listing: Listing,
+    lines: &mut Vec<u8>,
+) -> Result<Option<Fault>, AllocError>
+    ensures gives { IfOk result (λ refused. Gives limits listing talk.old lines.old.items (content_of side bytes.now) refused talk.new lines.new.items) }
+    ensures same { side ≡ None → talk.new ≡ talk.old }
+{
+    let Some(side) = side else {
+        return Ok(None);
+    };
+    let mut now = begun(alloc, talk.take(), limits)?;
+    let refused = feed(&mut now, side, bytes, listing, lines)?;
+    *talk = Some(now);
+    Ok(refused)
+}
+
+/// A recording as far as it was read, and the conversation in it.
+#[derive(Drop)]
+pub struct Progress {
+    alloc: Global,
+    /// Those of a recording that has none.
+    limits: Limits,
+    reader: RecordingReader,
+    /// From the first byte of content on.
+    talk: Option<Talk>,
+}
+
+impl Progress {
+    /// Nothing was read. Recordings that have no limits are read under these.
+    pub fn new(alloc: Global, limits: Limits) -> Progress
+        ensures start { Follows limits [] [] result }
+        ensures place { place_in result.reader ≡ 0 }
+    {
+        Progress {
+            alloc,
+            limits,
+            reader: RecordingReader::new(),
+            talk: None,
+        }
+    }
+
+    /// Takes the first bytes of a block, and says how many, or what was found in it.
+    fn advance(
+        &mut self,
+        block: &[u8],
+        listing: Listing,
+        lines: &mut Vec<u8>,
+    ) -> Result<Step, AllocError>
+        requires some { 0 < length block.now }
+        requires room { place_in self.old.reader + length block.now < 2 ^ 64 }
+        ensures within { IfOk result (λ step. IsWithin self.old.reader block.now step self.new.reader) }
+        ensures steps { IfOk result (λ step. Steps listing self.old lines.old.items block.now step self.new lines.new.items) }
+    {
+        let run = self.reader.next(block);
+        let limits = self.reader.limits(self.limits);
+        let bytes = &block[..run.used];
+        let refused = give(
+            self.alloc,
+            limits,
+            &mut self.talk,
+            run.side,
+            bytes,
+            listing,
+            lines,
+        )?;
+        match refused {
+            Some(fault) => Ok(Step::Found(Summary::Ended(Ending::Refused(fault)))),
+            None => match self.reader.damage() {
+                Some(damage) => Ok(Step::Found(Summary::Broken(damage))),
+                None => Ok(Step::Took(run.used)),
+            },
+        }
+    }
+
+    /// Takes a block, and appends the lines of its messages. Where what the recording comes to stands in it, whatever
+    /// follows, the answer is that.
+    pub fn feed(
+        &mut self,
+        block: &[u8],
+        listing: Listing,
+        lines: &mut Vec<u8>,
+    ) -> Result<Option<Summary>, AllocError>
+        requires room { place_in self.old.reader + length block.now < 2 ^ 64 }
+        ensures place { IfOk result (λ found. found ≡ None → place_in self.new.reader ≤ place_in self.old.reader + length block.now) }
+        ensures advances { IfOk result (λ found. Advances listing self.old lines.old.items block.now found self.new lines.new.items) }
+    {
+        let mut at = 0;
+        while at < block.len() {
+            let step = self.advance(rest(block, at), listing, lines)?;
+            match step {
+                Step::Took(used) => at += used,
+                Step::Found(summary) => return Ok(Some(summary)),
+            }
+        }
+        Ok(None)
+    }
+
+    /// The layout and the bytes of the body in which the fault lies that was found.
+    pub fn refused_body(&self) -> Option<(Layout, &[u8])>
+        ensures tells { (limits : Limits) (h : History) (messages : List Message) (fault : fault_of) → HasRefused limits self.now.talk h messages fault → TellsBody limits h fault result }
+        ensures small { IfSome result (λ b. length b.1.now ≤ 16777216) }
+        ensures known { IfSome result (λ b. b.0 ≢ layouts.Answered ops.Multi) }
+    {
+        match &self.talk {
+            Some(talk) => talk.refused_body(),
+            None => None,
+        }
+    }
+
+    /// What a recording comes to that ends here.
+    pub fn finish(&self) -> Summary
+        ensures { (limits : Limits) (x : List ℕ) (messages : List Message) → Follows limits x messages self.now → Finishes limits x messages self.now.talk result }
+    {
+        match self.reader.finish() {
+            Some(damage) => Summary::Broken(damage),
+            None => Summary::Ended(ending(&self.talk)),
+        }
+    }
+}
+
+/// How the history of a talk ends; where there is none, it has no bytes.
+fn ending(talk: &Option<Talk>) -> Ending
+    ensures { (limits : Limits) (h : History) (messages : List Message) → Has limits talk.now h messages → IsEnding limits h result }
+{
+    match talk {
+        Some(talk) => talk.finish(),
+        None => Ending::Whole { unanswered: 0 },
+    }
+}

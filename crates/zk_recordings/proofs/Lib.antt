@@ -1,0 +1,6 @@
+pub mod Lists
+pub mod Walks
+pub mod Stages
+pub mod Accepts
+pub mod Any
+pub mod Once

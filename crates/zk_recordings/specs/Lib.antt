@@ -1,0 +1,4 @@
+pub mod Parts
+pub mod HeadLimits
+pub mod Recording
+pub mod Reading

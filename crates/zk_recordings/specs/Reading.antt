@@ -1,0 +1,179 @@
+-- What a reader of recordings has read, by its stage.
+use Rattle.std.specs.Prelude.{◌≡◌, ◌≢◌, ℕ, ◌+◌, ◌<◌, ◌≤◌, List, [], ◌∷◌, ◌++◌, length, take, map, Option, None, Some}
+use Rattle.zk_talk.specs.declared.limits.Limits.{Limits}
+use Rattle.zk_talk.specs.declared.message.Side.{Side}
+use Rattle.zk_talk.specs.History.{History, on}
+use Rattle.zk_recordings.specs.declared.parts.Damage.TheVariants.{Short}
+use Rattle.zk_recordings.specs.declared.parts.DamageAt.{DamageAt}
+use Rattle.zk_recordings.specs.declared.parts.Format.{Format}
+use Rattle.zk_recordings.specs.declared.parts.Format.TheVariants.{Zkr1, Zkr2}
+use Rattle.zk_recordings.specs.declared.parts.Part.{Part}
+use Rattle.zk_recordings.specs.declared.parts.Part.TheVariants.{Letters, ClientLimit, ServerLimit, Waiting, Profile, SideByte, Time, Size}
+use Rattle.zk_recordings.specs.declared.recording.Stage.{Stage}
+use Rattle.zk_recordings.specs.declared.recording.Stage.TheVariants.{Fixed, Content, Damaged}
+use Rattle.zk_recordings.specs.declared.recording.State.{State}
+use Rattle.zk_recordings.specs.Parts.{number, width}
+use Rattle.zk_recordings.specs.Recording.{Head, format_of, head_limits, Piece, piece_values, piece_bytes, piece_history, side_byte, no_time, Place, AtLetters, InHead, InPieces, Break, Cut, Bad, Recording, Breaks, Ends, Spells, place_of, begun_of, begun_history, damage_of, behind, nothing}
+
+-- the limits that a head has, else the options
+abbrev pub chosen : Option Limits → Limits → Limits
+chosen None options = options
+chosen (Some limits) options = limits
+
+-- the reader has this head
+pub record HasHead (s : State) (head : Head) : Type 0 where
+  pub format_is : s.format ≡ format_of head
+  pub limits_are : (options : Limits) → chosen s.limits options ≡ head_limits options head
+
+abbrev pub HasHeadAt : State → Place → Type 0
+HasHeadAt s AtLetters = Unit {0}
+HasHeadAt s (InHead format) = s.format ≡ format
+HasHeadAt s (InPieces head pieces) = HasHead s head
+
+-- what stands in a piece before its size
+abbrev pub before_size : Format → Side → List ℕ → List (List ℕ)
+before_size Zkr1 side time = (side_byte side ∷ []) ∷ []
+before_size Zkr2 side time = (side_byte side ∷ []) ∷ time ∷ []
+
+abbrev pub HasTime : Format → List ℕ → Type 0
+HasTime Zkr1 time = time ≡ no_time
+HasTime Zkr2 time = Unit {0}
+
+pub record InPiece (place : Place) : Type 0 where
+  pub head : Head
+  pub pieces : List Piece
+  pub is : place ≡ InPieces head pieces
+
+pub record BeforeTime (s : State) (place : Place) (before : List (List ℕ)) : Type 0 where
+  pub within : InPiece place
+  pub second : format_of within.head ≡ Zkr2
+  pub values : before ≡ (side_byte s.side ∷ []) ∷ []
+
+pub record BeforeSize (s : State) (place : Place) (before : List (List ℕ)) : Type 0 where
+  pub within : InPiece place
+  pub time : List ℕ
+  pub timed : HasTime (format_of within.head) time
+  pub values : before ≡ before_size (format_of within.head) s.side time
+
+-- what stands before a part, as far as the reader keeps it
+abbrev pub Knows : State → Place → List (List ℕ) → Part → Type 0
+Knows s place before Letters = (place ≡ AtLetters) × (before ≡ [])
+Knows s place before ClientLimit = (place ≡ InHead Zkr2) × (map number before ≡ [])
+Knows s place before ServerLimit = (place ≡ InHead Zkr2) × (map number before ≡ s.client ∷ [])
+Knows s place before Waiting = (place ≡ InHead Zkr2) × (map number before ≡ s.client ∷ s.server ∷ [])
+Knows s place before Profile = (place ≡ InHead Zkr2) × (map number before ≡ s.client ∷ s.server ∷ s.waiting ∷ [])
+Knows s place before SideByte = InPiece place × (before ≡ [])
+Knows s place before Time = BeforeTime s place before
+Knows s place before Size = BeforeSize s place before
+
+pub record AtPart (s : State) (part : Part) (begun : List ℕ) (r : Recording) : Type 0 where
+  pub place : Place
+  pub before : List (List ℕ)
+  pub is : r ≡ Breaks place (record { before = before; part = part; end = Cut begun })
+  pub at : s.at ≡ behind place before
+  pub knows : Knows s place before part
+
+pub record AtContent (s : State) (got : ℕ) (r : Recording) : Type 0 where
+  pub head : Head
+  pub pieces : List Piece
+  pub cut : Piece
+  pub is : r ≡ Ends head pieces cut
+  pub at : s.at ≡ behind (InPieces head pieces) (piece_values (format_of head) cut)
+  pub side : cut.side ≡ s.side
+  pub size : number cut.size ≡ s.size
+  pub count : length cut.content ≡ got
+
+-- whatever follows them, the bytes have this damage
+pub record IsDecidedBy (d : DamageAt) (x : List ℕ) (r : Recording) : Type 0 where
+  pub place : Place
+  pub before : List (List ℕ)
+  pub part : Part
+  pub value : List ℕ
+  pub more : List ℕ
+  pub is : r ≡ Breaks place (record { before = before; part = part; end = Bad value more })
+  pub damage : damage_of r ≡ Some d
+  pub decided : d.reason ≢ Short
+  pub head_read : 4 ≤ length x
+
+pub record AtFixed (s : State) (part : Part) (bytes : List ℕ) (got : ℕ) (r : Recording) : Type 0 where
+  pub eight : length bytes ≡ 8
+  pub part_at : AtPart s part (take got bytes) r
+
+abbrev pub AtStage : State → Stage → List ℕ → Recording → Type 0
+AtStage s (Fixed part bytes got) x r = AtFixed s part bytes got r
+AtStage s (Content got) x r = AtContent s got r
+AtStage s (Damaged d) x r = IsDecidedBy d x r
+
+-- what the reader has read is this recording
+pub record IsAt (s : State) (x : List ℕ) (r : Recording) : Type 0 where
+  pub spells : Spells x r
+  pub has : HasHeadAt s (place_of r)
+  pub stands : AtStage s s.stage x r
+
+pub record InRange (size got : ℕ) : Type 0 where
+  pub left : got < size
+  pub most : size ≤ 16777220
+
+abbrev pub IsSoundAt : State → Stage → Type 0
+IsSoundAt s (Fixed part bytes got) = (got < width part) × (length bytes ≡ 8)
+IsSoundAt s (Content got) = InRange s.size got
+IsSoundAt s (Damaged d) = Unit {0}
+
+abbrev pub IsSound : State → Type 0
+IsSound s = IsSoundAt s s.stage
+
+abbrev pub place_by : State → Stage → ℕ
+place_by s (Fixed part bytes got) = s.at + got
+place_by s (Content got) = s.at + got
+place_by s (Damaged d) = 0
+
+-- how many bytes were read, until a damage
+abbrev pub place_in : State → ℕ
+place_in s = place_by s s.stage
+
+-- behind so many bytes a part begins
+abbrev pub then_at : State → Part → ℕ → State
+then_at s part wide = record s { at = s.at + wide; stage = Fixed part no_time 0 }
+
+abbrev pub content_of : Option Side → List ℕ → History
+content_of None bytes = []
+content_of (Some side) bytes = on side bytes
+
+-- ---- from one recording to a longer one
+
+abbrev pub IsHeaded : Place → Type 0
+IsHeaded (InPieces head pieces) = Unit {0}
+IsHeaded _ = ⊥
+
+-- the format of what stands behind a head
+abbrev pub format_at : Place → Option Format
+format_at (InPieces head pieces) = Some (format_of head)
+format_at _ = None
+
+-- a head is whole, and behind it no piece is begun
+abbrev pub IsBetween : Recording → Type 0
+IsBetween r = (head : Head) × (pieces : List Piece) × (r ≡ Breaks (InPieces head pieces) nothing)
+
+-- content stands behind a head
+abbrev pub MayHold : Option Side → Place → Type 0
+MayHold None place = Unit {0}
+MayHold (Some side) place = IsHeaded place
+
+-- no piece stands before the place
+abbrev pub IsBare : Place → Type 0
+IsBare (InPieces head pieces) = pieces ≡ []
+IsBare _ = Unit {0}
+
+-- bytes behind a recording, content of a side or of none, make it this one
+pub data GoesOn (old : Recording) (used : List ℕ) (side : Option Side) (new : Recording) : Type 0 where
+  in_head : (IsHeaded (place_of old) → ⊥) → IsBare (place_of new) → begun_of new ≡ [] → begun_history new ≡ [] → side ≡ None → GoesOn old used side new
+  within : place_of new ≡ place_of old → begun_of new ≡ begun_of old ++ used → begun_history new ≡ begun_history old ++ content_of side used →
+      MayHold side (place_of old) → GoesOn old used side new
+  ends : (head : Head) (pieces : List Piece) (piece : Piece) → place_of old ≡ InPieces head pieces → new ≡ Breaks (InPieces head (pieces ++ piece ∷ [])) nothing →
+      piece_bytes (format_of head) piece ≡ begun_of old ++ used → piece_history piece ≡ begun_history old ++ content_of side used → GoesOn old used side new
+
+-- the reader, having read this recording, reads on
+pub record ReadsOn (s : State) (x : List ℕ) (old : Recording) (used : List ℕ) (side : Option Side) : Type 0 where
+  pub new : Recording
+  pub is : IsAt s (x ++ used) new
+  pub goes_on : GoesOn old used side new

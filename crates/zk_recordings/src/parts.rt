@@ -1,0 +1,163 @@
+//! The parts of recordings whose width is fixed, row by row. A further format adds rows here.
+ghost use Rattle.std.specs.Prelude.{◌≡◌, length, take};
+ghost use Rattle.zk_recordings.specs.Parts as parts;
+
+/// Why a recording ends before its bytes do, or in the middle of a piece.
+#[derive(Clone, Copy, Debug, PartialEq, Eq)]
+pub enum Damage {
+    /// It doesn't begin with the letters of a format.
+    BadHead,
+    /// A number of the head is out of range.
+    BadLimits,
+    /// A byte that names no side.
+    BadSide,
+    /// A time below 0.
+    BadTime,
+    /// A number of bytes that no piece may have.
+    BadSize,
+    /// It ends within a number, a time or a content.
+    Short,
+}
+
+/// The first damage of a recording, and its place in it.
+#[derive(Clone, Copy, Debug, PartialEq, Eq)]
+pub struct DamageAt {
+    pub offset: u64,
+    pub reason: Damage,
+}
+
+/// The formats of recordings.
+#[derive(Clone, Copy, Debug, PartialEq, Eq)]
+pub enum Format {
+    /// Pieces alone.
+    Zkr1,
+    /// The limits of the conversation, and pieces with their times.
+    Zkr2,
+}
+
+/// The parts of a recording whose width is fixed.
+#[derive(Clone, Copy, Debug, PartialEq, Eq)]
+pub enum Part {
+    /// The letters that a recording begins with.
+    Letters,
+    /// An int: the longest payload of the client, in bytes.
+    ClientLimit,
+    /// An int: the longest payload of the server, in bytes.
+    ServerLimit,
+    /// An int: what the requests may weigh that wait for their replies.
+    Waiting,
+    /// An int: 34 for ZooKeeper 3.4, 35 for 3.5.
+    Profile,
+    /// A byte: `C` or `S`.
+    SideByte,
+    /// A long: milliseconds, 0 or more, counted from any moment and in any order.
+    Time,
+    /// An int: how many bytes of content follow.
+    Size,
+}
+
+/// What a recording of the first format begins with.
+pub const ZKR1: [u8; 4] = *b"ZKR1";
+
+/// A part's bytes come first; what follows them is 0 or of no account.
+pub type Bytes = [u8; 8];
+
+impl Format {
+    /// What a recording of the format begins with.
+    pub fn letters(self) -> [u8; 4]
+        ensures { result ≡ parts.letters self }
+    {
+        match self {
+            Format::Zkr1 => ZKR1,
+            Format::Zkr2 => *b"ZKR2",
+        }
+    }
+}
+
+/// The first four bytes.
+pub fn word(bytes: Bytes) -> [u8; 4]
+    ensures { result ≡ take 4 bytes }
+{
+    let [a, b, c, d, ..] = bytes;
+    [a, b, c, d]
+}
+
+/// The number that the first four bytes spell.
+pub fn number(bytes: Bytes) -> u32
+    ensures { result ≡ parts.number (take 4 bytes) }
+{
+    u32::from_be_bytes(word(bytes))
+}
+
+fn is_within(least: u32, most: u32, n: u32) -> bool
+    ensures { result ≡ parts.is_within least most n }
+{
+    least <= n && n <= most
+}
+
+impl Part {
+    /// How many bytes it has.
+    pub fn width(self) -> usize
+        ensures { result ≡ parts.width self }
+    {
+        match self {
+            Part::SideByte => 1,
+            Part::Letters
+            | Part::ClientLimit
+            | Part::ServerLimit
+            | Part::Waiting
+            | Part::Profile
+            | Part::Size => 4,
+            Part::Time => 8,
+        }
+    }
+
+    /// Whether a recording may go on behind these bytes of it.
+    pub fn is_good(self, bytes: Bytes) -> bool
+        requires { length bytes ≡ 8 }
+        ensures { result ≡ parts.is_good self (take (parts.width self) bytes) }
+    {
+        match self {
+            Part::Letters => {
+                word(bytes) == Format::Zkr1.letters() || word(bytes) == Format::Zkr2.letters()
+            }
+            Part::ClientLimit | Part::ServerLimit => is_within(64, 16_777_216, number(bytes)),
+            Part::Waiting => is_within(1, 1_048_576, number(bytes)),
+            Part::Profile => is_within(34, 35, number(bytes)),
+            Part::SideByte => bytes[0] == b'C' || bytes[0] == b'S',
+            Part::Time => u64::from_be_bytes(bytes) < 1 << 63,
+            Part::Size => is_within(1, 16_777_220, number(bytes)),
+        }
+    }
+
+    /// The damage where it isn't good.
+    pub fn damage_bad(self) -> Damage
+        ensures { result ≡ parts.damage_bad self }
+    {
+        match self {
+            Part::Letters => Damage::BadHead,
+            Part::ClientLimit | Part::ServerLimit | Part::Waiting | Part::Profile => {
+                Damage::BadLimits
+            }
+            Part::SideByte => Damage::BadSide,
+            Part::Time => Damage::BadTime,
+            Part::Size => Damage::BadSize,
+        }
+    }
+
+    /// The damage where the recording ends before the part does.
+    pub fn damage_cut(self) -> Option<Damage>
+        ensures { result ≡ parts.damage_cut self }
+    {
+        match self {
+            Part::Letters => Some(Damage::BadHead),
+            Part::SideByte => None,
+            Part::ClientLimit
+            | Part::ServerLimit
+            | Part::Waiting
+            | Part::Profile
+            | Part::Time
+            | Part::Size => Some(Damage::Short),
+        }
+    }
+}

@@ -1,0 +1,343 @@
+//! The reader of recordings of both formats: a head, and pieces of either side.
+ghost use Rattle.std.specs.Prelude.{◌≡◌, ◌+◌, ◌^◌, ◌<◌, ◌≤◌, ◌++◌, ◌∷◌, ℕ, List, [], true, None, Some, IfSome, MatchOption, length, take};
+ghost use Rattle.zk_recordings.specs.declared.parts.Format.TheVariants.{Zkr1, Zkr2};
+ghost use Rattle.zk_recordings.specs.declared.parts.Part.TheVariants.{Letters, ClientLimit, SideByte, Time, Size};
+ghost use Rattle.zk_recordings.specs.declared.recording.Stage.TheVariants.{Content};
+ghost use Rattle.zk_recordings.specs.HeadLimits.{limits_or, profile_by};
+ghost use Rattle.zk_recordings.specs.Parts as parts;
+ghost use Rattle.zk_recordings.specs.Recording.{Recording, Breaks, AtLetters, Cut, Spells, damage_of, limits_of, place_of, side_byte};
+ghost use Rattle.zk_recordings.specs.Reading.{AtPart, AtFixed, IsAt, IsBetween, IsDecidedBy, IsHeaded, IsSound, ReadsOn, HasHeadAt, chosen, format_at, place_in, then_at};
+
+use crate::parts::{Bytes, Damage, DamageAt, Format, Part, number, word};
+use std::marker::Model;
+use zk_records::Profile;
+use zk_talk::{Limits, Side};
+
+/// What the first bytes of a block are: content of a side, or neither side's.
+#[derive(Clone, Copy, Debug, PartialEq, Eq)]
+pub struct Run {
+    pub used: usize,
+    pub side: Option<Side>,
+}
+
+/// What the reader is in.
+#[derive(Clone, Copy)]
+enum Stage {
+    Fixed {
+        part: Part,
+        bytes: Bytes,
+        got: usize,
+    },
+    Content {
+        got: u32,
+    },
+    Damaged(DamageAt),
+}
+
+/// Where in a recording the reader stands, and what it has read of the head and of the piece.
+#[derive(Clone, Copy)]
+struct State {
+    /// The place of what the reader is in.
+    at: u64,
+    stage: Stage,
+    format: Format,
+    client: u32,
+    server: u32,
+    waiting: u32,
+    /// Those of the head, where it is whole and has them.
+    limits: Option<Limits>,
+    side: Side,
+    size: u32,
+}
+
+/// Reads a recording that comes in blocks of any size.
+#[derive(Drop)]
+pub struct RecordingReader {
+    state: State,
+}
+
+impl Model for RecordingReader {
+    ghost use Rattle.zk_recordings.specs.Reading.{IsSound};
+    ghost use Rattle.zk_recordings.specs.declared.recording.State.{State};
+
+    ghost Value = { State };
+
+    ghost view = { λ r. r.state };
+
+    ghost invariant = { λ r. IsSound r.state };
+}
+
+/// The side that a good byte names.
+fn side_of(byte: u8) -> Side
+    ensures { parts.is_good SideByte (byte ∷ []) ≡ true → side_byte result ≡ byte }
+{
+    if byte == b'C' {
+        Side::Client
+    } else {
+        Side::Server
+    }
+}
+
+/// The profile of a head's number.
+fn profile_of(number: u32) -> Profile
+    ensures { result ≡ profile_by number }
+{
+    if number == 35 {
+        Profile::V35
+    } else {
+        Profile::V34
+    }
+}
+
+/// The limits that a head's numbers make.
+fn head_limits(client: u32, server: u32, waiting: u32, profile: Profile) -> Option<Limits>
+    ensures { (options : Limits) → chosen result options ≡ limits_or options client server waiting profile }
+{
+    let limits = Limits::new(client, server, waiting)?;
+    Some(limits.with_profile(profile))
+}
+
+impl State {
+    /// At a part, behind one that is so wide.
+    fn then(self, part: Part, wide: u64) -> State
+        requires { self.at + wide < 2 ^ 64 }
+        ensures { result ≡ then_at self part wide }
+    {
+        State {
+            at: self.at + wide,
+            stage: Stage::Fixed {
+                part,
+                bytes: [0; 8],
+                got: 0,
+            },
+            ..self
+        }
+    }
+
+    /// Behind the letters of a format.
+    fn headed(self, letters: [u8; 4]) -> State
+        requires { self.at + 4 < 2 ^ 64 }
+        ensures first { letters ≡ parts.letters Zkr1 → result ≡ then_at (record self { format = Zkr1; limits = None }) SideByte 4 }
+        ensures second { letters ≡ parts.letters Zkr2 → result ≡ then_at (record self { format = Zkr2; limits = None }) ClientLimit 4 }
+    {
+        if letters == Format::Zkr1.letters() {
+            State {
+                format: Format::Zkr1,
+                limits: None,
+                ..self
+            }
+            .then(Part::SideByte, 4)
+        } else {
+            State {
+                format: Format::Zkr2,
+                limits: None,
+                ..self
+            }
+            .then(Part::ClientLimit, 4)
+        }
+    }
+
+    /// Behind a side's byte.
+    fn sided(self, side: Side) -> State
+        requires { self.at + 1 < 2 ^ 64 }
+        ensures first { self.format ≡ Zkr1 → result ≡ then_at (record self { side = side }) Size 1 }
+        ensures second { self.format ≡ Zkr2 → result ≡ then_at (record self { side = side }) Time 1 }
+    {
+        let state = State { side, ..self };
+        match self.format {
+            Format::Zkr1 => state.then(Part::Size, 1),
+            Format::Zkr2 => state.then(Part::Time, 1),
+        }
+    }
+
+    /// Behind a good value of a part.
+    fn accept(self, part: Part, bytes: Bytes) -> State
+        requires room { self.at + parts.width part < 2 ^ 64 }
+        requires eight { length bytes ≡ 8 }
+        requires good { parts.is_good part (take (parts.width part) bytes) ≡ true }
+        ensures sound { IsSound result }
+        ensures place { place_in result ≤ self.at + parts.width part }
+        ensures reads { (x begun : List ℕ) (byte : ℕ) (r : Recording) → begun ++ byte ∷ [] ≡ take (parts.width part) bytes →
+            Spells x r → HasHeadAt self (place_of r) → AtPart self part begun r → ReadsOn result x r (byte ∷ []) None }
+    {
+        match part {
+            Part::Letters => self.headed(word(bytes)),
+            Part::ClientLimit => {
+                let client = number(bytes);
+                State { client, ..self }.then(Part::ServerLimit, 4)
+            }
+            Part::ServerLimit => {
+                let server = number(bytes);
+                State { server, ..self }.then(Part::Waiting, 4)
+            }
+            Part::Waiting => {
+                let waiting = number(bytes);
+                State { waiting, ..self }.then(Part::Profile, 4)
+            }
+            Part::Profile => {
+                let profile = profile_of(number(bytes));
+                let limits = head_limits(self.client, self.server, self.waiting, profile);
+                State { limits, ..self }.then(Part::SideByte, 4)
+            }
+            Part::SideByte => self.sided(side_of(bytes[0])),
+            Part::Time => self.then(Part::Size, 8),
+            Part::Size => State {
+                at: self.at + 4,
+                size: number(bytes),
+                stage: Stage::Content { got: 0 },
+                ..self
+            },
+        }
+    }
+
+    /// One more byte of a part.
+    fn take_byte(self, part: Part, mut bytes: Bytes, got: usize, byte: u8) -> State
+        requires got { got < parts.width part }
+        requires eight { length bytes ≡ 8 }
+        requires room { self.at + got + 1 < 2 ^ 64 }
+        ensures sound { IsSound result }
+        ensures place { place_in result ≤ self.at + got + 1 }
+        ensures reads { (x : List ℕ) (r : Recording) → Spells x r → HasHeadAt self (place_of r) → AtFixed self part bytes got r → ReadsOn result x r (byte ∷ []) None }
+    {
+        bytes[got] = byte;
+        if got + 1 < part.width() {
+            let got = got + 1;
+            let stage = Stage::Fixed { part, bytes, got };
+            return State { stage, ..self };
+        }
+        if part.is_good(bytes) {
+            return self.accept(part, bytes);
+        }
+        let damage = DamageAt {
+            offset: self.at,
+            reason: part.damage_bad(),
+        };
+        State {
+            stage: Stage::Damaged(damage),
+            ..self
+        }
+    }
+
+    /// So many more bytes of a content, which isn't whole with them.
+    fn within(self, got: u32) -> State
+        ensures { result ≡ record self { stage = Content got } }
+    {
+        State {
+            stage: Stage::Content { got },
+            ..self
+        }
+    }
+}
+
+impl RecordingReader {
+    /// A reader of which nothing was read.
+    pub fn new() -> RecordingReader
+        ensures start { IsAt result [] (Breaks AtLetters (record { before = []; part = Letters; end = Cut [] })) }
+        ensures place { place_in result ≡ 0 }
+    {
+        RecordingReader {
+            state: State {
+                at: 0,
+                stage: Stage::Fixed {
+                    part: Part::Letters,
+                    bytes: [0; 8],
+                    got: 0,
+                },
+                format: Format::Zkr1,
+                client: 0,
+                server: 0,
+                waiting: 0,
+                limits: None,
+                side: Side::Client,
+                size: 0,
+            },
+        }
+    }
+
+    /// Takes the first bytes of a block that is not empty, and says what they are.
+    pub fn next(&mut self, block: &[u8]) -> Run
+        requires some { 0 < length block.now }
+        requires room { place_in self.old + length block.now < 2 ^ 64 }
+        ensures progress { 0 < result.used }
+        ensures used { result.used ≤ length block.now }
+        ensures place { place_in self.new ≤ place_in self.old + result.used }
+        ensures reads { (x : List ℕ) (r : Recording) → IsAt self.old x r → ReadsOn self.new x r (take result.used block.now) result.side }
+    {
+        let state = self.state;
+        match state.stage {
+            Stage::Fixed { part, bytes, got } => {
+                self.state = state.take_byte(part, bytes, got, block[0]);
+                Run {
+                    used: 1,
+                    side: None,
+                }
+            }
+            Stage::Content { got } => {
+                let side = Some(state.side);
+                let left = state.size - got;
+                if block.len() < left as usize {
+                    self.state = state.within(got + block.len() as u32);
+                    let used = block.len();
+                    Run { used, side }
+                } else {
+                    self.state = state.then(Part::SideByte, u64::from(state.size));
+                    let used = left as usize;
+                    Run { used, side }
+                }
+            }
+            Stage::Damaged(_) => Run {
+                used: block.len(),
+                side: None,
+            },
+        }
+    }
+
+    /// The limits of the conversation: those of the head where it has them, else the options.
+    pub fn limits(&self, options: Limits) -> Limits
+        ensures { (x : List ℕ) (r : Recording) → IsAt self.now x r → IsHeaded (place_of r) → result ≡ limits_of options r }
+    {
+        self.state.limits.unwrap_or(options)
+    }
+
+    /// The format, where the reader stands behind a head or a whole piece and nothing is begun.
+    pub fn between(&self) -> Option<Format>
+        ensures { MatchOption result ((x : List ℕ) (r : Recording) → IsAt self.now x r → IsBetween r → ⊥)
+            (λ format. (x : List ℕ) (r : Recording) → IsAt self.now x r → IsBetween r × (format_at (place_of r) ≡ Some format)) }
+    {
+        match self.state.stage {
+            Stage::Fixed {
+                part: Part::SideByte,
+                ..
+            } => Some(self.state.format),
+            _ => None,
+        }
+    }
+
+    /// The damage that stands whatever follows.
+    pub fn damage(&self) -> Option<DamageAt>
+        ensures { IfSome result (λ d. (x : List ℕ) (r : Recording) → IsAt self.now x r → IsDecidedBy d x r) }
+    {
+        match self.state.stage {
+            Stage::Damaged(damage) => Some(damage),
+            _ => None,
+        }
+    }
+
+    /// The damage of a recording that ends here.
+    pub fn finish(&self) -> Option<DamageAt>
+        ensures { (x : List ℕ) (r : Recording) → IsAt self.now x r → damage_of r ≡ result }
+    {
+        let offset = self.state.at;
+        match self.state.stage {
+            Stage::Fixed { part, .. } => match part.damage_cut() {
+                Some(reason) => Some(DamageAt { offset, reason }),
+                None => None,
+            },
+            Stage::Content { .. } => Some(DamageAt {
+                offset,
+                reason: Damage::Short,
+            }),
+            Stage::Damaged(damage) => Some(damage),
+        }
+    }
+}

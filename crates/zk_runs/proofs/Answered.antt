@@ -1,0 +1,136 @@
+-- What a run that builds has read and written when it answers.
+use Rattle.std.proofs.Common.{◌≡◌, ℕ, List, [], ◌++◌, Option, Result, Ok, Err, IfOk, IfErr, IsErrOf, OnErr, refl, ap, ◌∙◌, sym, subst, append-nil, Bool}
+use Rattle.std.specs.Io.KnownBytes.{Consumes, IsAtEnd}
+use Rattle.zk_talk.specs.declared.limits.Limits.{Limits}
+use Rattle.zk_talk.specs.Said.{SpeakerState}
+use Rattle.zk_runs.specs.declared.built.Built.{Built}
+use Rattle.zk_runs.specs.declared.built.Built.TheVariants.{Whole, LineRefused, SayRefused}
+use Rattle.zk_runs.specs.declared.builder.Halt.{Halt}
+use Rattle.zk_runs.specs.declared.builder.Halt.TheVariants.{Refused, Fails}
+use Rattle.zk_listings.specs.declared.listing.RunFault.TheVariants.{Read, Write, Memory}
+use Rattle.zk_runs.specs.Building.{head}
+use Rattle.zk_listings.specs.Outcome.{HasGrownIn}
+use Rattle.zk_runs.specs.Building.{AreLines, StandFirst, fed_in, all_of, Covers, HasBuilt, HasBuiltSoFar, HasBegunBuilding}
+use Rattle.zk_runs.specs.Accepting.{HasTaken, IsRefused, HaltsIn, BeginsIn, BuildsAll, BeginsAll, StandIn, some, all, answer_of, IfSpared}
+use Rattle.zk_listings.proofs.Bytes.{Consumes-none, Consumes-then}
+use Rattle.zk_runs.proofs.Accepted.{built-good, nothing-accepted}
+use Rattle.zk_runs.proofs.Taken.{halts-here}
+
+covers-first : (built : Built) (x : List ℕ) (unread : Option (List ℕ)) (lines : List (List ℕ)) → IsRefused built → StandFirst x unread lines → Covers built x unread lines
+covers-first Whole x unread lines is stand = absurd is
+covers-first (LineRefused at' fault) x unread lines is stand = stand
+covers-first (SayRefused at' fault) x unread lines is stand = stand
+
+covers-all : (built : Built) (x : List ℕ) (unread : Option (List ℕ)) (lines : List (List ℕ)) → IsAtEnd unread → AreLines x lines → Covers built x unread lines
+covers-all Whole x unread lines end are = (end, are)
+covers-all (LineRefused at' fault) x unread lines end are = all_of end are
+covers-all (SayRefused at' fault) x unread lines end are = all_of end are
+
+stand-first : (x : List ℕ) (unread : Option (List ℕ)) (lines : List (List ℕ)) → IsAtEnd unread → StandIn x lines → StandFirst x unread lines
+stand-first x unread lines end (some rest each read) = fed_in rest each read
+stand-first x unread lines end (all are) = all_of end are
+
+pub if-ok-map : {T E : Type 0} (r : Result T E) (P Q : T → Type 0) → ((x : T) → P x → Q x) → IfOk r P → IfOk r Q
+if-ok-map (Ok x) P Q f p = f x p
+if-ok-map (Err e) P Q f p = tt
+
+pub on-err-map : {T E : Type 0} (r : Result T E) (P Q : Type 0) → (P → Q) → OnErr r P → OnErr r Q
+on-err-map (Ok x) P Q f p = tt
+on-err-map (Err e) P Q f p = f p
+
+module _ (limits : Limits) (unread mid : Option (List ℕ)) (x : List ℕ) (before now : Option (List ℕ)) (p : Consumes unread mid x) where
+  -- what was read so far
+  pub built-so_far : (begun : List ℕ) (count : ℕ) (ended : Bool) (speaker : SpeakerState) → HasTaken limits x before now begun count ended speaker → HasBuiltSoFar limits unread mid before now
+  built-so_far begun count ended speaker t = record {
+    bytes = x;
+    lines = t.lines;
+    rest = begun;
+    messages = t.took.messages;
+    consumed = p;
+    splits = t.read;
+    each = t.each;
+    begun = t.begun_is;
+    is = built-good limits t.lines t.took.messages ended t.took.knows.good;
+    written = t.took.written;
+  }
+
+  from-begins : (after : Option (List ℕ)) (y : List ℕ) → Consumes unread after y → BeginsIn limits y before now → HasBegunBuilding limits unread after before now
+  from-begins after y q b = record {
+    bytes = y;
+    lines = b.lines;
+    messages = b.begins.messages;
+    consumed = q;
+    stand = fed_in b.rest b.each b.read;
+    accepted = b.begins.accepted;
+    written = b.begins.written;
+  }
+
+  pub begun-so_far : (begun : List ℕ) (count : ℕ) (ended : Bool) (speaker : SpeakerState) → HasTaken limits x before now begun count ended speaker → HasBegunBuilding limits unread mid before now
+  begun-so_far begun count ended speaker t =
+      let b = halts-here limits x before now begun count ended speaker t [] Memory in
+      record {
+        bytes = x;
+        lines = b.lines;
+        messages = b.begins.messages;
+        consumed = p;
+        stand = fed_in b.rest b.each (sym (append-nil x) ∙ b.read);
+        accepted = b.begins.accepted;
+        written = b.begins.written;
+      }
+
+  -- at the end
+  module _ (after : Option (List ℕ)) (none : List ℕ) (q : Consumes mid after none) (nothing : none ≡ []) (end : IsAtEnd after) where
+    read-all : Consumes unread after x
+    read-all = subst (Consumes unread after) (ap (λ b. x ++ b) nothing ∙ append-nil x) (Consumes-then unread mid after x none p q)
+
+    pub built-at_end : (built : Built) → BuildsAll limits x before now built → HasBuilt limits unread after before now built
+    built-at_end built b = record {
+      bytes = x;
+      lines = b.lines;
+      messages = b.messages;
+      consumed = read-all;
+      covers = covers-all built x after b.lines end b.all;
+      is = b.is;
+      written = b.written;
+    }
+
+    pub begun-at_end : BeginsAll limits x before now → HasBegunBuilding limits unread after before now
+    begun-at_end b = record {
+      bytes = x;
+      lines = b.lines;
+      messages = b.begins.messages;
+      consumed = read-all;
+      stand = stand-first x after b.lines end b.stand;
+      accepted = b.begins.accepted;
+      written = b.begins.written;
+    }
+
+  -- within a block
+  module _ (after : Option (List ℕ)) (block : List ℕ) (q : Consumes mid after block) where
+    pub built-answer : (halt : Halt) → HaltsIn limits (x ++ block) before halt now → IfOk (answer_of halt) (λ built. HasBuilt limits unread after before now built)
+    built-answer (Fails fault) b = tt
+    built-answer (Refused built) r = record {
+      bytes = x ++ block;
+      lines = r.lines;
+      messages = r.refuses.messages;
+      consumed = Consumes-then unread mid after x block p q;
+      covers = covers-first built (x ++ block) after r.lines r.refuses.refused (fed_in r.rest r.each r.read);
+      is = r.refuses.is;
+      written = r.refuses.written;
+    }
+
+    pub begun-answer : (halt : Halt) → HaltsIn limits (x ++ block) before halt now → OnErr (answer_of halt) (HasBegunBuilding limits unread after before now)
+    begun-answer (Refused built) r = tt
+    begun-answer (Fails fault) b = from-begins after (x ++ block) (Consumes-then unread mid after x block p q) b
+
+-- the head was not written whole
+pub begun-head : (limits : Limits) (unread before now : Option (List ℕ)) → HasGrownIn before now head → HasBegunBuilding limits unread unread before now
+begun-head limits unread before now grown = record {
+  bytes = [];
+  lines = [];
+  messages = [];
+  consumed = Consumes-none unread;
+  stand = fed_in [] tt refl;
+  accepted = nothing-accepted limits;
+  written = subst (HasGrownIn before now) (sym (append-nil head)) grown;
+}

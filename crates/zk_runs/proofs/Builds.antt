@@ -1,0 +1,118 @@
+-- What a run writes is fixed by the bytes that it may read.
+use Rattle.std.proofs.Common.{◌≡◌, ℕ, List, [], ◌∷◌, ◌++◌, length, take, map, Option, Some, None, min, refl, sym, ap, ◌∙◌, append_assoc, append-nil, arith, subst}
+use Rattle.std.proofs.lemmas.List.{take-append-le, take_min}
+use Rattle.std.proofs.lemmas.List.Concat.{flat_map-append}
+use Rattle.std.proofs.lemmas.List.{map-append}
+use Rattle.std.specs.List.{flat_map}
+use Rattle.std.specs.Io.KnownBytes.{Consumes, IsAtEnd, Appends}
+use Rattle.zk_talk.specs.declared.limits.Limits.{Limits}
+use Rattle.zk_talk.specs.Held.{Message}
+use Rattle.zk_lines.specs.Lines.{line}
+use Rattle.zk_runs.specs.declared.built.Built.{Built}
+use Rattle.zk_runs.specs.declared.built.Built.TheVariants.{Whole, LineRefused, SayRefused}
+use Rattle.zk_runs.specs.Building.{head, built_bytes}
+use Rattle.zk_recordings.specs.Recording.{First, InPieces, front}
+use Rattle.zk_listings.specs.Outcome.{HasGrownIn}
+use Rattle.zk_runs.specs.Building.{AreLines, StandFirst, recording_of, piece_of, AreAccepted, IsNextLine, IsBuilt, without_ending, with_ending, behind_ending, other_ending, no_message, not_said, Covers, HasBuilt, HasBegunBuilding}
+use Rattle.zk_runs.specs.Rebuilding.{AreAlike}
+use Rattle.zk_runs.proofs.Splits.{lines_once, first_lines}
+use Rattle.zk_runs.proofs.Verdicts.{messages_once, alike_once, accepted_first}
+
+-- ---- more lines
+
+module _ (limits : Limits) (lines more : List (List ℕ)) (messages : List Message) where
+  next_more : (next : List ℕ) → IsNextLine limits lines messages next → IsNextLine limits (lines ++ more) messages next
+  next_more next n = record {
+    before = n.before;
+    after = n.after ++ more;
+    stands = ap (λ z. z ++ more) n.stands ∙ append_assoc n.before (next ∷ n.after) more;
+    accepted = n.accepted;
+  }
+
+  -- a refusal stands, whatever follows
+  built_more : (built : Built) → (built ≡ Whole → ⊥) → IsBuilt limits lines messages built → IsBuilt limits (lines ++ more) messages built
+  built_more built refused (without_ending a e) = absurd (refused e)
+  built_more built refused (with_ending a e) = absurd (refused e)
+  built_more built refused (behind_ending next b e) = behind_ending next (record {
+    before = b.before;
+    after = b.after ++ more;
+    stands = ap (λ z. z ++ more) b.stands ∙ append_assoc b.before (next ∷ b.after) more;
+    ended = b.ended;
+  }) e
+  built_more built refused (other_ending next n d differs e) = other_ending next (next_more next n) d differs e
+  built_more built refused (no_message next n d none fault r e) = no_message next (next_more next n) d none fault r e
+  built_more built refused (not_said m held n fault is e) = not_said m held (next_more (line m) n) fault is e
+
+-- what was judged of the lines of some bytes stands for the lines of all
+module _ (limits : Limits) (bytes rest : List ℕ) (unread : Option (List ℕ)) (ends : IsAtEnd unread → rest ≡ []) (all : List (List ℕ)) (are : AreLines (bytes ++ rest) all) (lines : List (List ℕ)) (messages : List Message) where
+  by_front : (built : Built) → (built ≡ Whole → ⊥) → StandFirst bytes unread lines → IsBuilt limits lines messages built → IsBuilt limits all messages built
+  by_front built refused stand is =
+      let f = first_lines bytes rest unread lines all ends stand are in
+      subst (λ z. IsBuilt limits z messages built) (sym f.1) (built_more limits lines f.0 messages built refused is)
+
+  covered : (built : Built) → Covers built bytes unread lines → IsBuilt limits lines messages built → IsBuilt limits all messages built
+  covered Whole c is =
+      let same = lines_once bytes all lines (subst (λ z. AreLines z all) (ap (λ z. bytes ++ z) (ends c.0) ∙ append-nil bytes) are) c.1 in
+      subst (λ z. IsBuilt limits z messages Whole) (sym same) is
+  covered (LineRefused at fault) c is = by_front (LineRefused at fault) (λ e. cc) c is
+  covered (SayRefused at fault) c is = by_front (SayRefused at fault) (λ e. cc) c is
+
+-- ---- a source whose bytes are known
+
+-- what was read of it, and what is left
+pub record Leaves (x bytes : List ℕ) (unread : Option (List ℕ)) : Type 0 where
+  pub rest : List ℕ
+  pub is : x ≡ bytes ++ rest
+  pub ends : IsAtEnd unread → rest ≡ []
+
+pub leaves : (x bytes : List ℕ) (unread : Option (List ℕ)) → Consumes (Some x) unread bytes → Leaves x bytes unread
+leaves x bytes None c = absurd c
+leaves x bytes (Some rest) c = record { rest = rest; is = c; ends = λ e. e }
+
+pub run_once : (limits : Limits) (x : List ℕ) (lines : List (List ℕ)) (messages : List Message) (built : Built) → AreLines x lines → IsBuilt limits lines messages built →
+    (unread contents contents_now : Option (List ℕ)) (other : Built) → HasBuilt limits (Some x) unread contents contents_now other →
+    AreAlike built other × Appends contents contents_now (recording_of messages)
+run_once limits x lines messages built are is unread contents contents_now other h =
+    let l = leaves x h.bytes unread h.consumed in
+    let known = covered limits h.bytes l.rest unread l.ends lines (subst (λ z. AreLines z lines) l.is are) h.lines h.messages other h.covers h.is in (
+      alike_once limits lines messages h.messages built other is known,
+      subst (λ z. Appends contents contents_now (recording_of z)) (sym (messages_once limits lines messages h.messages built other is known)) h.written,
+    )
+
+-- ---- a run that stopped
+
+-- a front of a list, as one of a longer list
+take_less : (k : ℕ) (xs ys : List ℕ) → take (min k (length xs)) (xs ++ ys) ≡ take k xs
+take_less k xs ys = take-append-le (min k (length xs)) xs ys (omega arith) ∙ take_min k xs
+
+grown_less : (before after : Option (List ℕ)) (xs ys : List ℕ) → HasGrownIn before after xs → HasGrownIn before after (xs ++ ys)
+grown_less before after xs ys g = (min g.0 (length xs), subst (Appends before after) (sym (take_less g.0 xs ys)) g.1)
+
+recording-append : (M N : List Message) → recording_of (M ++ N) ≡ recording_of M ++ flat_map built_bytes (map piece_of N)
+recording-append M N =
+    ap (λ ps. front (InPieces First ps)) (map-append piece_of M N)
+    ∙ ap (λ z. head ++ z) (flat_map-append built_bytes (map piece_of M) (map piece_of N))
+    ∙ sym (append_assoc head (flat_map built_bytes (map piece_of M)) (flat_map built_bytes (map piece_of N)))
+
+module _ (limits : Limits) (all : List (List ℕ)) (others : List Message) (built : Built) (is : IsBuilt limits all others built) (before after : Option (List ℕ)) where
+  grown_first : (lines more : List (List ℕ)) (messages : List Message) → AreAccepted limits lines messages → all ≡ lines ++ more →
+      HasGrownIn before after (recording_of messages) → HasGrownIn before after (recording_of others)
+  grown_first lines more messages a e g =
+      let f = accepted_first limits all others built is lines more messages a e in
+      subst (HasGrownIn before after) (sym (ap recording_of f.1 ∙ recording-append messages f.0))
+      (grown_less before after (recording_of messages) (flat_map built_bytes (map piece_of f.0)) g)
+
+-- whose bytes are known
+pub begun_of_known : (limits : Limits) (x : List ℕ) (all : List (List ℕ)) (others : List Message) (built : Built) → AreLines x all → IsBuilt limits all others built →
+    (unread contents contents_now : Option (List ℕ)) → HasBegunBuilding limits (Some x) unread contents contents_now → HasGrownIn contents contents_now (recording_of others)
+begun_of_known limits x all others built are is unread contents contents_now b =
+    let l = leaves x b.bytes unread b.consumed in
+    let f = first_lines b.bytes l.rest unread b.lines all l.ends b.stand (subst (λ z. AreLines z all) l.is are) in
+    grown_first limits all others built is contents contents_now b.lines f.0 b.messages b.accepted f.1 b.written
+
+-- by the bytes that were read
+pub begun_of_read : (limits : Limits) (unread unread_now contents contents_now : Option (List ℕ)) (b : HasBegunBuilding limits unread unread_now contents contents_now)
+    (all : List (List ℕ)) (others : List Message) (built : Built) → AreLines b.bytes all → IsBuilt limits all others built → HasGrownIn contents contents_now (recording_of others)
+begun_of_read limits unread unread_now contents contents_now b all others built are is =
+    let f = first_lines b.bytes [] unread_now b.lines all (λ e. refl) b.stand (subst (λ z. AreLines z all) (sym (append-nil b.bytes)) are) in
+    grown_first limits all others built is contents contents_now b.lines f.0 b.messages b.accepted f.1 b.written

@@ -1,0 +1,11 @@
+pub mod Shown
+pub mod Splits
+pub mod Verdicts
+pub mod Builds
+pub mod Rebuilds
+pub mod Accepted
+pub mod Taken
+pub mod Answered
+pub mod Spared
+pub mod Moves
+pub mod Migrates

@@ -1,0 +1,191 @@
+-- What a recording of the first format is migrated to is listed as it is.
+use Rattle.std.proofs.Common.{◌≡◌, ℕ, ◌<◌, ◌≤◌, ◌^◌, List, [], ◌∷◌, ◌++◌, length, Option, None, Some, true, refl, sym, ap, ◌∙◌, subst, append-nil, arith, zero, suc}
+use Rattle.std.specs.List.{All}
+use Rattle.std.specs.Option.{option_map}
+use Rattle.std.specs.Int.{w32, to_be_bytes}
+use Rattle.std.proofs.lemmas.Bool.Decides.{nat_tests}
+use Rattle.zk_talk.specs.declared.limits.Limits.{Limits}
+use Rattle.zk_talk.specs.Held.{Message}
+use Rattle.zk_talk.specs.History.{History}
+use Rattle.zk_records.specs.declared.profile.Profile.{Profile as ProfileType}
+use Rattle.zk_records.specs.declared.profile.Profile.TheVariants.{V34, V35}
+use Rattle.zk_listings.specs.declared.listing.Listing.{Listing}
+use Rattle.zk_recordings.specs.declared.parts.Damage.{Damage}
+use Rattle.zk_recordings.specs.declared.parts.Damage.TheVariants.{Short}
+use Rattle.zk_recordings.specs.declared.parts.Format.{Format}
+use Rattle.zk_recordings.specs.declared.parts.Format.TheVariants.{Zkr1, Zkr2}
+use Rattle.zk_recordings.specs.declared.parts.Part.{Part}
+use Rattle.zk_recordings.specs.declared.parts.Part.TheVariants.{Letters, ClientLimit, ServerLimit, Waiting, Profile, SideByte, Time, Size}
+use Rattle.zk_listings.specs.declared.summary.Summary.{Summary}
+use Rattle.zk_listings.specs.declared.summary.Summary.TheVariants.{Ended, Broken}
+use Rattle.zk_recordings.specs.Parts.{number, long_number, is_within, is_good, width, damage_cut, head_parts, piece_parts}
+use Rattle.zk_recordings.specs.HeadLimits.{profile_by}
+use Rattle.zk_recordings.specs.Recording.{IsValue, spelled, End, Cut, Bad, end_bytes, Break, IsBreakIn, Head, First, Second, IsHead, Piece, IsPiece, no_time, Place, AtLetters, InHead, InPieces, AreIn, Recording, Breaks, Ends, IsRecording, bytes_of, Spells, place_of, front, behind, damage_at, end_damage, history_of, limits_of, damage_of, nothing}
+use Rattle.zk_listings.specs.Lines.{text_of, last_line}
+use Rattle.zk_listings.specs.Outcome.{ComesTo, HasMessages, IsOutcome}
+use Rattle.zk_runs.specs.Migrating.{head_of, profile_number, migrated, IsListing, IsOf, IsWhole}
+use Rattle.zk_recordings.proofs.Accepts.{limits-some}
+use Rattle.zk_runs.proofs.Moves.{break_with}
+use Rattle.zk_recordings.proofs.Once.{spells-once}
+use Rattle.zk_runs.proofs.Rebuilds.{number_of}
+
+-- ---- the head of some limits
+
+within-range : (least most n : ℕ) → least ≤ n → n ≤ most → is_within least most n ≡ true
+within-range least most n a b = grind (arith, nat_tests)
+
+of-number : (n least most : ℕ) → least ≤ n → n ≤ most → n < 2 ^ 32 → is_within least most (number (to_be_bytes w32 n)) ≡ true
+of-number n least most a b small = ap (is_within least most) (number_of n small) ∙ within-range least most n a b
+
+number-profile : (p : ProfileType) → number (to_be_bytes w32 (profile_number p)) ≡ profile_number p
+number-profile V34 = number_of 34 (omega arith)
+number-profile V35 = number_of 35 (omega arith)
+
+profile-back : (p : ProfileType) → p ≡ profile_by (profile_number p)
+profile-back V34 = refl
+profile-back V35 = refl
+
+profile-good : (p : ProfileType) → is_within 34 35 (profile_number p) ≡ true
+profile-good V34 = refl
+profile-good V35 = refl
+
+head-is : (limits : Limits) → IsHead (head_of limits)
+head-is limits =
+    let r = limits.in_range in (
+      record { wide = refl; good = of-number limits.client 64 16777216 r.0 r.1 (omega (arith, r.1)) },
+      (
+        record { wide = refl; good = of-number limits.server 64 16777216 r.2 r.3 (omega (arith, r.3)) },
+        (
+          record { wide = refl; good = of-number limits.waiting 1 1048576 r.4 r.5 (omega (arith, r.5)) },
+          (record { wide = refl; good = ap (is_within 34 35) (number-profile limits.profile) ∙ profile-good limits.profile }, tt),
+        ),
+      ),
+    )
+
+-- ---- the pieces
+
+long-zero : is_good Time no_time ≡ true
+unfolding long_number
+long-zero = refl
+
+piece-is : (p : Piece) → IsPiece Zkr1 p → IsPiece Zkr2 p
+piece-is p is = record {
+  begun = record {
+    values = (is.begun.values.0, (record { wide = ap length is.begun.timed; good = ap (is_good Time) is.begun.timed ∙ long-zero }, (is.begun.values.1.0, tt)));
+    timed = tt;
+  };
+  sized = is.sized;
+}
+
+pieces-are : (ps : List Piece) → All (IsPiece Zkr1) ps → All (IsPiece Zkr2) ps
+pieces-are ps each = λ k d lt. piece-is _ (each k d lt)
+
+-- ---- an undamaged recording
+
+none-begun : (begun : List ℕ) → length begun < 1 → begun ≡ []
+none-begun [] less = refl
+none-begun (b ∷ begun) less = absurd (omega (arith, less))
+
+short-part : (place : ℕ) (part other : Part) (d : Damage) → part ≡ other → damage_cut other ≡ Some d → option_map (damage_at place) (damage_cut part) ≡ None → ⊥
+short-part place part other d e f none =
+    let some : option_map (damage_at place) (damage_cut part) ≡ Some (damage_at place d) = ap (λ q. option_map (damage_at place) (damage_cut q)) e ∙ ap (option_map (damage_at place)) f in
+    absurd cc
+
+whole-break : (f : Format) (place : ℕ) (before : List (List ℕ)) (part : Part) (end : End) → IsBreakIn (piece_parts f) before part end → end_damage place part end ≡ None →
+    break_with before part end ≡ nothing
+whole-break f place before part (Bad value more) is none = absurd cc
+whole-break Zkr1 place [] part (Cut begun) is none = ap (λ q. break_with [] q (Cut begun)) is.0 ∙ ap (λ l. break_with [] SideByte (Cut l)) (none-begun begun is.1)
+whole-break Zkr1 place (v ∷ []) part (Cut begun) is none = absurd (short-part place part Size Short is.1.0 refl none)
+whole-break Zkr1 place (v ∷ u ∷ vs) part (Cut begun) is none = absurd is.1.1
+whole-break Zkr2 place [] part (Cut begun) is none = ap (λ q. break_with [] q (Cut begun)) is.0 ∙ ap (λ l. break_with [] SideByte (Cut l)) (none-begun begun is.1)
+whole-break Zkr2 place (v ∷ []) part (Cut begun) is none = absurd (short-part place part Time Short is.1.0 refl none)
+whole-break Zkr2 place (v ∷ u ∷ []) part (Cut begun) is none = absurd (short-part place part Size Short is.1.1.0 refl none)
+whole-break Zkr2 place (v ∷ u ∷ w ∷ vs) part (Cut begun) is none = absurd is.1.1.1
+
+-- it ends behind its pieces
+record EndsWhole (r : Recording) (head : Head) : Type 0 where
+  pieces : List Piece
+  are : AreIn head pieces
+  is : r ≡ Breaks (InPieces head pieces) nothing
+
+whole-first : (r : Recording) → IsRecording r → damage_of r ≡ None → IsOf Zkr1 (place_of r) → EndsWhole r First
+whole-first (Breaks AtLetters b) is none first = absurd first
+whole-first (Breaks (InHead f) b) is none first = absurd first
+whole-first (Breaks (InPieces First ps) b) is none first =
+    record { pieces = ps; are = is.stands; is = ap (λ q. Breaks (InPieces First ps) q) (whole-break Zkr1 (behind (InPieces First ps) b.before) b.before b.part b.end is.breaks none) }
+whole-first (Breaks (InPieces (Second c s w p) ps) b) is none first = absurd cc
+whole-first (Ends head ps last) is none first = absurd cc
+
+-- ---- what it is migrated to
+
+module _ (options other : Limits) (x : List ℕ) (r : Recording) (whole : IsWhole Zkr1 x r) where
+  ended : EndsWhole r First
+  ended = whole-first r whole.spells.sound whole.undamaged whole.format_is
+
+  abbrev old : Recording
+  old = Breaks (InPieces First ended.pieces) nothing
+
+  abbrev new : Recording
+  new = Breaks (InPieces (head_of options) ended.pieces) nothing
+
+  spells-new : Spells (migrated options r) new
+  spells-new = record {
+    sound = record { stands = record { headed = head-is options; each = pieces-are ended.pieces ended.are.each }; breaks = (refl, omega arith) };
+    is = ap (migrated options) ended.is ∙ sym (append-nil (front (InPieces (head_of options) ended.pieces)));
+  }
+
+  limits-back : options ≡ limits_of other new
+  limits-back =
+      let r = options.in_range in
+      let c = number_of options.client (omega (arith, r.1)) in
+      let s = number_of options.server (omega (arith, r.3)) in
+      let w = number_of options.waiting (omega (arith, r.5)) in
+      limits-some options _ _ _ _ (sym c, sym s, sym w) (profile-back options.profile ∙ ap profile_by (sym (number-profile options.profile)))
+      (omega (arith, r.0, c), omega (arith, r.1, c), omega (arith, r.2, s), omega (arith, r.3, s), omega (arith, r.4, w), omega (arith, r.5, w)) other
+
+  module _ (listing : Listing) (text : List ℕ) where
+    pub listed : IsListing options listing x text → IsListing other listing (migrated options r) text
+    listed i =
+        let e : i.recording ≡ old = spells-once x r i.recording whole.spells i.spells ∙ ended.is in
+        let o = subst (λ q. IsOutcome options q i.messages i.summary) e i.is in
+        record {
+          recording = new;
+          messages = i.messages;
+          summary = i.summary;
+          spells = spells-new;
+          is = record {
+            comes_to = subst (λ l. ComesTo l (history_of new) (damage_of new) i.summary) limits-back o.comes_to;
+            messages_are = subst (λ l. HasMessages l (history_of new) i.messages i.summary) limits-back o.messages_are;
+          };
+          text_is = i.text_is;
+        }
+
+    pub listed-back : IsListing other listing (migrated options r) text → IsListing options listing x text
+    listed-back i =
+        let e : i.recording ≡ new = spells-once (migrated options r) new i.recording spells-new i.spells in
+        let o = subst (λ q. IsOutcome other q i.messages i.summary) e i.is in
+        record {
+          recording = r;
+          messages = i.messages;
+          summary = i.summary;
+          spells = whole.spells;
+          is = subst (λ q. IsOutcome options q i.messages i.summary) (sym ended.is) (record {
+            comes_to = subst (λ l. ComesTo l (history_of new) (damage_of new) i.summary) (sym limits-back) o.comes_to;
+            messages_are = subst (λ l. HasMessages l (history_of new) i.messages i.summary) (sym limits-back) o.messages_are;
+          });
+          text_is = i.text_is;
+        }
+
+-- ---- a recording of the second format stays as it is
+
+same-in : (options : Limits) (r : Recording) → IsRecording r → damage_of r ≡ None → IsOf Zkr2 (place_of r) → migrated options r ≡ bytes_of r
+same-in options (Breaks AtLetters b) is none second = absurd second
+same-in options (Breaks (InHead f) b) is none second = absurd second
+same-in options (Breaks (InPieces First ps) b) is none second = absurd cc
+same-in options (Breaks (InPieces (Second c s w p) ps) b) is none second =
+    let place = InPieces (Second c s w p) ps in
+    sym (append-nil (front place)) ∙ ap (λ q. bytes_of (Breaks place q)) (sym (whole-break Zkr2 (behind place b.before) b.before b.part b.end is.breaks none))
+same-in options (Ends head ps last) is none second = absurd cc
+
+pub same : (options : Limits) (x : List ℕ) (r : Recording) → IsWhole Zkr2 x r → migrated options r ≡ x
+same options x r w = same-in options r w.spells.sound w.undamaged w.format_is ∙ sym w.spells.is

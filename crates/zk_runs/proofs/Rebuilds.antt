@@ -1,0 +1,186 @@
+-- What is built of the listing of a whole conversation.
+use Rattle.std.proofs.Common.{◌≡◌, ℕ, ◌<◌, ◌≤◌, ◌^◌, List, [], ◌∷◌, ◌++◌, length, map, Option, Some, refl, sym, ap, ◌∙◌, append-nil, arith, subst, true}
+use Rattle.std.proofs.Common.{w32}
+use Rattle.std.proofs.lemmas.Bool.Decides.{nat_tests}
+use Rattle.std.proofs.lemmas.Nat.{from_be_bytes-to_be_bytes_4}
+use Rattle.std.proofs.lemmas.List.Concat.{flat_map-append}
+use Rattle.std.proofs.lemmas.List.Folds.{flat_map-map}
+use Rattle.std.proofs.lemmas.List.Elements.{All-map, All-from_recursion}
+use Rattle.std.specs.Int.{to_be_bytes}
+use Rattle.std.specs.List.{All, AllByRecursion, flat_map}
+use Rattle.std.specs.Io.KnownBytes.{Appends}
+use Rattle.zk_frames.specs.Framing.{frame}
+use Rattle.zk_frames.proofs.Cuts.{length-frame}
+use Rattle.zk_talk.specs.declared.limits.Limits.{Limits}
+use Rattle.zk_talk.specs.declared.message.Side.TheVariants.{Client, Server}
+use Rattle.zk_talk.specs.Held.{Message}
+use Rattle.zk_talk.specs.declared.message.MessageOf.TheVariants.{Client as FromClient, Server as FromServer}
+use Rattle.zk_talk.specs.declared.message.Ending.TheVariants.{Whole as whole}
+use Rattle.zk_talk.specs.History.{History, side_bytes}
+use Rattle.zk_talk.specs.Conversation.{Conversation}
+use Rattle.zk_talk.specs.Good.{Good, IsOrder}
+use Rattle.zk_talk.specs.Ending.{IsEnding, unanswered}
+use Rattle.zk_talk.specs.Said.{AreSaid, AreSized, MaySay, said, side_of, payload_of, conversation_of}
+use Rattle.zk_talk.proofs.Small.{small_limits}
+use Rattle.zk_talk.proofs.Headline.{same_good}
+use Rattle.zk_talk.proofs.Replays.{order_said}
+use Rattle.zk_talk.proofs.Spoken.{spoken}
+use Rattle.zk_lines.specs.Lines.{line, Fits}
+use Rattle.zk_lines.proofs.LawsHeld.{said_held}
+use Rattle.zk_lines.proofs.LawsShown.{line_printed}
+use Rattle.zk_lines.proofs.LawsEndings.{ending_printed}
+use Rattle.zk_lines.proofs.LawsPrinted.{unbroken}
+use Rattle.zk_runs.specs.declared.built.Built.{Built}
+use Rattle.zk_runs.specs.declared.built.Built.TheVariants.{Whole, LineRefused, SayRefused}
+use Rattle.zk_listings.specs.declared.summary.Summary.TheVariants.{Ended}
+use Rattle.zk_recordings.specs.declared.parts.Format.TheVariants.{Zkr1}
+use Rattle.zk_recordings.specs.declared.parts.Part.TheVariants.{SideByte, Size}
+use Rattle.zk_recordings.specs.Parts.{number, is_good, is_within}
+use Rattle.zk_recordings.specs.Recording.{IsPiece, side_byte, piece_history, Spells, history_of}
+use Rattle.zk_listings.specs.Outcome.{IsOutcome}
+use Rattle.zk_runs.specs.Building.{IsLine, with_feed, fed, AreLines, all_fed, recording_of, piece_of, due_ending, IsBuilt, with_ending, HasBuilt}
+use Rattle.zk_runs.specs.Rebuilding.{whole_listing, one_a_piece, AreAlike}
+use Rattle.zk_runs.proofs.Builds.{run_once}
+
+-- ---- messages that were said
+
+each_of : {X : Type 0} (P : X → Type 0) (xs : List X) → ((a : List X) (x : X) (b : List X) → xs ≡ a ++ x ∷ b → P x) → AllByRecursion P xs
+each_of P [] h = tt
+each_of P (x ∷ xs) h = (h [] x xs refl, each_of P xs (λ a y b e. h (x ∷ a) y b (ap (λ z. x ∷ z) e)))
+
+said_fit : (limits : Limits) (messages : List Message) → AreSaid limits messages → AllByRecursion Fits messages
+said_fit limits messages are = each_of Fits messages (λ a m b e. said_held limits a m (are a m b e))
+
+-- ---- lines
+
+each_line : (messages : List Message) → AllByRecursion Fits messages → AllByRecursion IsLine (map line messages)
+each_line [] h = tt
+each_line (m ∷ messages) h = (unbroken (line m) (line_printed m h.0), each_line messages h.1)
+
+each_push : {X : Type 0} (P : X → Type 0) (xs : List X) (x : X) → AllByRecursion P xs → P x → AllByRecursion P (xs ++ x ∷ [])
+each_push P [] x h p = (p, tt)
+each_push P (y ∷ xs) x h p = (h.0, each_push P xs x h.1 p)
+
+module _ (limits : Limits) (messages : List Message) (are : AreSaid limits messages) where
+  lines : List (List ℕ)
+  lines = map line messages ++ due_ending messages ∷ []
+
+  listed : (n : ℕ) → n ≡ unanswered (conversation_of messages) → whole_listing messages n ≡ fed lines
+  unfolding lines
+  listed n e =
+      ap (whole_listing messages) e
+      ∙ ap (λ z. z ++ with_feed (due_ending messages)) (sym (flat_map-map with_feed line messages))
+      ∙ ap (λ z. fed (map line messages) ++ z) (sym (append-nil (with_feed (due_ending messages))))
+      ∙ sym (flat_map-append with_feed (map line messages) (due_ending messages ∷ []))
+
+  are_lines : (n : ℕ) → n ≡ unanswered (conversation_of messages) → AreLines (whole_listing messages n) lines
+  unfolding lines
+  are_lines n e = all_fed
+      (each_push IsLine (map line messages) (due_ending messages) (each_line messages (said_fit limits messages are))
+      (unbroken (due_ending messages) (ending_printed (whole (unanswered (conversation_of messages))))))
+      (listed n e)
+
+  is_built : IsBuilt limits lines messages Whole
+  unfolding lines
+  is_built = with_ending (record {
+    before = map line messages;
+    ends = refl;
+    accepted = record { are = refl; fit = said_fit limits messages are; said = are };
+  }) refl
+
+-- ---- one frame a piece
+
+within : (limits : Limits) (before : List Message) (m : Message) → MaySay limits before m → length (payload_of m) ≤ 16777216
+within limits before (FromClient f) may = omega (arith, may.1, limits.in_range)
+within limits before (FromServer s) may = omega (arith, may.1, limits.in_range)
+
+pub number_of : (n : ℕ) → n < 2 ^ 32 → number (to_be_bytes w32 n) ≡ n
+unfolding number
+number_of n h = from_be_bytes-to_be_bytes_4 n h
+
+in_range : (n : ℕ) → 1 ≤ n → n ≤ 16777220 → is_within 1 16777220 n ≡ true
+in_range n least most = grind (arith, nat_tests)
+
+side_good : (m : Message) → is_good SideByte (side_byte (side_of m) ∷ []) ≡ true
+side_good (FromClient f) = refl
+side_good (FromServer s) = refl
+
+is_piece : (m : Message) → length (payload_of m) ≤ 16777216 → IsPiece Zkr1 (piece_of m)
+is_piece m l =
+    let n = length (frame (payload_of m)) in
+    let same : number (to_be_bytes w32 n) ≡ n = number_of n (omega (arith, l, length-frame (payload_of m))) in
+    let good : is_within 1 16777220 n ≡ true = in_range n (omega (arith, length-frame (payload_of m))) (omega (arith, l, length-frame (payload_of m))) in
+    record {
+      begun = record {
+        values = (record { wide = refl; good = side_good m }, (record { wide = refl; good = ap (is_within 1 16777220) same ∙ good }, tt));
+        timed = refl;
+      };
+      sized = same;
+    }
+
+each_piece : (limits : Limits) (messages : List Message) → AreSaid limits messages → All (IsPiece Zkr1) (map piece_of messages)
+each_piece limits messages are =
+    All-map (IsPiece Zkr1) piece_of messages
+    (All-from_recursion (λ m. IsPiece Zkr1 (piece_of m)) messages (each_of (λ m. IsPiece Zkr1 (piece_of m)) messages (λ a m b e. is_piece m (within limits a m (are a m b e)))))
+
+spelled : (limits : Limits) (messages : List Message) → AreSaid limits messages → Spells (recording_of messages) (one_a_piece messages)
+spelled limits messages are = record {
+  sound = record { stands = record { headed = tt; each = each_piece limits messages are }; breaks = (refl, omega arith) };
+  is = sym (append-nil (recording_of messages));
+}
+
+pub said_in_pieces : (messages : List Message) → history_of (one_a_piece messages) ≡ said messages
+said_in_pieces messages = append-nil (flat_map piece_history (map piece_of messages)) ∙ flat_map-map piece_history piece_of messages
+
+-- ---- a conversation that ends whole
+
+module _ (limits : Limits) (h : History) (v : Conversation) (messages : List Message) (n : ℕ) (good : Good limits h v [] []) (order : IsOrder limits h v messages) (ending : IsEnding limits h (whole n)) where
+  are : AreSaid limits messages
+  are = (order_said limits h v messages good order).0
+
+  count : n ≡ unanswered (conversation_of messages)
+  count =
+      ending.2
+      ∙ ap unanswered (same_good limits (small_limits limits) h ending.0 v [] [] [] [] ending.1 good).0
+      ∙ ap unanswered (sym (order_said limits h v messages good order).3)
+
+  sized : AreSized messages
+  sized =
+      let o = order_said limits h v messages good order in (
+        omega (arith, good.client_size, ap length o.1),
+        omega (arith, good.server_size, ap length o.2),
+      )
+
+  pub listing_built : (listed : List (List ℕ)) × AreLines (whole_listing messages n) listed × IsBuilt limits listed messages Whole
+  listing_built = (lines limits messages are, are_lines limits messages are n count, is_built limits messages are)
+
+  pub built_spelled : Spells (recording_of messages) (one_a_piece messages)
+  built_spelled = spelled limits messages are
+
+  pub same_bytes : (side_bytes Client (history_of (one_a_piece messages)) ≡ side_bytes Client h) × (side_bytes Server (history_of (one_a_piece messages)) ≡ side_bytes Server h)
+  same_bytes =
+      let o = order_said limits h v messages good order in (
+        ap (side_bytes Client) (said_in_pieces messages) ∙ o.1,
+        ap (side_bytes Server) (said_in_pieces messages) ∙ o.2,
+      )
+
+  pub comes_again : IsOutcome limits (one_a_piece messages) messages (Ended (whole n))
+  comes_again =
+      let s = spoken limits messages are sized in
+      let g = subst (λ z. Good limits z (conversation_of messages) [] []) (sym (said_in_pieces messages)) s.0 in
+      let o = subst (λ z. IsOrder limits z (conversation_of messages) messages) (sym (said_in_pieces messages)) s.1 in
+      record {
+        comes_to = (refl, (conversation_of messages, g, count));
+        messages_are = (conversation_of messages, [], [], g, o);
+      }
+
+  whole_alike : (built : Built) → AreAlike Whole built → built ≡ Whole
+  whole_alike Whole a = refl
+  whole_alike (LineRefused at fault) a = absurd a
+  whole_alike (SayRefused at fault) a = absurd a
+
+  pub listing_run : (unread contents contents_now : Option (List ℕ)) (built : Built) → HasBuilt limits (Some (whole_listing messages n)) unread contents contents_now built →
+      (built ≡ Whole) × Appends contents contents_now (recording_of messages)
+  listing_run unread contents contents_now built has =
+      let r = run_once limits (whole_listing messages n) (lines limits messages are) messages Whole (are_lines limits messages are n count) (is_built limits messages are) unread contents contents_now built has in
+      (whole_alike built r.0, r.1)

@@ -1,0 +1,33 @@
+use Rattle.std.proofs.Common.{◌≡◌, ◌++◌, take, drop, length, length-drop, arith, ap, subst}
+use Rattle.std.proofs.lemmas.Result.{err_from_is_err_and}
+use Rattle.zk_runs.specs.Accepting.{HasTaken, HaltsIn}
+use Rattle.zk_runs.proofs.Taken.{taken-further, halts-further}
+use Rattle.zk_runs.proofs.builder.Builder.feed.Goals as goal
+
+pub returns-in_err-at-clause-halts : goal.returns-in_err-at-clause-halts
+returns-in_err-at-clause-halts g c =
+    let p = err_from_is_err_and c.from_residual.result c.from_residual.ensures.1 in
+    rw (p.1, p.2) (λ limits x before t.
+    let block = c.args.block.now in
+    let after = g.W.Sink.contents c.advance.new.writer in
+    let so_far = c.loop-at.invariant.taken limits x before t in
+    halts-further limits x block c.loop-at.at before after c.in_err-at.field-0.0
+    (subst (λ b. HaltsIn limits ((x ++ take c.loop-at.at block) ++ b) before c.in_err-at.field-0.0 after) c.rest.ensures (c.in_err-at.ensures.halts limits _ before so_far)))
+
+pub loop-at-preserved : goal.loop-at-preserved
+loop-at-preserved g c =
+    let at = c.loop-at.at in
+    let block = c.args.block.now in
+    let used = c.in_ok-at.field-0 in
+    let long : length c.rest.result.now ≡ length (drop at block) = ap length c.rest.ensures in
+    record {
+      within = omega (arith, c.in_ok-at.ensures.used, long, length-drop at block);
+      count = omega (arith, c.in_ok-at.ensures.count, c.loop-at.invariant.count);
+      live = c.in_ok-at.ensures.live;
+      taken = λ limits x before t.
+          let so_far = c.loop-at.invariant.taken limits x before t in
+          let new = c.advance.new.self in
+          taken-further limits x block at used before _ _ _ _ _
+          (subst (λ b. HasTaken limits ((x ++ take at block) ++ take used b) before (g.W.Sink.contents c.advance.new.writer) new.begun.items new.lines new.ended new.speaker) c.rest.ensures
+          (c.in_ok-at.ensures.goes_on limits _ before so_far));
+    }

@@ -1,0 +1,36 @@
+-- The statuses of the program, and why the words of a command line are refused.
+use Rattle.std.specs.Prelude.{ℕ}
+use Rattle.clap.specs.declared.error.kind.ErrorKind.{ErrorKind}
+use Rattle.clap.specs.declared.error.kind.ErrorKind.TheVariants.{OutOfMemory}
+use Rattle.zk_runs.specs.declared.built.Built.{Built}
+use Rattle.zk_runs.specs.declared.built.Built.TheVariants.{Whole, LineRefused, SayRefused}
+use Rattle.zk_runs.specs.declared.migrate.Migrated.{Migrated}
+use Rattle.zk_runs.specs.declared.migrate.Migrated.TheVariants.{Whole as migrated_whole, Damaged}
+use Rattle.zk_runs.specs.declared.options.UsageFault.{UsageFault}
+use Rattle.zk_runs.specs.declared.options.UsageFault.TheVariants.{Words, Memory}
+use Rattle.zk_listings.specs.declared.summary.Status.{Status}
+use Rattle.zk_listings.specs.declared.summary.Status.TheVariants.{Good, Bad}
+
+abbrev pub exit_of : Status → ℕ
+exit_of Good = 0
+exit_of Bad = 1
+
+abbrev pub refusal_of : UsageFault → ℕ
+refusal_of Words = 2
+refusal_of Memory = 3
+
+-- a line that is refused is a bad end
+abbrev pub exit_of_built : Built → ℕ
+exit_of_built Whole = 0
+exit_of_built (LineRefused line fault) = 1
+exit_of_built (SayRefused line fault) = 1
+
+-- a damaged recording is a bad end
+abbrev pub exit_of_migrated : Migrated → ℕ
+exit_of_migrated migrated_whole = 0
+exit_of_migrated (Damaged offset reason) = 1
+
+-- want of memory alone isn't a fault of the words
+abbrev pub usage_fault : ErrorKind → UsageFault
+usage_fault OutOfMemory = Memory
+usage_fault _ = Words

@@ -1,0 +1,7 @@
+pub mod Rebuilding
+pub mod Exits
+pub mod Migrating
+pub mod Profiles
+pub mod Building
+pub mod Accepting
+pub mod Commands

@@ -1,0 +1,146 @@
+-- What `migrate` makes of a recording: the ZKR2 recording of its whole pieces.
+use Rattle.std.specs.Prelude.{◌≡◌, ℕ, ◌⊎◌, List, [], ◌∷◌, ◌++◌, take, drop, Bool, true, false, Option, None, Some}
+use Rattle.std.specs.Int.{w32, to_be_bytes}
+use Rattle.std.specs.Io.KnownBytes.{IsAtEnd, Appends}
+use Rattle.zk_records.specs.declared.profile.Profile.{Profile}
+use Rattle.zk_records.specs.declared.profile.Profile.TheVariants.{V34, V35}
+use Rattle.zk_talk.specs.declared.limits.Limits.{Limits}
+use Rattle.zk_talk.specs.Held.{Message}
+use Rattle.zk_listings.specs.declared.listing.Listing.{Listing}
+use Rattle.zk_runs.specs.declared.migrate.Migrated.{Migrated}
+use Rattle.zk_runs.specs.declared.migrate.Migrated.TheVariants.{Whole, Damaged}
+use Rattle.zk_recordings.specs.declared.parts.DamageAt.{DamageAt}
+use Rattle.zk_recordings.specs.declared.parts.Format.{Format}
+use Rattle.zk_recordings.specs.declared.parts.Format.TheVariants.{Zkr1, Zkr2}
+use Rattle.zk_recordings.specs.declared.recording.State.{State}
+use Rattle.zk_listings.specs.declared.summary.Summary.{Summary}
+use Rattle.zk_recordings.specs.Recording.{Head, First, Second, format_of, head_bytes, no_time, Place, AtLetters, InHead, InPieces, front, Recording, Spells, place_of, begun_of, damage_of}
+use Rattle.zk_recordings.specs.Reading.{IsAt, IsDecidedBy, IsHeaded}
+use Rattle.zk_listings.specs.Lines.{text_of, last_line}
+use Rattle.zk_listings.specs.Outcome.{Reads, IsOutcome, IsBroken, HasGrownIn}
+
+-- 34 is the profile of ZooKeeper 3.4, and 35 that of 3.5
+abbrev pub profile_number : Profile → ℕ
+profile_number V34 = 34
+profile_number V35 = 35
+
+-- the head of the second format that has these limits
+abbrev pub head_of : Limits → Head
+head_of limits = Second (to_be_bytes w32 limits.client) (to_be_bytes w32 limits.server) (to_be_bytes w32 limits.waiting) (to_be_bytes w32 (profile_number limits.profile))
+
+-- a head that has limits stays; the other one gets those of the options
+abbrev pub second : Limits → Head → Head
+second options First = head_of options
+second options (Second client server waiting profile) = Second client server waiting profile
+
+abbrev pub migrated_at : Limits → Place → List ℕ
+migrated_at options AtLetters = []
+migrated_at options (InHead format) = []
+migrated_at options (InPieces head pieces) = front (InPieces (second options head) pieces)
+
+-- nothing where the head is damaged, else the head and the whole pieces, each with its time
+abbrev pub migrated : Limits → Recording → List ℕ
+migrated options r = migrated_at options (place_of r)
+
+-- what is answered
+abbrev pub answered : Option DamageAt → Migrated
+answered None = Whole
+answered (Some d) = Damaged d.offset d.reason
+
+-- ---- what a run has read and written when it answers
+
+-- what was read was migrated: all there is, or what is damaged whatever follows
+pub record HasMigrated (options : Limits) (unread unread_now contents contents_now : Option (List ℕ)) (answer : Migrated) : Type 0 where
+  pub bytes : List ℕ
+  pub recording : Recording
+  pub reads : Reads unread unread_now bytes recording
+  pub answer_is : answer ≡ answered (damage_of recording)
+  pub written : Appends contents contents_now (migrated options recording)
+  pub enough : IsAtEnd unread_now ⊎ IsBroken bytes recording
+
+-- what was read was migrated as far as its pieces are whole
+pub record HasMigratedSoFar (options : Limits) (unread unread_now contents contents_now : Option (List ℕ)) : Type 0 where
+  pub bytes : List ℕ
+  pub recording : Recording
+  pub reads : Reads unread unread_now bytes recording
+  pub written : Appends contents contents_now (migrated options recording)
+
+-- a front of that was written
+pub record HasBegunMigrating (options : Limits) (unread unread_now contents contents_now : Option (List ℕ)) : Type 0 where
+  pub bytes : List ℕ
+  pub recording : Recording
+  pub reads : Reads unread unread_now bytes recording
+  pub written : HasGrownIn contents contents_now (migrated options recording)
+
+-- ---- how far a recording was migrated
+
+-- a head without limits gets those of the options, and a piece without a time the time 0 behind its side's byte
+abbrev pub sent_of_first : Limits → Bool → List ℕ → List ℕ
+sent_of_first options false head = head_bytes (head_of options)
+sent_of_first options true piece = take 1 piece ++ (no_time ++ drop 1 piece)
+
+-- what is written for what has become whole in this format: the head, or, where it is written, a piece
+abbrev pub sent : Limits → Format → Bool → List ℕ → List ℕ
+sent options Zkr1 head_written bytes = sent_of_first options head_written bytes
+sent options Zkr2 head_written bytes = bytes
+
+-- what was read and isn't written yet: all before the head is whole, then the piece that is begun
+abbrev pub kept_at : Place → List ℕ → List ℕ
+kept_at (InPieces head pieces) begun = begun
+kept_at place begun = front place ++ begun
+
+abbrev pub kept : Recording → List ℕ
+kept r = kept_at (place_of r) (begun_of r)
+
+abbrev pub IsHeadedIf : Bool → Place → Type 0
+IsHeadedIf true place = IsHeaded place
+IsHeadedIf false place = IsHeaded place → ⊥
+
+-- the bytes x were read, and the whole pieces in them were written
+pub record HasMoved (options : Limits) (x : List ℕ) (head_written : Bool) (begun : List ℕ) (s : State) (before now : Option (List ℕ)) : Type 0 where
+  pub recording : Recording
+  pub at : IsAt s x recording
+  pub head_is : IsHeadedIf head_written (place_of recording)
+  pub begun_is : begun ≡ kept recording
+  pub written : Appends before now (migrated options recording)
+
+-- a front of what these bytes are migrated to was written
+pub record HasMovedIn (options : Limits) (x : List ℕ) (before now : Option (List ℕ)) : Type 0 where
+  pub recording : Recording
+  pub spells : Spells x recording
+  pub written : HasGrownIn before now (migrated options recording)
+
+-- these bytes were migrated, and have this damage whatever follows
+pub record HasMovedTo (options : Limits) (x : List ℕ) (d : DamageAt) (before now : Option (List ℕ)) : Type 0 where
+  pub recording : Recording
+  pub spells : Spells x recording
+  pub decided : IsDecidedBy d x recording
+  pub written : Appends before now (migrated options recording)
+
+-- these bytes were read, and no damage stands in them, or this one
+abbrev pub HasMovedBy : Limits → List ℕ → Bool → List ℕ → State → Option (List ℕ) → Option (List ℕ) → Option DamageAt → Type 0
+HasMovedBy options x head_written begun s before now None = HasMoved options x head_written begun s before now
+HasMovedBy options x head_written begun s before now (Some d) = HasMovedTo options x d before now
+
+-- ---- the law
+
+-- a listing of these bytes
+pub record IsListing (limits : Limits) (listing : Listing) (x text : List ℕ) : Type 0 where
+  pub recording : Recording
+  pub messages : List Message
+  pub summary : Summary
+  pub spells : Spells x recording
+  pub is : IsOutcome limits recording messages summary
+  pub text_is : text ≡ text_of listing messages ++ last_line summary
+
+-- a head of this format stands before the place
+abbrev pub IsOf : Format → Place → Type 0
+IsOf format AtLetters = ⊥
+IsOf format (InHead other) = ⊥
+IsOf format (InPieces head pieces) = format_of head ≡ format
+
+-- an undamaged recording of this format
+pub record IsWhole (format : Format) (x : List ℕ) (r : Recording) : Type 0 where
+  pub spells : Spells x r
+  pub undamaged : damage_of r ≡ None
+  pub format_is : IsOf format (place_of r)

@@ -1,0 +1,65 @@
+//! The engine that makes a recording of lines.
+ghost use Rattle.std.specs.Prelude.{◌≡◌, ◌+◌, ◌^◌, ◌<◌, ◌≤◌, false, true, IfOk, OnErr, IsErrOf};
+ghost use Rattle.zk_listings.specs.Running.{IsSpent};
+ghost use Rattle.zk_runs.specs.Building.{HasBuilt, HasBuiltSoFar, HasBegunBuilding};
+
+use crate::builder::Builder;
+use crate::built::Built;
+use std::alloc::Global;
+use zk_listings::{BLOCK, MOST_READS, RunFault, Sink, Source, write_whole};
+use zk_recordings::ZKR1;
+use zk_talk::Limits;
+
+/// Reads lines, each one that of a message, and writes the recording of these messages, each message's piece before
+/// the next read. The last line may be the ending line that is due. At the first line that is refused no more is read,
+/// and the recording of the lines before it stands written.
+///
+/// # Errors
+/// `Read` where the reader failed or was read 4,294,967,296 times and came to no end, `Write` where the writer failed
+/// or took nothing, `Memory` where a growth was refused.
+pub fn build_run<R: Source, W: Sink>(
+    alloc: Global,
+    limits: Limits,
+    reader: &mut R,
+    writer: &mut W,
+) -> Result<Built, RunFault>
+    requires reader { R.has_failed reader.old ≡ false }
+    requires reads { R.read_count reader.old < 2 ^ 62 }
+    requires writer { W.has_failed writer.old ≡ false }
+
+    // The recording is written of the lines that were read: all there are, or those before one that is refused.
+    ensures ok { IfOk result (λ built. HasBuilt limits (R.remaining reader.old) (R.remaining reader.new) (W.contents writer.old) (W.contents writer.new) built) }
+
+    // After a failed read, or one too many, the piece of each line that is whole in what was read stands written.
+    ensures read { IsErrOf result RunFault.Read → HasBuiltSoFar limits (R.remaining reader.old) (R.remaining reader.new) (W.contents writer.old) (W.contents writer.new) }
+    ensures spent { IsErrOf result RunFault.Read → IsSpent (R.has_failed reader.new) (R.read_count reader.old) (R.read_count reader.new) }
+
+    // A failed write, or one that takes nothing, is told as that.
+    ensures write { IsErrOf result RunFault.Write → W.has_failed writer.new ≡ true }
+    ensures open { IfOk result (λ _. W.has_failed writer.new ≡ false) }
+    ensures spared { IsErrOf result RunFault.Memory → W.has_failed writer.new ≡ false }
+
+    // A failed read is never passed over, and no more is read than that often.
+    ensures alive { IfOk result (λ _. R.has_failed reader.new ≡ false) }
+    ensures memory { IsErrOf result RunFault.Memory → R.has_failed reader.new ≡ false }
+    ensures bound { R.read_count reader.new ≤ R.read_count reader.old + 4294967296 }
+
+    // A run that stops early has written a front of the recording.
+    ensures begun { OnErr result (HasBegunBuilding limits (R.remaining reader.old) (R.remaining reader.new) (W.contents writer.old) (W.contents writer.new)) }
+{
+    let mut builder = Builder::new(alloc, limits)?;
+    write_whole(writer, &ZKR1)?;
+    let mut buf = [0; BLOCK];
+    for _turn in 0..MOST_READS {
+        let Ok(count) = reader.read(&mut buf) else {
+            return Err(RunFault::Read);
+        };
+        if count == 0 {
+            return builder.finish(alloc, writer);
+        }
+        if let Err(halt) = builder.feed(alloc, &buf[..count], writer) {
+            return halt.answer();
+        }
+    }
+    Err(RunFault::Read)
+}

@@ -1,0 +1,64 @@
+//! What a command line asks for.
+
+ghost use Rattle.std.specs.Prelude.{◌≡◌};
+ghost use Rattle.clap.specs.Values.{kind_of};
+ghost use Rattle.zk_runs.specs.Exits.{usage_fault};
+
+use clap::error::ErrorKind;
+use std::alloc::AllocError;
+use thiserror::Error;
+use zk_talk::Limits;
+
+/// What the program is asked to do.
+#[derive(Clone, Copy, Debug, PartialEq, Eq)]
+pub enum Command {
+    /// To write the listing of a recording.
+    Show,
+    /// To write its last line.
+    Check,
+    /// To write its last line, and the line of the first impossible byte.
+    CheckEarliest,
+    /// To write the recording that a listing shows.
+    Build,
+    /// To write the recording of the second format that a recording makes.
+    Migrate,
+}
+
+/// A command line that is in order.
+#[derive(Clone, Copy, Debug, PartialEq, Eq)]
+pub struct Settings {
+    pub command: Command,
+    pub limits: Limits,
+}
+
+/// Why the words of a command line give no settings.
+#[derive(Clone, Copy, Debug, PartialEq, Eq, Error)]
+pub enum UsageFault {
+    /// They are no command line of this program, or ask for help.
+    #[error("usage: zkdump show|check|build|migrate [--limit N] [--waiting N] [--profile 3.4|3.5] [--earliest]")]
+    Words,
+    /// A growth was refused.
+    #[error("zkdump: out of memory")]
+    Memory,
+}
+
+impl From<AllocError> for UsageFault {
+    ghost use Rattle.zk_runs.specs.declared.options.UsageFault.TheVariants.{Memory};
+
+    ghost from_gives = { λ _ fault. fault ≡ Memory };
+
+    fn from(_error: AllocError) -> UsageFault {
+        UsageFault::Memory
+    }
+}
+
+impl From<clap::Error> for UsageFault {
+    ghost from_gives = { λ error fault. fault ≡ usage_fault (kind_of error) };
+
+    fn from(error: clap::Error) -> UsageFault {
+        match error.kind() {
+            ErrorKind::OutOfMemory => UsageFault::Memory,
+            _ => UsageFault::Words,
+        }
+    }
+}

@@ -1,0 +1,156 @@
+//! The whole program, over a reader and two writers.
+ghost use Rattle.std.specs.Prelude.{◌≡◌, ◌^◌, ◌<◌, ◌≤◌, false, IfOk, IfErr, OnErr};
+ghost use Rattle.zk_runs.specs.Commands.{IsDone, IsFailed};
+ghost use Rattle.zk_runs.specs.Exits.{exit_of, exit_of_built, exit_of_migrated, refusal_of};
+
+use crate::build::build_run;
+use crate::built::Built;
+use crate::migrate::{Migrated, migrate_run};
+use crate::options::{Command, Settings, UsageFault};
+use std::alloc::Global;
+use std::fmt;
+use std::fmt::{Display, Write};
+use zk_listings::{
+    RunFault, Sink, Source, Status, check_earliest_run, check_run, show_run, write_whole,
+};
+
+/// Text on a sink.
+#[derive(Drop)]
+struct Message<'a, F> {
+    sink: &'a mut F,
+}
+
+impl<F: Sink> fmt::Write for Message<'_, F> {
+    fn write_str(&mut self, text: &str) -> fmt::Result {
+        if self.sink.failed() {
+            return Err(fmt::Error);
+        }
+        match write_whole(self.sink, text.as_bytes()) {
+            Ok(()) => Ok(()),
+            Err(_failed) => Err(fmt::Error),
+        }
+    }
+}
+
+/// Writes a line, as far as the sink takes it.
+fn tell<F: Sink>(faults: &mut F, fault: &(impl Display)) {
+    let mut message = Message { sink: faults };
+    let _ = writeln!(message, "{fault}");
+}
+
+/// Tells why a command line is refused, and gives the status for it.
+fn refuse<F: Sink>(fault: UsageFault, faults: &mut F) -> u8
+    ensures { result ≡ refusal_of fault }
+{
+    tell(faults, &fault);
+    match fault {
+        UsageFault::Words => 2,
+        UsageFault::Memory => 3,
+    }
+}
+
+fn exit_code(status: Status) -> u8
+    ensures exit { result ≡ exit_of status }
+    ensures small { result < 2 }
+{
+    match status {
+        Status::Good => 0,
+        Status::Bad => 1,
+    }
+}
+
+/// Tells which line is refused, if one is, and gives the status for it.
+fn report<F: Sink>(built: Built, faults: &mut F) -> u8
+    ensures exit { result ≡ exit_of_built built }
+    ensures small { result < 2 }
+{
+    match built {
+        Built::Whole => 0,
+        Built::LineRefused { .. } | Built::SayRefused { .. } => {
+            tell(faults, &built);
+            1
+        }
+    }
+}
+
+/// Tells the damage, where there is one, and gives the status for it.
+fn report_damage<F: Sink>(migrated: Migrated, faults: &mut F) -> u8
+    ensures exit { result ≡ exit_of_migrated migrated }
+    ensures small { result < 2 }
+{
+    match migrated {
+        Migrated::Whole => 0,
+        Migrated::Damaged { .. } => {
+            tell(faults, &migrated);
+            1
+        }
+    }
+}
+
+/// Runs the engine that the words ask for, and gives the status for what it answers.
+fn obey<R: Source, W: Sink, F: Sink>(
+    alloc: Global,
+    chosen: Settings,
+    reader: &mut R,
+    writer: &mut W,
+    faults: &mut F,
+) -> Result<u8, RunFault>
+    requires reader { R.has_failed reader.old ≡ false }
+    requires reads { R.read_count reader.old < 2 ^ 62 }
+    requires writer { W.has_failed writer.old ≡ false }
+    ensures ok { IfOk result (IsDone chosen (R.remaining reader.old) (R.remaining reader.new) (W.contents writer.old) (W.contents writer.new)) }
+    ensures small { IfOk result (λ exit. exit < 2) }
+    ensures err { OnErr result (IsFailed chosen (R.remaining reader.old) (R.remaining reader.new) (W.contents writer.old) (W.contents writer.new)) }
+{
+    match chosen.command {
+        Command::Show => Ok(exit_code(show_run(alloc, chosen.limits, reader, writer)?)),
+        Command::Check => Ok(exit_code(check_run(alloc, chosen.limits, reader, writer)?)),
+        Command::CheckEarliest => {
+            let status = check_earliest_run(alloc, chosen.limits, reader, writer)?;
+            Ok(exit_code(status))
+        }
+        Command::Build => Ok(report(build_run(alloc, chosen.limits, reader, writer)?, faults)),
+        Command::Migrate => {
+            let migrated = migrate_run(alloc, chosen.limits, reader, writer)?;
+            Ok(report_damage(migrated, faults))
+        }
+    }
+}
+
+/// Does what the words of the command line were read as, and gives the status of the process.
+pub fn run_settings<R: Source, W: Sink, F: Sink>(
+    alloc: Global,
+    chosen: Result<Settings, UsageFault>,
+    reader: &mut R,
+    writer: &mut W,
+    faults: &mut F,
+) -> u8
+    requires reader { R.has_failed reader.old ≡ false }
+    requires reads { R.read_count reader.old < 2 ^ 62 }
+    requires writer { W.has_failed writer.old ≡ false }
+    requires faults { F.has_failed faults.old ≡ false }
+    ensures known { result ≤ 3 }
+
+    // The command that was chosen is done, under its limits: what was read is listed, or made a recording.
+    ensures done { IfOk chosen (λ s. result < 2 →
+        IsDone s (R.remaining reader.old) (R.remaining reader.new) (W.contents writer.old) (W.contents writer.new) result) }
+
+    // Words that are refused leave everything unread and unwritten.
+    ensures refused { IfErr chosen (λ fault. (result ≡ refusal_of fault) × (reader.new ≡ reader.old) × (writer.new ≡ writer.old)) }
+
+    // A failure comes after a front of what the command writes.
+    ensures stopped { IfOk chosen (λ s. 2 ≤ result →
+        (result ≡ 3) × IsFailed s (R.remaining reader.old) (R.remaining reader.new) (W.contents writer.old) (W.contents writer.new)) }
+{
+    let chosen = match chosen {
+        Ok(chosen) => chosen,
+        Err(fault) => return refuse(fault, faults),
+    };
+    match obey(alloc, chosen, reader, writer, faults) {
+        Ok(exit) => exit,
+        Err(fault) => {
+            tell(faults, &fault);
+            3
+        }
+    }
+}

@@ -1,8 +1,0 @@
-use Rattle.std.proofs.Common.{ap, ◌∙◌, w32}
-use Rattle.std.specs.Int.{from_be_bytes}
-use Rattle.zkdump.specs.Parts.{number}
-use Rattle.zkdump.proofs.parts.number.Goals as goal
-
-pub returns : goal.returns
-unfolding number
-returns c = c.from_be_bytes.ensures ∙ ap (from_be_bytes w32) c.word.ensures

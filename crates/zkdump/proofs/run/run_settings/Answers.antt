@@ -1,1 +1,0 @@
-use Rattle.zkdump.proofs.run.run_settings.Goals as goal
