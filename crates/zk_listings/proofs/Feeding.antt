@@ -10,7 +10,9 @@ use Rattle.zk_talk.specs.declared.message.Fault.{Fault}
 use Rattle.zk_talk.specs.Held.{Message}
 use Rattle.zk_talk.specs.declared.limits.Limits.{Limits}
 use Rattle.zk_talk.specs.History.{History, on}
-use Rattle.zk_talk.specs.Stands.{TalkState, Stands, Refuses}
+use Rattle.zk_talk.specs.Stands.{TalkState, Stands, Refuses, kept_on}
+use Rattle.zk_talk.specs.Viewed.{Shows}
+use Rattle.std.specs.Option.{option_to_list}
 use Rattle.zk_talk.specs.Good.{Good, IsOrder}
 use Rattle.zk_talk.specs.Taking.{GoesOn, Steps, Fails}
 use Rattle.zk_listings.specs.declared.listing.Listing.{Listing}
@@ -70,6 +72,11 @@ takes-none listing t lines side h messages i =
 pub stepped-goes : (old : TalkState) (side : Side) (used : List ℕ) (whole : Bool) (new : TalkState) → Steps old side used whole new → (messages : List Message) × GoesOn old side used messages new
 stepped-goes old side used true new s = (s.0 ∷ [], s.1)
 stepped-goes old side used false new s = ([], s.0)
+
+-- and by the message that is seen, or by none
+pub stepped-shows : (old : TalkState) (side : Side) (used : List ℕ) (whole : Bool) (new : TalkState) → Steps old side used whole new → (seen : Option Message) → (kept_on side new ≡ [] → seen ≡ None) → ((m : Message) → Shows new side m → seen ≡ Some m) → GoesOn old side used (option_to_list seen) new
+stepped-shows old side used true new s seen none only = subst (λ (o : Option Message). GoesOn old side used (option_to_list o) new) (sym (only s.0 s.2)) s.1
+stepped-shows old side used false new s seen none only = subst (λ (o : Option Message). GoesOn old side used (option_to_list o) new) (sym (none s.1)) s.0
 
 module _ (listing : Listing) (old mid new : TalkState) (before during after : List ℕ) (side : Side) (bytes : List ℕ) (at' : ℕ) (taken : Takes listing old before (on side (take at' bytes)) None mid during) where
   pub takes-more : (used : ℕ) (now : List Message) → GoesOn mid side (take used (drop at' bytes)) now new → after ≡ during ++ text_of listing now →

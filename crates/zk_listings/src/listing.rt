@@ -7,8 +7,8 @@ ghost use Rattle.zk_listings.specs.declared.listing.Listing.TheVariants.{All};
 use crate::streams::Failed;
 use std::alloc::AllocError;
 use thiserror::Error;
-use zk_lines::put_line;
-use zk_talk::Message;
+use zk_lines::put_line_ref;
+use zk_talk::MessageRef;
 
 /// Why a run came to no answer.
 #[derive(Clone, Copy, Debug, PartialEq, Eq, Error)]
@@ -52,15 +52,15 @@ pub enum Listing {
 }
 
 /// Appends the line of a message, with its line feed.
-fn put_message(message: &Message, lines: &mut Vec<u8>) -> Result<(), AllocError>
+fn put_message(message: &MessageRef<'_>, lines: &mut Vec<u8>) -> Result<(), AllocError>
     ensures { OnOk result (lines.new.items ≡ lines.old.items ++ message_line message.now) }
 {
-    put_line(lines, message)?;
+    put_line_ref(lines, message)?;
     lines.extend_from_slice(b"\n")
 }
 
 /// Appends the line of a message, with its line feed, where there is one.
-pub fn tell(message: Option<Message>, lines: &mut Vec<u8>) -> Result<(), AllocError>
+pub fn tell(message: Option<MessageRef<'_>>, lines: &mut Vec<u8>) -> Result<(), AllocError>
     ensures { OnOk result (lines.new.items ≡ lines.old.items ++ text_of All (option_to_list message)) }
 {
     match message {

@@ -1,6 +1,5 @@
 //! A recording that is read block by block, and the conversation in it.
 ghost use Rattle.std.specs.Prelude.{◌≡◌, ◌≢◌, ◌+◌, ◌^◌, ◌<◌, ◌≤◌, ℕ, List, [], Some, None, IfOk, IfSome, OnErr, MatchOption, length, drop};
-ghost use Rattle.zk_jute.specs.declared.fault.Reason.TheVariants.{NoMemory};
 ghost use Rattle.zk_talk.specs.Held.{Message};
 ghost use Rattle.zk_talk.specs.Ending.{IsEnding};
 ghost use Rattle.zk_talk.specs.History.{History, on};
@@ -17,7 +16,6 @@ use crate::listing::{Listing, tell};
 use crate::summary::Summary;
 use std::alloc::{AllocError, Global};
 use zk_answers::Layout;
-use zk_jute::Reason;
 use zk_recordings::RecordingReader;
 use zk_talk::{Ending, Fault, Limits, Side, Talk};
 
@@ -28,17 +26,6 @@ pub enum Step {
     Took(usize),
     /// What the recording comes to stands in the block, whatever follows.
     Found(Summary),
-}
-
-/// The fault, unless it is want of memory.
-fn known(fault: Fault) -> Result<Fault, AllocError>
-    ensures known { IfOk result (λ same. (same ≡ fault) × (fault.reason ≢ NoMemory)) }
-    ensures memory { OnErr result (fault.reason ≡ NoMemory) }
-{
-    match fault.reason {
-        Reason::NoMemory => Err(AllocError),
-        _ => Ok(fault),
-    }
 }
 
 /// The bytes from a place on.
@@ -65,7 +52,8 @@ fn judge(talk: &mut Talk, side: Side, bytes: &[u8]) -> Option<Fault>
     None
 }
 
-/// Gives bytes of one side to the conversation, and appends the lines of its messages.
+/// Gives bytes of one side to the conversation, and appends the lines of its messages, each from
+/// where it lies.
 fn list(
     talk: &mut Talk,
     side: Side,
@@ -77,12 +65,11 @@ fn list(
 {
     let mut at = 0;
     while at < bytes.len() {
-        let taken = match talk.take(side, rest(bytes, at)) {
-            Ok(taken) => taken,
-            Err(fault) => return Ok(Some(known(fault)?)),
-        };
-        at += taken.used;
-        tell(taken.message, lines)?;
+        match talk.step(side, rest(bytes, at)) {
+            Ok(stepped) => at += stepped.used,
+            Err(fault) => return Ok(Some(fault)),
+        }
+        tell(talk.view(side), lines)?;
     }
     Ok(None)
 }
