@@ -85,7 +85,7 @@ class Shape(NamedTuple):
 
 
 SHAPES = (
-    Shape("parts of one multi", multi, (1_000, 8_000, 64_000), (500, 4_000, 32_000), 256_000, 64_000),
+    Shape("parts of one multi", multi, (1_000, 8_000, 65_535), (500, 4_000, 32_000), 262_140, 64_000),
     Shape("requests that wait", queue, (1_024, 8_192, 65_536), (512, 4_096, 32_768), 1 << 19, 1 << 17),
     Shape("more that wait", queue, (1_024, 32_768, 1_048_576), (1_024, 131_072), 1 << 20, 1 << 17,
           ("--waiting", "1048576")),
