@@ -10,7 +10,7 @@ use Rattle.zk_records.specs.declared.op.PartOp.{PartOp}
 use Rattle.zk_records.specs.Records.{connect_response, reply_header, watcher_event}
 use Rattle.zk_answers.specs.Held.{ServerFrame}
 use Rattle.zk_answers.specs.declared.frame.ServerFrameOf.TheVariants as frame
-use Rattle.zk_answers.specs.Frames.{event_header, err_of, header_of, rest_items, frame_items, IsConnected, IsEvent, IsReplyTo, IsSent}
+use Rattle.zk_answers.specs.Frames.{event_header, header_of, rest_items, frame_items, IsConnected, IsEvent, IsReplyTo, IsSent}
 use Rattle.zk_answers.specs.Faults.{Fields, IsConnectedFault, IsReplyFault, IsEventFault, rest_shape}
 use Rattle.zk_answers.specs.Forms.{IsConnectedForm, IsReplyForm, IsEventForm}
 use Rattle.zk_answers.proofs.Events as events

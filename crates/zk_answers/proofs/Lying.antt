@@ -1,14 +1,12 @@
 -- Results that lie in a payload: what stands there is their value, and what reads them.
 use Rattle.std.proofs.Common.{◌≡◌, ℕ, ◌+◌, ◌≤◌, List, [], ◌∷◌, ◌++◌, length, drop, Some, None, Ok, Err, inr, refl, sym, ap, subst, ◌∙◌, arith}
-use Rattle.std.specs.Prelude.{ℤ, pos, negsuc, Result, IfOk, IfErr, Option, ◌≢◌}
+use Rattle.std.specs.Prelude.{ℤ, negsuc, Result, IfOk, IfErr, ◌≢◌}
 use Rattle.std.specs.List.{flat_map}
 use Rattle.std.proofs.lemmas.List.{append-nil}
 use Rattle.zk_jute.specs.declared.fault.ItemFault.{ItemFault}
 use Rattle.zk_jute.specs.declared.fault.Reason.TheVariants.{NoMemory}
-use Rattle.zk_jute.specs.Held.{Text}
 use Rattle.zk_jute.specs.Item.{Item, AnInt, bytes_of, HaveBytes}
-use Rattle.zk_jute.specs.Layout.{IsValueOf, Unfolds, One, End}
-use Rattle.zk_jute.specs.Item.{Int}
+use Rattle.zk_jute.specs.Layout.{IsValueOf, Unfolds}
 use Rattle.zk_jute.specs.Reading.{Read, ◌>>=◌, read_map, int_at, long_at, items_at}
 use Rattle.zk_jute.specs.Told.{StandsAt, HasToldFault, IsToldAt}
 use Rattle.zk_jute.specs.Values.{text_items, text_unfolds}
@@ -28,7 +26,7 @@ use Rattle.zk_asks.specs.Parts.{marked, end_header}
 use Rattle.zk_asks.specs.Shown.{part_numbered}
 use Rattle.zk_answers.specs.Held.{PartDone}
 use Rattle.zk_answers.specs.declared.frame.PartDoneOf.TheVariants as done
-use Rattle.zk_answers.specs.Results.{result_header, error_header, done_items, mark_before, result_of, result_layout, multi_items, Answers, AnswerAll, Own, IsDoneFault}
+use Rattle.zk_answers.specs.Results.{result_header, done_items, mark_before, result_of, result_layout, multi_items, Answers, AnswerAll, Own, IsDoneFault}
 use Rattle.zk_answers.specs.Shown.{stat_of, counts_value, stat_value, result_value, done_value, dones_at}
 use Rattle.zk_answers.proofs.Dones.{mark_is, mark_same}
 use Rattle.zk_answers.proofs.Outcomes.{result_inside}

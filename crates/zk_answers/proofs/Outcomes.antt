@@ -4,13 +4,12 @@ use Rattle.std.specs.Prelude.{ℤ, ◌≢◌}
 use Rattle.std.specs.List.{flat_map, slice_get}
 use Rattle.std.proofs.lemmas.List.{append-nil, length-append, take-append-drop, length-drop, drop_more, take_more}
 use Rattle.std.proofs.lemmas.Option.{slice_get_within, get_or_from_slice_get}
-use Rattle.std.proofs.lemmas.Grind.{flat_map-append}
 use Rattle.zk_jute.specs.declared.fault.ItemFault.{ItemFault}
 use Rattle.zk_jute.specs.declared.fault.Reason.{Reason}
 use Rattle.zk_jute.specs.declared.fault.Reason.TheVariants.{BadPart}
 use Rattle.zk_jute.specs.Item.{Int, Item, AnInt, bytes_of, HaveBytes}
 use Rattle.zk_jute.specs.Layout.{End, One, IsValueOf}
-use Rattle.zk_jute.specs.Reading.{told_place, no_memory}
+use Rattle.zk_jute.specs.Reading.{told_place}
 use Rattle.zk_jute.specs.Told.{StandsAt, IsToldFault, IsToldAt}
 use Rattle.zk_jute.proofs.Layouts.{bytes_both, have_both, have_parts}
 use Rattle.zk_jute.proofs.Sequels.{stands_then}
@@ -71,10 +70,6 @@ error_differs op ops src place after end header number other have s is has t not
     let both = stands_then (marked (error_header number)) (AnInt other ∷ []) src place after end u t in
     let same : place ≡ place + 0 = omega arith in
     inr (0, other_error op ops number other (drop place src) (drop end src) (have_both (marked (error_header number)) (AnInt other ∷ []) head has) both.0 not, ap told_place same)
-
-pub result_memory : (ops : List PartOp) (src : List ℕ) (place : ℕ) (e : ItemFault) → e ≡ no_memory → IsToldAt (IsDoneFault ops) src place e
-unfolding IsToldAt
-result_memory ops src place e m = inl m
 
 -- ---- results so far
 
@@ -143,16 +138,6 @@ answers_push [] op [] d all one = (one, tt)
 answers_push [] op (e ∷ ds) d all one = absurd all
 answers_push (o ∷ a) op [] d all one = absurd all
 answers_push (o ∷ a) op (e ∷ ds) d all one = (all.0, answers_push a op ds d all.1 one)
-
-results_push : (ds : List PartDone) (d : PartDone) → results_items (ds ++ d ∷ []) ≡ results_items ds ++ done_items d
-results_push ds d = flat_map-append done_items ds (d ∷ []) ∙ ap (λ (i : List Item). results_items ds ++ i) (append-nil (done_items d))
-
-module _ (ds : List PartDone) (d : PartDone) where
-  pub step_have : HaveBytes (results_items ds) → HaveBytes (done_items d) → HaveBytes (results_items (ds ++ d ∷ []))
-  step_have p q = subst HaveBytes (sym (results_push ds d)) (have_both (results_items ds) (done_items d) p q)
-
-  pub step_stands : (src : List ℕ) (place at next : ℕ) → StandsAt (results_items ds) src place at → StandsAt (done_items d) src at next → StandsAt (results_items (ds ++ d ∷ [])) src place next
-  step_stands src place at next s t = subst (λ (items : List Item). StandsAt items src place next) (sym (results_push ds d)) (stands_then (results_items ds) (done_items d) src place at next s t)
 
 -- ---- the part at an index
 

@@ -10,7 +10,6 @@ use Rattle.zk_jute.specs.Item.{Item, bytes_of, HaveBytes}
 use Rattle.zk_jute.specs.Layout.{IsValueOf}
 use Rattle.zk_jute.specs.Reading.{told_place}
 use Rattle.zk_jute.specs.Told.{StandsAt, IsToldFault, IsTold, IsToldAt}
-use Rattle.zk_jute.specs.Flagged.{IsReadAs}
 use Rattle.zk_jute.proofs.Layouts.{have_both}
 use Rattle.zk_jute.proofs.Sequels.{stands_then, is_left, none_left}
 use Rattle.zk_records.specs.declared.header.ReplyHeader.{ReplyHeader}
@@ -104,13 +103,6 @@ pub whole_is : (src : List ℕ) (a b : List Item) (after end : ℕ) → StandsAt
 whole_is src a b after end s t le =
     let both = stands_then a b src 0 after end s t in
     both.0 ∙ ap (λ (x : List ℕ). bytes_of (a ++ b) ++ x) (none_left src end le) ∙ append-nil (bytes_of (a ++ b))
-
--- what has the form is read
-pub read_only : (Form : ServerFrame → Type 0) (F : ℕ → Reason → Type 0) (answer : Result ServerFrame ItemFault) → IfOk answer Form → IfErr answer (λ e. IsTold F e)
-    → (s : ServerFrame) → ((t : ServerFrame) → Form t → t ≡ s) → ((p : ℕ) (r : Reason) → F p r → ⊥) → IsReadAs s answer
-unfolding IsTold
-read_only Form F (Ok t) found fault s same not = same t found
-read_only Form F (Err e) found fault s same not = elim fault [ inl m ↦ m | inr f ↦ absurd (not f.0 e.reason f.1) ]
 
 module _ (src : List ℕ) (header : ReplyHeader) (after : ℕ) (v : IsValueOf reply_header.layout (reply_header.items header)) (s : StandsAt (reply_header.items header) src 0 after) where
   -- the same header, and what stands behind it, is the payload

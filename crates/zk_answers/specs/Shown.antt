@@ -1,5 +1,5 @@
 -- Results that lie in a payload, as values of its bytes.
-use Rattle.std.specs.Prelude.{◌≡◌, ℕ, ◌+◌, ℤ, List, Option, Some, None, Ok}
+use Rattle.std.specs.Prelude.{ℕ, ◌+◌, ℤ, List, Option, Some, None, Ok}
 use Rattle.zk_jute.specs.Reading.{Read, ◌>>=◌, read_map, int_at, long_at}
 use Rattle.zk_jute.specs.Shown.{text_value, both_at, values_at}
 use Rattle.zk_records.specs.declared.stat.Stat.{Stat}

@@ -1,7 +1,6 @@
 //! Server payloads, each read by the request that it answers.
 #![tactic(auto)]
 
-mod body;
 mod done_list;
 mod fit;
 mod form;

@@ -1,4 +1,4 @@
-//! Server payloads are read.
+//! Server payloads are read: each is judged where it lies, and then copied.
 ghost use Rattle.std.specs.Prelude.{◌≡◌, ◌≢◌, List, ℕ, negsuc, IfOk, IfErr};
 ghost use Rattle.zk_jute.specs.Reading.{told_place};
 ghost use Rattle.zk_jute.specs.Told.{IsTold};
@@ -9,12 +9,12 @@ ghost use Rattle.zk_answers.specs.Frames.{IsConnected, IsEvent, IsReplyTo, IsSen
 ghost use Rattle.zk_answers.specs.Frames as sent;
 ghost use Rattle.zk_answers.specs.Faults.{IsConnectedFault, IsHead, IsHeadFault, IsReplyFault, IsEventFault};
 
-use crate::body::outcome_at;
-use crate::frame::{Reply, ServerFrame};
+use crate::frame::ServerFrame;
+use crate::scan::{scan_connected, scan_event, scan_reply};
 use std::alloc::Global;
 use zk_asks::Asked;
-use zk_jute::{ItemFault, Reason, Wire, int_at, long_at, read_flagged};
-use zk_records::{ReplyHeader, WatcherEvent};
+use zk_jute::{ItemFault, int_at, long_at};
+use zk_records::{Own, ReplyHeader};
 
 /// The header that a reply and an event begin with (`ReplyHeader`); it takes no memory.
 pub fn reply_head(payload: &[u8]) -> Result<ReplyHeader, ItemFault>
@@ -30,6 +30,7 @@ pub fn reply_head(payload: &[u8]) -> Result<ReplyHeader, ItemFault>
 }
 
 /// The answer to the connect request.
+#[tactic(auto, unfolding(zk_jute::specs::Told::IsTold))]
 pub fn read_connected(alloc: Global, payload: &[u8]) -> Result<ServerFrame, ItemFault>
     // What is read has the form, and is the payload's one value.
     ensures found { IfOk result (λ s. IsConnected s × IsSent s × (payload.now ≡ sent.payload s)) }
@@ -38,28 +39,11 @@ pub fn read_connected(alloc: Global, payload: &[u8]) -> Result<ServerFrame, Item
     // Else the first case that applies is told, unless memory is wanted.
     ensures fault { IfErr result (λ e. IsTold (IsConnectedFault payload.now) e) }
 {
-    let (hello, read_only) = read_flagged(alloc, payload)?;
-    Ok(ServerFrame::Connected { hello, read_only })
-}
-
-fn reply_of<F: Asked>(alloc: Global, form: &F, payload: &[u8]) -> Result<ServerFrame, ItemFault>
-    requires { (header : records.ReplyHeader) (rest : List ℕ) → IsHead payload.now header rest → header.xid ≢ negsuc 0 }
-    ensures found { IfOk result (λ s. IsReplyTo (F.operation form.now) (F.part_ops form.now) s × IsSent s × (payload.now ≡ sent.payload s)) }
-    ensures fault { IfErr result (λ e. IsTold (IsReplyFault (F.operation form.now) (F.part_ops form.now) payload.now) e) }
-{
-    let (header, place) = ReplyHeader::read(alloc, payload, 0)?;
-    let (outcome, place) = outcome_at(alloc, payload, place, form, header.err)?;
-    if place < payload.len() {
-        return Err(ItemFault::at(place, Reason::Trailing));
-    }
-    Ok(ServerFrame::Answered(Reply {
-        xid: header.xid,
-        zxid: header.zxid,
-        outcome,
-    }))
+    Ok(scan_connected(payload)?.own(alloc)?)
 }
 
 /// A reply to what was asked; its header, where it is whole, has another xid than -1.
+#[tactic(auto, unfolding(zk_jute::specs::Told::IsTold))]
 pub fn read_reply<F: Asked>(
     alloc: Global,
     form: &F,
@@ -73,29 +57,11 @@ pub fn read_reply<F: Asked>(
     // Else the first case that applies is told, unless memory is wanted.
     ensures fault { IfErr result (λ e. IsTold (IsReplyFault (F.operation form.now) (F.part_ops form.now) payload.now) e) }
 {
-    reply_of(alloc, form, payload)
-}
-
-fn event_of(alloc: Global, payload: &[u8]) -> Result<ServerFrame, ItemFault>
-    requires { (header : records.ReplyHeader) (rest : List ℕ) → IsHead payload.now header rest → header.xid ≡ negsuc 0 }
-    ensures found { IfOk result (λ s. IsEvent s × IsSent s × (payload.now ≡ sent.payload s)) }
-    ensures fault { IfErr result (λ e. IsTold (IsEventFault payload.now) e) }
-{
-    let (header, place) = ReplyHeader::read(alloc, payload, 0)?;
-    if header.err != 0 {
-        return Err(ItemFault::at(12, Reason::EventErr));
-    }
-    let (event, place) = WatcherEvent::read(alloc, payload, place)?;
-    if place < payload.len() {
-        return Err(ItemFault::at(place, Reason::Trailing));
-    }
-    Ok(ServerFrame::Event {
-        zxid: header.zxid,
-        event,
-    })
+    Ok(scan_reply(form, payload)?.own(alloc)?)
 }
 
 /// What a watch saw; its header, where it is whole, has the xid -1.
+#[tactic(auto, unfolding(zk_jute::specs::Told::IsTold))]
 pub fn read_event(alloc: Global, payload: &[u8]) -> Result<ServerFrame, ItemFault>
     requires { (header : records.ReplyHeader) (rest : List ℕ) → IsHead payload.now header rest → header.xid ≡ negsuc 0 }
     // What is read has the form, and is the payload's one value.
@@ -105,5 +71,5 @@ pub fn read_event(alloc: Global, payload: &[u8]) -> Result<ServerFrame, ItemFaul
     // Else the first case that applies is told, unless memory is wanted.
     ensures fault { IfErr result (λ e. IsTold (IsEventFault payload.now) e) }
 {
-    event_of(alloc, payload)
+    Ok(scan_event(payload)?.own(alloc)?)
 }

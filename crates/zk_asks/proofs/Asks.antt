@@ -4,8 +4,7 @@ use Rattle.std.specs.Prelude.{ℤ}
 use Rattle.zk_jute.specs.declared.fault.ItemFault.{ItemFault}
 use Rattle.zk_jute.specs.declared.fault.Reason.TheVariants.{Trailing, UnknownOp, XidOp}
 use Rattle.zk_jute.specs.Item.{Item, bytes_of, HaveBytes}
-use Rattle.zk_jute.specs.Layout.{Layout, IsValueOf}
-use Rattle.zk_jute.specs.Faults.{IsFault}
+use Rattle.zk_jute.specs.Layout.{IsValueOf}
 use Rattle.zk_jute.specs.Reading.{told_place}
 use Rattle.zk_jute.specs.Told.{StandsAt, IsToldFault}
 use Rattle.zk_records.specs.Records.{request_header}
@@ -35,11 +34,6 @@ body_is a have =
     subst (λ (items : List Item). IsBody (op_of_ask a) items) m.2 (row_is (row_of (op_of_ask a)) m.0 (subst HaveBytes (sym m.2) have))
 
 -- ---- what the reader refuses
-
--- the fault of a body's fields
-pub fields_told : (l : Layout) (src : List ℕ) (place : ℕ) (e : ItemFault) → IsToldFault (IsValueOf l) src place e → IsToldAt (IsFault (IsValueOf l)) src place e
-unfolding IsToldAt
-fields_told l src place e h = h
 
 pub refused_header : (profile : Profile) (src : List ℕ) (e : ItemFault) → IsToldFault (IsValueOf request_header.layout) src 0 e → IsTold (IsAskFault profile src) e
 unfolding IsTold

@@ -22,7 +22,6 @@ use Rattle.zk_asks.specs.Forms.{header_items, IsOf, IsBody, IsAsk, asks}
 use Rattle.zk_asks.specs.Rows.{Row, holds, bare, multi, row_of, Content, remake, items_in, Body, Fields, Parts, body_of, op_of_ask, body_items}
 use Rattle.zk_asks.specs.Faults.{IsFaultOf, IsBodyFault, IsAskFault, in_header, unknown_op, bad_xid, in_body, behind_body}
 use Rattle.zk_asks.specs.Frames.{frame_items, IsSent, IsLater, IsOfProfile, payload}
-use Rattle.zk_jute.specs.Told.{IsReadAs}
 use Rattle.zk_jute.specs.Told.{IsTold}
 use Rattle.zk_records.proofs.Numbers.{op_number_apart}
 use Rattle.zk_jute.proofs.Sequels.{Same, Sequel, excluded, sequel_same, sequel_not}
@@ -211,13 +210,6 @@ ask_injective (frame.Ask xid a) (frame.Ask id b) l m s t e =
     ap (λ (z : ℤ). frame.Ask z a) head.0 ∙ ap (λ (c : Ask). frame.Ask id c) (body_apart a b op body.0)
 
 -- what is sent is read
-pub ask_only : (profile : Profile) (src : List ℕ) (answer : Result ClientFrame ItemFault) → IfOk answer (λ f. IsLater f × IsOfProfile profile f × IsSent f × (src ≡ payload f)) → IfErr answer (λ e. IsTold (IsAskFault profile src) e)
-    → (f : ClientFrame) → IsLater f → IsOfProfile profile f → IsSent f → src ≡ payload f → IsReadAs f answer
-unfolding IsTold
-ask_only profile src (Ok g) found fault f later has sent e = ask_injective g f found.0 later found.2 sent (sym found.3 ∙ e)
-ask_only profile src (Err x) found fault f later has sent e = elim fault [ inl m ↦ m | inr k ↦ absurd (ask_excludes profile f k.0 x.reason later has sent (subst (λ (b : List ℕ). IsAskFault profile b k.0 x.reason) e k.1)) ]
-
--- what is sent is read, where no memory is wanted
 pub ask_lies : (profile : Profile) (src : List ℕ) (answer : Result ClientFrame ItemFault) → IfOk answer (λ f. IsLater f × IsOfProfile profile f × IsSent f × (src ≡ payload f))
     → IfErr answer (λ e. IsTold (IsAskFault profile src) e × (e.reason ≢ NoMemory)) → (f : ClientFrame) → IsLater f → IsOfProfile profile f → IsSent f → src ≡ payload f → answer ≡ Ok f
 unfolding IsTold

@@ -7,7 +7,7 @@ use Rattle.zk_jute.specs.declared.fault.Reason.{Reason}
 use Rattle.zk_jute.specs.declared.fault.Reason.TheVariants.{BadPart}
 use Rattle.zk_jute.specs.Item.{bytes_of, HaveBytes}
 use Rattle.zk_jute.specs.Layout.{IsValueOf, Unfolds}
-use Rattle.zk_jute.specs.Reading.{told_place, no_memory}
+use Rattle.zk_jute.specs.Reading.{told_place}
 use Rattle.zk_jute.specs.Told.{StandsAt, IsToldFault}
 use Rattle.zk_jute.proofs.Layouts.{bytes_both, have_parts}
 use Rattle.zk_records.specs.Records.{multi_header, create_ask, delete_ask, set_data_ask, check_ask}
@@ -84,10 +84,6 @@ module _ (ps : List Part) (src : List ℕ) (place at : ℕ) (have : HaveBytes (f
             let told : after + f.0 ≡ at + (n + f.0) = omega arith in
             inr (n + f.0, in_part (drop at src) (drop after src) op f.0 e.reason t.0 f.1, f.2 ∙ ap told_place told)
       ])
-
-pub multi_memory : (src : List ℕ) (place : ℕ) (e : ItemFault) → e ≡ no_memory → IsToldAt IsMultiFault src place e
-unfolding IsToldAt
-multi_memory src place e m = inl m
 
 -- the items of parts are those of a multi
 pub multi_is : (ps : List Part) → HaveBytes (multi_items ps) → IsMulti (multi_items ps)

@@ -45,9 +45,6 @@ none_of : {X : Type 0} (n : ℕ) (xs : List X) → n ≡ length xs → n ≡ 0 �
 none_of n [] e h = refl
 none_of n (x ∷ xs) e h = absurd (omega arith)
 
-some_same : {X : Type 0} (o : Option X) (x y : X) → o ≡ Some x → o ≡ Some y → x ≡ y
-some_same o x y a b = cc
-
 pub front_none : {X : Type 0} (xs : List X) → slice_get xs 0 ≡ None → xs ≡ []
 front_none [] e = refl
 front_none (x ∷ xs) e = absurd (cc)
@@ -225,14 +222,6 @@ pub due_waits : (w : Lanes) (s : ServerFrame) → IsDue s w → HasAsk s w
 due_waits w (Connected t g) d = tt
 due_waits w (Answered q) d = (d.0, d.1)
 due_waits w (Event t g) d = tt
-
--- the oldest request of its lane is the ask that it fits
-pub due_fits : (w : Lanes) (s : ServerFrame) (q : Reply) → s ≡ Answered q → IsDue s w → (slot : Request) → slice_get (queue_on (lane_of q.xid) w) 0 ≡ Some slot → IsFit slot → IsReplyTo slot.op (asked_parts slot) s
-due_fits w s q e d slot is fit =
-    let x = subst (λ z. IsDue z w) e d in
-    let same : x.0 ≡ slot = some_same (slice_get (queue_on (lane_of q.xid) w) 0) x.0 slot x.1 is in
-    let fits = subst (λ (z : Request). IsReplyTo z.op z.parts (Answered q)) same x.2 in
-    subst (IsReplyTo slot.op (asked_parts slot)) (sym e) (subst (λ z. IsReplyTo slot.op z (Answered q)) (sym fit.parts) fits)
 
 pub connected_due : (w : Lanes) (s : ServerFrame) → IsConnected s → IsDue s w
 connected_due w (Connected t g) a = tt

@@ -52,14 +52,6 @@ pub server_is : (s : ServerFrame) (p : List ℕ) → p ≡ answers.payload s →
 unfolding server_payload
 server_is s p e = sym e
 
-pub client_of : (f : ClientFrame) (p : List ℕ) → client_payload f ≡ p → p ≡ asks.payload f
-unfolding client_payload
-client_of f p e = sym e
-
-pub server_of : (s : ServerFrame) (p : List ℕ) → server_payload s ≡ p → p ≡ answers.payload s
-unfolding server_payload
-server_of s p e = sym e
-
 -- ---- the client's first frame, and the others
 
 pub first_inj : (f g : ClientFrame) → IsFirst f → IsFirst g → asks.IsSent f → asks.IsSent g → client_payload f ≡ client_payload g → f ≡ g
@@ -180,7 +172,3 @@ unfolding server_payload
 event_head_is p (Event z k) a c e = record { header = event_header z; rest = bytes_of (watcher_event.items k); is = subst (λ y. IsHead y (event_header z) (bytes_of (watcher_event.items k))) e (event_head z k c); xid_is = refl }
 event_head_is p (Connected t g) a c e = absurd a
 event_head_is p (Answered r) a c e = absurd a
-
--- its other headers have this xid too
-pub heads_as : (p : List ℕ) (xid : ℤ) → HasHead p xid → (header : ReplyHeader) (rest : List ℕ) → IsHead p header rest → header.xid ≡ xid
-heads_as p xid k header rest h = ap (λ (z : ReplyHeader). z.xid) (same_head p header k.header rest k.rest h k.is) ∙ k.xid_is
