@@ -61,7 +61,7 @@ fn put_message(message: &MessageRef<'_>, lines: &mut Vec<u8>) -> Result<(), Allo
 
 /// Appends the line of a message, with its line feed, where there is one.
 pub fn tell(message: Option<MessageRef<'_>>, lines: &mut Vec<u8>) -> Result<(), AllocError>
-    ensures { OnOk result (lines.new.items ≡ lines.old.items ++ text_of All (option_to_list message)) }
+    ensures { OnOk result (lines.new.items ≡ lines.old.items ++ text_of All (option_to_list message.entry)) }
 {
     match message {
         Some(message) => put_message(&message, lines),
