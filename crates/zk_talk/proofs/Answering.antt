@@ -13,7 +13,6 @@ use Rattle.zk_talk.specs.declared.message.Side.TheVariants.{Client, Server}
 use Rattle.zk_talk.specs.declared.message.MessageOf.TheVariants.{Client as FromClient, Server as FromServer}
 use Rattle.zk_talk.specs.Streams.{StreamState, passed, kept_now}
 use Rattle.zk_talk.specs.declared.stream.Advance.TheVariants.{Within, Whole, Refused}
-use Rattle.zk_talk.specs.Payloads.{client_payload, server_payload}
 use Rattle.zk_talk.specs.Conversation.{Conversation}
 use Rattle.zk_talk.specs.Fault.{IsClientFault, IsServerFault, fault_of}
 use Rattle.zk_talk.specs.Stands.{TalkState, Stands}
@@ -25,12 +24,11 @@ use Rattle.zk_talk.specs.Taking.{GoesOn, Steps, IsRefused, Fails}
 use Rattle.zk_talk.specs.History.{History, on}
 use Rattle.zk_talk.specs.declared.message.Side.{Side}
 use Rattle.zk_talk.specs.Held.{Message}
-use Rattle.zk_frames.specs.Framing.{frame}
 use Rattle.zk_talk.proofs.Judging.{in_turn, next_load}
 use Rattle.zk_talk.proofs.Lanes.{remembered_there, forgotten_there}
 use Rattle.zk_talk.specs.Viewed.{ShowsClient, ShowsServer}
 use Rattle.zk_records.specs.declared.op.Op.{Op}
-use Rattle.zk_talk.proofs.Sides.{carried, client_within, client_stopped, client_passed, client_judged, server_within, server_stopped, server_passed, server_judged}
+use Rattle.zk_talk.proofs.Sides.{client_within, client_stopped, client_passed, client_judged, server_within, server_stopped, server_passed, server_judged}
 
 lacking : (r : Reason) → (r ≡ NoMemory) ⊎ (r ≡ NoMemory → ⊥)
 lacking NoMemory = inl refl

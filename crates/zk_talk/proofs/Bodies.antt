@@ -1,5 +1,5 @@
 -- The body behind a payload's header: of a request, of an event, of a reply.
-use Rattle.std.proofs.Common.{◌≡◌, ℕ, ◌+◌, ◌≤◌, List, [], ◌∷◌, length, take, drop, ◌-◌, Option, Some, None, Ok, Err, refl, sym, ap, subst, ◌∙◌, arith}
+use Rattle.std.proofs.Common.{◌≡◌, ℕ, List, [], ◌∷◌, length, take, drop, ◌-◌, Some, None, Ok, Err, refl, sym, ap, subst, ◌∙◌, arith}
 use Rattle.std.specs.Prelude.{ℤ, pos, ◌≢◌, slice_get, filter}
 use Rattle.std.proofs.lemmas.List.{length-drop, drop_at, take_rest}
 use Rattle.zk_jute.specs.declared.fault.ItemFault.{ItemFault}
@@ -22,7 +22,6 @@ use Rattle.zk_answers.specs.declared.layout.Layout.{Layout as Kind}
 use Rattle.zk_answers.specs.declared.layout.Layout.TheVariants as layouts
 use Rattle.zk_records.specs.declared.header.ReplyHeader.{ReplyHeader}
 use Rattle.zk_records.specs.declared.op.Op.TheVariants as ops
-use Rattle.zk_asks.specs.Held.{Ask as Asked}
 use Rattle.zk_asks.specs.Codes.{event_xid}
 use Rattle.zk_asks.specs.Rows.{op_of_ask}
 use Rattle.zk_answers.specs.Faults.{IsHead, IsHeadFault}

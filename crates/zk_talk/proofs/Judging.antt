@@ -1,5 +1,5 @@
 -- What is judged, over plain values.
-use Rattle.std.proofs.Common.{◌≡◌, ◌≢◌, ℕ, ◌+◌, ◌<◌, ◌≤◌, ◌⊎◌, inl, inr, List, [], ◌∷◌, ◌++◌, length, drop, filter, refl, sym, ap, ◌∙◌, subst, arith, Option, Some, None, length-drop}
+use Rattle.std.proofs.Common.{◌≡◌, ◌≢◌, ℕ, ◌+◌, ◌<◌, ◌≤◌, ◌⊎◌, inl, inr, List, [], ◌∷◌, ◌++◌, length, drop, filter, refl, sym, ap, ◌∙◌, subst, arith, Some, None, length-drop}
 use Rattle.std.specs.Prelude.{slice_get, true}
 use Rattle.zk_jute.specs.declared.fault.Reason.{Reason}
 use Rattle.zk_jute.specs.declared.fault.Reason.TheVariants.{QueueFull, Unasked, XidOrder}
@@ -13,14 +13,14 @@ use Rattle.zk_asks.specs.Frames.{IsFirst, IsLater, IsOfProfile, ops_of_ask}
 use Rattle.zk_asks.specs.Rows.{op_of_ask}
 use Rattle.zk_asks.specs.Frames as asks
 use Rattle.zk_asks.specs.Faults.{IsFirstFault, IsAskFault}
-use Rattle.zk_answers.specs.Held.{Reply, ServerFrame}
+use Rattle.zk_answers.specs.Held.{ServerFrame}
 use Rattle.zk_answers.specs.declared.frame.ServerFrameOf.TheVariants.{Connected, Answered, Event}
 use Rattle.zk_answers.specs.Frames.{IsConnected, IsEvent, IsReplyTo, Fits}
 use Rattle.zk_answers.specs.Frames as answers
 use Rattle.zk_answers.specs.Faults.{IsHead, IsConnectedFault, IsHeadFault, IsReplyFault, IsEventFault}
 use Rattle.zk_waiting.specs.declared.lane.Lane.{Lane}
 use Rattle.zk_waiting.specs.Lane.{lane_of}
-use Rattle.zk_waiting.specs.Waiting.{Request, Lanes, IsFit, asked_parts, queue_on, weight_of}
+use Rattle.zk_waiting.specs.Waiting.{Request, Lanes, queue_on, weight_of}
 use Rattle.zk_talk.specs.declared.limits.Limits.{Limits}
 use Rattle.zk_talk.specs.Payloads.{client_payload, server_payload}
 use Rattle.zk_talk.specs.Conversation.{Conversation, is_ask_on, asks_on, replies_on, ClientMay, ServerMay, IsAnswered, load, weight}

@@ -1,5 +1,5 @@
 -- A side that keeps its frame, and one that doesn't.
-use Rattle.std.proofs.Common.{◌≡◌, ℕ, ◌≤◌, List, [], length, refl, sym, ap, subst, arith, Bool, true, false}
+use Rattle.std.proofs.Common.{◌≡◌, ℕ, List, [], length, refl, ap, arith, Bool, true, false}
 use Rattle.zk_frames.specs.Framing.{IsFrame}
 use Rattle.zk_frames.proofs.Cuts.{length-frame}
 use Rattle.zk_talk.specs.Streams.{held_where, kept_where}

@@ -1,19 +1,17 @@
 -- The body in which the fault lies, of a talk that keeps it.
-use Rattle.std.proofs.Common.{◌≡◌, ℕ, ◌≤◌, List, [], ◌∷◌, ◌++◌, length, drop, refl, sym, ap, subst, ◌∙◌, Option, Some, None, Bor, MatchOption}
+use Rattle.std.proofs.Common.{◌≡◌, ℕ, List, [], ◌∷◌, ◌++◌, length, refl, sym, subst, ◌∙◌, Option, Some, None, Bor, MatchOption}
 use Rattle.std.proofs.lemmas.Bool.{false≢true}
 use Rattle.zk_answers.specs.declared.layout.Layout.{Layout}
 use Rattle.zk_frames.specs.Framing.{frame, IsFrame}
-use Rattle.zk_talk.specs.declared.message.Side.{Side}
 use Rattle.zk_talk.specs.declared.message.Fault.{Fault}
 use Rattle.zk_talk.specs.Held.{Message}
 use Rattle.zk_talk.specs.History.{History}
 use Rattle.zk_talk.specs.Conversation.{Conversation}
 use Rattle.zk_talk.specs.Describes.{Describes}
-use Rattle.zk_talk.specs.Fault.{IsCause, IsOfItems, IsPayloadFault, rest_on, side_limit}
+use Rattle.zk_talk.specs.Fault.{IsCause, IsOfItems, rest_on, side_limit}
 use Rattle.zk_talk.specs.Fault.IsCause.{stream_end, length_range, payload_fault}
 use Rattle.zk_talk.specs.Refused.{HasBody, IsInBody, IsRefusedBody}
 use Rattle.zk_talk.specs.Stands.{TalkState, Refuses, held_on}
-use Rattle.zk_talk.specs.declared.limits.Limits.{Limits}
 use Rattle.zk_jute.specs.declared.fault.Reason.{Reason}
 use Rattle.zk_talk.proofs.Bodies.{frame_once}
 

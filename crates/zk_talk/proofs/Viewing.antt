@@ -1,5 +1,5 @@
 -- What a frame shows that was judged and is kept.
-use Rattle.std.proofs.Common.{◌≡◌, ℕ, ◌+◌, List, [], length, Some, None, refl, sym, ap, subst, ◌∙◌, arith}
+use Rattle.std.proofs.Common.{◌≡◌, ℕ, ◌+◌, List, [], length, refl, sym, ap, subst, ◌∙◌, arith}
 use Rattle.std.specs.Prelude.{Option}
 use Rattle.zk_frames.specs.Framing.{frame}
 use Rattle.zk_records.specs.declared.op.Op.{Op}

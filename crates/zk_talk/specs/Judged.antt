@@ -1,10 +1,11 @@
 -- How a payload's judgement is told.
-use Rattle.std.specs.Prelude.{◌≡◌, ℕ, ◌<◌, ◌≤◌, ◌+◌, ◌⊎◌, List, [], ◌∷◌, ◌++◌, Some, slice_get}
+use Rattle.std.specs.Prelude.{◌≡◌, ℕ, ◌<◌, ◌≤◌, ◌+◌, ◌⊎◌, List, [], ◌∷◌, ◌++◌, drop, Option, Some, slice_get}
 use Rattle.zk_jute.specs.declared.fault.ItemFault.{ItemFault}
 use Rattle.zk_jute.specs.declared.fault.Reason.{Reason}
 use Rattle.zk_jute.specs.declared.fault.Reason.TheVariants.{QueueFull}
 use Rattle.zk_jute.specs.Reading.{told_place, no_memory}
 use Rattle.zk_records.specs.declared.profile.Profile.{Profile}
+use Rattle.zk_records.specs.declared.op.Op.{Op}
 use Rattle.zk_asks.specs.Held.{ClientFrame}
 use Rattle.zk_asks.specs.declared.frame.ClientFrameOf.TheVariants.{Connect, Ask}
 use Rattle.zk_asks.specs.Frames.{IsFirst, IsLater, IsOfProfile, ops_of_ask}
@@ -16,13 +17,24 @@ use Rattle.zk_answers.specs.declared.frame.ServerFrameOf.TheVariants.{Connected,
 use Rattle.zk_waiting.specs.Lane.{lane_of}
 use Rattle.zk_waiting.specs.Waiting.{Lanes, Request, queue_on, weight_of, IsPut, IsDropped}
 use Rattle.zk_asks.specs.Frames as asks
+use Rattle.zk_talk.specs.declared.limits.Limits.{Limits}
 use Rattle.zk_talk.specs.Payloads.{client_payload, server_payload}
+use Rattle.zk_talk.specs.Fault.{IsClientFault, IsServerFault}
+use Rattle.zk_talk.specs.Streams.{StreamState}
+use Rattle.zk_talk.specs.Viewed.{ShowsClient, ShowsServer}
 use Rattle.zk_talk.specs.Describes.{Describes}
 use Rattle.zk_talk.specs.Conversation.{Conversation, ClientMay, ServerMay, load, weight}
 
 -- the fault, its place told in 32 bits
 abbrev pub Tells : (ℕ → Reason → Type 0) → ItemFault → Type 0
 Tells IsTheFault e = (place : ℕ) × IsTheFault place e.reason × (e.place ≡ told_place place)
+
+-- the fault of the client's payload behind so many frames, and of the server's, whatever is known of the conversation
+abbrev pub TellsClient : Profile → ℕ → Lanes → List ℕ → ItemFault → Type 0
+TellsClient profile count waiting p e = (limits : Limits) (m : ℕ) (v : Conversation) → limits.waiting ≡ waiting.max → limits.profile ≡ profile → Describes count m waiting v → Tells (IsClientFault limits v p) e
+
+abbrev pub TellsServer : ℕ → ℕ → Lanes → List ℕ → ItemFault → Type 0
+TellsServer asked count waiting p e = (v : Conversation) → Describes asked count waiting v → Tells (IsServerFault v p) e
 
 -- by the number of frames before it: the first frame's kind, or another's, of the profile
 abbrev pub IsInTurn : Profile → ℕ → ClientFrame → Type 0
@@ -80,3 +92,11 @@ pub record IsNextServer (asked count : ℕ) (waiting : Lanes) (p : List ℕ) (s 
   pub due : HasAsk s waiting
   pub is : server_payload s ≡ p
   pub may : (v : Conversation) → Describes asked count waiting v → ServerMay v.client v.server s
+
+-- the client's frame that may come next is counted and kept, and waits for its reply
+abbrev pub KeepsClient : Profile → StreamState → Lanes → ClientFrame → Lanes → StreamState → Type 0
+KeepsClient profile old waiting f waits new = IsNextClient profile old.count waiting (drop 4 old.held) f × IsRemembered f waiting waits × ShowsClient new.count new.kept f
+
+-- and the server's; what it answers waits no more
+abbrev pub KeepsServer : ℕ → StreamState → Lanes → Option Op → ServerFrame → Lanes → StreamState → Type 0
+KeepsServer asked old waiting answered s waits new = IsNextServer asked old.count waiting (drop 4 old.held) s × IsForgotten s waiting waits × ShowsServer new.count answered new.kept s

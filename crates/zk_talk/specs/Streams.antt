@@ -1,5 +1,5 @@
 -- One side's bytes.
-use Rattle.std.specs.Prelude.{ℕ, ◌<◌, ◌≤◌, ◌+◌, ◌^◌, Bool, true, false, List, [], length}
+use Rattle.std.specs.Prelude.{◌≡◌, ℕ, ◌<◌, ◌≤◌, ◌+◌, ◌^◌, Bool, true, false, List, [], ◌++◌, length}
 use Rattle.zk_frames.specs.Framing.{IsFrame}
 
 -- its limit; what is held of a frame that isn't counted; the frame that is counted and kept; how many frames were whole;
@@ -26,6 +26,10 @@ pub record IsAtFrame (s : StreamState) (used : ℕ) : Type 0 where
   pub part : used ≤ length s.held
   pub size : s.size + used < 2 ^ 62
   pub count : s.count ≤ s.size
+
+-- its last bytes, so many, are not taken after all
+abbrev pub TakenBack : StreamState → ℕ → StreamState → Type 0
+TakenBack old used new = (before part : List ℕ) → old.held ≡ before ++ part → length part ≡ used → new ≡ record old { held = before }
 
 -- the frame, with which so many bytes came, is done with
 abbrev pub passed : StreamState → ℕ → StreamState

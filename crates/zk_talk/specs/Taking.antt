@@ -1,5 +1,5 @@
 -- What a talk does with a piece.
-use Rattle.std.specs.Prelude.{◌≡◌, ℕ, ◌≤◌, ◌⊎◌, Bool, true, false, List, [], ◌∷◌, ◌++◌, length, take}
+use Rattle.std.specs.Prelude.{◌≡◌, ℕ, ◌≤◌, ◌<◌, ◌⊎◌, Bool, true, false, List, [], ◌∷◌, ◌++◌, length, take}
 use Rattle.zk_jute.specs.declared.fault.Reason.TheVariants.{NoMemory}
 use Rattle.zk_talk.specs.declared.message.Side.{Side}
 use Rattle.zk_talk.specs.declared.message.Side.TheVariants.{Client, Server}
@@ -27,6 +27,14 @@ given_up Server t = record t { server_kept = [] }
 abbrev pub Steps : TalkState → Side → List ℕ → Bool → TalkState → Type 0
 Steps old side used false new = GoesOn old side used [] new × (kept_on side new ≡ [])
 Steps old side used true new = (m : Message) × GoesOn old side used (m ∷ []) new × Shows new side m × (held_on side new ≡ [])
+
+-- so many bytes of the piece were used, at least one where it has any, and these messages came
+abbrev pub TakesOn : TalkState → Side → List ℕ → ℕ → List Message → TalkState → Type 0
+TakesOn old side piece used messages new = (used ≤ length piece) × (0 < length piece → 0 < used) × GoesOn old side (take used piece) messages new
+
+-- likewise, and what they made whole is kept
+abbrev pub StepsOn : TalkState → Side → List ℕ → ℕ → Bool → TalkState → Type 0
+StepsOn old side piece used whole new = (used ≤ length piece) × (0 < length piece → 0 < used) × Steps old side (take used piece) whole new
 
 -- Memory was wanted for a message that bytes of the piece make whole, and nothing is changed.
 pub record Lacks (old : TalkState) (side : Side) (piece : List ℕ) (fault : Fault) (new : TalkState) : Type 0 where

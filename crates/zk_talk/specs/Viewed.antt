@@ -1,5 +1,5 @@
 -- What the frame shows that a side keeps.
-use Rattle.std.specs.Prelude.{◌≡◌, ℕ, ◌+◌, List, [], Option, Some, None}
+use Rattle.std.specs.Prelude.{◌≡◌, ℕ, List, [], Option, Some, None}
 use Rattle.zk_frames.specs.Framing.{frame}
 use Rattle.zk_records.specs.declared.op.Op.{Op}
 use Rattle.zk_records.specs.declared.op.PartOp.{PartOp}
@@ -13,7 +13,7 @@ use Rattle.zk_talk.specs.declared.message.Side.TheVariants.{Client, Server}
 use Rattle.zk_talk.specs.Held.{Message}
 use Rattle.zk_talk.specs.declared.message.MessageOf.TheVariants.{Client as FromClient, Server as FromServer}
 use Rattle.zk_talk.specs.Payloads.{client_payload, server_payload}
-use Rattle.zk_talk.specs.Stands.{TalkState}
+use Rattle.zk_talk.specs.Stands.{TalkState, kept_on}
 use Rattle.zk_talk.specs.Streams.{StreamState}
 
 -- the operation whose request the frame answers; none where it isn't a reply
@@ -50,6 +50,10 @@ Shows t Server (FromClient f) = ⊥
 abbrev pub other_side : Side → Side
 other_side Client = Server
 other_side Server = Client
+
+-- what the side keeps stays as it is, and shows what it showed
+abbrev pub Leaves : Side → TalkState → TalkState → Type 0
+Leaves side old new = (kept_on side new ≡ kept_on side old) × ((m : Message) → Shows old side m → Shows new side m)
 
 -- what is kept, if anything is, is a frame's
 abbrev pub ClientKeeps : StreamState → Type 0

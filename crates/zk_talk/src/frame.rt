@@ -5,13 +5,9 @@ ghost use Rattle.zk_jute.specs.Reading.{no_memory};
 ghost use Rattle.zk_frames.specs.Framing.{IsFrame};
 ghost use Rattle.zk_asks.specs.Held as asks;
 ghost use Rattle.zk_answers.specs.Held as answers;
-ghost use Rattle.zk_talk.specs.declared.limits.Limits.{Limits};
-ghost use Rattle.zk_talk.specs.Conversation.{Conversation};
-ghost use Rattle.zk_talk.specs.Fault.{IsClientFault, IsServerFault};
-ghost use Rattle.zk_talk.specs.Describes.{Describes};
-ghost use Rattle.zk_talk.specs.Judged.{Tells, IsNextClient, IsNextServer, IsRemembered, IsForgotten};
-ghost use Rattle.zk_talk.specs.Streams.{IsAtFrame, passed, kept_now};
-ghost use Rattle.zk_talk.specs.Viewed.{ShowsClient, ShowsServer, answered_by};
+ghost use Rattle.zk_talk.specs.Judged.{KeepsClient, KeepsServer, TellsClient, TellsServer, IsNextClient, IsNextServer, IsRemembered, IsForgotten};
+ghost use Rattle.zk_talk.specs.Streams.{IsAtFrame, TakenBack, passed, kept_now};
+ghost use Rattle.zk_talk.specs.Viewed.{answered_by};
 
 use crate::judge::{await_reply, forget_seen, next_client, next_server};
 use crate::stream::Stream;
@@ -41,10 +37,10 @@ pub fn client_step(
 ) -> Result<(), ItemFault>
     requires { IsAtFrame stream.old used }
     ensures max { waiting.new.max ≡ waiting.old.max }
-    ensures found { OnOk result ((f : asks.ClientFrame) × IsNextClient profile stream.old.count waiting.old (drop 4 stream.old.held) f × IsRemembered f waiting.old waiting.new × ShowsClient stream.new.count stream.new.kept f) }
+    ensures found { OnOk result ((f : asks.ClientFrame) × KeepsClient profile stream.old waiting.old f waiting.new stream.new) }
     ensures kept { OnOk result (stream.new ≡ kept_now stream.old used) }
     ensures same { IfErr result (λ e. (waiting.new ≡ waiting.old) × (stream.new ≡ stream.old)) }
-    ensures fault { IfErr result (λ e. (e.reason ≢ NoMemory) × ((limits : Limits) (m : ℕ) (v : Conversation) → limits.waiting ≡ waiting.old.max → limits.profile ≡ profile → Describes stream.old.count m waiting.old v → Tells (IsClientFault limits v (drop 4 stream.old.held)) e)) }
+    ensures fault { IfErr result (λ e. (e.reason ≢ NoMemory) × TellsClient profile stream.old.count waiting.old (drop 4 stream.old.held) e) }
 {
     let frame = next_client(profile, stream.count(), waiting, stream.payload())?;
     await_reply(waiting, &frame);
@@ -66,9 +62,9 @@ pub fn client_frame(
     ensures passed { IfOk result (λ f. stream.new ≡ passed stream.old used) }
     ensures same { IfErr result (λ e. waiting.new ≡ waiting.old) }
     ensures lacks { IfErr result (λ e. e.reason ≡ NoMemory → (f : asks.ClientFrame) × IsNextClient profile stream.old.count waiting.old (drop 4 stream.old.held) f) }
-    ensures back { IfErr result (λ e. e.reason ≡ NoMemory → (before part : List ℕ) → stream.old.held ≡ before ++ part → length part ≡ used → stream.new ≡ record stream.old { held = before }) }
-    ensures stays { IfErr result (λ e. (e.reason ≡ NoMemory → ⊥) → stream.new ≡ stream.old) }
-    ensures fault { IfErr result (λ e. (e.reason ≡ NoMemory → ⊥) → (limits : Limits) (m : ℕ) (v : Conversation) → limits.waiting ≡ waiting.old.max → limits.profile ≡ profile → Describes stream.old.count m waiting.old v → Tells (IsClientFault limits v (drop 4 stream.old.held)) e) }
+    ensures back { IfErr result (λ e. e.reason ≡ NoMemory → TakenBack stream.old used stream.new) }
+    ensures stays { IfErr result (λ e. e.reason ≢ NoMemory → stream.new ≡ stream.old) }
+    ensures fault { IfErr result (λ e. e.reason ≢ NoMemory → TellsClient profile stream.old.count waiting.old (drop 4 stream.old.held) e) }
 {
     let seen = next_client(profile, stream.count(), waiting, stream.payload())?;
     match seen.own(alloc) {
@@ -105,10 +101,10 @@ pub fn server_step(
 ) -> Result<Option<Op>, ItemFault>
     requires { IsAtFrame stream.old used }
     ensures max { waiting.new.max ≡ waiting.old.max }
-    ensures found { IfOk result (λ op. (s : answers.ServerFrame) × IsNextServer asked stream.old.count waiting.old (drop 4 stream.old.held) s × IsForgotten s waiting.old waiting.new × ShowsServer stream.new.count op stream.new.kept s) }
+    ensures found { IfOk result (λ op. (s : answers.ServerFrame) × KeepsServer asked stream.old waiting.old op s waiting.new stream.new) }
     ensures kept { OnOk result (stream.new ≡ kept_now stream.old used) }
     ensures same { IfErr result (λ e. (waiting.new ≡ waiting.old) × (stream.new ≡ stream.old)) }
-    ensures fault { IfErr result (λ e. (e.reason ≢ NoMemory) × ((v : Conversation) → Describes asked stream.old.count waiting.old v → Tells (IsServerFault v (drop 4 stream.old.held)) e)) }
+    ensures fault { IfErr result (λ e. (e.reason ≢ NoMemory) × TellsServer asked stream.old.count waiting.old (drop 4 stream.old.held) e) }
 {
     let frame = next_server(asked, stream.count(), waiting, stream.payload())?;
     let answered = answered(&frame);
@@ -131,9 +127,9 @@ pub fn server_frame(
     ensures passed { IfOk result (λ s. stream.new ≡ passed stream.old used) }
     ensures same { IfErr result (λ e. waiting.new ≡ waiting.old) }
     ensures lacks { IfErr result (λ e. e.reason ≡ NoMemory → (s : answers.ServerFrame) × IsNextServer asked stream.old.count waiting.old (drop 4 stream.old.held) s) }
-    ensures back { IfErr result (λ e. e.reason ≡ NoMemory → (before part : List ℕ) → stream.old.held ≡ before ++ part → length part ≡ used → stream.new ≡ record stream.old { held = before }) }
-    ensures stays { IfErr result (λ e. (e.reason ≡ NoMemory → ⊥) → stream.new ≡ stream.old) }
-    ensures fault { IfErr result (λ e. (e.reason ≡ NoMemory → ⊥) → (v : Conversation) → Describes asked stream.old.count waiting.old v → Tells (IsServerFault v (drop 4 stream.old.held)) e) }
+    ensures back { IfErr result (λ e. e.reason ≡ NoMemory → TakenBack stream.old used stream.new) }
+    ensures stays { IfErr result (λ e. e.reason ≢ NoMemory → stream.new ≡ stream.old) }
+    ensures fault { IfErr result (λ e. e.reason ≢ NoMemory → TellsServer asked stream.old.count waiting.old (drop 4 stream.old.held) e) }
 {
     let seen = next_server(asked, stream.count(), waiting, stream.payload())?;
     match seen.own(alloc) {

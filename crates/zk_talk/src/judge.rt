@@ -7,12 +7,11 @@ ghost use Rattle.zk_answers.specs.Faults.{IsHead};
 ghost use Rattle.zk_answers.specs.Frames as answers;
 ghost use Rattle.zk_waiting.specs.Lane.{lane_of};
 ghost use Rattle.zk_waiting.specs.Waiting.{queue_on};
-ghost use Rattle.zk_talk.specs.declared.limits.Limits.{Limits};
 ghost use Rattle.zk_talk.specs.Payloads.{client_payload, server_payload};
 ghost use Rattle.zk_talk.specs.Conversation.{Conversation, ServerMay};
-ghost use Rattle.zk_talk.specs.Fault.{IsClientFault, IsServerFault};
+ghost use Rattle.zk_talk.specs.Fault.{IsServerFault};
 ghost use Rattle.zk_talk.specs.Describes.{Describes};
-ghost use Rattle.zk_talk.specs.Judged.{Tells, IsInTurn, IsTurnFault, IsPutRefusal, HasRoomFor, IsRemembered, IsDue, HasAsk, IsForgotten};
+ghost use Rattle.zk_talk.specs.Judged.{Tells, TellsClient, TellsServer, IsInTurn, IsTurnFault, IsPutRefusal, HasRoomFor, IsRemembered, IsDue, HasAsk, IsForgotten};
 
 use std::alloc::Global;
 use zk_answers::{
@@ -57,7 +56,7 @@ pub fn next_client<'a>(
     requires { length payload.now < 2 ^ 32 }
     ensures found { IfOk result (λ f. IsInTurn profile count f × IsSent f × (client_payload f ≡ payload.now)) }
     ensures room { IfOk result (λ f. HasRoomFor f waiting.now) }
-    ensures fault { IfErr result (λ e. (e.reason ≢ NoMemory) × ((limits : Limits) (m : ℕ) (v : Conversation) → limits.waiting ≡ waiting.now.max → limits.profile ≡ profile → Describes count m waiting.now v → Tells (IsClientFault limits v payload.now) e)) }
+    ensures fault { IfErr result (λ e. (e.reason ≢ NoMemory) × TellsClient profile count waiting.now payload.now e) }
 {
     let frame = seen_client(profile, count, payload)?;
     if has_room(waiting, &frame) {
@@ -137,7 +136,7 @@ pub fn next_server<'a>(
     ensures due { IfOk result (λ s. IsDue s waiting.now × answers.IsSent s × (server_payload s ≡ payload.now)) }
     ensures turn { IfOk result (λ s. (count ≡ 0 → answers.IsConnected s) × ((count ≡ 0 → ⊥) → answers.IsConnected s → ⊥)) }
     ensures may { IfOk result (λ s. (v : Conversation) → Describes asked count waiting.now v → ServerMay v.client v.server s) }
-    ensures fault { IfErr result (λ e. (e.reason ≢ NoMemory) × ((v : Conversation) → Describes asked count waiting.now v → Tells (IsServerFault v payload.now) e)) }
+    ensures fault { IfErr result (λ e. (e.reason ≢ NoMemory) × TellsServer asked count waiting.now payload.now e) }
 {
     if count == 0 {
         if asked == 0 {

@@ -2,7 +2,7 @@
 ghost use Rattle.std.specs.Prelude.{◌≡◌, ◌≤◌, ◌<◌, ◌+◌, ◌^◌, ◌++◌, ℕ, List, [], length, take, IfOk, MatchOption};
 ghost use Rattle.zk_frames.specs.Framing.{frame, IsBeginning, IsFrame};
 ghost use Rattle.zk_talk.specs.Advance.{IsAdvance};
-ghost use Rattle.zk_talk.specs.Streams.{IsAtFrame, passed, kept_now};
+ghost use Rattle.zk_talk.specs.Streams.{IsAtFrame, TakenBack, passed, kept_now};
 ghost use Rattle.zk_talk.specs.declared.stream.Advance.TheVariants.{Within};
 
 use std::alloc::{AllocError, Global};
@@ -193,7 +193,7 @@ impl Stream {
     /// The last `used` bytes are not taken after all.
     pub fn take_back(&mut self, used: usize)
         requires { IsAtFrame self.old used }
-        ensures { (before part : List ℕ) → self.old.held ≡ before ++ part → length part ≡ used → self.new ≡ record self.old { held = before } }
+        ensures { TakenBack self.old used self.new }
     {
         self.frames.untake(used as u32);
     }

@@ -1,5 +1,5 @@
 //! The conversation, as it comes.
-ghost use Rattle.std.specs.Prelude.{false, ◌≡◌, ◌≢◌, ◌≤◌, ◌<◌, ◌+◌, ◌^◌, ℕ, List, [], length, take, Some, None, Err, IsOk, IfOk, IfErr, IfSome, MatchOption};
+ghost use Rattle.std.specs.Prelude.{false, ◌≡◌, ◌≢◌, ◌≤◌, ◌<◌, ◌+◌, ◌^◌, ℕ, List, [], length, take, Some, None, Err, IsOk, IfOk, IfErr, OnErr, IfSome, MatchOption};
 ghost use Rattle.std.specs.Option.{option_to_list};
 ghost use Rattle.zk_jute.specs.declared.fault.Reason.TheVariants.{NoMemory};
 ghost use Rattle.zk_jute.specs.Reading.{no_memory};
@@ -18,8 +18,8 @@ ghost use Rattle.zk_talk.specs.Refused.{IsRefusedBody};
 ghost use Rattle.zk_records.specs.declared.op.Op.TheVariants as ops;
 ghost use Rattle.zk_answers.specs.declared.layout.Layout.{Layout as Kind};
 ghost use Rattle.zk_answers.specs.declared.layout.Layout.TheVariants as layouts;
-ghost use Rattle.zk_talk.specs.Viewed.{Shows, other_side};
-ghost use Rattle.zk_talk.specs.Taking.{GoesOn, Steps, IsRefused, Fails, given_up};
+ghost use Rattle.zk_talk.specs.Viewed.{Shows, Leaves, other_side};
+ghost use Rattle.zk_talk.specs.Taking.{TakesOn, StepsOn, IsRefused, Fails, given_up};
 
 use crate::frame::{client_frame, client_step, is_no_memory, server_frame, server_step};
 use crate::limits::Limits;
@@ -129,6 +129,7 @@ impl Talk {
     pub fn new(alloc: Global, limits: Limits) -> Result<Self, AllocError>
         ensures limits { IfOk result (λ t. t.limits ≡ limits) }
         ensures stands { IfOk result (λ t. Stands t [] []) }
+        ensures none { IfOk result (λ t. (t.client_kept ≡ []) × (t.server_kept ≡ [])) }
     {
         let client = Stream::new(alloc, limits.client())?;
         let server = Stream::new(alloc, limits.server())?;
@@ -148,9 +149,9 @@ impl Talk {
         requires good { self.old.fault ≡ None }
         requires given_up { self.old.client_kept ≡ [] }
         ensures limits { self.new.limits ≡ self.old.limits }
-        ensures ok { IfOk result (λ t. (t.used ≤ length piece.now) × (0 < length piece.now → 0 < t.used) × GoesOn self.old Client (take t.used piece.now) (option_to_list t.message) self.new) }
+        ensures ok { IfOk result (λ t. TakesOn self.old Client piece.now t.used (option_to_list t.message) self.new) }
         ensures exact { IfOk result (λ t. MatchOption t.message (t.used ≡ length piece.now) (λ m. self.new.client_held ≡ [])) }
-        ensures other { (m : Message) → Shows self.old Server m → Shows self.new Server m }
+        ensures other { Leaves Server self.old self.new }
         ensures err { IfErr result (λ e. Fails self.old Client piece.now e self.new) }
         ensures given_up { self.new.client_kept ≡ [] }
         ensures empty { length piece.now ≡ 0 → IsOk result }
@@ -193,9 +194,9 @@ impl Talk {
         requires good { self.old.fault ≡ None }
         requires given_up { self.old.server_kept ≡ [] }
         ensures limits { self.new.limits ≡ self.old.limits }
-        ensures ok { IfOk result (λ t. (t.used ≤ length piece.now) × (0 < length piece.now → 0 < t.used) × GoesOn self.old Server (take t.used piece.now) (option_to_list t.message) self.new) }
+        ensures ok { IfOk result (λ t. TakesOn self.old Server piece.now t.used (option_to_list t.message) self.new) }
         ensures exact { IfOk result (λ t. MatchOption t.message (t.used ≡ length piece.now) (λ m. self.new.server_held ≡ [])) }
-        ensures other { (m : Message) → Shows self.old Client m → Shows self.new Client m }
+        ensures other { Leaves Client self.old self.new }
         ensures err { IfErr result (λ e. Fails self.old Server piece.now e self.new) }
         ensures given_up { self.new.server_kept ≡ [] }
         ensures empty { length piece.now ≡ 0 → IsOk result }
@@ -232,10 +233,11 @@ impl Talk {
         requires good { self.old.fault ≡ None }
         requires given_up { self.old.client_kept ≡ [] }
         ensures limits { self.new.limits ≡ self.old.limits }
-        ensures ok { IfOk result (λ s. (s.used ≤ length piece.now) × (0 < length piece.now → 0 < s.used) × Steps self.old Client (take s.used piece.now) s.whole self.new) }
+        ensures ok { IfOk result (λ s. StepsOn self.old Client piece.now s.used s.whole self.new) }
         ensures exact { IfOk result (λ s. s.whole ≡ false → s.used ≡ length piece.now) }
-        ensures other { (m : Message) → Shows self.old Server m → Shows self.new Server m }
+        ensures other { Leaves Server self.old self.new }
         ensures err { IfErr result (λ e. (e.reason ≢ NoMemory) × IsRefused self.old Client piece.now e self.new) }
+        ensures none { OnErr result (self.new.client_kept ≡ []) }
     {
         match self.client.take(piece) {
             Advance::Within => {
@@ -266,10 +268,11 @@ impl Talk {
         requires good { self.old.fault ≡ None }
         requires given_up { self.old.server_kept ≡ [] }
         ensures limits { self.new.limits ≡ self.old.limits }
-        ensures ok { IfOk result (λ s. (s.used ≤ length piece.now) × (0 < length piece.now → 0 < s.used) × Steps self.old Server (take s.used piece.now) s.whole self.new) }
+        ensures ok { IfOk result (λ s. StepsOn self.old Server piece.now s.used s.whole self.new) }
         ensures exact { IfOk result (λ s. s.whole ≡ false → s.used ≡ length piece.now) }
-        ensures other { (m : Message) → Shows self.old Client m → Shows self.new Client m }
+        ensures other { Leaves Client self.old self.new }
         ensures err { IfErr result (λ e. (e.reason ≢ NoMemory) × IsRefused self.old Server piece.now e self.new) }
+        ensures none { OnErr result (self.new.server_kept ≡ []) }
     {
         match self.server.take(piece) {
             Advance::Within => {
@@ -319,13 +322,15 @@ impl Talk {
     pub fn step(&mut self, side: Side, piece: &[u8]) -> Result<Stepped, Fault>
         ensures limits { self.new.limits ≡ self.old.limits }
         // What is used goes on with the history; a frame that it makes whole is the newest message's.
-        ensures ok { IfOk result (λ s. (s.used ≤ length piece.now) × (0 < length piece.now → 0 < s.used) × Steps self.old side (take s.used piece.now) s.whole self.new) }
+        ensures ok { IfOk result (λ s. StepsOn self.old side piece.now s.used s.whole self.new) }
         // With no whole frame all was used.
         ensures exact { IfOk result (λ s. s.whole ≡ false → s.used ≡ length piece.now) }
-        // What the other side's frame shows it goes on to show.
-        ensures other { (m : Message) → Shows self.old (other_side side) m → Shows self.new (other_side side) m }
+        // The other side's frame stays as it is, and shows what it shows.
+        ensures other { Leaves (other_side side) self.old self.new }
         // A refusal is the history's fault, and never want of memory.
         ensures err { IfErr result (λ e. (e.reason ≢ NoMemory) × IsRefused self.old side piece.now e self.new) }
+        // A refused side keeps nothing.
+        ensures none { OnErr result (kept_on side self.new ≡ []) }
         // A fault is kept.
         ensures kept { (f : Fault) → self.old.fault ≡ Some f → (result ≡ Err f) × (self.new ≡ given_up side self.old) }
     {
@@ -349,14 +354,14 @@ impl Talk {
     pub fn take(&mut self, side: Side, piece: &[u8]) -> Result<Taken, Fault>
         ensures limits { self.new.limits ≡ self.old.limits }
         // What is used goes on with the history, and what it makes whole is the newest message.
-        ensures ok { IfOk result (λ t. (t.used ≤ length piece.now) × (0 < length piece.now → 0 < t.used) × GoesOn self.old side (take t.used piece.now) (option_to_list t.message) self.new) }
+        ensures ok { IfOk result (λ t. TakesOn self.old side piece.now t.used (option_to_list t.message) self.new) }
         // With no message all was used, and with one nothing past its frame.
         ensures exact { IfOk result (λ t. MatchOption t.message (t.used ≡ length piece.now) (λ m. held_on side self.new ≡ [])) }
         // Want of memory stands for a message and changes nothing; another refusal is the history's fault.
         ensures err { IfErr result (λ e. Fails self.old side piece.now e self.new) }
-        // What a step kept on the side is given up, and the other side's frame goes on to show what it shows.
+        // What a step kept on the side is given up; the other side's frame stays as it is, and shows what it shows.
         ensures given_up { kept_on side self.new ≡ [] }
-        ensures other { (m : Message) → Shows self.old (other_side side) m → Shows self.new (other_side side) m }
+        ensures other { Leaves (other_side side) self.old self.new }
         // No memory is wanted of an empty piece.
         ensures empty { length piece.now ≡ 0 → self.old.fault ≡ None → IsOk result }
         // A fault is kept.

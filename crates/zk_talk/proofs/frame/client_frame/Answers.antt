@@ -1,6 +1,4 @@
-use Rattle.std.proofs.Common.{◌≡◌, subst, sym, length, ap, ◌∙◌, arith}
-use Rattle.zk_jute.specs.declared.fault.Reason.TheVariants.{NoMemory}
-use Rattle.zk_talk.specs.Judged.{IsNextClient, IsRemembered}
+use Rattle.std.proofs.Common.{◌≡◌, length, ap, arith}
 use Rattle.std.proofs.lemmas.Result.{err_from_is_err_and}
 use Rattle.zk_talk.proofs.Seen.{payload_small, client_seen, client_told}
 use Rattle.zk_talk.proofs.frame.client_frame.Goals as goal

@@ -3,7 +3,6 @@ use Rattle.zk_frames.specs.Framing.{frame}
 use Rattle.zk_talk.specs.Streams.{StreamState}
 use Rattle.zk_talk.specs.Viewed.{ShowsClient}
 use Rattle.zk_talk.proofs.Viewing.{client_shown}
-use Rattle.zk_talk.specs.Payloads.{client_payload}
 use Rattle.std.proofs.lemmas.Result.{err_from_is_err_and}
 use Rattle.zk_talk.proofs.Seen.{payload_small, client_seen, client_told}
 use Rattle.zk_talk.proofs.frame.client_step.Goals as goal
@@ -27,7 +26,9 @@ returns-clause-found c =
     let old = c.args.stream.now in
     let shows = client_shown c.count.result old.held f c.args.profile k.found.0 k.found.1 (c.payload.ensures ∙ ap frame (sym k.found.2)) in (
       f,
-      client_seen old c.args.used c.count.result c.requires c.payload.result.now c.payload.ensures c.count.ensures c.args.waiting.now c.args.profile f k.found.0 k.found.1 k.found.2 k.room,
-      c.await_reply.ensures.waits,
-      subst (λ (z : StreamState). ShowsClient z.count z.kept f) (sym c.keep.ensures) (subst (λ n. ShowsClient (n + 1) old.held f) c.count.ensures shows),
+      (
+        client_seen old c.args.used c.count.result c.requires c.payload.result.now c.payload.ensures c.count.ensures c.args.waiting.now c.args.profile f k.found.0 k.found.1 k.found.2 k.room,
+        c.await_reply.ensures.waits,
+        subst (λ (z : StreamState). ShowsClient z.count z.kept f) (sym c.keep.ensures) (subst (λ n. ShowsClient (n + 1) old.held f) c.count.ensures shows),
+      ),
     )

@@ -20,7 +20,9 @@ returns-clause-found c =
     let shows = server_shown c.count.result old.held s c.args.waiting.now k.due.0 k.turn k.due.1 (c.payload.ensures ∙ ap frame (sym k.due.2)) in
     let counted = subst (λ n. ShowsServer (n + 1) c.answered-answered.result old.held s) c.count.ensures (subst (λ op. ShowsServer (c.count.result + 1) op old.held s) (sym c.answered-answered.ensures) shows) in (
       s,
-      server_seen old c.args.used c.count.result c.requires c.payload.result.now c.payload.ensures c.count.ensures c.args.waiting.now c.args.asked s k.due.0 k.due.2 k.may,
-      c.forget_seen.ensures.forgotten,
-      subst (λ (z : StreamState). ShowsServer z.count c.answered-answered.result z.kept s) (sym c.keep.ensures) counted,
+      (
+        server_seen old c.args.used c.count.result c.requires c.payload.result.now c.payload.ensures c.count.ensures c.args.waiting.now c.args.asked s k.due.0 k.due.2 k.may,
+        c.forget_seen.ensures.forgotten,
+        subst (λ (z : StreamState). ShowsServer z.count c.answered-answered.result z.kept s) (sym c.keep.ensures) counted,
+      ),
     )

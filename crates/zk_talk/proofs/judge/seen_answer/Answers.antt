@@ -1,4 +1,4 @@
-use Rattle.std.proofs.Common.{rules, w32, sym, ap, ◌∙◌, subst, FitsSigned, arith, ◌≡◌, ◌≢◌, Some, None, inr}
+use Rattle.std.proofs.Common.{rules, w32, sym, ap, ◌∙◌, subst, FitsSigned, arith, ◌≡◌, ◌≢◌, Some, None}
 use Rattle.std.specs.Prelude.{slice_get}
 use Rattle.std.proofs.lemmas.Int.{to_z-of_z, ints}
 use Rattle.std.proofs.lemmas.Result.{IfErr-weaker, IfOk-weaker}

@@ -1,4 +1,4 @@
-use Rattle.std.proofs.Common.{w32, FitsSigned, arith, ◌≡◌, ◌≢◌, negsuc, pos}
+use Rattle.std.proofs.Common.{w32, FitsSigned, arith, ◌≡◌, ◌≢◌, pos}
 use Rattle.std.proofs.lemmas.Int.{to_z-of_z, ints}
 use Rattle.zk_asks.specs.Codes.{event_xid}
 use Rattle.zk_talk.proofs.Bodies as B

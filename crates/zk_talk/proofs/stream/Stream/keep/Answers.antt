@@ -1,4 +1,4 @@
-use Rattle.std.proofs.Common.{sym, subst, true, [], ◌+◌}
+use Rattle.std.proofs.Common.{sym, subst, [], ◌+◌}
 use Rattle.zk_frames.specs.Framing.{IsFrame}
 use Rattle.zk_talk.specs.Streams.{StreamState}
 use Rattle.zk_talk.proofs.Kept.{none_kept, held_all}

@@ -1,5 +1,5 @@
 use Rattle.std.proofs.Common.{sym, ◌∙◌, subst}
-use Rattle.zk_frames.specs.Framing.{frame, IsFrame}
+use Rattle.zk_frames.specs.Framing.{IsFrame}
 use Rattle.zk_talk.specs.Streams.{StreamState}
 use Rattle.zk_talk.proofs.Kept.{none_kept, held_all}
 use Rattle.zk_talk.proofs.stream.Stream.payload.Goals as goal

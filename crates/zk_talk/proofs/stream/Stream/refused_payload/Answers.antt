@@ -1,4 +1,4 @@
-use Rattle.std.proofs.Common.{◌≡◌, ◌∙◌, sym, ap, subst, length, arith, false, true}
+use Rattle.std.proofs.Common.{◌≡◌, ◌∙◌, sym, ap, subst, length, arith, false}
 use Rattle.std.proofs.lemmas.Bool.{false≢true}
 use Rattle.zk_frames.specs.Framing.{IsFrame}
 use Rattle.zk_talk.proofs.Bodies.{frame_once}

@@ -1,4 +1,4 @@
-use Rattle.std.proofs.Common.{◌≡◌, sym, ap, subst, [], ◌∙◌}
+use Rattle.std.proofs.Common.{◌≡◌, sym, subst, [], ◌∙◌}
 use Rattle.std.proofs.lemmas.Bool.{false≢true}
 use Rattle.zk_frames.specs.Framing.{IsBeginning}
 use Rattle.zk_talk.specs.Advance.{IsAdvance}

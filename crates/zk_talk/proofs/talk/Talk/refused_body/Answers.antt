@@ -1,4 +1,4 @@
-use Rattle.std.proofs.Common.{◌≡◌, ◌∙◌, sym, ap, subst, length, Some, Bor, MatchOption, List, ℕ}
+use Rattle.std.proofs.Common.{◌≡◌, ◌∙◌, sym, ap, subst, length, MatchOption, List, ℕ}
 use Rattle.zk_answers.specs.declared.layout.Layout.{Layout}
 use Rattle.zk_frames.specs.Framing.{frame}
 use Rattle.zk_talk.specs.contracts.talk.Talk.{the_view}

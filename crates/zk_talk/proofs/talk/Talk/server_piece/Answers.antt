@@ -1,4 +1,4 @@
-use Rattle.std.proofs.Common.{◌≡◌, ◌∙◌, [], inr, drop, sym, subst, arith}
+use Rattle.std.proofs.Common.{◌≡◌, [], inr, drop, sym, subst, arith}
 use Rattle.zk_talk.specs.contracts.talk.Talk.{the_view}
 use Rattle.zk_talk.specs.declared.stream.Advance.TheVariants.{Within, Whole, Refused}
 use Rattle.zk_talk.specs.Advance.{IsAdvance}

@@ -25,7 +25,7 @@ returns-in-Ok-clause-ok c =
     let f = c.in-Ok.ensures.found in
     let t = c.in-Whole.ensures in
     let a = subst (λ z. IsAdvance z T.client_size T.client_held c.args.piece.now (Whole c.in-Whole.used) s.held) c.self.invariant.0.same t.advance in
-    rw (← c.self.view_is) (a.1, (λ l. a.0), client_keeps T c.args.piece.now s c.client_step.new.stream t.stays c.in-Whole.used f.0 c.client_step.new.waiting a c.self.invariant.2 (subst (λ z. IsNextClient z s.count T.waiting (drop 4 s.held) f.0) c.profile-profile.ensures f.1, f.2) f.3 c.in-Ok.ensures.kept)
+    rw (← c.self.view_is) (a.1, (λ l. a.0), client_keeps T c.args.piece.now s c.client_step.new.stream t.stays c.in-Whole.used f.0 c.client_step.new.waiting a c.self.invariant.2 (subst (λ z. IsNextClient z s.count T.waiting (drop 4 s.held) f.0) c.profile-profile.ensures f.1.0, f.1.1) f.1.2 c.in-Ok.ensures.kept)
 
 pub returns-in-Err-clause-err : goal.returns-in-Err-clause-err
 returns-in-Err-clause-err c =
