@@ -6,6 +6,7 @@ pub mod Numbers
 pub mod Flags
 pub mod Many
 pub mod Looks
+pub mod Lanes
 pub mod Texts
 pub mod Blobs
 pub mod Codes

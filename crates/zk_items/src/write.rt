@@ -1,13 +1,13 @@
 //! The items of a line, written.
-ghost use Rattle.std.specs.Prelude.{◌≡◌, ◌++◌, OnOk, false};
-ghost use Rattle.std.specs.Fmt.{signed_decimal};
+ghost use Rattle.std.specs.Prelude.{◌≡◌, ◌<◌, ◌++◌, OnOk, false};
+ghost use Rattle.std.specs.Fmt.{decimal, signed_decimal};
 ghost use Rattle.std.specs.List.{flat_map};
 ghost use Rattle.zk_jute.specs.declared.value.Nullable.TheVariants as nullable;
 ghost use Rattle.zk_items.specs.Form.{Keeps};
 ghost use Rattle.zk_items.specs.Leaf.{int, long, is_plain, text_fits, text_spell, blob_fits, blob_spell, symbol_spell, bit_spell, ro_spell};
-ghost use Rattle.hex.specs.Hex.{encode_lower};
 ghost use Rattle.zk_items.specs.Words.{word_of};
 
+use crate::digits::put_digits;
 use crate::plain::plain_len;
 use crate::symbol::{hex_digit, is_plain};
 use crate::word::{Word, word_bytes};
@@ -24,13 +24,26 @@ pub fn put_word(out: &mut Vec<u8>, word: Word) -> Result<(), AllocError>
     out.extend_from_slice(word_bytes(word))
 }
 
+/// Appends a number of one digit: most numbers of a Stat are such.
+#[tactic(auto, using(std::proofs::lemmas::Fmt::decimal_digit))]
+fn put_digit(out: &mut Vec<u8>, digit: u8) -> Result<(), AllocError>
+    requires { digit < 10 }
+    ensures spelled { OnOk result (out.new.items ≡ out.old.items ++ decimal digit) }
+    ensures keeps { Keeps out.old.items out.new.items }
+{
+    Ok(out.push(b'0' + digit)?)
+}
+
 /// Appends an int.
 pub fn put_int(out: &mut Vec<u8>, n: i32) -> Result<(), AllocError>
     ensures spelled { OnOk result (out.new.items ≡ out.old.items ++ signed_decimal n) }
     ensures fits { OnOk result (int.fits n) }
     ensures keeps { Keeps out.old.items out.new.items }
 {
-    out.extend_from_slice(Buffer::new().format(n).as_bytes())
+    match u8::try_from(n) {
+        Ok(digit @ 0..=9) => put_digit(out, digit),
+        _ => out.extend_from_slice(Buffer::new().format(n).as_bytes()),
+    }
 }
 
 /// Appends a long.
@@ -39,7 +52,10 @@ pub fn put_long(out: &mut Vec<u8>, n: i64) -> Result<(), AllocError>
     ensures fits { OnOk result (long.fits n) }
     ensures keeps { Keeps out.old.items out.new.items }
 {
-    out.extend_from_slice(Buffer::new().format(n).as_bytes())
+    match u8::try_from(n) {
+        Ok(digit @ 0..=9) => put_digit(out, digit),
+        _ => out.extend_from_slice(Buffer::new().format(n).as_bytes()),
+    }
 }
 
 /// Appends a bit: `0` or `1`.
@@ -93,20 +109,6 @@ fn put_bytes(out: &mut Vec<u8>, bytes: &[u8]) -> Result<(), AllocError>
 {
     out.extend_from_slice(b"#")?;
     put_digits(out, bytes)
-}
-
-/// Appends two lower-case digits for each byte.
-fn put_digits(out: &mut Vec<u8>, bytes: &[u8]) -> Result<(), AllocError>
-    ensures spelled { OnOk result (out.new.items ≡ out.old.items ++ encode_lower bytes.now) }
-    ensures keeps { Keeps out.old.items out.new.items }
-{
-    let start = out.len();
-    let room = bytes.len().saturating_mul(2);
-    out.resize(start.saturating_add(room), 0)?;
-    match hex::encode_to_slice(bytes, &mut out[start..]) {
-        Ok(()) => Ok(()),
-        Err(_) => Err(AllocError),
-    }
 }
 
 /// Appends a byte that doesn't stand for itself.
