@@ -1,17 +1,24 @@
 #!/usr/bin/env python3
-"""Runs the proved program over the worked examples, with each growth of memory refused in turn.
+"""Runs the proved program and the library's calls over the worked examples, with each growth of memory refused in turn.
 
-    refusals.py [--jobs N] [--only WORD] [--program PATH]
+    refusals.py [--jobs N] [--only WORD] [--program PATH] [--tests PATH]
 
 tests/refuse.c, which a C compiler makes a library of, stands in the place of the C library's malloc and realloc, which
 are all that a program asks for memory by, and refuses the Nth call of a run. For each worked example (docs/EXAMPLES.md)
-and N counting up from 1 until a run meets no refusal, over the stored cases of show, check and build, and `build` over
-the listings of those of show, the run does what it does with ample memory; or it ends with status 3, `zkdump: out of
-memory` on standard error, and a front of the output that it has with ample memory.
+and N counting up from 1 until a run meets no refusal
 
-The program is crates/zkdump/out/zkdump where no other is named; `./test` leaves it there, and so does `./zkdump`. It
-prints the runs that do otherwise and one last line. The status is 0 where none does. Where there is no C compiler it
-says so, and runs nothing.
+- show, check, build: over the stored cases, and `build` over the listings of those of show, too, the run does what it
+  does with ample memory; or it ends with status 3, `zkdump: out of memory` on standard error, and a front of the output
+  that it has with ample memory;
+- calls: over the recordings of the first format that check is stored with, a test of the library
+  (crates/talk_tests/src/growth.rt) passes, with the example on its standard input: each call of read_all, Talk::new,
+  Talk::take, Speaker::new, Speaker::say, MessageRef::to_message, line_of, line_of_ref, read_line and ending_line that
+  answers want of memory answers, when it is called again, as it does with ample memory; and Talk::step and Talk::view,
+  which are called once, never want any.
+
+The program is crates/zkdump/out/zkdump, and the tests are crates/talk_tests/out/talk_tests_tests, where no others are
+named; `./test` leaves both there, and so do `./zkdump` and, in crates/talk_tests, `rt test`. It prints the runs that do
+otherwise and one last line. The status is 0 where none does. Where there is no C compiler it says so, and runs nothing.
 """
 
 import argparse
@@ -27,7 +34,9 @@ import time
 from program import BUILT, TOP, Program
 
 CASES = TOP / "crates" / "zkdump" / "cases"
-KINDS = ("show", "check", "build")
+TESTS = TOP / "crates" / "talk_tests" / "out" / "talk_tests_tests"
+CALLS = "growth::asked_again"
+KINDS = ("show", "check", "build", "calls")
 OUT_OF_MEMORY = b"zkdump: out of memory\n"
 
 
@@ -49,12 +58,12 @@ class Refusing(Program):
         return found, os.fstat(self.note.fileno()).st_size > 0
 
 
-def is_right(found, ample):
+def is_right(found, ample, kind):
     """Whether a run of which a growth was refused gave what it may."""
     if found == ample:
         return True
     output, errors, status = found
-    return (errors, status) == (OUT_OF_MEMORY, 3) and ample[0].startswith(output)
+    return kind != "calls" and (errors, status) == (OUT_OF_MEMORY, 3) and ample[0].startswith(output)
 
 
 def test(task):
@@ -63,12 +72,14 @@ def test(task):
     program = Refusing(path, library)
     ample = program.run(words, data)
     failures, growth = [], 0
+    if kind == "calls" and ample[2] != 0:
+        failures.append(f"{kind} {name}: with ample memory: {ample}")
     while True:
         growth += 1
         found, was_refused = program.run_without(growth, words, data)
         if not was_refused:
             break
-        if not is_right(found, ample):
+        if not is_right(found, ample, kind):
             failures.append(f"{kind} {name}: without growth {growth}: {found}, with it {ample}")
     if found != ample:
         failures.append(f"{kind} {name}: with no growth refused: {found}, and again {ample}")
@@ -90,6 +101,9 @@ def runs():
         words = ["build", *args.read_text().splitlines()[1:]]
         if content(args.with_suffix(".out")):
             yield "build", f"show/{args.stem}", words, content(args.with_suffix(".out"))
+    for args in sorted((CASES / "check").glob("*.args")):
+        if content(args.with_suffix(".in")).startswith(b"ZKR1"):
+            yield "calls", args.stem, [CALLS], content(args.with_suffix(".in"))
 
 
 def compiled(folder):
@@ -104,20 +118,24 @@ def compiled(folder):
 
 
 def main():
-    parser = argparse.ArgumentParser(description="Each growth refused in turn, over the proved program.")
+    parser = argparse.ArgumentParser(description="Each growth refused in turn, over the proved program and tests.")
     parser.add_argument("--jobs", type=int, default=os.cpu_count() or 1)
     parser.add_argument("--only", choices=KINDS)
     parser.add_argument("--program", default=str(BUILT))
+    parser.add_argument("--tests", default=str(TESTS))
     options = parser.parse_args()
-    if not os.access(options.program, os.X_OK):
-        parser.error(f"{options.program} is no program; ./zkdump builds it")
+    programs = [(options.program, "./zkdump")] if options.only != "calls" else []
+    programs += [(options.tests, "rt test, in crates/talk_tests,")] if options.only in (None, "calls") else []
+    for path, made in programs:
+        if not os.access(path, os.X_OK):
+            parser.error(f"{path} is no program; {made} builds it")
     passed, failures, begin = 0, [], time.monotonic()
     with tempfile.TemporaryDirectory() as folder, concurrent.futures.ProcessPoolExecutor(options.jobs) as pool:
         library = compiled(folder)
         if library is None:
             print("skipped: there is no C compiler for tests/refuse.c\n0 passed, 0 failed")
             return 0
-        tasks = [(options.program, library, *one) for one in runs()]
+        tasks = [(options.tests if one[0] == "calls" else options.program, library, *one) for one in runs()]
         for good, bad in pool.map(test, [task for task in tasks if options.only in (None, task[2])]):
             passed, failures = passed + good, failures + bad
     print("\n".join(failures[:50]), end="\n" if failures else "")

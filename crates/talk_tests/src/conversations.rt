@@ -9,25 +9,25 @@ use zk_lines::line_of;
 use zk_records::op_name;
 use zk_talk::{Ending, Fault, Limits, Message, Side, Talk, read_all};
 
-pub const CONNECT: &[u8] =
+pub(crate) const CONNECT: &[u8] =
     b"\0\0\0-\0\0\0\0\0\0\0\0\0\0\0\0\0\0u0\0\0\0\0\0\0\0\0\0\0\0\x10\0\0\0\0\0\0\0\0\0\0\0\0\0\0\0\0\0";
 
-pub const CONNECTED: &[u8] =
+pub(crate) const CONNECTED: &[u8] =
     b"\0\0\0%\0\0\0\0\0\0u0\x01\0\0\0\0\0\0\x01\0\0\0\x10\0\x01\x02\x03\x04\x05\x06\x07\x08\x09\x0a\x0b\x0c\x0d\x0e\x0f\0";
 
-pub const EXISTS: &[u8] = b"\0\0\0\x0f\0\0\0\x01\0\0\0\x03\0\0\0\x02/a\x01";
+pub(crate) const EXISTS: &[u8] = b"\0\0\0\x0f\0\0\0\x01\0\0\0\x03\0\0\0\x02/a\x01";
 
-pub const NO_NODE: &[u8] = b"\0\0\0\x10\0\0\0\x01\0\0\0\0\0\0\0\x05\xff\xff\xff\x9b";
+pub(crate) const NO_NODE: &[u8] = b"\0\0\0\x10\0\0\0\x01\0\0\0\0\0\0\0\x05\xff\xff\xff\x9b";
 
-pub fn usual() -> Result<Limits, Fail> {
+pub(crate) fn usual() -> Result<Limits, Fail> {
     limits(4_194_304, 65_536)
 }
 
-pub fn limits(frame: u32, waiting: u32) -> Result<Limits, Fail> {
+pub(crate) fn limits(frame: u32, waiting: u32) -> Result<Limits, Fail> {
     Ok(Limits::new(frame, frame, waiting).ok_or("no limits")?)
 }
 
-pub fn refused(side: Side, frame: u64, offset: u64, place: u32, reason: Reason) -> Ending {
+pub(crate) fn refused(side: Side, frame: u64, offset: u64, place: u32, reason: Reason) -> Ending {
     Ending::Refused(Fault {
         side,
         frame,
@@ -98,7 +98,7 @@ fn labelled(
 
 /// The pieces are read as these messages, and end so; judged step by step each frame shows the same
 /// message, and they end likewise.
-pub fn reads(
+pub(crate) fn reads(
     rt: &impl Abort,
     alloc: Global,
     limits: Limits,
@@ -116,17 +116,27 @@ pub fn reads(
 }
 
 /// A conversation: its pieces, the messages that they are read as, and the ending.
-pub type Row = (
+pub(crate) type Row = (
     &'static [(Side, &'static [u8])],
     &'static [&'static str],
     Ending,
 );
 
-pub fn row_read(rt: &impl Abort, alloc: Global, limits: Limits, row: &Row) -> Result<(), Fail> {
+pub(crate) fn row_read(
+    rt: &impl Abort,
+    alloc: Global,
+    limits: Limits,
+    row: &Row,
+) -> Result<(), Fail> {
     reads(rt, alloc, limits, row.0, row.1, row.2)
 }
 
-pub fn all_read(rt: &impl Abort, alloc: Global, limits: Limits, rows: &[Row]) -> Result<(), Fail> {
+pub(crate) fn all_read(
+    rt: &impl Abort,
+    alloc: Global,
+    limits: Limits,
+    rows: &[Row],
+) -> Result<(), Fail> {
     for row in rows {
         row_read(rt, alloc, limits, row)?;
     }
@@ -427,7 +437,7 @@ fn held_and_waiting(rt: HostRuntime) -> Result<(), Fail> {
 }
 
 /// How much of the piece a step uses, and whether a frame is whole.
-fn steps(talk: &mut Talk, side: Side, piece: &[u8]) -> Option<(usize, bool)> {
+pub(crate) fn steps(talk: &mut Talk, side: Side, piece: &[u8]) -> Option<(usize, bool)> {
     match talk.step(side, piece) {
         Ok(stepped) => Some((stepped.used, stepped.whole)),
         Err(_) => None,

@@ -6,6 +6,8 @@ mod conversations;
 #[cfg(test)]
 mod earliest;
 #[cfg(test)]
+mod growth;
+#[cfg(test)]
 mod library;
 #[cfg(test)]
 mod lines;

@@ -16,7 +16,7 @@ const CREATED2: &[u8] =
 /// The reply to a create: the path alone.
 const CREATED: &[u8] = b"\0\0\0\x16\0\0\0\x01\0\0\0\0\0\0\0\x06\0\0\0\0\0\0\0\x02/a";
 
-fn newer() -> Result<Limits, Fail> {
+pub(crate) fn newer() -> Result<Limits, Fail> {
     Ok(usual()?.with_profile(Profile::V35))
 }
 

@@ -4,7 +4,7 @@ use zk_lines::LineReason;
 
 /// Lines of messages: all kinds, and one of each shape that clients of four languages and their
 /// servers were recorded with.
-pub const LINES: [&[u8]; 74] = [
+pub(crate) const LINES: [&[u8]; 74] = [
     b"C connect version=0 zxid=0 timeout=30000 session=0 passwd=#00000000000000000000000000000000 ro=0",
     b"S connect version=0 timeout=30000 session=72057594037927937 passwd=#000102030405060708090a0b0c0d0e0f ro=0",
     b"C connect version=0 zxid=0 timeout=30000 session=0 passwd=#00000000000000000000000000000000 ro=-",
@@ -82,7 +82,7 @@ pub const LINES: [&[u8]; 74] = [
 ];
 
 /// Lines that are refused: the column, and why.
-pub const FAULTS: [(&[u8], u32, LineReason); 53] = [
+pub(crate) const FAULTS: [(&[u8], u32, LineReason); 53] = [
     (b"", 1, LineReason::Word),
     (b"C", 1, LineReason::Word),
     (b"x", 1, LineReason::Word),

@@ -1,0 +1,372 @@
+//! The library's calls where a growth is refused: what then wants memory is called again, and answers as with ample
+//! memory, and a step wants none. tests/refusals.py runs the test over each worked example, which stands on its
+//! standard input, and refuses one growth a run; with no input it goes over the first example that has a reply.
+use crate::conversations::{CONNECT, CONNECTED, EXISTS, NO_NODE, steps};
+use crate::profiles::newer;
+use std::alloc::{AllocError, Global};
+use std::io::Read;
+use std::process::Abort;
+use std::test::Fail;
+use zk_jute::Reason;
+use zk_lines::{LineFault, LineReason, ending_line, line_of, line_of_ref, read_line};
+use zk_talk::{
+    Ended, Ending, Fault, Limits, Message, MessageRef, SayFault, Side, Speaker, Taken, Talk,
+    read_all,
+};
+
+fn talk(alloc: Global, limits: Limits) -> Result<Talk, AllocError> {
+    match Talk::new(alloc, limits) {
+        Ok(talk) => Ok(talk),
+        Err(_) => Talk::new(alloc, limits),
+    }
+}
+
+fn speaker(alloc: Global, limits: Limits) -> Result<Speaker, AllocError> {
+    match Speaker::new(alloc, limits) {
+        Ok(speaker) => Ok(speaker),
+        Err(_) => Speaker::new(alloc, limits),
+    }
+}
+
+fn taken(talk: &mut Talk, side: Side, piece: &[u8]) -> Result<Taken, Fault> {
+    match talk.take(side, piece) {
+        Err(fault) if fault.reason == Reason::NoMemory => talk.take(side, piece),
+        answer => answer,
+    }
+}
+
+fn said(speaker: &mut Speaker, message: &Message, out: &mut Vec<u8>) -> Result<(), SayFault> {
+    match speaker.say(message, out) {
+        Err(SayFault::NoMemory) => speaker.say(message, out),
+        answer => answer,
+    }
+}
+
+fn line(alloc: Global, message: &Message) -> Result<Vec<u8>, AllocError> {
+    match line_of(alloc, message) {
+        Ok(line) => Ok(line),
+        Err(_) => line_of(alloc, message),
+    }
+}
+
+fn line_seen(alloc: Global, message: &MessageRef<'_>) -> Result<Vec<u8>, AllocError> {
+    match line_of_ref(alloc, message) {
+        Ok(line) => Ok(line),
+        Err(_) => line_of_ref(alloc, message),
+    }
+}
+
+fn copied(alloc: Global, message: &MessageRef<'_>) -> Result<Message, AllocError> {
+    match message.to_message(alloc) {
+        Ok(copy) => Ok(copy),
+        Err(_) => message.to_message(alloc),
+    }
+}
+
+fn message(alloc: Global, line: &[u8]) -> Result<Message, LineFault> {
+    match read_line(alloc, line) {
+        Err(fault) if fault.reason == LineReason::NoMemory => read_line(alloc, line),
+        answer => answer,
+    }
+}
+
+fn last_line(alloc: Global, ending: &Ending) -> Result<Vec<u8>, AllocError> {
+    match ending_line(alloc, ending) {
+        Ok(line) => Ok(line),
+        Err(_) => ending_line(alloc, ending),
+    }
+}
+
+fn all(alloc: Global, limits: Limits, pieces: &[(Side, &[u8])]) -> Result<Ended, AllocError> {
+    match read_all(alloc, limits, pieces) {
+        Ok(ended) => Ok(ended),
+        Err(_) => read_all(alloc, limits, pieces),
+    }
+}
+
+fn append(lines: &mut Vec<u8>, bytes: &[u8]) -> Result<(), AllocError> {
+    match lines.extend_from_slice(bytes) {
+        Ok(()) => Ok(()),
+        Err(_) => lines.extend_from_slice(bytes),
+    }
+}
+
+/// The line of a copy of the message.
+fn copied_line(alloc: Global, message: &MessageRef<'_>) -> Result<Vec<u8>, AllocError> {
+    let copy = copied(alloc, message)?;
+    line(alloc, &copy)
+}
+
+/// The line of the message that a line is read as; none of what is no line.
+fn line_again(alloc: Global, shown: &[u8]) -> Result<Vec<u8>, AllocError> {
+    match message(alloc, shown) {
+        Ok(message) => line(alloc, &message),
+        Err(_) => Ok(Vec::new(alloc)),
+    }
+}
+
+/// A conversation that is read by `take` and by `step`, and said again.
+#[derive(Drop)]
+struct Reading {
+    taking: Talk,
+    stepping: Talk,
+    speaker: Speaker,
+}
+
+fn begun(alloc: Global, limits: Limits) -> Result<Reading, AllocError> {
+    Ok(Reading {
+        taking: talk(alloc, limits)?,
+        stepping: talk(alloc, limits)?,
+        speaker: speaker(alloc, limits)?,
+    })
+}
+
+/// The bytes that were said, and the lines of the messages.
+#[derive(Drop)]
+struct Told {
+    bytes: Vec<u8>,
+    lines: Vec<u8>,
+}
+
+/// The message's line, once it is said.
+fn said_line(
+    alloc: Global,
+    speaker: &mut Speaker,
+    message: &Message,
+    out: &mut Vec<u8>,
+) -> Result<Vec<u8>, Fail> {
+    said(speaker, message, out)?;
+    Ok(line(alloc, message)?)
+}
+
+/// The same of what was taken: where no message came, an empty line.
+fn taken_line(
+    alloc: Global,
+    speaker: &mut Speaker,
+    message: Option<Message>,
+    out: &mut Vec<u8>,
+) -> Result<Vec<u8>, Fail> {
+    match message {
+        Some(message) => said_line(alloc, speaker, &message, out),
+        None => Ok(Vec::new(alloc)),
+    }
+}
+
+/// The side shows the message of this line, which is read as the same message.
+fn shows(
+    rt: &impl Abort,
+    alloc: Global,
+    message: &MessageRef<'_>,
+    line: &[u8],
+) -> Result<(), Fail> {
+    let seen = line_seen(alloc, message)?;
+    assert_eq!(rt; seen.as_slice(), line);
+    let copied = copied_line(alloc, message)?;
+    assert_eq!(rt; copied.as_slice(), line);
+    let again = line_again(alloc, line)?;
+    assert_eq!(rt; again.as_slice(), line);
+    Ok(())
+}
+
+/// A step uses as much as was taken, and its frame shows the message of this line; with no line it
+/// made no frame whole.
+fn steps_too(
+    rt: &impl Abort,
+    alloc: Global,
+    talk: &mut Talk,
+    side: Side,
+    piece: &[u8],
+    took: (usize, &[u8]),
+) -> Result<(), Fail> {
+    let (used, line) = took;
+    assert_eq!(rt; steps(talk, side, piece), Some((used, line.len() > 0)));
+    match talk.view(side) {
+        Some(message) => shows(rt, alloc, &message, line),
+        None => {
+            assert_eq!(rt; line.len(), 0);
+            Ok(())
+        }
+    }
+}
+
+/// A step is refused for the same.
+fn refused_too(rt: &impl Abort, talk: &mut Talk, side: Side, piece: &[u8], fault: Fault) {
+    let refused = match talk.step(side, piece) {
+        Ok(_) => None,
+        Err(fault) => Some(fault),
+    };
+    assert_eq!(rt; refused, Some(fault));
+}
+
+/// What was taken is said, stepped through, and its line told; how much it used.
+fn heard(
+    rt: &impl Abort,
+    alloc: Global,
+    reading: &mut Reading,
+    told: &mut Told,
+    side: Side,
+    piece: &[u8],
+    taken: Taken,
+) -> Result<usize, Fail> {
+    let used = taken.used;
+    let line = taken_line(alloc, &mut reading.speaker, taken.message, &mut told.bytes)?;
+    steps_too(rt, alloc, &mut reading.stepping, side, piece, (used, &line))?;
+    if line.len() > 0 {
+        append(&mut told.lines, &line)?;
+        append(&mut told.lines, b"\n")?;
+    }
+    Ok(used)
+}
+
+/// How much of a piece is read up to the end of a frame; all of it where it is refused.
+fn hear_next(
+    rt: &impl Abort,
+    alloc: Global,
+    reading: &mut Reading,
+    told: &mut Told,
+    side: Side,
+    piece: &[u8],
+) -> Result<usize, Fail> {
+    match taken(&mut reading.taking, side, piece) {
+        Ok(taken) => heard(rt, alloc, reading, told, side, piece, taken),
+        Err(fault) => {
+            refused_too(rt, &mut reading.stepping, side, piece, fault);
+            Ok(piece.len())
+        }
+    }
+}
+
+fn hear(
+    rt: &impl Abort,
+    alloc: Global,
+    reading: &mut Reading,
+    told: &mut Told,
+    side: Side,
+    piece: &[u8],
+) -> Result<(), Fail> {
+    let mut rest = piece;
+    for _ in 0..piece.len() {
+        let used = hear_next(rt, alloc, reading, told, side, rest)?;
+        rest = rest.get(used..).unwrap_or(&[]);
+    }
+    Ok(())
+}
+
+fn hear_all(
+    rt: &impl Abort,
+    alloc: Global,
+    reading: &mut Reading,
+    told: &mut Told,
+    pieces: &[(Side, &[u8])],
+) -> Result<(), Fail> {
+    for (side, piece) in pieces {
+        hear(rt, alloc, reading, told, *side, piece)?;
+    }
+    let ending = reading.taking.finish();
+    assert_eq!(rt; reading.stepping.finish(), ending);
+    let last = last_line(alloc, &ending)?;
+    Ok(append(&mut told.lines, &last)?)
+}
+
+/// What the pieces come to as they are taken.
+fn asked(
+    rt: &impl Abort,
+    alloc: Global,
+    limits: Limits,
+    pieces: &[(Side, &[u8])],
+) -> Result<Told, Fail> {
+    let mut told = Told {
+        bytes: Vec::new(alloc),
+        lines: Vec::new(alloc),
+    };
+    let mut reading = begun(alloc, limits)?;
+    hear_all(rt, alloc, &mut reading, &mut told, pieces)?;
+    Ok(told)
+}
+
+/// The lines of what was read at once.
+fn lines_of(alloc: Global, ended: &Ended) -> Result<Vec<u8>, AllocError> {
+    let mut lines = Vec::new(alloc);
+    for message in &ended.messages {
+        append(&mut lines, &line(alloc, message)?)?;
+        append(&mut lines, b"\n")?;
+    }
+    append(&mut lines, &last_line(alloc, &ended.ending)?)?;
+    Ok(lines)
+}
+
+fn listed(alloc: Global, limits: Limits, pieces: &[(Side, &[u8])]) -> Result<Vec<u8>, AllocError> {
+    let ended = all(alloc, limits, pieces)?;
+    lines_of(alloc, &ended)
+}
+
+/// Asks all calls for what the pieces come to, and then those of a conversation once more.
+fn ask(rt: &impl Abort, alloc: Global, pieces: &[(Side, &[u8])]) -> Result<(), Fail> {
+    let limits = newer()?;
+    let some = asked(rt, alloc, limits, pieces)?;
+    let listed = listed(alloc, limits, pieces)?;
+    assert_eq!(rt; listed, some.lines);
+    let others = asked(rt, alloc, limits, pieces)?;
+    assert_eq!(rt; others.lines, some.lines);
+    assert_eq!(rt; others.bytes, some.bytes);
+    Ok(())
+}
+
+/// The first piece of what a recording has left, and what is then left.
+fn first_piece(recording: &[u8]) -> Option<((Side, &[u8]), &[u8])> {
+    let (head, rest) = recording.split_at_checked(5)?;
+    let side = match head[0] {
+        b'C' => Side::Client,
+        b'S' => Side::Server,
+        _ => return None,
+    };
+    let size = u32::from_be_bytes([head[1], head[2], head[3], head[4]]);
+    let (piece, rest) = rest.split_at_checked(size as usize)?;
+    Some(((side, piece), rest))
+}
+
+fn put_piece<'a>(
+    pieces: &mut Vec<(Side, &'a [u8])>,
+    piece: (Side, &'a [u8]),
+) -> Result<(), AllocError> {
+    match pieces.push(piece) {
+        Ok(()) => Ok(()),
+        Err(_) => Ok(pieces.push(piece)?),
+    }
+}
+
+/// The whole pieces of a recording, up to what is none.
+fn pieces_of<'a>(alloc: Global, recording: &'a [u8]) -> Result<Vec<(Side, &'a [u8])>, AllocError> {
+    let mut pieces = Vec::new(alloc);
+    let mut rest = recording.get(4..).unwrap_or(&[]);
+    for _ in 0..recording.len() {
+        let Some((piece, left)) = first_piece(rest) else {
+            break;
+        };
+        put_piece(&mut pieces, piece)?;
+        rest = left;
+    }
+    Ok(pieces)
+}
+
+/// The first worked example that has a reply.
+const EXAMPLE: [(Side, &[u8]); 4] = [
+    (Side::Client, CONNECT),
+    (Side::Server, CONNECTED),
+    (Side::Client, EXISTS),
+    (Side::Server, NO_NODE),
+];
+
+/// How many bytes a worked example has at most.
+const MOST_BYTES: usize = 4_096;
+
+#[test]
+fn asked_again(rt: HostRuntime) -> Result<(), Fail> {
+    let mut room = [0; MOST_BYTES];
+    let count = rt.stdin().read(&mut room)?;
+    if count == 0 {
+        return ask(&rt, rt.alloc(), &EXAMPLE);
+    }
+    let pieces = pieces_of(rt.alloc(), &room[..count])?;
+    ask(&rt, rt.alloc(), &pieces)
+}
