@@ -4,7 +4,7 @@ ghost use Rattle.zk_runs.specs.Building.{HasBuilt};
 
 use crate::memory::{MemorySink, MemorySource};
 use crate::tests::{
-    CONNECT, CONNECTED, EXISTS, MESSAGES, NO_NODE, recorded, run_words, text, words,
+    CONNECT, CONNECTED, EXISTS, MESSAGES, NO_NODE, PIECES, recorded, run_words, text, words,
 };
 use std::alloc::{AllocGlobal, Global};
 use std::process::Abort;
@@ -12,14 +12,6 @@ use std::test::Fail;
 use zk_listings::{FromRead, RunFault, Sink};
 use zk_runs::{Built, build_run};
 use zk_talk::Limits;
-
-/// The pieces of the messages of `MESSAGES`.
-const PIECES: [(u8, &[u8]); 4] = [
-    (b'C', &CONNECT),
-    (b'S', &CONNECTED),
-    (b'C', &EXISTS),
-    (b'S', &NO_NODE),
-];
 
 /// Builds lines that come by steps, and compares the status, the pieces written, and what is said of faults.
 fn expect(
@@ -136,52 +128,24 @@ fn options_count(rt: HostRuntime) -> Result<(), Fail> {
     expect(&rt, "zkdump build", (input.as_str(), 9), want)
 }
 
-/// What `build` writes of `MESSAGES` where a read fails, or a write, the first call being 1.
-fn built_until(
-    rt: &impl AllocGlobal,
-    read: u64,
-    write: u64,
-) -> Result<(u8, MemorySink, String), Fail> {
-    let mut reader = MemorySource::failing_at(MESSAGES.as_bytes(), read);
-    let mut writer = MemorySink::failing_at(rt.alloc(), write);
-    let mut faults = MemorySink::new(rt.alloc());
-    let words = words(rt, "zkdump build")?;
-    let status = run_words(rt.alloc(), words, &mut reader, &mut writer, &mut faults);
-    let says = text(rt, &faults)?;
-    Ok((status, writer, says))
-}
-
+/// The piece of each line that was read before stands written.
 #[test]
 fn each_read_fails(rt: HostRuntime) -> Result<(), Fail> {
     for read in 1..268 {
-        let (status, writer, says) = built_until(&rt, read, 0)?;
+        let mut reader = MemorySource::failing_at(MESSAGES.as_bytes(), read);
+        let mut writer = MemorySink::new(rt.alloc());
+        let mut faults = MemorySink::new(rt.alloc());
+        let words = words(&rt, "zkdump build")?;
+        let status = run_words(rt.alloc(), words, &mut reader, &mut writer, &mut faults);
         let front = MESSAGES.as_bytes().iter().take(read as usize - 1);
         let lines = front.filter(|byte| **byte == b'\n').count();
         let recording = recorded(rt.alloc(), PIECES.get(..lines).ok_or("lines")?)?;
         assert_eq!(rt; writer.bytes(), recording.as_slice(), "at {read}");
+        let says = text(&rt, &faults)?;
         assert_eq!(rt;
             (status, says.as_str()),
             (3, "zkdump: read failed\n"),
             "at {read}"
-        );
-    }
-    Ok(())
-}
-
-#[test]
-fn each_write_fails(rt: HostRuntime) -> Result<(), Fail> {
-    let whole = recorded(rt.alloc(), &PIECES)?;
-    for write in 1..154 {
-        let (status, writer, says) = built_until(&rt, 0, write)?;
-        let out = writer.bytes();
-        assert!(rt;
-            whole.as_slice().starts_with(out) && out.len() as u64 == write - 1,
-            "at {write}"
-        );
-        assert_eq!(rt;
-            (status, says.as_str()),
-            (3, "zkdump: write failed\n"),
-            "at {write}"
         );
     }
     Ok(())

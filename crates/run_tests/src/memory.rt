@@ -6,7 +6,7 @@ use zk_listings::{Failed, Sink, Source};
 
 /// Bytes to be read, at most `step` a call.
 #[derive(Drop)]
-pub struct MemorySource<'a> {
+pub(crate) struct MemorySource<'a> {
     rest: &'a [u8],
     step: usize,
     fails_at: u64,
@@ -16,7 +16,7 @@ pub struct MemorySource<'a> {
 }
 
 impl<'a> MemorySource<'a> {
-    pub fn new(bytes: &'a [u8]) -> Self
+    pub(crate) fn new(bytes: &'a [u8]) -> Self
         ensures remaining { ⟦<MemorySource<'a> as Source>⟧.remaining result ≡ Some bytes.now }
         ensures count { ⟦<MemorySource<'a> as Source>⟧.read_count result ≡ 0 }
         ensures live { ⟦<MemorySource<'a> as Source>⟧.has_failed result ≡ false }
@@ -31,7 +31,7 @@ impl<'a> MemorySource<'a> {
     }
 
     /// Gives at most so many bytes a call.
-    pub fn by_steps(bytes: &'a [u8], step: usize) -> Self
+    pub(crate) fn by_steps(bytes: &'a [u8], step: usize) -> Self
         requires { 0 < step }
         ensures count { ⟦<MemorySource<'a> as Source>⟧.read_count result ≡ 0 }
         ensures live { ⟦<MemorySource<'a> as Source>⟧.has_failed result ≡ false }
@@ -46,7 +46,7 @@ impl<'a> MemorySource<'a> {
     }
 
     /// Fails at a call, the first being 1.
-    pub fn failing_at(bytes: &'a [u8], call: u64) -> Self
+    pub(crate) fn failing_at(bytes: &'a [u8], call: u64) -> Self
         ensures count { ⟦<MemorySource<'a> as Source>⟧.read_count result ≡ 0 }
         ensures live { ⟦<MemorySource<'a> as Source>⟧.has_failed result ≡ false }
     {
@@ -91,16 +91,17 @@ impl Source for MemorySource<'_> {
 
 /// Bytes that were written, at most `step` a call.
 #[derive(Drop)]
-pub struct MemorySink {
+pub(crate) struct MemorySink {
     bytes: Vec<u8>,
     step: usize,
     fails_at: u64,
+    takes_none_at: u64,
     writes: u64,
     failed: bool,
 }
 
 impl MemorySink {
-    pub fn new(alloc: Global) -> Self
+    pub(crate) fn new(alloc: Global) -> Self
         ensures contents { ⟦<MemorySink as Sink>⟧.contents result ≡ Some [] }
         ensures live { ⟦<MemorySink as Sink>⟧.has_failed result ≡ false }
     {
@@ -108,39 +109,56 @@ impl MemorySink {
             bytes: Vec::new(alloc),
             step: usize::MAX,
             fails_at: 0,
+            takes_none_at: 0,
             writes: 0,
             failed: false,
         }
     }
 
     /// Takes at most so many bytes a call. None is a failure at the first.
-    pub fn by_steps(alloc: Global, step: usize) -> Self
+    pub(crate) fn by_steps(alloc: Global, step: usize) -> Self
         ensures { ⟦<MemorySink as Sink>⟧.has_failed result ≡ false }
     {
         MemorySink {
             bytes: Vec::new(alloc),
             step,
             fails_at: 0,
+            takes_none_at: 0,
             writes: 0,
             failed: false,
         }
     }
 
     /// Takes a byte a call, and fails at one, the first being 1.
-    pub fn failing_at(alloc: Global, call: u64) -> Self
+    pub(crate) fn failing_at(alloc: Global, call: u64) -> Self
         ensures { ⟦<MemorySink as Sink>⟧.has_failed result ≡ false }
     {
         MemorySink {
             bytes: Vec::new(alloc),
             step: 1,
             fails_at: call,
+            takes_none_at: 0,
+            writes: 0,
+            failed: false,
+        }
+    }
+
+    /// Takes a byte a call, and none at one, the first being 1.
+    pub(crate) fn taking_none_at(alloc: Global, call: u64) -> Self
+        ensures { ⟦<MemorySink as Sink>⟧.has_failed result ≡ false }
+    {
+        MemorySink {
+            bytes: Vec::new(alloc),
+            step: 1,
+            fails_at: 0,
+            takes_none_at: call,
             writes: 0,
             failed: false,
         }
     }
 
     /// What was written.
-    pub fn bytes(&self) -> &[u8]
+    pub(crate) fn bytes(&self) -> &[u8]
         ensures { ⟦<MemorySink as Sink>⟧.contents self.now ≡ Some result.now }
     {
         self.bytes.as_slice()
@@ -158,7 +176,12 @@ impl Sink for MemorySink {
             self.failed = true;
             return Err(Failed);
         }
-        let count = bytes.len().min(self.step);
+        let step = if self.writes == self.takes_none_at {
+            0
+        } else {
+            self.step
+        };
+        let count = bytes.len().min(step);
         if self.bytes.extend_from_slice(&bytes[..count]).is_err() {
             self.failed = true;
             return Err(Failed);

@@ -12,18 +12,26 @@ use zk_runs::{run_settings, settings};
 use zk_talk::Limits;
 
 /// A connect request and its response, and an exists request of `/a` and its reply, which is NONODE.
-pub const CONNECT: [u8; 49] =
+pub(crate) const CONNECT: [u8; 49] =
     *b"\0\0\0\x2d\0\0\0\0\0\0\0\0\0\0\0\0\0\0\x75\x30\0\0\0\0\0\0\0\0\0\0\0\x10\0\0\0\0\0\0\0\0\0\0\0\0\0\0\0\0\0";
 
-pub const CONNECTED: [u8; 41] =
+pub(crate) const CONNECTED: [u8; 41] =
     *b"\0\0\0\x25\0\0\0\0\0\0\x75\x30\x01\0\0\0\0\0\0\x01\0\0\0\x10\0\x01\x02\x03\x04\x05\x06\x07\x08\x09\x0a\x0b\x0c\x0d\x0e\x0f\0";
 
-pub const EXISTS: [u8; 19] = *b"\0\0\0\x0f\0\0\0\x01\0\0\0\x03\0\0\0\x02/a\x01";
+pub(crate) const EXISTS: [u8; 19] = *b"\0\0\0\x0f\0\0\0\x01\0\0\0\x03\0\0\0\x02/a\x01";
 
-pub const NO_NODE: [u8; 20] = *b"\0\0\0\x10\0\0\0\x01\0\0\0\0\0\0\0\x05\xff\xff\xff\x9b";
+pub(crate) const NO_NODE: [u8; 20] = *b"\0\0\0\x10\0\0\0\x01\0\0\0\0\0\0\0\x05\xff\xff\xff\x9b";
+
+/// The pieces of a recording of those four.
+pub(crate) const PIECES: [(u8, &[u8]); 4] = [
+    (b'C', &CONNECT),
+    (b'S', &CONNECTED),
+    (b'C', &EXISTS),
+    (b'S', &NO_NODE),
+];
 
 /// The listing of those four.
-pub const MESSAGES: &str =
+pub(crate) const MESSAGES: &str =
     "C connect version=0 zxid=0 timeout=30000 session=0 passwd=#00000000000000000000000000000000 ro=0
 S connect version=0 timeout=30000 session=72057594037927937 passwd=#000102030405060708090a0b0c0d0e0f ro=0
 C 1 exists path=\"/a\" watch=1
@@ -44,7 +52,7 @@ fn put_pieces(recording: &mut Vec<u8>, pieces: &[(u8, &[u8])]) -> Result<(), All
 }
 
 /// A recording of these pieces.
-pub fn recorded(alloc: Global, pieces: &[(u8, &[u8])]) -> Result<Vec<u8>, AllocError> {
+pub(crate) fn recorded(alloc: Global, pieces: &[(u8, &[u8])]) -> Result<Vec<u8>, AllocError> {
     let mut recording = Vec::from_slice(alloc, b"ZKR1")?;
     put_pieces(&mut recording, pieces)?;
     Ok(recording)
@@ -58,7 +66,7 @@ fn connected(alloc: Global, pieces: &[(u8, &[u8])]) -> Result<Vec<u8>, AllocErro
     Ok(recording)
 }
 
-pub fn words(rt: &impl AllocGlobal, line: &str) -> Result<Vec<String>, Fail> {
+pub(crate) fn words(rt: &impl AllocGlobal, line: &str) -> Result<Vec<String>, Fail> {
     let mut words = Vec::new(rt.alloc());
     for word in line.split(' ') {
         words.push(String::from_str(rt.alloc(), word)?)?;
@@ -67,7 +75,7 @@ pub fn words(rt: &impl AllocGlobal, line: &str) -> Result<Vec<String>, Fail> {
 }
 
 /// Reads the words, and does what they say.
-pub fn run_words<R: Source, W: Sink, F: Sink>(
+pub(crate) fn run_words<R: Source, W: Sink, F: Sink>(
     alloc: Global,
     words: Vec<String>,
     reader: &mut R,
@@ -83,7 +91,7 @@ pub fn run_words<R: Source, W: Sink, F: Sink>(
     run_settings(alloc, chosen, reader, writer, faults)
 }
 
-pub fn text(rt: &impl AllocGlobal, sink: &MemorySink) -> Result<String, Fail> {
+pub(crate) fn text(rt: &impl AllocGlobal, sink: &MemorySink) -> Result<String, Fail> {
     Ok(String::from_utf8_lossy(rt.alloc(), sink.bytes())?)
 }
 
@@ -296,76 +304,6 @@ fn each_read_fails(rt: HostRuntime) -> Result<(), Fail> {
             (1, ". cut side=C frame=0 got=3\n", "")
         };
         assert_eq!(rt; (status, out.as_str(), err.as_str()), want, "at {call}");
-    }
-    Ok(())
-}
-
-/// What `show` writes where a read fails, or a write, the first call being 1.
-fn shown(rt: &impl AllocGlobal, read: u64, write: u64) -> Result<(u8, String, String), Fail> {
-    let recording = connected(rt.alloc(), &[(b'C', &EXISTS), (b'S', &NO_NODE)])?;
-    let mut reader = MemorySource::failing_at(&recording, read);
-    let mut writer = MemorySink::failing_at(rt.alloc(), write);
-    let mut faults = MemorySink::new(rt.alloc());
-    let words = words(rt, "zkdump show")?;
-    let status = run_words(rt.alloc(), words, &mut reader, &mut writer, &mut faults);
-    Ok((status, text(rt, &writer)?, text(rt, &faults)?))
-}
-
-#[test]
-fn listings(rt: HostRuntime) -> Result<(), Fail> {
-    let whole = format!(in rt.alloc(); "{MESSAGES}. whole unanswered=0\n")?;
-    let (status, out, err) = shown(&rt, 0, 0)?;
-    assert_eq!(rt;
-        (status, out.as_str(), err.as_str()),
-        (0, whole.as_str(), "")
-    );
-    let (status, out, err) = shown(&rt, 154, 0)?;
-    assert_eq!(rt;
-        (status, out.as_str(), err.as_str()),
-        (3, MESSAGES, "zkdump: read failed\n")
-    );
-    for read in 1..154 {
-        let (status, out, _) = shown(&rt, read, 0)?;
-        assert!(rt;
-            status == 3 && MESSAGES.starts_with(out.as_str()),
-            "at {read}"
-        );
-    }
-    for write in 1..40 {
-        let (status, out, err) = shown(&rt, 0, write)?;
-        assert!(rt;
-            whole.starts_with(out.as_str()) && out.len() as u64 == write - 1,
-            "at {write}"
-        );
-        assert_eq!(rt;
-            (status, err.as_str()),
-            (3, "zkdump: write failed\n"),
-            "at {write}"
-        );
-    }
-    Ok(())
-}
-
-#[test]
-fn each_write_fails(rt: HostRuntime) -> Result<(), Fail> {
-    let line = ". whole unanswered=0\n";
-    for call in 1..22 {
-        let mut reader = MemorySource::by_steps(b"ZKR1", 1);
-        let mut writer = MemorySink::failing_at(rt.alloc(), call);
-        let mut faults = MemorySink::new(rt.alloc());
-        let words = words(&rt, "zkdump check")?;
-        let status = run_words(rt.alloc(), words, &mut reader, &mut writer, &mut faults);
-        let out = text(&rt, &writer)?;
-        let err = text(&rt, &faults)?;
-        assert!(rt;
-            line.starts_with(out.as_str()) && out.len() as u64 == call - 1,
-            "at {call}"
-        );
-        assert_eq!(rt;
-            (status, err.as_str()),
-            (3, "zkdump: write failed\n"),
-            "at {call}"
-        );
     }
     Ok(())
 }
