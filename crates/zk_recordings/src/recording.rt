@@ -1,5 +1,6 @@
 //! The reader of recordings of both formats: a head, and pieces of either side.
-ghost use Rattle.std.specs.Prelude.{◌≡◌, ◌+◌, ◌^◌, ◌<◌, ◌≤◌, ◌++◌, ◌∷◌, ℕ, List, [], true, None, Some, IfSome, MatchOption, length, take};
+ghost use Rattle.std.specs.Prelude.{◌≡◌, ◌+◌, ◌^◌, ◌<◌, ◌≤◌, ◌++◌, ◌∷◌, ℕ, List, [], true, None, Some, MatchOption, length, take};
+ghost use Rattle.zk_recordings.specs.declared.parts.DamageAt.{DamageAt};
 ghost use Rattle.zk_recordings.specs.declared.parts.Format.TheVariants.{Zkr1, Zkr2};
 ghost use Rattle.zk_recordings.specs.declared.parts.Part.TheVariants.{Letters, ClientLimit, SideByte, Time, Size};
 ghost use Rattle.zk_recordings.specs.declared.recording.Stage.TheVariants.{Content};
@@ -315,10 +316,11 @@ impl RecordingReader {
 
     /// The damage that stands whatever follows.
     pub fn damage(&self) -> Option<DamageAt>
-        ensures { IfSome result (λ d. (x : List ℕ) (r : Recording) → IsAt self.now x r → IsDecidedBy d x r) }
+        ensures { MatchOption result ((x : List ℕ) (r : Recording) (d : DamageAt) → IsAt self.now x r → IsDecidedBy d x r → ⊥)
+            (λ d. (x : List ℕ) (r : Recording) → IsAt self.now x r → IsDecidedBy d x r) }
     {
         match self.state.stage {
-            Stage::Damaged(damage) => Some(damage),
+            Stage::Damaged(found) => Some(found),
             _ => None,
         }
     }
