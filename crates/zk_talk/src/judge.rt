@@ -1,8 +1,8 @@
 //! Whether a payload may come now.
-ghost use Rattle.std.specs.Prelude.{◌≡◌, ◌≢◌, ◌≤◌, ◌<◌, ◌+◌, ◌^◌, ◌⊎◌, ◌↔◌, ℕ, List, length, IfOk, IfErr, OnOk, IsTrue, Some, slice_get};
+ghost use Rattle.std.specs.Prelude.{◌≡◌, ◌≢◌, ◌≤◌, ◌<◌, ◌+◌, ◌^◌, ◌⊎◌, ◌↔◌, ℕ, List, length, IsOk, IfOk, IfErr, OnOk, IsTrue, Some, slice_get};
 ghost use Rattle.zk_jute.specs.declared.fault.Reason.TheVariants.{NoMemory};
 ghost use Rattle.zk_asks.specs.Codes.{event_xid};
-ghost use Rattle.zk_asks.specs.Frames.{IsSent};
+ghost use Rattle.zk_asks.specs.Frames.{IsFirst, IsSent};
 ghost use Rattle.zk_answers.specs.Faults.{IsHead};
 ghost use Rattle.zk_answers.specs.Frames as answers;
 ghost use Rattle.zk_waiting.specs.Lane.{lane_of};
@@ -87,6 +87,8 @@ pub fn remember(alloc: Global, waiting: &mut Waiting, frame: &ClientFrame) -> Re
     ensures max { waiting.new.max ≡ waiting.old.max }
     ensures ok { OnOk result (IsRemembered frame.now waiting.old waiting.new) }
     ensures err { IfErr result (λ e. (waiting.new ≡ waiting.old) × IsPutRefusal frame.now waiting.old e) }
+    // A connect request waits for nothing, and wants no memory.
+    ensures connect { IsFirst frame.now → IsOk result }
 {
     let ClientFrame::Ask { xid, ask } = frame else {
         return Ok(());
