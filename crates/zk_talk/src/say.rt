@@ -75,6 +75,8 @@ fn put_client(message: &ClientFrame, limit: u32, out: &mut Vec<u8>) -> Result<()
     ensures ok { OnOk result (out.new.items ≡ out.old.items ++ frame (client_payload message.now)) }
     ensures same { OnErr result (out.new.items ≡ out.old.items) }
     ensures err { IfErr result (IsUnwritten limit (asks.frame_items message.now)) }
+    // Memory is wanted for what fits alone.
+    ensures lacks { IfErr result (λ e. e ≡ NoMemory → Fit limit (asks.frame_items message.now)) }
 {
     let Some(size) = message.size_within(limit) else {
         return Err(SayFault::TooLong);
@@ -98,6 +100,8 @@ fn put_server(message: &ServerFrame, limit: u32, out: &mut Vec<u8>) -> Result<()
     ensures ok { OnOk result (out.new.items ≡ out.old.items ++ frame (server_payload message.now)) }
     ensures same { OnErr result (out.new.items ≡ out.old.items) }
     ensures err { IfErr result (IsUnwritten limit (answers.frame_items message.now)) }
+    // Memory is wanted for what fits alone.
+    ensures lacks { IfErr result (λ e. e ≡ NoMemory → Fit limit (answers.frame_items message.now)) }
 {
     let Some(size) = message.size_within(limit) else {
         return Err(SayFault::TooLong);
@@ -175,6 +179,8 @@ pub fn say_client(
     ensures said { OnOk result ((welcomed : Bool) (v : Conversation) → Heard asked welcomed waiting.old v → IsSaidClient limits v message.now × Heard true welcomed waiting.new (with_client v message.now)) }
     ensures same { OnErr result ((waiting.new ≡ waiting.old) × (out.new.items ≡ out.old.items)) }
     ensures err { IfErr result (λ e. (e ≡ NoMemory) ⊎ ((welcomed : Bool) (v : Conversation) → Heard asked welcomed waiting.old v → IsClientRefusal limits v message.now e)) }
+    // Memory is wanted for what may be asked and fits alone.
+    ensures lacks { IfErr result (λ e. e ≡ NoMemory → MayAsk limits message.now × Fit limits.client (asks.frame_items message.now)) }
 {
     if is_connect(message) == asked {
         return Err(SayFault::NotFirst);
@@ -260,6 +266,8 @@ pub fn say_server(
     ensures said { OnOk result ((v : Conversation) → Heard asked welcomed waiting.old v → IsSaidServer limits v message.now × Heard asked true waiting.new (with_server v message.now)) }
     ensures same { OnErr result ((waiting.new ≡ waiting.old) × (out.new.items ≡ out.old.items)) }
     ensures err { IfErr result (λ e. (e ≡ NoMemory) ⊎ ((v : Conversation) → Heard asked welcomed waiting.old v → IsServerRefusal limits v message.now e)) }
+    // Memory is wanted for what answers and fits alone.
+    ensures lacks { IfErr result (λ e. e ≡ NoMemory → MayAnswer asked waiting.old message.now × Fit limits.server (answers.frame_items message.now)) }
 {
     if is_connected(message) == welcomed {
         return Err(SayFault::NotFirst);
