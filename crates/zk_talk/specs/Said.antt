@@ -160,6 +160,11 @@ MayAnswer asked w (Connected hello read_only) = asked ≡ true
 MayAnswer asked w (Answered r) = FitsNext w r
 MayAnswer asked w (Event zxid event) = Unit {0}
 
+-- the message may be asked, or answers, and is within its side's limit
+abbrev pub MayStand : SpeakerState → Message → Type 0
+MayStand s (FromClient f) = MayAsk s.limits f × Fit s.limits.client (asks.frame_items f)
+MayStand s (FromServer f) = MayAnswer s.asked s.waiting f × Fit s.limits.server (answers.frame_items f)
+
 abbrev pub CannotAnswer : Bool → Lanes → ServerFrame → SayFault → Type 0
 CannotAnswer asked w (Connected hello read_only) e = (asked ≡ false) × (e ≡ Unasked)
 CannotAnswer asked w (Answered r) e = IsUnfit w r e

@@ -1,16 +1,10 @@
 //! Messages to bytes.
 ghost use Rattle.std.specs.Prelude.{◌≡◌, ◌≢◌, ◌++◌, ◌⊎◌, ◌∷◌, [], List, false, OnOk, OnErr, IfOk, IfErr};
-ghost use Rattle.zk_jute.specs.Item.{Fit};
-ghost use Rattle.zk_asks.specs.Held.{ClientFrame};
-ghost use Rattle.zk_asks.specs.Frames as asks;
-ghost use Rattle.zk_answers.specs.Held.{ServerFrame};
-ghost use Rattle.zk_answers.specs.Frames as answers;
 ghost use Rattle.zk_frames.specs.Framing.{frame};
 ghost use Rattle.zk_talk.specs.Held.{Message};
-ghost use Rattle.zk_talk.specs.declared.message.MessageOf.TheVariants.{Client as FromClient, Server as FromServer};
 ghost use Rattle.zk_talk.specs.declared.say.SayFault.TheVariants.{NoMemory};
 ghost use Rattle.zk_talk.specs.Ending.{unanswered};
-ghost use Rattle.zk_talk.specs.Said.{Says, MaySay, MayAsk, MayAnswer, IsSayFault, payload_of, conversation_of};
+ghost use Rattle.zk_talk.specs.Said.{Says, MaySay, MayStand, IsSayFault, payload_of, conversation_of};
 
 use crate::limits::Limits;
 use crate::message::Message;
@@ -72,8 +66,7 @@ impl Speaker {
         // Want of memory, or the case that refuses it.
         ensures err { IfErr result (λ e. (e ≡ NoMemory) ⊎ ((before : List Message) → Says self.old before → IsSayFault self.old.limits before message.now e)) }
         // Memory is wanted alone for what may be asked, or answers, and is within its side's limit.
-        ensures asks { IfErr result (λ e. e ≡ NoMemory → (f : ClientFrame) → message.now ≡ FromClient f → MayAsk self.old.limits f × Fit self.old.limits.client (asks.frame_items f)) }
-        ensures answers { IfErr result (λ e. e ≡ NoMemory → (s : ServerFrame) → message.now ≡ FromServer s → MayAnswer self.old.asked self.old.waiting s × Fit self.old.limits.server (answers.frame_items s)) }
+        ensures lacks { IfErr result (λ e. e ≡ NoMemory → MayStand self.old message.now) }
         // Only what may not be said is refused, but for want of memory.
         ensures exact { IfErr result (λ e. e ≢ NoMemory → (before : List Message) → Says self.old before → MaySay self.old.limits before message.now → ⊥) }
     {
