@@ -1,5 +1,5 @@
 -- What may be said, message after message.
-use Rattle.std.specs.Prelude.{◌≡◌, ◌≢◌, ℕ, ℤ, negsuc, ◌+◌, ◌≤◌, ◌<◌, ◌^◌, ◌⊎◌, List, [], ◌∷◌, ◌++◌, length, Bool, true, false, Some, None, slice_get}
+use Rattle.std.specs.Prelude.{◌≡◌, ◌≢◌, ℕ, ℤ, negsuc, ◌+◌, ◌≤◌, ◌<◌, ◌^◌, ◌⊎◌, List, [], ◌∷◌, ◌++◌, length, Bool, true, false, MatchBool, Some, None, slice_get}
 use Rattle.std.specs.List.{flat_map, AllByRecursion}
 use Rattle.zk_jute.specs.Item.{Item, Fit}
 use Rattle.zk_asks.specs.Held.{Ask as Asked}
@@ -160,10 +160,17 @@ MayAnswer asked w (Connected hello read_only) = asked ≡ true
 MayAnswer asked w (Answered r) = FitsNext w r
 MayAnswer asked w (Event zxid event) = Unit {0}
 
--- the message may be asked, or answers, and is within its side's limit
+-- the client's message is of the kind that is due, may be asked, and is within its side's limit
+abbrev pub ClientMayStand : Bool → Limits → ClientFrame → Type 0
+ClientMayStand asked limits f = MatchBool asked (IsLater f) (IsFirst f) × MayAsk limits f × Fit limits.client (asks.frame_items f)
+
+-- and the server's, which answers
+abbrev pub ServerMayStand : Bool → Bool → Lanes → Limits → ServerFrame → Type 0
+ServerMayStand asked welcomed w limits f = MatchBool welcomed (IsConnected f → ⊥) (IsConnected f) × MayAnswer asked w f × Fit limits.server (answers.frame_items f)
+
 abbrev pub MayStand : SpeakerState → Message → Type 0
-MayStand s (FromClient f) = MayAsk s.limits f × Fit s.limits.client (asks.frame_items f)
-MayStand s (FromServer f) = MayAnswer s.asked s.waiting f × Fit s.limits.server (answers.frame_items f)
+MayStand s (FromClient f) = ClientMayStand s.asked s.limits f
+MayStand s (FromServer f) = ServerMayStand s.asked s.welcomed s.waiting s.limits f
 
 abbrev pub CannotAnswer : Bool → Lanes → ServerFrame → SayFault → Type 0
 CannotAnswer asked w (Connected hello read_only) e = (asked ≡ false) × (e ≡ Unasked)

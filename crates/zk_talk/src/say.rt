@@ -11,7 +11,7 @@ ghost use Rattle.zk_talk.specs.Payloads.{client_payload, server_payload};
 ghost use Rattle.zk_talk.specs.Conversation.{Conversation, with_client, with_server};
 ghost use Rattle.zk_talk.specs.Judged.{IsRemembered};
 ghost use Rattle.zk_talk.specs.SayNames as names;
-ghost use Rattle.zk_talk.specs.Said.{Heard, MayAsk, IsClientRefusal, IsServerRefusal, IsUnwritten, IsUnput, FitsNext, IsUnfit, MayAnswer, CannotAnswer, IsSaidClient, IsSaidServer};
+ghost use Rattle.zk_talk.specs.Said.{Heard, MayAsk, IsClientRefusal, IsServerRefusal, IsUnwritten, IsUnput, FitsNext, IsUnfit, MayAnswer, CannotAnswer, IsSaidClient, IsSaidServer, ClientMayStand, ServerMayStand};
 
 use crate::judge::{forget, remember};
 use crate::limits::Limits;
@@ -179,8 +179,8 @@ pub fn say_client(
     ensures said { OnOk result ((welcomed : Bool) (v : Conversation) → Heard asked welcomed waiting.old v → IsSaidClient limits v message.now × Heard true welcomed waiting.new (with_client v message.now)) }
     ensures same { OnErr result ((waiting.new ≡ waiting.old) × (out.new.items ≡ out.old.items)) }
     ensures err { IfErr result (λ e. (e ≡ NoMemory) ⊎ ((welcomed : Bool) (v : Conversation) → Heard asked welcomed waiting.old v → IsClientRefusal limits v message.now e)) }
-    // Memory is wanted for what may be asked and fits alone.
-    ensures lacks { IfErr result (λ e. e ≡ NoMemory → MayAsk limits message.now × Fit limits.client (asks.frame_items message.now)) }
+    // Memory is wanted alone for what is due, may be asked and fits.
+    ensures lacks { IfErr result (λ e. e ≡ NoMemory → ClientMayStand asked limits message.now) }
 {
     if is_connect(message) == asked {
         return Err(SayFault::NotFirst);
@@ -266,8 +266,8 @@ pub fn say_server(
     ensures said { OnOk result ((v : Conversation) → Heard asked welcomed waiting.old v → IsSaidServer limits v message.now × Heard asked true waiting.new (with_server v message.now)) }
     ensures same { OnErr result ((waiting.new ≡ waiting.old) × (out.new.items ≡ out.old.items)) }
     ensures err { IfErr result (λ e. (e ≡ NoMemory) ⊎ ((v : Conversation) → Heard asked welcomed waiting.old v → IsServerRefusal limits v message.now e)) }
-    // Memory is wanted for what answers and fits alone.
-    ensures lacks { IfErr result (λ e. e ≡ NoMemory → MayAnswer asked waiting.old message.now × Fit limits.server (answers.frame_items message.now)) }
+    // Memory is wanted alone for what is due, answers and fits.
+    ensures lacks { IfErr result (λ e. e ≡ NoMemory → ServerMayStand asked welcomed waiting.old limits message.now) }
 {
     if is_connected(message) == welcomed {
         return Err(SayFault::NotFirst);
