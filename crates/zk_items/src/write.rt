@@ -1,6 +1,6 @@
 //! The items of a line, written.
-ghost use Rattle.std.specs.Prelude.{◌≡◌, ◌<◌, ◌++◌, OnOk, false};
-ghost use Rattle.std.specs.Fmt.{decimal, signed_decimal};
+ghost use Rattle.std.specs.Prelude.{◌≡◌, ◌++◌, OnOk, false};
+ghost use Rattle.std.specs.Fmt.{signed_decimal};
 ghost use Rattle.std.specs.List.{flat_map};
 ghost use Rattle.zk_jute.specs.declared.value.Nullable.TheVariants as nullable;
 ghost use Rattle.zk_items.specs.Form.{Keeps};
@@ -24,26 +24,13 @@ pub fn put_word(out: &mut Vec<u8>, word: Word) -> Result<(), AllocError>
     out.extend_from_slice(word_bytes(word))
 }
 
-/// Appends a number of one digit: most numbers of a Stat are such.
-#[tactic(auto, using(std::proofs::lemmas::Fmt::decimal_digit))]
-fn put_digit(out: &mut Vec<u8>, digit: u8) -> Result<(), AllocError>
-    requires { digit < 10 }
-    ensures spelled { OnOk result (out.new.items ≡ out.old.items ++ decimal digit) }
-    ensures keeps { Keeps out.old.items out.new.items }
-{
-    Ok(out.push(b'0' + digit)?)
-}
-
 /// Appends an int.
 pub fn put_int(out: &mut Vec<u8>, n: i32) -> Result<(), AllocError>
     ensures spelled { OnOk result (out.new.items ≡ out.old.items ++ signed_decimal n) }
     ensures fits { OnOk result (int.fits n) }
     ensures keeps { Keeps out.old.items out.new.items }
 {
-    match u8::try_from(n) {
-        Ok(digit @ 0..=9) => put_digit(out, digit),
-        _ => out.extend_from_slice(Buffer::new().format(n).as_bytes()),
-    }
+    out.extend_from_slice(Buffer::new().format(n).as_bytes())
 }
 
 /// Appends a long.
@@ -52,10 +39,7 @@ pub fn put_long(out: &mut Vec<u8>, n: i64) -> Result<(), AllocError>
     ensures fits { OnOk result (long.fits n) }
     ensures keeps { Keeps out.old.items out.new.items }
 {
-    match u8::try_from(n) {
-        Ok(digit @ 0..=9) => put_digit(out, digit),
-        _ => out.extend_from_slice(Buffer::new().format(n).as_bytes()),
-    }
+    out.extend_from_slice(Buffer::new().format(n).as_bytes())
 }
 
 /// Appends a bit: `0` or `1`.
