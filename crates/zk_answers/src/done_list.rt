@@ -209,6 +209,8 @@ pub(crate) fn lying<'a>(payload: &'a [u8], count: usize, place: usize) -> DoneLi
 }
 
 /// What became of each part of what was asked, and the place behind the end marker.
+// A loop of its own keeps its registers.
+#[inline(never)]
 pub(crate) fn results_ref<'a, F: Asked>(
     src: &Payload<'a>,
     place: usize,

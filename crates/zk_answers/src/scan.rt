@@ -23,6 +23,8 @@ use zk_records::{
 
 /// The body of a reply to what was asked, and the place behind it.
 #[tactic(auto, unfolding(zk_jute::specs::Told::IsToldAt))]
+// As in scan.rt of zk_asks.
+#[inline(always)]
 fn body_ref<'a, F: Asked>(
     src: &Payload<'a>,
     place: usize,
@@ -69,6 +71,7 @@ fn body_ref<'a, F: Asked>(
 }
 
 /// What a header with this err leaves: a failure and no more, or the body.
+#[inline(always)]
 fn outcome_ref<'a, F: Asked>(
     src: &Payload<'a>,
     place: usize,
@@ -110,6 +113,7 @@ pub fn scan_connected<'a>(payload: &'a [u8]) -> Result<ServerRef<'a>, ItemFault>
     connected_in(payload)
 }
 
+#[inline(always)]
 fn reply_in<'a, F: Asked>(form: &F, src: &Payload<'a>) -> Result<ServerRef<'a>, ItemFault>
     requires { (header : records.ReplyHeader) (rest : List ℕ) → IsHead src.now.bytes.now header rest → header.xid ≢ negsuc 0 }
     ensures found { IfOk result (λ s. IsReplyTo (F.operation form.now) (F.part_ops form.now) s × IsSent s × (src.now.bytes.now ≡ sent.payload s)) }
@@ -129,6 +133,7 @@ fn reply_in<'a, F: Asked>(form: &F, src: &Payload<'a>) -> Result<ServerRef<'a>, 
 
 /// A reply to what was asked, where it lies: decides as `read_reply` does, takes no memory, and
 /// never answers `NoMemory`. Its header, where it is whole, has another xid than -1.
+#[inline(always)]
 pub fn scan_reply<'a, F: Asked>(form: &F, payload: &'a [u8]) -> Result<ServerRef<'a>, ItemFault>
     requires { (header : records.ReplyHeader) (rest : List ℕ) → IsHead payload.now header rest → header.xid ≢ negsuc 0 }
     // What is read has the form that the request fixes, and is the payload's one value.

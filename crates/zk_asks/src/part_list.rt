@@ -51,6 +51,7 @@ impl<'a> PartList<'a> {
     }
 
     /// The parts, in order.
+    #[inline(always)]
     pub fn items(&self) -> PartItems<'a>
         ensures { result ≡ self.now }
     {
@@ -179,6 +180,8 @@ fn lying<'a>(payload: &'a [u8], count: usize, place: usize) -> PartList<'a>
 }
 
 /// The parts from a place on, and the place behind the end marker.
+// A loop of its own keeps its registers.
+#[inline(never)]
 pub(crate) fn multi_ref<'a>(
     src: &Payload<'a>,
     place: usize,

@@ -1,10 +1,12 @@
 //! A request where it lies, as its reply is read by.
-ghost use Rattle.std.specs.Prelude.{◌≡◌, ◌<◌, ◌^◌, length};
+ghost use Rattle.std.specs.Prelude.{◌≡◌, ◌<◌, ◌≤◌, ◌+◌, ◌^◌, ◌++◌, length, map};
+ghost use Rattle.zk_asks.specs.Parts.{op_of_part};
 ghost use Rattle.zk_asks.specs.Frames.{ops_of_ask, others_have_none};
 ghost use Rattle.zk_asks.specs.Rows.{op_of_ask};
 
 use crate::asked::{Asked, Room};
 use crate::frame::{AskOf, AskRef};
+use crate::part_list::PartItems;
 use zk_records::{Op, PartOp};
 
 /// A request where it lies, as an `Asked`: it takes no memory, and `part` walks over the parts before.
@@ -17,6 +19,7 @@ pub struct RequestRef<'b, 'a> {
 
 impl<'b, 'a> RequestRef<'b, 'a> {
     /// The request, which has fewer than 4,294,967,296 parts.
+    #[inline(always)]
     pub fn of(ask: &'b AskRef<'a>) -> Self
         requires { length (ops_of_ask ask.now) < 2 ^ 32 }
         ensures { result.ask.now ≡ ask.now }
@@ -25,15 +28,31 @@ impl<'b, 'a> RequestRef<'b, 'a> {
     }
 }
 
+/// Puts the operations of all parts that are left behind what is in the room.
+// Out of line, so that the request that is looked at stays in registers.
+#[inline(never)]
+fn put_all<'a, R: Room>(parts: PartItems<'a>, room: &mut R)
+    requires { length (R.ops room.old) + length (map op_of_part parts) ≤ R.room room.old }
+    ensures put { R.ops room.new ≡ R.ops room.old ++ map op_of_part parts.entry }
+    ensures room { R.room room.new ≡ R.room room.old }
+{
+    let mut items = parts;
+    while let Some(part) = items.next() {
+        room.push(part.op());
+    }
+}
+
 impl<'b, 'a> Asked for RequestRef<'b, 'a> {
     ghost operation = { λ r. op_of_ask r.ask.now };
 
     ghost part_ops = { λ r. ops_of_ask r.ask.now };
 
+    #[inline(always)]
     fn op(&self) -> Op {
         self.ask.op()
     }
 
+    #[inline(always)]
     fn parts(&self) -> u32 {
         match self.ask {
             AskOf::Multi(parts) => parts.count() as u32,
@@ -54,14 +73,12 @@ impl<'b, 'a> Asked for RequestRef<'b, 'a> {
         Some(items.next()?.op())
     }
 
+    #[inline(always)]
     fn put_ops<R: Room>(&self, room: &mut R) {
         let AskOf::Multi(parts) = self.ask else {
             return;
         };
-        let mut items = parts.items();
-        while let Some(part) = items.next() {
-            room.push(part.op());
-        }
+        put_all(parts.items(), room);
     }
 
     ghost lawful = { λ r. others_have_none r.ask.now };

@@ -20,6 +20,8 @@ use zk_records::{
 
 /// The record of an operation.
 #[tactic(auto, using(crate::proofs::Lying::fields_lying))]
+// Inlined where only the xid and the operation are asked for, so that no record is made (number.rt of zk_jute).
+#[inline(always)]
 fn body_ref<'a>(src: &Payload<'a>, place: usize, op: Op) -> Result<(AskRef<'a>, usize), ItemFault>
     requires { place ≤ length src.now.bytes.now }
     ensures found { IfOk result (λ x. (op_of_ask x.0 ≡ op) × HaveBytes (body_items x.0) × StandsAt (body_items x.0) src.now.bytes.now place x.1) }
@@ -55,6 +57,7 @@ fn body_ref<'a>(src: &Payload<'a>, place: usize, op: Op) -> Result<(AskRef<'a>, 
     }
 }
 
+#[inline(always)]
 fn ask_ref<'a>(profile: Profile, src: &Payload<'a>) -> Result<ClientRef<'a>, ItemFault>
     ensures found { IfOk result (λ f. IsLater f × IsOfProfile profile f × IsSent f × (src.now.bytes.now ≡ frames.payload f)) }
     ensures fault { IfErr result (λ e. IsTold (IsAskFault profile src.now.bytes.now) e × (e.reason ≢ NoMemory)) }
@@ -78,6 +81,7 @@ fn ask_ref<'a>(profile: Profile, src: &Payload<'a>) -> Result<ClientRef<'a>, Ite
 
 /// A later payload of a client where it lies: decides as `read_ask` does, takes no memory, and
 /// never answers `NoMemory`.
+#[inline(always)]
 pub fn scan_ask<'a>(profile: Profile, payload: &'a [u8]) -> Result<ClientRef<'a>, ItemFault>
     // What is read has the form, and is the payload's one value.
     ensures found { IfOk result (λ f. IsLater f × IsOfProfile profile f × IsSent f × (payload.now ≡ frames.payload f)) }

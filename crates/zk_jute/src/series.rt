@@ -143,6 +143,7 @@ impl<'a, R: Element + Stands<Payload<'a>>> ExactSizeIterator for Elements<'a, R>
 }
 
 /// So many elements of the payload, from a place on.
+#[inline(always)]
 fn lying<'a, R: Element>(payload: &'a [u8], count: Option<usize>, place: usize) -> Series<'a, R>
     requires place { place ≤ length payload.now }
     requires stand { AllStand (R.value payload.now) count place }
@@ -158,6 +159,8 @@ fn lying<'a, R: Element>(payload: &'a [u8], count: Option<usize>, place: usize) 
 
 #[tactic(auto, using(crate::proofs::Loops::scanning_goes_on, crate::proofs::Loops::scanning_ends))]
 /// The place after so many elements.
+// A loop of its own keeps its registers: a quarter off lists of names.
+#[inline(never)]
 fn elements_end<P: Source, R: Stands<P>>(
     src: &P,
     count: usize,
@@ -182,6 +185,8 @@ impl<'a, R: Element> Form for Series<'a, R> {
 
 impl<'a, R: Element + Stands<Payload<'a>>> Stands<Payload<'a>> for Series<'a, R> {
     #[tactic(auto, using(crate::proofs::Fields::list_none, crate::proofs::Fields::list_fails, crate::proofs::Fields::list_refused, crate::proofs::Fields::elements_fail, crate::proofs::Lists::elements_refuse))]
+    // As in number.rt.
+    #[inline(always)]
     fn decode(src: &Payload<'a>, place: usize) -> Result<(Self, usize), ItemFault> {
         let (count, start) = size_at(src.bytes, place)?;
         match count {

@@ -13,6 +13,8 @@ impl<'a> Form for TextRef<'a> {
 
 impl<'a> Stands<Payload<'a>> for TextRef<'a> {
     #[tactic(auto, using(crate::proofs::Fields::text_is, crate::proofs::Fields::refuses_told, crate::proofs::Fields::fails_told))]
+    // As in number.rt.
+    #[inline(always)]
     fn decode(src: &Payload<'a>, place: usize) -> Result<(Self, usize), ItemFault> {
         let (text, after) = text_at(src.bytes, place)?;
         match text {
@@ -28,6 +30,7 @@ impl<'a> Form for BlobRef<'a> {
 
 impl<'a> Stands<Payload<'a>> for BlobRef<'a> {
     #[tactic(auto, using(crate::proofs::Fields::run_is, crate::proofs::Fields::refuses_told, crate::proofs::Fields::fails_told))]
+    #[inline(always)]
     fn decode(src: &Payload<'a>, place: usize) -> Result<(Self, usize), ItemFault> {
         let (bytes, after) = run_at(src.bytes, place)?;
         match bytes {

@@ -27,6 +27,8 @@ impl<'a> Source for Payload<'a> {
 
     ghost grows = { false };
 
+    // As in number.rt.
+    #[inline(always)]
     fn payload(&self) -> &[u8] {
         self.bytes
     }
@@ -44,6 +46,7 @@ impl<'a> Source for Kept<'a> {
 
     ghost grows = { true };
 
+    #[inline(always)]
     fn payload(&self) -> &[u8] {
         let Kept { bytes, .. } = self;
         bytes

@@ -26,6 +26,8 @@ pub trait Form: Sized + Drop {
 /// A value that is read from such a payload.
 pub trait Stands<P: Source>: Form {
     /// The step of `read_in` that an impl writes: its fields, one after the other.
+    // As in number.rt.
+    #[inline(always)]
     fn decode(src: &P, place: usize) -> Result<(Self, usize), ItemFault>
         requires { place ≤ length (P.payload src.now) }
         ensures exact { Gives (λ x. (Self.wired.items x.0, x.1)) result (items_at Self.wired.layout (P.payload src.now) place) }
@@ -34,6 +36,8 @@ pub trait Stands<P: Source>: Form {
 
     /// The value that stands at `place`, and the place after it; else the first fault from the left,
     /// its place counted from the beginning of the payload.
+    // As in number.rt.
+    #[inline(always)]
     final fn read_in(src: &P, place: usize) -> Result<(Self, usize), ItemFault>
         requires { place ≤ length (P.payload src.now) }
         // What is read stands there, each byte of it.
@@ -52,6 +56,8 @@ pub trait Stands<P: Source>: Form {
 }
 
 /// What lies at a place of a payload, and the place after it; it takes no memory.
+// As in number.rt.
+#[inline(always)]
 pub fn read_ref<'a, T: Stands<Payload<'a>>>(
     src: &Payload<'a>,
     place: usize,
@@ -65,6 +71,7 @@ pub fn read_ref<'a, T: Stands<Payload<'a>>>(
 }
 
 /// Bytes are numbers below 256; the function does nothing.
+#[inline(always)]
 fn are_bytes(bytes: &[u8])
     ensures { (i : ℕ) → get_or bytes.now i 0 < 256 }
 {
@@ -76,6 +83,7 @@ impl Form for i32 {
 }
 
 impl<P: Source> Stands<P> for i32 {
+    #[inline(always)]
     fn decode(src: &P, place: usize) -> Result<(Self, usize), ItemFault> {
         int_at(src.payload(), place)
     }
@@ -86,6 +94,7 @@ impl Form for i64 {
 }
 
 impl<P: Source> Stands<P> for i64 {
+    #[inline(always)]
     fn decode(src: &P, place: usize) -> Result<(Self, usize), ItemFault> {
         long_at(src.payload(), place)
     }
@@ -96,6 +105,7 @@ impl Form for bool {
 }
 
 impl<P: Source> Stands<P> for bool {
+    #[inline(always)]
     fn decode(src: &P, place: usize) -> Result<(Self, usize), ItemFault> {
         bool_at(src.payload(), place)
     }
@@ -107,6 +117,7 @@ impl<A: Form, B: Form> Form for (A, B) {
 
 impl<P: Source, A: Stands<P>, B: Stands<P>> Stands<P> for (A, B) {
     #[tactic(auto, using(crate::proofs::Chains::reads))]
+    #[inline(always)]
     fn decode(src: &P, place: usize) -> Result<(Self, usize), ItemFault> {
         let (first, place) = A::decode(src, place)?;
         let (second, place) = B::decode(src, place)?;

@@ -39,6 +39,8 @@ impl<T: Form, B: Form, A: Form> Form for CreateAskOf<T, B, A> {
 }
 
 impl<P: Source, T: Stands<P>, B: Stands<P>, A: Stands<P>> Stands<P> for CreateAskOf<T, B, A> {
+    // Read in registers where only the end is asked for (number.rt of zk_jute).
+    #[inline(always)]
     fn decode(src: &P, place: usize) -> Result<(Self, usize), ItemFault> {
         decode!(src, place => CreateAskOf { path, blob, acl, flags })
     }
@@ -85,6 +87,7 @@ impl<T: Form> Form for DeleteAskOf<T> {
 }
 
 impl<P: Source, T: Stands<P>> Stands<P> for DeleteAskOf<T> {
+    #[inline(always)]
     fn decode(src: &P, place: usize) -> Result<(Self, usize), ItemFault> {
         decode!(src, place => DeleteAskOf { path, version })
     }
@@ -133,6 +136,7 @@ impl<T: Form, B: Form> Form for SetDataAskOf<T, B> {
 }
 
 impl<P: Source, T: Stands<P>, B: Stands<P>> Stands<P> for SetDataAskOf<T, B> {
+    #[inline(always)]
     fn decode(src: &P, place: usize) -> Result<(Self, usize), ItemFault> {
         decode!(src, place => SetDataAskOf { path, blob, version })
     }
@@ -180,6 +184,7 @@ impl<T: Form, A: Form> Form for SetAclAskOf<T, A> {
 }
 
 impl<P: Source, T: Stands<P>, A: Stands<P>> Stands<P> for SetAclAskOf<T, A> {
+    #[inline(always)]
     fn decode(src: &P, place: usize) -> Result<(Self, usize), ItemFault> {
         decode!(src, place => SetAclAskOf { path, acl, version })
     }
@@ -226,6 +231,7 @@ impl<T: Form> Form for CheckAskOf<T> {
 }
 
 impl<P: Source, T: Stands<P>> Stands<P> for CheckAskOf<T> {
+    #[inline(always)]
     fn decode(src: &P, place: usize) -> Result<(Self, usize), ItemFault> {
         decode!(src, place => CheckAskOf { path, version })
     }

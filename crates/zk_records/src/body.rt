@@ -38,6 +38,8 @@ impl<B: Form> Form for DataBodyOf<B> {
 }
 
 impl<P: Source, B: Stands<P>> Stands<P> for DataBodyOf<B> {
+    // Read in registers where only the end is asked for (number.rt of zk_jute).
+    #[inline(always)]
     fn decode(src: &P, place: usize) -> Result<(Self, usize), ItemFault> {
         decode!(src, place => DataBodyOf { blob, stat })
     }
@@ -83,6 +85,7 @@ impl<A: Form> Form for AclBodyOf<A> {
 }
 
 impl<P: Source, A: Stands<P>> Stands<P> for AclBodyOf<A> {
+    #[inline(always)]
     fn decode(src: &P, place: usize) -> Result<(Self, usize), ItemFault> {
         decode!(src, place => AclBodyOf { acl, stat })
     }
@@ -129,6 +132,7 @@ impl<L: Form> Form for ChildrenBodyOf<L> {
 }
 
 impl<P: Source, L: Stands<P>> Stands<P> for ChildrenBodyOf<L> {
+    #[inline(always)]
     fn decode(src: &P, place: usize) -> Result<(Self, usize), ItemFault> {
         decode!(src, place => ChildrenBodyOf { names, stat })
     }
@@ -174,6 +178,7 @@ impl<T: Form> Form for CreateBodyOf<T> {
 }
 
 impl<P: Source, T: Stands<P>> Stands<P> for CreateBodyOf<T> {
+    #[inline(always)]
     fn decode(src: &P, place: usize) -> Result<(Self, usize), ItemFault> {
         decode!(src, place => CreateBodyOf { path, stat })
     }

@@ -28,6 +28,8 @@ impl Form for RequestHeader {
 }
 
 impl<P: Source> Stands<P> for RequestHeader {
+    // Read in registers where only the end is asked for (number.rt of zk_jute).
+    #[inline(always)]
     fn decode(src: &P, place: usize) -> Result<(Self, usize), ItemFault> {
         decode!(src, place => RequestHeader { xid, kind })
     }
@@ -71,6 +73,7 @@ impl Form for ReplyHeader {
 }
 
 impl<P: Source> Stands<P> for ReplyHeader {
+    #[inline(always)]
     fn decode(src: &P, place: usize) -> Result<(Self, usize), ItemFault> {
         decode!(src, place => ReplyHeader { xid, zxid, err })
     }
@@ -114,6 +117,7 @@ impl Form for MultiHeader {
 }
 
 impl<P: Source> Stands<P> for MultiHeader {
+    #[inline(always)]
     fn decode(src: &P, place: usize) -> Result<(Self, usize), ItemFault> {
         decode!(src, place => MultiHeader { kind, done, err })
     }

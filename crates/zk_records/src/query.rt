@@ -34,6 +34,8 @@ impl<T: Form> Form for WatchAskOf<T> {
 }
 
 impl<P: Source, T: Stands<P>> Stands<P> for WatchAskOf<T> {
+    // Read in registers where only the end is asked for (number.rt of zk_jute).
+    #[inline(always)]
     fn decode(src: &P, place: usize) -> Result<(Self, usize), ItemFault> {
         decode!(src, place => WatchAskOf { path, watch })
     }
@@ -78,6 +80,7 @@ impl<T: Form> Form for PathAskOf<T> {
 }
 
 impl<P: Source, T: Stands<P>> Stands<P> for PathAskOf<T> {
+    #[inline(always)]
     fn decode(src: &P, place: usize) -> Result<(Self, usize), ItemFault> {
         decode!(src, place => PathAskOf { path })
     }

@@ -46,6 +46,8 @@ impl Form for Stat {
 }
 
 impl<P: Source> Stands<P> for Stat {
+    // Read in registers where only the end is asked for (number.rt of zk_jute).
+    #[inline(always)]
     fn decode(src: &P, place: usize) -> Result<(Self, usize), ItemFault> {
         decode!(src, place => Stat { czxid, mzxid, ctime, mtime, version, cversion, aversion, ephemeral_owner, data_length, num_children, pzxid })
     }

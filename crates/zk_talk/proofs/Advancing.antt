@@ -6,7 +6,7 @@ use Rattle.zk_frames.specs.declared.frames.Took.{Took}
 use Rattle.zk_frames.specs.declared.frames.FrameFault.{FrameFault}
 use Rattle.zk_frames.specs.declared.frames.FrameFault.TheVariants.{LengthRange}
 use Rattle.zk_frames.specs.Framing.{frame, IsBeginning, IsFrame, IsBadLength}
-use Rattle.zk_frames.specs.Held.{IsTaken, EndsWell, IsRefusal}
+use Rattle.zk_frames.specs.Held.{IsTaken, EndsWell, IsRefusal, IsFront}
 use Rattle.zk_frames.proofs.Cuts.{take-frame}
 use Rattle.zk_talk.specs.Advance.{IsStop}
 use Rattle.zk_talk.specs.Advance.IsStop.{too_many, out_of_range}
@@ -46,6 +46,10 @@ module _ (limit size : ℕ) (held piece part after : List ℕ) (room : ℕ) (is 
       let all : part ≡ piece = is ∙ take_all room piece (omega (arith, n)) in
       let same : after ≡ held ++ piece = u.0 ∙ ap (λ z. held ++ z) all in
       (same, subst (IsBeginning limit) same u.1, omega (arith, fits, ap length all, long))
+
+  -- the whole frame that the part begins with, where nothing was held
+  pub front_taken : (used : ℕ) → IsFront held part used (record { limit = limit; bytes = after }) → (held ≡ []) × ((0 < used) × (used ≤ length piece) × (size + used < 2 ^ 62) × (after ≡ held ++ take used piece) × IsFrame limit after)
+  front_taken used f = (f.nothing, (f.some, omega (arith, f.part, long, short), omega (arith, f.part, long, fits), f.bytes ∙ front_again piece part room used is f.part ∙ ap (λ z. z ++ take used piece) (sym f.nothing), f.whole))
 
   range_length : IsRefusal limit held part LengthRange after → length held < 4
   range_length r = r.3

@@ -1,5 +1,5 @@
 //! Whole frames: each is decided, and then kept or done with.
-ghost use Rattle.std.specs.Prelude.{◌≡◌, ◌≢◌, ◌≤◌, ◌<◌, ◌+◌, ◌^◌, ◌++◌, ◌↔◌, ℕ, List, [], length, drop, IfOk, IfErr, OnOk, IsTrue};
+ghost use Rattle.std.specs.Prelude.{◌≡◌, ◌≢◌, ◌≤◌, ◌<◌, ◌+◌, ◌^◌, ◌++◌, ◌↔◌, ℕ, List, [], length, drop, IfOk, IfErr, IfSome, IfNone, OnOk, IsTrue, false};
 ghost use Rattle.zk_jute.specs.declared.fault.Reason.TheVariants.{NoMemory};
 ghost use Rattle.zk_jute.specs.Reading.{no_memory};
 ghost use Rattle.zk_frames.specs.Framing.{IsFrame};
@@ -9,7 +9,7 @@ ghost use Rattle.zk_talk.specs.Judged.{KeepsClient, KeepsServer, TellsClient, Te
 ghost use Rattle.zk_talk.specs.Streams.{IsAtFrame, TakenBack, passed, kept_now};
 ghost use Rattle.zk_talk.specs.Viewed.{answered_by};
 
-use crate::judge::{await_reply, forget_seen, next_client, next_server};
+use crate::judge::{await_reply, forget_seen, next_client, next_reply, next_request, next_server};
 use crate::stream::Stream;
 use std::alloc::Global;
 use zk_answers::{ServerFrame, ServerFrameOf, ServerRef};
@@ -28,7 +28,31 @@ pub fn is_no_memory(item: ItemFault) -> bool
     }
 }
 
+/// The client's frame, which so many bytes have made whole, is kept where it is a request that may come under this profile; else all is as
+/// before, and no fault is made.
+#[inline(always)]
+pub fn keep_client(
+    profile: Profile,
+    stream: &mut Stream,
+    waiting: &mut Waiting,
+    used: usize,
+) -> bool
+    requires { IsAtFrame stream.old used }
+    ensures max { waiting.new.max ≡ waiting.old.max }
+    ensures found { IsTrue result → (f : asks.ClientFrame) × KeepsClient profile stream.old waiting.old f waiting.new stream.new }
+    ensures kept { IsTrue result → stream.new ≡ kept_now stream.old used }
+    ensures same { result ≡ false → (waiting.new ≡ waiting.old) × (stream.new ≡ stream.old) }
+{
+    let Some(frame) = next_request(profile, stream.count(), waiting, stream.payload()) else {
+        return false;
+    };
+    await_reply(waiting, &frame);
+    stream.keep(used);
+    true
+}
+
 /// The client's frame, which so many bytes have made whole, is decided under this profile, and kept.
+#[inline(never)]
 pub fn client_step(
     profile: Profile,
     stream: &mut Stream,
@@ -81,6 +105,7 @@ pub fn client_frame(
 }
 
 /// The operation whose request the frame answers; None where it isn't a reply.
+#[inline(always)]
 fn answered(frame: &ServerRef<'_>) -> Option<Op>
     ensures { result ≡ answered_by frame.now }
 {
@@ -91,8 +116,26 @@ fn answered(frame: &ServerRef<'_>) -> Option<Op>
     }
 }
 
+/// The server's frame, which so many bytes have made whole, is kept where it is a reply that may come, and
+/// the answer is the operation whose request it answers; else all is as before, and no fault is made.
+#[inline(always)]
+pub fn keep_server(stream: &mut Stream, waiting: &mut Waiting, used: usize) -> Option<Option<Op>>
+    requires { IsAtFrame stream.old used }
+    ensures max { waiting.new.max ≡ waiting.old.max }
+    ensures found { (asked : ℕ) → IfSome result (λ op. (s : answers.ServerFrame) × KeepsServer asked stream.old waiting.old op s waiting.new stream.new) }
+    ensures kept { IfSome result (λ op. stream.new ≡ kept_now stream.old used) }
+    ensures same { IfNone result ((waiting.new ≡ waiting.old) × (stream.new ≡ stream.old)) }
+{
+    let frame = next_reply(stream.count(), waiting, stream.payload())?;
+    let answered = answered(&frame);
+    forget_seen(waiting, &frame);
+    stream.keep(used);
+    Some(answered)
+}
+
 /// The server's frame, likewise, where the client has sent so many; the operation whose request it
 /// answers.
+#[inline(never)]
 pub fn server_step(
     asked: u64,
     stream: &mut Stream,

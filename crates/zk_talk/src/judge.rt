@@ -1,5 +1,5 @@
 //! Whether a payload may come now.
-ghost use Rattle.std.specs.Prelude.{◌≡◌, ◌≢◌, ◌≤◌, ◌<◌, ◌+◌, ◌^◌, ◌⊎◌, ◌↔◌, ℕ, List, length, IsOk, IfOk, IfErr, OnOk, IsTrue, Some, slice_get};
+ghost use Rattle.std.specs.Prelude.{◌≡◌, ◌≢◌, ◌≤◌, ◌<◌, ◌+◌, ◌^◌, ◌⊎◌, ◌↔◌, ℕ, List, length, IsOk, IfOk, IfErr, IfSome, OnOk, IsTrue, Some, slice_get};
 ghost use Rattle.zk_jute.specs.declared.fault.Reason.TheVariants.{NoMemory};
 ghost use Rattle.zk_asks.specs.Codes.{event_xid};
 ghost use Rattle.zk_asks.specs.Frames.{IsFirst, IsSent};
@@ -24,6 +24,8 @@ use zk_records::{Profile, ReplyHeader};
 use zk_waiting::{PutFault, Waiting, lane_of};
 
 /// The frame after so many of the client, where it lies.
+// Inlined for the front of talk.rt.
+#[inline(always)]
 fn seen_client(profile: Profile, count: u64, payload: &[u8]) -> Result<ClientRef<'_>, ItemFault>
     ensures found { IfOk result (λ f. IsInTurn profile count f × IsSent f × (client_payload f ≡ payload.now)) }
     ensures fault { IfErr result (λ e. (e.reason ≢ NoMemory) × IsTurnFault profile count payload.now e) }
@@ -36,6 +38,7 @@ fn seen_client(profile: Profile, count: u64, payload: &[u8]) -> Result<ClientRef
 }
 
 /// Whether there is room for what is to wait for the frame's reply.
+#[inline(always)]
 fn has_room(waiting: &Waiting, frame: &ClientRef<'_>) -> bool
     requires { length (client_payload frame.now) < 2 ^ 32 }
     ensures { IsTrue result ↔ HasRoomFor frame.now waiting.now }
@@ -47,6 +50,7 @@ fn has_room(waiting: &Waiting, frame: &ClientRef<'_>) -> bool
 }
 
 /// The client's next frame, where it lies; there is room for what is to wait for its reply.
+#[inline(always)]
 pub fn next_client<'a>(
     profile: Profile,
     count: u64,
@@ -66,7 +70,34 @@ pub fn next_client<'a>(
     }
 }
 
+/// The client's next frame, where it is a request that may come; None says no more. No fault is made, and where the frame
+/// is asked for no more than what `await_reply` wants of it, no frame.
+#[inline(always)]
+pub fn next_request<'a>(
+    profile: Profile,
+    count: u64,
+    waiting: &Waiting,
+    payload: &'a [u8],
+) -> Option<ClientRef<'a>>
+    requires { length payload.now < 2 ^ 32 }
+    ensures found { IfSome result (λ f. IsInTurn profile count f × IsSent f × (client_payload f ≡ payload.now)) }
+    ensures room { IfSome result (λ f. HasRoomFor f waiting.now) }
+{
+    if count == 0 {
+        return None;
+    }
+    let Ok(frame) = scan_ask(profile, payload) else {
+        return None;
+    };
+    if has_room(waiting, &frame) {
+        Some(frame)
+    } else {
+        None
+    }
+}
+
 /// The client's frame, for which there is room, waits for its reply, if it is to have one.
+#[inline(always)]
 pub fn await_reply(waiting: &mut Waiting, frame: &ClientRef<'_>)
     requires small { length (client_payload frame.now) < 2 ^ 32 }
     requires room { HasRoomFor frame.now waiting.old }
@@ -103,6 +134,7 @@ pub fn remember(alloc: Global, waiting: &mut Waiting, frame: &ClientFrame) -> Re
 }
 
 /// The reply under this header to the oldest request of its lane, where it lies.
+#[inline(always)]
 fn seen_answer<'a>(
     head: &ReplyHeader,
     waiting: &Waiting,
@@ -129,6 +161,7 @@ fn seen_answer<'a>(
 }
 
 /// The server's next frame, where it lies: the client has sent so many, the server so many.
+#[inline(always)]
 pub fn next_server<'a>(
     asked: u64,
     count: u64,
@@ -153,6 +186,29 @@ pub fn next_server<'a>(
     seen_answer(&head, waiting, payload)
 }
 
+/// The server's next frame, where it is a reply that may come; None says no more. No fault is made, and where no more is
+/// asked for than its xid and its operation, no frame.
+#[inline(always)]
+pub fn next_reply<'a>(count: u64, waiting: &Waiting, payload: &'a [u8]) -> Option<ServerRef<'a>>
+    ensures due { IfSome result (λ s. IsDue s waiting.now × answers.IsSent s × (server_payload s ≡ payload.now)) }
+    ensures turn { IfSome result (λ s. (count ≡ 0 → ⊥) × (answers.IsConnected s → ⊥)) }
+    ensures may { IfSome result (λ s. (asked : ℕ) (v : Conversation) → Describes asked count waiting.now v → ServerMay v.client v.server s) }
+{
+    if count == 0 {
+        return None;
+    }
+    let Ok(head) = reply_head(payload) else {
+        return None;
+    };
+    if head.xid == -1 {
+        return None;
+    }
+    match seen_answer(&head, waiting, payload) {
+        Ok(frame) => Some(frame),
+        Err(_) => None,
+    }
+}
+
 /// What the server's frame answers waits no more.
 pub fn forget(waiting: &mut Waiting, frame: &ServerFrame)
     requires { HasAsk frame.now waiting.old }
@@ -165,6 +221,7 @@ pub fn forget(waiting: &mut Waiting, frame: &ServerFrame)
 }
 
 /// Likewise, where the frame lies.
+#[inline(always)]
 pub fn forget_seen(waiting: &mut Waiting, frame: &ServerRef<'_>)
     requires { HasAsk frame.now waiting.old }
     ensures max { waiting.new.max ≡ waiting.old.max }

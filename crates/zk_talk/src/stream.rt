@@ -1,9 +1,9 @@
 //! One side's bytes, and what a piece does to its frame.
-ghost use Rattle.std.specs.Prelude.{◌≡◌, ◌≤◌, ◌<◌, ◌+◌, ◌^◌, ◌++◌, ℕ, List, [], length, take, IfOk, MatchOption};
+ghost use Rattle.std.specs.Prelude.{◌≡◌, ◌≤◌, ◌<◌, ◌+◌, ◌^◌, ◌++◌, ℕ, List, [], length, take, IfOk, IfSome, IfNone, MatchOption};
 ghost use Rattle.zk_frames.specs.Framing.{frame, IsBeginning, IsFrame};
 ghost use Rattle.zk_talk.specs.Advance.{IsAdvance};
 ghost use Rattle.zk_talk.specs.Streams.{IsAtFrame, TakenBack, passed, kept_now};
-ghost use Rattle.zk_talk.specs.declared.stream.Advance.TheVariants.{Within};
+ghost use Rattle.zk_talk.specs.declared.stream.Advance.TheVariants.{Within, Whole};
 
 use std::alloc::{AllocError, Global};
 use std::marker::Model;
@@ -43,6 +43,7 @@ impl Model for Stream {
 }
 
 /// How many bytes of the piece the side may still send.
+#[inline(always)]
 fn within(size: u64, piece: &[u8]) -> usize
     requires { size < 2 ^ 62 }
     ensures fits { size + result < 2 ^ 62 }
@@ -57,6 +58,7 @@ fn within(size: u64, piece: &[u8]) -> usize
     }
 }
 
+#[inline(always)]
 fn front(piece: &[u8], used: usize) -> &[u8]
     requires { used ≤ length piece.now }
     ensures { result.now ≡ take used piece.now }
@@ -102,6 +104,7 @@ impl Stream {
     }
 
     /// How many frames were whole.
+    #[inline(always)]
     pub fn count(&self) -> u64
         ensures { result ≡ self.now.count }
     {
@@ -109,6 +112,7 @@ impl Stream {
     }
 
     /// How many bytes came before the frame that is whole now, or in all.
+    #[inline(always)]
     pub fn size(&self) -> u64
         ensures { result ≡ self.now.size }
     {
@@ -132,6 +136,7 @@ impl Stream {
     }
 
     /// What the frame carries that is whole and isn't counted.
+    #[inline(always)]
     pub fn payload(&self) -> &[u8]
         requires { IsFrame self.now.limit self.now.held }
         ensures { self.now.held ≡ frame result.now }
@@ -162,6 +167,7 @@ impl Stream {
     }
 
     /// The frame that was kept is given up.
+    #[inline(always)]
     pub fn give_up(&mut self)
         ensures { self.new ≡ record self.old { kept = [] } }
     {
@@ -180,6 +186,19 @@ impl Stream {
         ensures advance { IsAdvance self.old.limit self.old.size self.old.held piece.now result self.new.held }
     {
         go_forward(&mut self.frames, self.size, piece)
+    }
+
+    /// Takes the whole frame that the piece begins with, where no byte is held; else nothing, and None says no more.
+    #[inline(always)]
+    pub fn take_front(&mut self, piece: &[u8]) -> Option<usize>
+        requires given_up { self.old.kept ≡ [] }
+        requires size { self.old.size < 2 ^ 62 }
+        ensures stays { self.new ≡ record self.old { held = self.new.held } }
+        ensures some { IfSome result (λ used. (self.old.held ≡ []) × IsAdvance self.old.limit self.old.size self.old.held piece.now (Whole used) self.new.held) }
+        ensures none { IfNone result (self.new ≡ self.old) }
+    {
+        let room = within(self.size, piece);
+        self.frames.take_front(front(piece, room))
     }
 
     /// So many bytes came, and the frame isn't whole.
@@ -209,6 +228,7 @@ impl Stream {
     }
 
     /// The whole frame, with which so many bytes came, is counted and kept.
+    #[inline(always)]
     pub fn keep(&mut self, used: usize)
         requires { IsAtFrame self.old used }
         ensures { self.new ≡ kept_now self.old used }

@@ -1,5 +1,5 @@
 //! The conversation, as it comes.
-ghost use Rattle.std.specs.Prelude.{false, ◌≡◌, ◌≢◌, ◌≤◌, ◌<◌, ◌+◌, ◌^◌, ℕ, List, [], length, take, Some, None, Err, IsOk, IfOk, IfErr, OnErr, IfSome, MatchOption};
+ghost use Rattle.std.specs.Prelude.{false, true, ◌≡◌, ◌≢◌, ◌≤◌, ◌<◌, ◌+◌, ◌^◌, ℕ, List, [], length, take, Some, None, Err, IsOk, IfOk, IfErr, OnErr, IfSome, IfNone, MatchOption};
 ghost use Rattle.std.specs.Option.{option_to_list};
 ghost use Rattle.zk_jute.specs.declared.fault.Reason.TheVariants.{NoMemory};
 ghost use Rattle.zk_jute.specs.Reading.{no_memory};
@@ -21,7 +21,9 @@ ghost use Rattle.zk_answers.specs.declared.layout.Layout.TheVariants as layouts;
 ghost use Rattle.zk_talk.specs.Viewed.{Shows, Leaves, other_side};
 ghost use Rattle.zk_talk.specs.Taking.{TakesOn, StepsOn, IsRefused, Fails, given_up};
 
-use crate::frame::{client_frame, client_step, is_no_memory, server_frame, server_step};
+use crate::frame::{
+    client_frame, client_step, is_no_memory, keep_client, keep_server, server_frame, server_step,
+};
 use crate::limits::Limits;
 use crate::message::{Ending, Fault, Message, MessageOf, MessageRef, Side};
 use crate::refused::{answered_body, asked_body, is_in_body};
@@ -104,6 +106,7 @@ fn wanting() -> ItemFault
 
 /// The fault of the frame that so many more bytes have brought; it is kept, but for want of
 /// memory.
+#[inline(never)]
 fn refuse(
     kept: &mut Option<Fault>,
     side: Side,
@@ -229,7 +232,31 @@ impl Talk {
         }
     }
 
-    fn step_client(&mut self, piece: &[u8]) -> Result<Stepped, Fault>
+    /// Keeps the whole frame of the client that the piece begins with, where none is begun and it may come; else all is as
+    /// before, and None says no more.
+    // Most frames come so, and no fault, and no frame as a value, is made on the way: this and the hints on what it calls
+    // take a third of the instructions off `check` on small messages.
+    #[inline(always)]
+    fn front_client(&mut self, piece: &[u8]) -> Option<usize>
+        requires good { self.old.fault ≡ None }
+        requires given_up { self.old.client_kept ≡ [] }
+        ensures limits { self.new.limits ≡ self.old.limits }
+        ensures some { IfSome result (λ used. StepsOn self.old Client piece.now used true self.new) }
+        ensures other { Leaves Server self.old self.new }
+        ensures none { IfNone result (self.new ≡ self.old) }
+    {
+        let used = self.client.take_front(piece)?;
+        let profile = self.limits.profile();
+        if keep_client(profile, &mut self.client, &mut self.waiting, used) {
+            Some(used)
+        } else {
+            self.client.take_back(used);
+            None
+        }
+    }
+
+    #[inline(never)]
+    fn exact_client(&mut self, piece: &[u8]) -> Result<Stepped, Fault>
         requires good { self.old.fault ≡ None }
         requires given_up { self.old.client_kept ≡ [] }
         ensures limits { self.new.limits ≡ self.old.limits }
@@ -264,7 +291,32 @@ impl Talk {
         }
     }
 
-    fn step_server(&mut self, piece: &[u8]) -> Result<Stepped, Fault>
+    /// Keeps the whole frame of the server that the piece begins with, where none is begun and it may come; else all is as
+    /// before, and None says no more.
+    #[inline(always)]
+    fn front_server(&mut self, piece: &[u8]) -> Option<usize>
+        requires good { self.old.fault ≡ None }
+        requires given_up { self.old.server_kept ≡ [] }
+        ensures limits { self.new.limits ≡ self.old.limits }
+        ensures some { IfSome result (λ used. StepsOn self.old Server piece.now used true self.new) }
+        ensures other { Leaves Client self.old self.new }
+        ensures none { IfNone result (self.new ≡ self.old) }
+    {
+        let used = self.server.take_front(piece)?;
+        match keep_server(&mut self.server, &mut self.waiting, used) {
+            Some(op) => {
+                self.answered = op;
+                Some(used)
+            }
+            None => {
+                self.server.take_back(used);
+                None
+            }
+        }
+    }
+
+    #[inline(never)]
+    fn exact_server(&mut self, piece: &[u8]) -> Result<Stepped, Fault>
         requires good { self.old.fault ≡ None }
         requires given_up { self.old.server_kept ≡ [] }
         ensures limits { self.new.limits ≡ self.old.limits }
@@ -302,7 +354,25 @@ impl Talk {
         }
     }
 
+    /// Keeps the whole frame that the piece begins with, where none is begun and it may come; else all is as before, and
+    /// None says no more.
+    #[inline(always)]
+    fn front(&mut self, side: Side, piece: &[u8]) -> Option<usize>
+        requires good { self.old.fault ≡ None }
+        requires given_up { kept_on side self.old ≡ [] }
+        ensures limits { self.new.limits ≡ self.old.limits }
+        ensures some { IfSome result (λ used. StepsOn self.old side piece.now used true self.new) }
+        ensures other { Leaves (other_side side) self.old self.new }
+        ensures none { IfNone result (self.new ≡ self.old) }
+    {
+        match side {
+            Side::Client => self.front_client(piece),
+            Side::Server => self.front_server(piece),
+        }
+    }
+
     /// The side's frame that was kept is given up.
+    #[inline(always)]
     fn give_up(&mut self, side: Side)
         ensures { self.new ≡ given_up side self.old }
     {
@@ -338,9 +408,12 @@ impl Talk {
         if let Some(fault) = self.fault {
             return Err(fault);
         }
+        if let Some(used) = self.front(side, piece) {
+            return Ok(Stepped { used, whole: true });
+        }
         match side {
-            Side::Client => self.step_client(piece),
-            Side::Server => self.step_server(piece),
+            Side::Client => self.exact_client(piece),
+            Side::Server => self.exact_server(piece),
         }
     }
 

@@ -1,4 +1,4 @@
-use Rattle.std.proofs.Common.{◌≡◌, ◌≢◌, Some, take, ◌∙◌, sym, ap, subst}
+use Rattle.std.proofs.Common.{◌≡◌, ◌≢◌, Some, true, take, ◌∙◌, sym, ap, subst}
 use Rattle.std.proofs.lemmas.Result.{IfErr-weaker, IfOk-weaker}
 use Rattle.zk_jute.specs.declared.fault.Reason.TheVariants.{NoMemory}
 use Rattle.zk_talk.specs.Sound.{IsKnown}
@@ -17,25 +17,31 @@ returns-in-Some-clause-err c =
 pub returns-in-Client-clause-ok : goal.returns-in-Client-clause-ok
 returns-in-Client-clause-ok c =
     let old = c.args.self.now in
-    let new = c.step_client.new.self in
-    IfOk-weaker c.step_client.result _ _
-    (λ s x. (x.0, x.1, steps_first c.args.side old new (take s.used c.args.piece.now) s.whole (rw (← c.give_up.ensures, c.in-Client.is) x.2))) c.step_client.ensures.ok
+    let new = c.exact_client.new.self in
+    IfOk-weaker c.exact_client.result _ _
+    (λ s x. (x.0, x.1, steps_first c.args.side old new (take s.used c.args.piece.now) s.whole (rw (← c.give_up.ensures, ← c.in_default-front.ensures.none, c.in-Client.is) x.2))) c.exact_client.ensures.ok
 
 pub returns-in-Client-clause-err : goal.returns-in-Client-clause-err
 returns-in-Client-clause-err c =
     let old = c.args.self.now in
-    let new = c.step_client.new.self in
-    IfErr-weaker c.step_client.result _ _ (λ e x. (x.0, refused_first c.args.side old new c.args.piece.now e (rw (← c.give_up.ensures, c.in-Client.is) x.1))) c.step_client.ensures.err
+    let new = c.exact_client.new.self in
+    IfErr-weaker c.exact_client.result _ _ (λ e x. (x.0, refused_first c.args.side old new c.args.piece.now e (rw (← c.give_up.ensures, ← c.in_default-front.ensures.none, c.in-Client.is) x.1))) c.exact_client.ensures.err
 
 pub returns-in-Server-clause-ok : goal.returns-in-Server-clause-ok
 returns-in-Server-clause-ok c =
     let old = c.args.self.now in
-    let new = c.step_server.new.self in
-    IfOk-weaker c.step_server.result _ _
-    (λ s x. (x.0, x.1, steps_first c.args.side old new (take s.used c.args.piece.now) s.whole (rw (← c.give_up.ensures, c.in-Server.is) x.2))) c.step_server.ensures.ok
+    let new = c.exact_server.new.self in
+    IfOk-weaker c.exact_server.result _ _
+    (λ s x. (x.0, x.1, steps_first c.args.side old new (take s.used c.args.piece.now) s.whole (rw (← c.give_up.ensures, ← c.in_default-front.ensures.none, c.in-Server.is) x.2))) c.exact_server.ensures.ok
 
 pub returns-in-Server-clause-err : goal.returns-in-Server-clause-err
 returns-in-Server-clause-err c =
     let old = c.args.self.now in
-    let new = c.step_server.new.self in
-    IfErr-weaker c.step_server.result _ _ (λ e x. (x.0, refused_first c.args.side old new c.args.piece.now e (rw (← c.give_up.ensures, c.in-Server.is) x.1))) c.step_server.ensures.err
+    let new = c.exact_server.new.self in
+    IfErr-weaker c.exact_server.result _ _ (λ e x. (x.0, refused_first c.args.side old new c.args.piece.now e (rw (← c.give_up.ensures, ← c.in_default-front.ensures.none, c.in-Server.is) x.1))) c.exact_server.ensures.err
+
+pub returns-in-Some-front-clause-ok : goal.returns-in-Some-front-clause-ok
+returns-in-Some-front-clause-ok c =
+    let old = c.args.self.now in
+    let x = c.in-Some-front.ensures.some in
+    (x.0, x.1, steps_first c.args.side old c.front.new.self (take c.in-Some-front.used c.args.piece.now) true (rw (← c.give_up.ensures) x.2))

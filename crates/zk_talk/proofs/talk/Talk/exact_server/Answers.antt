@@ -7,7 +7,7 @@ use Rattle.zk_talk.specs.Streams.{StreamState}
 use Rattle.zk_talk.specs.Describes.{Describes}
 use Rattle.zk_talk.specs.Judged.{IsNextServer}
 use Rattle.zk_talk.proofs.Answering.{server_goes, server_stops, server_keeps, server_bad}
-use Rattle.zk_talk.proofs.talk.Talk.step_server.Goals as goal
+use Rattle.zk_talk.proofs.talk.Talk.exact_server.Goals as goal
 
 pub returns-in-Within-clause-ok : goal.returns-in-Within-clause-ok
 returns-in-Within-clause-ok c =

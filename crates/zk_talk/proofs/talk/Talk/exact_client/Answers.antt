@@ -6,7 +6,7 @@ use Rattle.zk_talk.specs.Stands.{TalkState}
 use Rattle.zk_talk.specs.Streams.{StreamState}
 use Rattle.zk_talk.specs.Judged.{IsNextClient}
 use Rattle.zk_talk.proofs.Answering.{client_goes, client_stops, client_keeps, client_bad}
-use Rattle.zk_talk.proofs.talk.Talk.step_client.Goals as goal
+use Rattle.zk_talk.proofs.talk.Talk.exact_client.Goals as goal
 
 pub returns-in-Within-clause-ok : goal.returns-in-Within-clause-ok
 returns-in-Within-clause-ok c =
