@@ -74,6 +74,10 @@ IsTrueFailure (frame.Event zxid event) = Unit {0}
 abbrev pub IsSent : ServerFrame → Type 0
 IsSent s = HasItsXid s × IsTrueFailure s × HaveBytes (frame_items s)
 
+-- no two of these that are sent have one payload
+abbrev pub HaveApartPayloads : (ServerFrame → Type 0) → Type 0
+HaveApartPayloads P = (s t : ServerFrame) → P s → P t → IsSent s → IsSent t → payload s ≡ payload t → s ≡ t
+
 abbrev pub IsConnected : ServerFrame → Type 0
 IsConnected (frame.Connected hello flag) = Unit {0}
 IsConnected (frame.Answered r) = ⊥

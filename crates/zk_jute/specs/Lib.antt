@@ -13,3 +13,4 @@ pub mod Flagged
 pub mod Held
 pub mod Standing
 pub mod Shown
+pub mod Once

@@ -7,6 +7,7 @@ ghost use Rattle.zk_jute.specs.Faults.{IsFault};
 ghost use Rattle.zk_jute.specs.Item.{Item, bytes_of, HaveBytes, Fit, Keeps, IsSizeWithin};
 ghost use Rattle.zk_jute.specs.Layout.{Layout, Unfolds, IsValueOf, HasFields, takes_none};
 ghost use Rattle.zk_jute.specs.Told.{StandsAt, IsReadAs, HasToldFault, IsToldFault};
+ghost use Rattle.zk_jute.specs.Once.{HaveOneFault, IsReadFirst, BeginAlike};
 ghost use Rattle.zk_jute.specs.Reading.{Fails, Gives, items_at};
 
 use crate::fault::ItemFault;
@@ -91,11 +92,11 @@ pub trait Wire: Spell + Sized + Drop {
 /// The laws of each type's values as bytes; the function does nothing.
 pub fn laws<T: Wire>()
     // The bytes of a value are read again, whatever follows them.
-    ensures again { (x : T) (more : List ℕ) → HaveBytes (T.items x) → items_at T.layout (bytes_of (T.items x) ++ more) 0 ≡ Ok (T.items x, length (bytes_of (T.items x))) }
+    ensures again { (x : T) (more : List ℕ) → HaveBytes (T.items x) → IsReadFirst T.layout (T.items x) (bytes_of (T.items x) ++ more) }
     // No two values' bytes stand at one place, so those of no value begin those of another.
-    ensures only { (x y : T) (more others : List ℕ) → HaveBytes (T.items x) → HaveBytes (T.items y) → bytes_of (T.items x) ++ more ≡ bytes_of (T.items y) ++ others → (x ≡ y) × (more ≡ others) }
+    ensures only { (x y : T) (more others : List ℕ) → BeginAlike (T.items x) more (T.items y) others → (x ≡ y) × (more ≡ others) }
     // Bytes that are those of no value have one fault.
-    ensures fault { (bytes : List ℕ) (place other : ℕ) (reason because : Reason) → IsFault (IsValueOf T.layout) bytes place reason → IsFault (IsValueOf T.layout) bytes other because → (place ≡ other) × (reason ≡ because) }
+    ensures fault { HaveOneFault (IsFault (IsValueOf T.layout)) }
     // Each value has a byte.
     ensures byte { (x : T) → 0 < length (bytes_of (T.items x)) }
 {}

@@ -177,3 +177,22 @@ pub record ReadsOn (s : State) (x : List ℕ) (old : Recording) (used : List ℕ
   pub new : Recording
   pub is : IsAt s (x ++ used) new
   pub goes_on : GoesOn old used side new
+
+-- whatever was read before, the last of these bytes makes the part whole, and this state stands behind it
+abbrev pub Accepts : State → Part → List ℕ → State → Type 0
+Accepts s part bytes new = (x begun : List ℕ) (byte : ℕ) (r : Recording) →
+    begun ++ byte ∷ [] ≡ bytes → Spells x r → HasHeadAt s (place_of r) → AtPart s part begun r → ReadsOn new x r (byte ∷ []) None
+
+-- the reader stands behind a head or a whole piece of this format, and nothing is begun; or it does not
+abbrev pub IsBetweenOf : State → Format → Type 0
+IsBetweenOf s format = (x : List ℕ) (r : Recording) → IsAt s x r → IsBetween r × (format_at (place_of r) ≡ Some format)
+
+abbrev pub IsNeverBetween : State → Type 0
+IsNeverBetween s = (x : List ℕ) (r : Recording) → IsAt s x r → IsBetween r → ⊥
+
+-- what was read has this damage, whatever follows; or it has none
+abbrev pub IsDamagedBy : State → DamageAt → Type 0
+IsDamagedBy s d = (x : List ℕ) (r : Recording) → IsAt s x r → IsDecidedBy d x r
+
+abbrev pub IsUndamaged : State → Type 0
+IsUndamaged s = (x : List ℕ) (r : Recording) (d : DamageAt) → IsAt s x r → IsDecidedBy d x r → ⊥

@@ -7,7 +7,7 @@ ghost use Rattle.zk_recordings.specs.declared.recording.Stage.TheVariants.{Conte
 ghost use Rattle.zk_recordings.specs.HeadLimits.{limits_or, profile_by};
 ghost use Rattle.zk_recordings.specs.Parts as parts;
 ghost use Rattle.zk_recordings.specs.Recording.{Recording, Breaks, AtLetters, Cut, Spells, damage_of, limits_of, place_of, side_byte};
-ghost use Rattle.zk_recordings.specs.Reading.{AtPart, AtFixed, IsAt, IsBetween, IsDecidedBy, IsHeaded, IsSound, ReadsOn, HasHeadAt, chosen, format_at, place_in, then_at};
+ghost use Rattle.zk_recordings.specs.Reading.{Accepts, AtFixed, IsAt, IsBetweenOf, IsNeverBetween, IsDamagedBy, IsUndamaged, IsHeaded, IsSound, ReadsOn, HasHeadAt, chosen, place_in, then_at};
 
 use crate::parts::{Bytes, Damage, DamageAt, Format, Part, number, word};
 use std::marker::Model;
@@ -158,8 +158,7 @@ impl State {
         requires good { parts.is_good part (take (parts.width part) bytes) ≡ true }
         ensures sound { IsSound result }
         ensures place { place_in result ≤ self.at + parts.width part }
-        ensures reads { (x begun : List ℕ) (byte : ℕ) (r : Recording) → begun ++ byte ∷ [] ≡ take (parts.width part) bytes →
-            Spells x r → HasHeadAt self (place_of r) → AtPart self part begun r → ReadsOn result x r (byte ∷ []) None }
+        ensures reads { Accepts self part (take (parts.width part) bytes) result }
     {
         match part {
             Part::Letters => self.headed(word(bytes)),
@@ -302,8 +301,7 @@ impl RecordingReader {
 
     /// The format, where the reader stands behind a head or a whole piece and nothing is begun.
     pub fn between(&self) -> Option<Format>
-        ensures { MatchOption result ((x : List ℕ) (r : Recording) → IsAt self.now x r → IsBetween r → ⊥)
-            (λ format. (x : List ℕ) (r : Recording) → IsAt self.now x r → IsBetween r × (format_at (place_of r) ≡ Some format)) }
+        ensures { MatchOption result (IsNeverBetween self.now) (IsBetweenOf self.now) }
     {
         match self.state.stage {
             Stage::Fixed {
@@ -316,8 +314,7 @@ impl RecordingReader {
 
     /// The damage that stands whatever follows.
     pub fn damage(&self) -> Option<DamageAt>
-        ensures { MatchOption result ((x : List ℕ) (r : Recording) (d : DamageAt) → IsAt self.now x r → IsDecidedBy d x r → ⊥)
-            (λ d. (x : List ℕ) (r : Recording) → IsAt self.now x r → IsDecidedBy d x r) }
+        ensures { MatchOption result (IsUndamaged self.now) (IsDamagedBy self.now) }
     {
         match self.state.stage {
             Stage::Damaged(found) => Some(found),

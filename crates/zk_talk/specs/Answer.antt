@@ -1,5 +1,5 @@
 -- What is answered for a list of pieces.
-use Rattle.std.specs.Prelude.{ℕ, List, ◌++◌, Option, Some, None}
+use Rattle.std.specs.Prelude.{◌≡◌, ℕ, List, ◌++◌, Option, Some, None}
 use Rattle.std.specs.List.{flat_map}
 use Rattle.std.specs.Borrow.{Bor}
 use Rattle.zk_talk.specs.declared.message.Side.{Side}
@@ -12,6 +12,7 @@ use Rattle.zk_talk.specs.History.{History, on}
 use Rattle.zk_talk.specs.Conversation.{Conversation}
 use Rattle.zk_talk.specs.Good.{Good, IsOrder}
 use Rattle.zk_talk.specs.Fault.{IsFaultOf}
+use Rattle.zk_talk.specs.Ending.{IsEnding}
 use Rattle.zk_talk.specs.Stands.{TalkState, Stands, Refuses}
 
 abbrev pub history_of : List (Side × Bor (List ℕ)) → History
@@ -22,6 +23,18 @@ abbrev pub AreMessages : Limits → History → List Message → Ending → Type
 AreMessages limits h messages (Refused fault) = (is : IsFaultOf limits h fault) × IsOrder limits is.before is.conversation messages
 AreMessages limits h messages (Cut side frame got) = (v : Conversation) × (client_rest : List ℕ) × (server_rest : List ℕ) × Good limits h v client_rest server_rest × IsOrder limits h v messages
 AreMessages limits h messages (Whole n) = (v : Conversation) × (client_rest : List ℕ) × (server_rest : List ℕ) × Good limits h v client_rest server_rest × IsOrder limits h v messages
+
+-- those begin with these
+abbrev pub IsFront : List Message → List Message → Type 0
+IsFront these those = (more : List Message) × (those ≡ these ++ more)
+
+-- whatever messages are answered for the history, and however it ends, they begin with these
+abbrev pub StandFirst : List Message → Limits → History → Type 0
+StandFirst these limits h = (all : List Message) (ending : Ending) → AreMessages limits h all ending → IsFront these all
+
+-- nothing but these messages and this ending is answered for the history
+abbrev pub IsReadAs : Limits → History → List Message → Ending → Type 0
+IsReadAs limits h messages ending = (answered : List Message) (end : Ending) → AreMessages limits h answered end → IsEnding limits h end → (answered ≡ messages) × (end ≡ ending)
 
 -- a talk after all of a piece, with the messages so far, or with the history's fault
 abbrev pub Feeds : TalkState → List Message → Side → List ℕ → Option Fault → TalkState → List Message → Type 0

@@ -79,3 +79,28 @@ pub record IsOrder (limits : Limits) (h : History) (v : Conversation) (messages 
   pub server : servers messages ≡ v.server
   pub fronts : (front rest : History) → h ≡ front ++ rest →
       (first more : List Message) × (messages ≡ first ++ more) × AreWholeIn limits front (clients first) (servers first)
+
+-- what a good history comes to: its conversation, and the beginning of a frame behind it on each side
+pub record Spelt (limits : Limits) (h : History) : Type 0 where
+  pub conversation : Conversation
+  pub client_rest : List ℕ
+  pub server_rest : List ℕ
+  pub good : Good limits h conversation client_rest server_rest
+
+-- and its messages in their order
+pub record Ordered (limits : Limits) (h : History) : Type 0 where
+  pub spelt : Spelt limits h
+  pub messages : List Message
+  pub order : IsOrder limits h spelt.conversation messages
+
+-- whole frames and nothing behind them, which are these messages in their order
+abbrev pub AreWholly : Limits → History → Conversation → List Message → Type 0
+AreWholly limits h v messages = Good limits h v [] [] × IsOrder limits h v messages
+
+-- one conversation, and one beginning on each side
+abbrev pub AreSpeltAlike : {limits : Limits} → {h : History} → Spelt limits h → Spelt limits h → Type 0
+AreSpeltAlike a b = (a.conversation ≡ b.conversation) × (a.client_rest ≡ b.client_rest) × (a.server_rest ≡ b.server_rest)
+
+-- the messages of this conversation have one order at most
+abbrev pub HasOneOrder : Limits → History → Conversation → Type 0
+HasOneOrder limits h v = (messages others : List Message) → IsOrder limits h v messages → IsOrder limits h v others → messages ≡ others

@@ -1,5 +1,6 @@
 -- The body in which a fault lies.
-use Rattle.std.specs.Prelude.{◌≡◌, ◌≢◌, ℕ, ◌<◌, ◌≤◌, ℤ, pos, List, [], ◌∷◌, ◌++◌}
+use Rattle.std.specs.Prelude.{◌≡◌, ◌≢◌, ℕ, ◌<◌, ◌≤◌, ℤ, pos, List, [], ◌∷◌, ◌++◌, Option, MatchOption}
+use Rattle.std.specs.Borrow.{Bor}
 use Rattle.zk_jute.specs.Item.{HaveBytes}
 use Rattle.zk_jute.specs.Faults.{Opens}
 use Rattle.zk_records.specs.declared.header.ReplyHeader.{ReplyHeader}
@@ -42,6 +43,10 @@ pub data HasBody (v : Conversation) (p : List ℕ) : Side → Layout → List �
   event : (header : ReplyHeader) (body : List ℕ) → IsHead p header body → header.xid ≡ event_xid → HasBody v p Server layouts.Event body
   reply : (header : ReplyHeader) (body : List ℕ) → IsHead p header body → header.xid ≢ event_xid → header.err ≡ pos 0 →
       (ask : Asked) → IsNext v (lane_of header.xid) header.xid ask → op_of_ask ask ≢ ops.Multi → HasBody v p Server (layouts.Answered (op_of_ask ask)) body
+
+-- this is the payload's body and its layout, or it has none
+abbrev pub IsBodyOf : Conversation → List ℕ → Side → Option (Layout × Bor (List ℕ)) → Type 0
+IsBodyOf v p side found = MatchOption found ((layout : Layout) (body : List ℕ) → HasBody v p side layout body → ⊥) (λ b. HasBody v p side b.0 b.1.now)
 
 -- the fault lies in a body: behind the header of a frame that isn't its side's first, for one of a body's reasons
 pub record IsInBody (fault : Fault) : Type 0 where

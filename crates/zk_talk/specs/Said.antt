@@ -25,7 +25,7 @@ use Rattle.zk_talk.specs.declared.say.SayFault.TheVariants.{NotFirst, Unasked, X
 use Rattle.zk_talk.specs.Payloads.{client_payload, server_payload}
 use Rattle.zk_talk.specs.Splits.{EachAfter}
 use Rattle.zk_talk.specs.History.{History, side_bytes, on}
-use Rattle.zk_talk.specs.Conversation.{Conversation, ClientMay, ServerMay, asks_on, replies_on, load, weight}
+use Rattle.zk_talk.specs.Conversation.{Conversation, ClientMay, ServerMay, asks_on, replies_on, load, weight, with_client, with_server}
 use Rattle.zk_talk.specs.Good.{clients, servers}
 use Rattle.zk_talk.specs.Fault.{IsNext, side_limit}
 use Rattle.zk_talk.specs.Queues.{IsQueue}
@@ -176,3 +176,18 @@ abbrev pub CannotAnswer : Bool → Lanes → ServerFrame → SayFault → Type 0
 CannotAnswer asked w (Connected hello read_only) e = (asked ≡ false) × (e ≡ Unasked)
 CannotAnswer asked w (Answered r) e = IsUnfit w r e
 CannotAnswer asked w (Event zxid event) e = ⊥
+
+-- whatever was heard, the client may say this after it, and has said it
+abbrev pub SaysClient : Limits → Bool → Lanes → ClientFrame → Lanes → Type 0
+SaysClient limits asked old f new = (welcomed : Bool) (v : Conversation) → Heard asked welcomed old v → IsSaidClient limits v f × Heard true welcomed new (with_client v f)
+
+-- whatever was heard, this is why the client may not say it
+abbrev pub RefusesClient : Limits → Bool → Lanes → ClientFrame → SayFault → Type 0
+RefusesClient limits asked old f e = (welcomed : Bool) (v : Conversation) → Heard asked welcomed old v → IsClientRefusal limits v f e
+
+-- and the server
+abbrev pub SaysServer : Limits → Bool → Bool → Lanes → ServerFrame → Lanes → Type 0
+SaysServer limits asked welcomed old s new = (v : Conversation) → Heard asked welcomed old v → IsSaidServer limits v s × Heard asked true new (with_server v s)
+
+abbrev pub RefusesServer : Limits → Bool → Bool → Lanes → ServerFrame → SayFault → Type 0
+RefusesServer limits asked welcomed old s e = (v : Conversation) → Heard asked welcomed old v → IsServerRefusal limits v s e

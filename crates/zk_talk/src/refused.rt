@@ -1,7 +1,6 @@
 //! The body in which a fault lies.
-ghost use Rattle.std.specs.Prelude.{◌≡◌, ◌≢◌, ◌≤◌, ◌↔◌, ℕ, List, length, IsTrue, IfSome, MatchOption};
+ghost use Rattle.std.specs.Prelude.{◌≡◌, ◌≢◌, ◌≤◌, ◌↔◌, ℕ, length, IsTrue, IfSome, MatchOption};
 ghost use Rattle.zk_records.specs.declared.op.Op.TheVariants as ops;
-ghost use Rattle.zk_answers.specs.declared.layout.Layout.{Layout as Kind};
 ghost use Rattle.zk_answers.specs.declared.layout.Layout.TheVariants as layouts;
 ghost use Rattle.zk_frames.specs.Framing.{frame};
 ghost use Rattle.zk_frames.specs.Held.{IsWhole};
@@ -9,7 +8,7 @@ ghost use Rattle.zk_talk.specs.declared.message.Side.TheVariants.{Client, Server
 ghost use Rattle.zk_talk.specs.Conversation.{Conversation};
 ghost use Rattle.zk_talk.specs.Describes.{Describes};
 ghost use Rattle.zk_talk.specs.Fault.{of_items};
-ghost use Rattle.zk_talk.specs.Refused.{HasBody, IsInBody, AnswersNone, AnswersOp, header_size};
+ghost use Rattle.zk_talk.specs.Refused.{IsBodyOf, IsInBody, AnswersNone, AnswersOp, header_size};
 
 use crate::message::{Fault, Side};
 use zk_answers::{Layout, reply_head};
@@ -67,7 +66,7 @@ pub fn is_in_body(fault: Fault) -> bool
 
 /// The body behind a request's header.
 pub fn asked_body(payload: &[u8]) -> Option<(Layout, &[u8])>
-    ensures found { (v : Conversation) → MatchOption result ((layout : Kind) (body : List ℕ) → HasBody v payload.now Client layout body → ⊥) (λ b. HasBody v payload.now Client b.0 b.1.now) }
+    ensures found { (v : Conversation) → IsBodyOf v payload.now Client result }
     ensures small { IfSome result (λ b. length b.1.now ≤ length payload.now) }
     ensures known { IfSome result (λ b. b.0 ≢ layouts.Answered ops.Multi) }
 {
@@ -104,7 +103,7 @@ fn answered_op(xid: i32, waiting: &Waiting) -> Option<Op>
 
 /// The body behind the header of an event, or of a reply with err 0 to another operation than multi.
 pub fn answered_body<'a>(payload: &'a [u8], waiting: &Waiting) -> Option<(Layout, &'a [u8])>
-    ensures found { (n m : ℕ) (v : Conversation) → Describes n m waiting.now v → MatchOption result ((layout : Kind) (body : List ℕ) → HasBody v payload.now Server layout body → ⊥) (λ b. HasBody v payload.now Server b.0 b.1.now) }
+    ensures found { (n m : ℕ) (v : Conversation) → Describes n m waiting.now v → IsBodyOf v payload.now Server result }
     ensures small { IfSome result (λ b. length b.1.now ≤ length payload.now) }
     ensures known { IfSome result (λ b. b.0 ≢ layouts.Answered ops.Multi) }
 {

@@ -1,5 +1,5 @@
 //! One message more: whether it may be said, and its frame.
-ghost use Rattle.std.specs.Prelude.{◌≡◌, ◌≤◌, ◌<◌, ◌+◌, ◌^◌, ◌++◌, ◌⊎◌, ◌∷◌, [], pos, length, Bool, true, OnOk, OnErr, IfErr, MatchBool, IsTrue, ◌↔◌};
+ghost use Rattle.std.specs.Prelude.{◌≡◌, ◌≤◌, ◌<◌, ◌+◌, ◌^◌, ◌++◌, ◌⊎◌, ◌∷◌, [], pos, length, true, OnOk, OnErr, IfErr, MatchBool, IsTrue, ◌↔◌};
 ghost use Rattle.zk_jute.specs.Item.{Fit, int_bytes};
 ghost use Rattle.zk_records.specs.Codes.{HasOp};
 ghost use Rattle.zk_asks.specs.Frames as asks;
@@ -8,10 +8,9 @@ ghost use Rattle.zk_frames.specs.Framing.{frame};
 ghost use Rattle.zk_talk.specs.declared.limits.Limits.{Limits};
 ghost use Rattle.zk_talk.specs.declared.say.SayFault.TheVariants.{NoMemory};
 ghost use Rattle.zk_talk.specs.Payloads.{client_payload, server_payload};
-ghost use Rattle.zk_talk.specs.Conversation.{Conversation, with_client, with_server};
 ghost use Rattle.zk_talk.specs.Judged.{IsRemembered};
 ghost use Rattle.zk_talk.specs.SayNames as names;
-ghost use Rattle.zk_talk.specs.Said.{Heard, MayAsk, IsClientRefusal, IsServerRefusal, IsUnwritten, IsUnput, FitsNext, IsUnfit, MayAnswer, CannotAnswer, IsSaidClient, IsSaidServer, ClientMayStand, ServerMayStand};
+ghost use Rattle.zk_talk.specs.Said.{MayAsk, IsUnwritten, IsUnput, FitsNext, IsUnfit, MayAnswer, CannotAnswer, ClientMayStand, ServerMayStand, SaysClient, RefusesClient, SaysServer, RefusesServer};
 
 use crate::judge::{forget, remember};
 use crate::limits::Limits;
@@ -176,9 +175,9 @@ pub fn say_client(
     requires room { waiting.old.max ≡ limits.waiting }
     ensures max { waiting.new.max ≡ waiting.old.max }
     ensures bytes { OnOk result (out.new.items ≡ out.old.items ++ frame (client_payload message.now)) }
-    ensures said { OnOk result ((welcomed : Bool) (v : Conversation) → Heard asked welcomed waiting.old v → IsSaidClient limits v message.now × Heard true welcomed waiting.new (with_client v message.now)) }
+    ensures said { OnOk result (SaysClient limits asked waiting.old message.now waiting.new) }
     ensures same { OnErr result ((waiting.new ≡ waiting.old) × (out.new.items ≡ out.old.items)) }
-    ensures err { IfErr result (λ e. (e ≡ NoMemory) ⊎ ((welcomed : Bool) (v : Conversation) → Heard asked welcomed waiting.old v → IsClientRefusal limits v message.now e)) }
+    ensures err { IfErr result (λ e. (e ≡ NoMemory) ⊎ RefusesClient limits asked waiting.old message.now e) }
     // Memory is wanted alone for what is due, may be asked and fits.
     ensures lacks { IfErr result (λ e. e ≡ NoMemory → ClientMayStand asked limits message.now) }
 {
@@ -263,9 +262,9 @@ pub fn say_server(
 ) -> Result<(), SayFault>
     ensures max { waiting.new.max ≡ waiting.old.max }
     ensures bytes { OnOk result (out.new.items ≡ out.old.items ++ frame (server_payload message.now)) }
-    ensures said { OnOk result ((v : Conversation) → Heard asked welcomed waiting.old v → IsSaidServer limits v message.now × Heard asked true waiting.new (with_server v message.now)) }
+    ensures said { OnOk result (SaysServer limits asked welcomed waiting.old message.now waiting.new) }
     ensures same { OnErr result ((waiting.new ≡ waiting.old) × (out.new.items ≡ out.old.items)) }
-    ensures err { IfErr result (λ e. (e ≡ NoMemory) ⊎ ((v : Conversation) → Heard asked welcomed waiting.old v → IsServerRefusal limits v message.now e)) }
+    ensures err { IfErr result (λ e. (e ≡ NoMemory) ⊎ RefusesServer limits asked welcomed waiting.old message.now e) }
     // Memory is wanted alone for what is due, answers and fits.
     ensures lacks { IfErr result (λ e. e ≡ NoMemory → ServerMayStand asked welcomed waiting.old limits message.now) }
 {

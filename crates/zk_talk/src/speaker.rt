@@ -61,7 +61,7 @@ impl Speaker {
         ensures limits { self.new.limits ≡ self.old.limits }
         ensures bytes { OnOk result (out.new.items ≡ out.old.items ++ frame (payload_of message.now)) }
         // It may be said, and was said.
-        ensures said { OnOk result ((before : List Message) → Says self.old before → MaySay self.old.limits before message.now × Says self.new (before ++ message.now ∷ [])) }
+        ensures said { OnOk result ((M : List Message) → Says self.old M → MaySay self.old.limits M message.now × Says self.new (M ++ message.now ∷ [])) }
         ensures same { OnErr result ((self.new ≡ self.old) × (out.new.items ≡ out.old.items)) }
         // Want of memory, or the case that refuses it.
         ensures err { IfErr result (λ e. (e ≡ NoMemory) ⊎ ((before : List Message) → Says self.old before → IsSayFault self.old.limits before message.now e)) }

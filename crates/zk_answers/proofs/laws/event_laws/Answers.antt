@@ -5,7 +5,7 @@ pub returns-clause-injective : goal.returns-clause-injective
 returns-clause-injective c = event_injective
 
 pub returns-clause-excludes : goal.returns-clause-excludes
-returns-clause-excludes c = event_excludes
+returns-clause-excludes c = λ s is sent place reason. event_excludes s place reason is sent
 
 pub returns-clause-unique : goal.returns-clause-unique
 returns-clause-unique c = event_unique

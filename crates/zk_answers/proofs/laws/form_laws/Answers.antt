@@ -11,10 +11,10 @@ pub returns-clause-event : goal.returns-clause-event
 returns-clause-event c = event_form
 
 pub returns-clause-connected_read : goal.returns-clause-connected_read
-returns-clause-connected_read c = connected_not
+returns-clause-connected_read c = λ items is place reason. connected_not items place reason is
 
 pub returns-clause-reply_read : goal.returns-clause-reply_read
-returns-clause-reply_read c = reply_not
+returns-clause-reply_read c = λ op parts items is place reason. reply_not op parts items place reason is
 
 pub returns-clause-event_read : goal.returns-clause-event_read
-returns-clause-event_read c = event_not
+returns-clause-event_read c = λ items is place reason. event_not items place reason is

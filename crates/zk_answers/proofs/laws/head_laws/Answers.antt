@@ -5,7 +5,7 @@ pub returns-clause-unique : goal.returns-clause-unique
 returns-clause-unique c = head_unique
 
 pub returns-clause-excludes : goal.returns-clause-excludes
-returns-clause-excludes c = head_excludes
+returns-clause-excludes c = λ bytes header rest is place reason. head_excludes bytes header rest place reason is
 
 pub returns-clause-fault : goal.returns-clause-fault
 returns-clause-fault c = head_fault_unique

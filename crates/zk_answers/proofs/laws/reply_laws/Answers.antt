@@ -5,7 +5,7 @@ pub returns-clause-injective : goal.returns-clause-injective
 returns-clause-injective c = reply_injective
 
 pub returns-clause-excludes : goal.returns-clause-excludes
-returns-clause-excludes c = reply_excludes
+returns-clause-excludes c = λ op parts s is sent place reason. reply_excludes op parts s place reason is sent
 
 pub returns-clause-unique : goal.returns-clause-unique
 returns-clause-unique c = reply_unique

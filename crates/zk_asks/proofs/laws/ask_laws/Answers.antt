@@ -6,7 +6,7 @@ pub returns-clause-injective : goal.returns-clause-injective
 returns-clause-injective c = ask_injective
 
 pub returns-clause-excludes : goal.returns-clause-excludes
-returns-clause-excludes c = ask_excludes
+returns-clause-excludes c = λ profile f later of sent place reason. ask_excludes profile f place reason later of sent
 
 pub returns-clause-unique : goal.returns-clause-unique
 returns-clause-unique c = ask_unique

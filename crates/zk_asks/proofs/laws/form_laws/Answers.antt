@@ -11,7 +11,7 @@ pub returns-clause-ask : goal.returns-clause-ask
 returns-clause-ask c = is_ask
 
 pub returns-clause-first_read : goal.returns-clause-first_read
-returns-clause-first_read c = hello_not
+returns-clause-first_read c = λ items hello place reason. hello_not items place reason hello
 
 pub returns-clause-ask_read : goal.returns-clause-ask_read
-returns-clause-ask_read c = λ profile items place reason form. form_not profile form (bytes_of items) refl place reason
+returns-clause-ask_read c = λ profile items form place reason. form_not profile form (bytes_of items) refl place reason

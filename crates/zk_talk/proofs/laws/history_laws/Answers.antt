@@ -5,12 +5,12 @@ use Rattle.zk_talk.proofs.Small.{small_limits}
 use Rattle.zk_talk.proofs.laws.history_laws.Goals as goal
 
 pub returns-clause-conversation : goal.returns-clause-conversation
-returns-clause-conversation c = λ limits h v w client_rest server_rest client_last server_last good other.
-    same_good limits (small_limits limits) h v w client_rest server_rest client_last server_last good other
+returns-clause-conversation c = λ limits h a b.
+    same_good limits (small_limits limits) h a.conversation b.conversation a.client_rest a.server_rest b.client_rest b.server_rest a.good b.good
 
 pub returns-clause-order : goal.returns-clause-order
-returns-clause-order c = λ limits h v client_rest server_rest messages others good order other.
-    order_once limits (small_limits limits) h v messages others order other client_rest server_rest good.whole
+returns-clause-order c = λ limits h a messages others order other.
+    order_once limits (small_limits limits) h a.conversation messages others order other a.client_rest a.server_rest a.good.whole
 
 pub returns-clause-fault : goal.returns-clause-fault
 returns-clause-fault c = λ limits h fault other is also. fault_once limits (small_limits limits) h fault other is also
