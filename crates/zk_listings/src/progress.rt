@@ -91,17 +91,8 @@ fn feed(
     }
 }
 
-/// The talk, which begins where there is none.
-fn begun(alloc: Global, talk: Option<Talk>, limits: Limits) -> Result<Talk, AllocError>
-    ensures { IfOk result (λ t. MatchOption talk ((t.limits ≡ limits) × Stands t [] []) (λ old. t ≡ old)) }
-{
-    match talk {
-        Some(talk) => Ok(talk),
-        None => Talk::new(alloc, limits),
-    }
-}
-
-/// Gives the first bytes of a block to the conversation, where they are content of a side.
+/// Gives the first bytes of a block to the conversation, where they are content of a side. It begins with the first of
+/// them, and goes on where it lies: to move it for each piece took 3% of `check` on small messages.
 fn give(
     alloc: Global,
     limits: Limits,
@@ -117,10 +108,15 @@ fn give(
     let Some(side) = side else {
         return Ok(None);
     };
-    let mut now = begun(alloc, talk.take(), limits)?;
-    let refused = feed(&mut now, side, bytes, listing, lines)?;
-    *talk = Some(now);
-    Ok(refused)
+    match talk {
+        Some(now) => feed(now, side, bytes, listing, lines),
+        None => {
+            let mut now = Talk::new(alloc, limits)?;
+            let refused = feed(&mut now, side, bytes, listing, lines)?;
+            *talk = Some(now);
+            Ok(refused)
+        }
+    }
 }
 
 /// A recording as far as it was read, and the conversation in it.
