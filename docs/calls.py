@@ -96,7 +96,7 @@ def calls_of(crate, path, is_public):
         if owner and is_public(owner):
             for call in re.finditer(r"\n    (?:final )?fn " if is_trait else r"\n    pub fn ", text[start:end]):
                 yield Call(crate, owner, text, start + call.end())
-    for call in re.finditer(r"^pub fn (\w+)", text, re.M):
+    for call in re.finditer(r'^pub (?:extern "C" )?fn (\w+)', text, re.M):
         if is_public(call[1]):
             yield Call(crate, None, text, call.start(1))
 

@@ -1,0 +1,90 @@
+/* How fast the library for C is, and what memory it asks for.
+ *
+ *     handle step|line|view [THREADS] < RECORDING
+ *
+ * Steps through the recording (format ZKR1), and with `line` writes each message's line, with `view` asks for its
+ * numbers. With THREADS that many threads do so at once, each with a handle of its own. It prints the messages, the
+ * ending, the CPU seconds of the steps and how often memory was asked for between the first message and the last.
+ * bench/README.md has how it is made. */
+#include "zk.h"
+
+#include <pthread.h>
+#include <stdatomic.h>
+#include <stdio.h>
+#include <stdlib.h>
+#include <string.h>
+#include <time.h>
+
+static atomic_long growths;
+void *__real_malloc(size_t size);
+void *__real_realloc(void *block, size_t size);
+void *__wrap_malloc(size_t size) {
+    growths++;
+    return __real_malloc(size);
+}
+void *__wrap_realloc(void *block, size_t size) {
+    growths++;
+    return __real_realloc(block, size);
+}
+
+
+static uint8_t *recording;
+static size_t size;
+static char what;
+
+struct told {
+    long messages, kinds, growths;
+    double seconds;
+    char ending[200];
+};
+
+static void *run(void *to) {
+    struct told *told = to;
+    struct zk_talk talk = {0};
+    size_t room = 1 << 24;
+    uint8_t *text = __real_malloc(room);
+    if (zk_talk_new(&talk, 4194304, 4194304, 65536, ZK_PROFILE_34) != ZK_WELL) exit(2);
+    struct timespec begin, end;
+    clock_gettime(CLOCK_THREAD_CPUTIME_ID, &begin);
+    long before = growths;
+    for (size_t at = 4; at + 5 <= size;) {
+        const uint8_t *head = recording + at, *bytes = head + 5;
+        size_t left = (size_t)head[1] << 24 | (size_t)head[2] << 16 | (size_t)head[3] << 8 | head[4];
+        uint32_t side = head[0] == 'C' ? ZK_CLIENT : ZK_SERVER;
+        at += 5 + left;
+        while (left > 0) {
+            struct zk_step step = zk_talk_step(&talk, side, bytes, left);
+            if (step.status != ZK_WELL) goto ended;
+            bytes += step.used;
+            left -= step.used;
+            if (!step.whole) continue;
+            told->messages++;
+            if (what == 'v') told->kinds += zk_talk_view(&talk, side).kind;
+            if (what == 'l') told->kinds += (long)zk_talk_line(&talk, side, text, room).length;
+        }
+    }
+ended:
+    told->growths = growths - before;
+    clock_gettime(CLOCK_THREAD_CPUTIME_ID, &end);
+    told->seconds = (double)(end.tv_sec - begin.tv_sec) + (double)(end.tv_nsec - begin.tv_nsec) / 1e9;
+    struct zk_line line = zk_talk_ending_line(&talk, (uint8_t *)told->ending, sizeof told->ending - 1);
+    told->ending[line.status == ZK_WELL ? line.length : 0] = 0;
+    zk_talk_free(&talk);
+    return NULL;
+}
+
+int main(int count, char **words) {
+    int threads = count > 2 ? atoi(words[2]) : 1;
+    if (count < 2 || threads < 1 || threads > 64) return 2;
+    what = words[1][0];
+    size_t room = 1 << 28;
+    recording = malloc(room);
+    size = fread(recording, 1, room, stdin);
+    static struct told told[64];
+    pthread_t ids[64];
+    for (int i = 0; i < threads; i++) pthread_create(&ids[i], NULL, run, &told[i]);
+    for (int i = 0; i < threads; i++) pthread_join(ids[i], NULL);
+    for (int i = 0; i < threads; i++)
+        printf("%ld messages, %s, %.3f s, %ld growths, sum %ld\n", told[i].messages, told[i].ending, told[i].seconds, told[i].growths, told[i].kinds);
+    return 0;
+}

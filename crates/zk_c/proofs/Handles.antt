@@ -1,0 +1,25 @@
+-- The talk that a handle held is the one that made the step.
+use Rattle.std.proofs.Common.{◌≡◌, ℕ, List, Some, Result, ap, subst}
+use Rattle.std.specs.Prelude.{unwrap_or}
+use Rattle.zk_talk.specs.declared.message.Side.{Side}
+use Rattle.zk_talk.specs.declared.message.Fault.{Fault}
+use Rattle.zk_talk.specs.declared.message.Ending.{Ending}
+use Rattle.zk_talk.specs.declared.talk.Stepped.{Stepped}
+use Rattle.zk_talk.specs.Stands.{TalkState}
+use Rattle.zk_c.specs.Handle.{IsStep, IsFinish}
+use Rattle.zk_c.specs.declared.said.SayAnswer.{SayAnswer}
+use Rattle.zk_c.specs.Voice.{VoiceState}
+use Rattle.zk_c.specs.Saying.{TellsSay}
+
+pub same_value : {A : Type 0} {x y : A} → Some x ≡ Some y → x ≡ y
+same_value {x = x} e = ap (λ o. unwrap_or o x) e
+
+pub step_of : {t u new : TalkState} {s r : Side} {piece : List ℕ} {outcome : Result Stepped Fault} → t ≡ u → s ≡ r → IsStep t s piece outcome new → IsStep u r piece outcome new
+step_of {new = new} {piece = piece} {outcome = outcome} same_talk same_side step =
+    subst (λ (p : TalkState × Side). IsStep p.0 p.1 piece outcome new) (λ i. (same_talk i, same_side i)) step
+
+pub finish_of : {t u : TalkState} {ending : Ending} → t ≡ u → IsFinish t ending → IsFinish u ending
+finish_of {ending = ending} same finish = subst (λ (s : TalkState). IsFinish s ending) same finish
+
+pub say_of : {v w new : VoiceState} {text : List ℕ} {answer : SayAnswer} → v ≡ w → TellsSay v text new answer → TellsSay w text new answer
+say_of {new = new} {text = text} {answer = answer} same says = subst (λ (u : VoiceState). TellsSay u text new answer) same says

@@ -1,0 +1,94 @@
+-- What the talk behind a handle does.
+use Rattle.std.specs.Prelude.{◌≡◌, ◌≢◌, ℕ, ◌<◌, ◌+◌, false, List, [], ◌++◌, length, drop, Option, Some, Result, Err, IfOk, IfErr, OnErr}
+use Rattle.zk_jute.specs.declared.fault.Reason.TheVariants.{NoMemory}
+use Rattle.zk_talk.specs.declared.message.Side.{Side}
+use Rattle.zk_talk.specs.declared.message.Fault.{Fault}
+use Rattle.zk_talk.specs.declared.talk.Stepped.{Stepped}
+use Rattle.zk_talk.specs.declared.message.Ending.{Ending}
+use Rattle.zk_talk.specs.declared.message.Ending.TheVariants.{Refused}
+use Rattle.zk_talk.specs.declared.limits.Limits.{Limits}
+use Rattle.zk_talk.specs.Held.{Message}
+use Rattle.zk_talk.specs.History.{History}
+use Rattle.zk_talk.specs.Ending.{IsEnding}
+use Rattle.zk_talk.specs.Stands.{TalkState, Stands, Refuses, held_on, kept_on}
+use Rattle.zk_talk.specs.Taking.{StepsOn, IsRefused, given_up}
+use Rattle.zk_talk.specs.Viewed.{Shows, Leaves, other_side}
+use Rattle.zk_c.specs.declared.answer.StepAnswer.{StepAnswer}
+use Rattle.zk_c.specs.declared.answer.EndingAnswer.{EndingAnswer}
+use Rattle.zk_c.specs.Numbers.{profile_number}
+use Rattle.zk_c.specs.Answer.{step_answer, ending_answer, no_message, message_answer, no_line}
+use Rattle.zk_c.specs.declared.answer.MessageAnswer.{MessageAnswer}
+use Rattle.zk_c.specs.declared.answer.LineAnswer.{LineAnswer}
+use Rattle.zk_lines.specs.Lines.{line}
+use Rattle.zk_lines.specs.Endings.{ending_text}
+
+-- what `Talk::step` promises
+pub record IsStep (old : TalkState) (side : Side) (piece : List ℕ) (outcome : Result Stepped Fault) (new : TalkState) : Type 0 where
+  pub limits : new.limits ≡ old.limits
+  pub ok : IfOk outcome (λ s. StepsOn old side piece s.used s.whole new)
+  pub exact : IfOk outcome (λ s. s.whole ≡ false → s.used ≡ length piece)
+  pub other : Leaves (other_side side) old new
+  pub err : IfErr outcome (λ e. (e.reason ≢ NoMemory) × IsRefused old side piece e new)
+  pub none : OnErr outcome (kept_on side new ≡ [])
+  pub kept : (f : Fault) → old.fault ≡ Some f → (outcome ≡ Err f) × (new ≡ given_up side old)
+
+-- the answer tells a step of the talk, which goes on behind the handle
+pub record TellsStep (old : TalkState) (side : Side) (piece : List ℕ) (answer : StepAnswer) (after : Option TalkState) : Type 0 where
+  pub outcome : Result Stepped Fault
+  pub talk : TalkState
+  pub held : after ≡ Some talk
+  pub told : answer ≡ step_answer outcome
+  pub step : IsStep old side piece outcome talk
+
+-- the limits are these numbers
+pub record AreNumbers (c s w p : ℕ) (limits : Limits) : Type 0 where
+  pub client : limits.client ≡ c
+  pub server : limits.server ≡ s
+  pub waiting : limits.waiting ≡ w
+  pub profile : p ≡ profile_number limits.profile
+
+-- a talk of these limits is behind the handle, and nothing has come
+pub record IsNew (client server waiting profile : ℕ) (after : Option TalkState) : Type 0 where
+  pub talk : TalkState
+  pub held : after ≡ Some talk
+  pub limits : AreNumbers client server waiting profile talk.limits
+  pub stands : Stands talk [] []
+  pub none : (talk.client_kept ≡ []) × (talk.server_kept ≡ [])
+
+-- what `Talk::finish` promises
+pub record IsFinish (talk : TalkState) (ending : Ending) : Type 0 where
+  pub stands : (h : History) (M : List Message) → Stands talk h M → IsEnding talk.limits h ending
+  pub refuses : (h : History) (M : List Message) (f : Fault) → Refuses talk h M f → ending ≡ Refused f
+
+-- the answer tells how the talk's history ends
+pub record TellsEnding (talk : TalkState) (answer : EndingAnswer) : Type 0 where
+  pub ending : Ending
+  pub told : answer ≡ ending_answer ending
+  pub is : IsFinish talk ending
+
+-- so many bytes of the side are held
+abbrev pub size_held : Side → TalkState → ℕ
+size_held side talk = length (held_on side talk) + length (kept_on side talk)
+
+-- the answer tells the message of the frame that the side keeps, which is one
+pub record IsView (talk : TalkState) (side : Side) (answer : MessageAnswer) : Type 0 where
+  pub none : kept_on side talk ≡ [] → answer ≡ no_message 69
+  pub some : (m : Message) → Shows talk side m → answer ≡ message_answer (size_held side talk) m
+  pub there : (kept_on side talk ≡ [] → ⊥) → (m : Message) × Shows talk side m
+
+-- the text stands first in the room; or it doesn't fit, or memory is wanted, and the room is as it was
+pub data TellsText (text before after : List ℕ) (answer : LineAnswer) : Type 0 where
+  written : answer ≡ record { status = 0; length = length text } → after ≡ text ++ drop (length text) before → TellsText text before after answer
+  no_room : answer ≡ record { status = 68; length = length text } → length before < length text → after ≡ before → TellsText text before after answer
+  no_memory : answer ≡ no_line 5 → after ≡ before → TellsText text before after answer
+
+-- the answer tells the line of that message
+pub record IsLine (talk : TalkState) (side : Side) (before after : List ℕ) (answer : LineAnswer) : Type 0 where
+  pub none : kept_on side talk ≡ [] → (answer ≡ no_line 69) × (after ≡ before)
+  pub some : (m : Message) → Shows talk side m → TellsText (line m) before after answer
+
+-- the answer tells the line of the ending of the talk's history
+pub record IsEndingLine (talk : TalkState) (before after : List ℕ) (answer : LineAnswer) : Type 0 where
+  pub ending : Ending
+  pub is : IsFinish talk ending
+  pub text : TellsText (ending_text ending) before after answer

@@ -1,0 +1,43 @@
+-- What is told of a payload, in numbers.
+use Rattle.std.specs.Prelude.{◌≡◌, ℕ, List}
+use Rattle.zk_records.specs.declared.profile.Profile.{Profile}
+use Rattle.zk_asks.specs.Held.{ClientFrame}
+use Rattle.zk_asks.specs.Frames.{IsFirst, IsLater, IsSent, IsOfProfile, payload}
+use Rattle.zk_answers.specs.Held.{ServerFrame}
+use Rattle.zk_answers.specs.Frames as answers
+use Rattle.zk_jute.specs.declared.fault.Reason.{Reason}
+use Rattle.zk_jute.specs.declared.fault.ItemFault.{ItemFault}
+use Rattle.zk_jute.specs.Told.{IsTold}
+use Rattle.zk_c.specs.declared.payload.PayloadAnswer.{PayloadAnswer}
+use Rattle.zk_c.specs.Numbers.{reason_number}
+
+abbrev pub payload_answer : ℕ → ℕ → PayloadAnswer
+payload_answer status place = record { status = status; place = place }
+
+abbrev pub TellsFault : ItemFault → PayloadAnswer → Type 0
+TellsFault fault answer = answer ≡ payload_answer (reason_number fault.reason) fault.place
+
+-- the answer tells a fault of this kind
+pub record IsToldBy (Is : ℕ → Reason → Type 0) (answer : PayloadAnswer) : Type 0 where
+  pub fault : ItemFault
+  pub is : IsTold Is fault
+  pub told : TellsFault fault answer
+
+-- the bytes are the payload of this connect request
+pub record IsConnect (bytes : List ℕ) (f : ClientFrame) : Type 0 where
+  pub first : IsFirst f
+  pub sent : IsSent f
+  pub is : bytes ≡ payload f
+
+-- and of this request of the profile
+pub record IsRequest (profile : Profile) (bytes : List ℕ) (f : ClientFrame) : Type 0 where
+  pub later : IsLater f
+  pub of : IsOfProfile profile f
+  pub sent : IsSent f
+  pub is : bytes ≡ payload f
+
+-- and of this answer to a connect request
+pub record IsWelcome (bytes : List ℕ) (s : ServerFrame) : Type 0 where
+  pub connected : answers.IsConnected s
+  pub sent : answers.IsSent s
+  pub is : bytes ≡ answers.payload s

@@ -1,0 +1,69 @@
+-- What the speaker behind a handle does.
+use Rattle.std.specs.Prelude.{◌≡◌, ◌≢◌, ℕ, ◌⊎◌, List, [], ◌∷◌, ◌++◌, length, Option, Some}
+use Rattle.zk_frames.specs.Framing.{frame}
+use Rattle.zk_items.specs.declared.fault.LineFault.{LineFault}
+use Rattle.zk_items.specs.declared.fault.LineReason.{LineReason}
+use Rattle.zk_items.specs.declared.fault.LineReason.TheVariants as lines
+use Rattle.zk_talk.specs.Held.{Message}
+use Rattle.zk_talk.specs.declared.say.SayFault.{SayFault}
+use Rattle.zk_talk.specs.declared.say.SayFault.TheVariants.{NotFirst, Unasked, XidOrder, Misfit, TooLong, QueueFull, NoMemory}
+use Rattle.zk_talk.specs.Said.{SpeakerState, Says, MaySay, MayStand, IsSayFault, payload_of}
+use Rattle.zk_lines.specs.Lines.{line, Fits}
+use Rattle.zk_c.specs.declared.said.SayAnswer.{SayAnswer}
+use Rattle.zk_c.specs.Voice.{VoiceState}
+use Rattle.zk_c.specs.Handle.{AreNumbers}
+
+abbrev pub say_number : SayFault → ℕ
+say_number NotFirst = 81
+say_number Unasked = 13
+say_number (XidOrder expected got) = 14
+say_number Misfit = 82
+say_number TooLong = 83
+say_number QueueFull = 12
+say_number NoMemory = 5
+
+abbrev pub line_number : LineReason → ℕ
+line_number lines.Word = 91
+line_number lines.Number = 92
+line_number lines.Text = 93
+line_number lines.Blob = 94
+line_number lines.Name = 95
+line_number lines.Rest = 96
+line_number lines.NoMemory = 5
+line_number lines.Ending = 97
+
+abbrev pub say_answer : ℕ → ℕ → ℕ → SayAnswer
+say_answer status length column = record { status = status; length = length; column = column }
+
+-- the frame is given up
+abbrev pub silent : VoiceState → VoiceState
+silent v = record v { frame = [] }
+
+-- why the message isn't said: memory is wanted, which it is for one that may stand alone; or the case that refuses what may not be said
+pub record IsRefusal (s : SpeakerState) (m : Message) (e : SayFault) : Type 0 where
+  pub err : (e ≡ NoMemory) ⊎ ((before : List Message) → Says s before → IsSayFault s.limits before m e)
+  pub lacks : e ≡ NoMemory → MayStand s m
+  pub exact : e ≢ NoMemory → (before : List Message) → Says s before → MaySay s.limits before m → ⊥
+
+-- what a call does with the text of a line
+pub data TellsSay (old : VoiceState) (text : List ℕ) (new : VoiceState) (answer : SayAnswer) : Type 0 where
+  -- it is this message's, which may be said after those that were said, and was said
+  said : (m : Message) → Fits m → text ≡ line m → new.speaker.limits ≡ old.speaker.limits → new.frame ≡ frame (payload_of m) → answer ≡ say_answer 0 (length new.frame) 0 → ((before : List Message) → Says old.speaker before → MaySay old.speaker.limits before m × Says new.speaker (before ++ m ∷ [])) → TellsSay old text new answer
+  -- it is this message's, which is refused
+  refused : (m : Message) → Fits m → text ≡ line m → (e : SayFault) → new ≡ silent old → answer ≡ say_answer (say_number e) 0 0 → IsRefusal old.speaker m e → TellsSay old text new answer
+  -- it is no message's, or memory is wanted
+  no_line : (e : LineFault) → new ≡ silent old → answer ≡ say_answer (line_number e.reason) 0 e.column → ((m : Message) → Fits m → text ≡ line m → e.reason ≡ lines.NoMemory) → TellsSay old text new answer
+
+-- the speaker behind the handle says the line
+pub record SaysLine (old : VoiceState) (text : List ℕ) (answer : SayAnswer) (after : Option VoiceState) : Type 0 where
+  pub voice : VoiceState
+  pub held : after ≡ Some voice
+  pub says : TellsSay old text voice answer
+
+-- a speaker of these limits is behind the handle, and nothing was said
+pub record IsSilent (client server waiting profile : ℕ) (after : Option VoiceState) : Type 0 where
+  pub voice : VoiceState
+  pub held : after ≡ Some voice
+  pub limits : AreNumbers client server waiting profile voice.speaker.limits
+  pub says : Says voice.speaker []
+  pub frame : voice.frame ≡ []

@@ -1,0 +1,290 @@
+//! What calls answer.
+ghost use Rattle.std.specs.Prelude.{◌≡◌, pos};
+ghost use Rattle.zk_c.specs.Handle.{TellsText};
+ghost use Rattle.zk_c.specs.Numbers.{expected_of, got_of};
+ghost use Rattle.zk_c.specs.Answer.{no_fault, fault_numbers, no_step, step_answer, no_ending, ending_answer, no_message, message_answer, no_line};
+
+use crate::number::{ROOM, WELL, reason_number, side_number};
+use zk_answers::ServerFrameOf;
+use zk_asks::ClientFrameOf;
+use zk_jute::Reason;
+use zk_records::op_number;
+use zk_talk::{Ending, Fault, MessageOf, MessageRef, Stepped};
+
+/// Why a conversation is refused, and where; all 0 where it isn't.
+#[repr(C)]
+#[derive(Clone, Copy)]
+pub struct FaultNumbers {
+    /// The number of the side's frame, from 0.
+    pub frame: u64,
+    /// The number of the side's bytes up to and with the one that decided it.
+    pub offset: u64,
+    /// Whose byte decided it.
+    pub side: u32,
+    /// Bytes from the beginning of the frame's payload.
+    pub place: u32,
+    /// The number of the reason.
+    pub reason: u32,
+    /// The xid that was expected, of `XidOrder`.
+    pub expected: i32,
+    /// The xid that came, of `XidOrder`.
+    pub got: i32,
+}
+
+/// What a step answers.
+#[repr(C)]
+#[derive(Clone, Copy)]
+pub struct StepAnswer {
+    /// So many of the piece's bytes were used.
+    pub used: usize,
+    /// 0, the number of the fault's reason, or why no step was made.
+    pub status: u32,
+    /// The last of them made a frame whole: a message of the conversation.
+    pub whole: bool,
+    /// The fault of the conversation.
+    pub fault: FaultNumbers,
+}
+
+/// How the history of a talk ends.
+#[repr(C)]
+#[derive(Clone, Copy)]
+pub struct EndingAnswer {
+    /// 0, or why there is no answer.
+    pub status: u32,
+    /// 1: both sides end with a whole frame. 2: a side ends within a frame. 3: it is refused.
+    pub kind: u32,
+    /// So many frames of the client have no answer, of kind 1.
+    pub unanswered: u32,
+    /// The side that ends within a frame, of kind 2.
+    pub side: u32,
+    /// So many bytes of that frame came.
+    pub got: u32,
+    /// The number of that frame.
+    pub frame: u64,
+    /// The fault, of kind 3.
+    pub fault: FaultNumbers,
+}
+
+/// What message a frame is.
+#[repr(C)]
+#[derive(Clone, Copy)]
+pub struct MessageAnswer {
+    /// 0, or why there is no answer.
+    pub status: u32,
+    /// 1: a connect request. 2: a request. 3: the answer to a connect request. 4: a reply. 5: an
+    /// event.
+    pub kind: u32,
+    /// The xid of a request, a reply or an event.
+    pub xid: i32,
+    /// The number of a request's operation, or of that which a reply answers.
+    pub operation: i32,
+    /// So many bytes the frame has, its length included: the last that were used of its side.
+    pub size: u32,
+}
+
+/// What a call answers that writes text.
+#[repr(C)]
+#[derive(Clone, Copy)]
+pub struct LineAnswer {
+    /// 0, or why there is no text.
+    pub status: u32,
+    /// So many bytes the text has.
+    pub length: usize,
+}
+
+fn expected_of(reason: Reason) -> i32
+    ensures { result ≡ expected_of reason }
+{
+    match reason {
+        Reason::XidOrder { expected, .. } => expected,
+        _ => 0,
+    }
+}
+
+fn got_of(reason: Reason) -> i32
+    ensures { result ≡ got_of reason }
+{
+    match reason {
+        Reason::XidOrder { got, .. } => got,
+        _ => 0,
+    }
+}
+
+fn no_fault() -> FaultNumbers
+    ensures { result ≡ no_fault }
+{
+    FaultNumbers {
+        frame: 0,
+        offset: 0,
+        side: 0,
+        place: 0,
+        reason: 0,
+        expected: 0,
+        got: 0,
+    }
+}
+
+fn fault_numbers(fault: Fault) -> FaultNumbers
+    ensures { result ≡ fault_numbers fault }
+{
+    FaultNumbers {
+        frame: fault.frame,
+        offset: fault.offset,
+        side: side_number(fault.side),
+        place: fault.place,
+        reason: reason_number(fault.reason),
+        expected: expected_of(fault.reason),
+        got: got_of(fault.reason),
+    }
+}
+
+impl StepAnswer {
+    /// No step was made.
+    pub fn none(status: u32) -> StepAnswer
+        ensures { result ≡ no_step status }
+    {
+        StepAnswer {
+            used: 0,
+            status,
+            whole: false,
+            fault: no_fault(),
+        }
+    }
+
+    /// What a step gave.
+    pub fn of(outcome: Result<Stepped, Fault>) -> StepAnswer
+        ensures { result ≡ step_answer outcome }
+    {
+        match outcome {
+            Ok(stepped) => {
+                StepAnswer {
+                    used: stepped.used,
+                    status: WELL,
+                    whole: stepped.whole,
+                    fault: no_fault(),
+                }
+            }
+            Err(fault) => {
+                StepAnswer {
+                    used: 0,
+                    status: reason_number(fault.reason),
+                    whole: false,
+                    fault: fault_numbers(fault),
+                }
+            }
+        }
+    }
+}
+
+impl EndingAnswer {
+    /// There is no answer.
+    pub fn none(status: u32) -> EndingAnswer
+        ensures { result ≡ no_ending status }
+    {
+        EndingAnswer {
+            status,
+            kind: 0,
+            unanswered: 0,
+            side: 0,
+            got: 0,
+            frame: 0,
+            fault: no_fault(),
+        }
+    }
+
+    /// The ending in numbers.
+    pub fn of(ending: Ending) -> EndingAnswer
+        ensures { result ≡ ending_answer ending }
+    {
+        let none = EndingAnswer::none(WELL);
+        match ending {
+            Ending::Whole { unanswered } => {
+                EndingAnswer {
+                    kind: 1,
+                    unanswered,
+                    ..none
+                }
+            }
+            Ending::Cut { side, frame, got } => {
+                EndingAnswer {
+                    kind: 2,
+                    side: side_number(side),
+                    frame,
+                    got,
+                    ..none
+                }
+            }
+            Ending::Refused(fault) => {
+                EndingAnswer {
+                    kind: 3,
+                    fault: fault_numbers(fault),
+                    ..none
+                }
+            }
+        }
+    }
+}
+
+impl MessageAnswer {
+    /// There is no answer.
+    pub fn none(status: u32) -> MessageAnswer
+        ensures { result ≡ no_message status }
+    {
+        MessageAnswer {
+            status,
+            kind: 0,
+            xid: 0,
+            operation: 0,
+            size: 0,
+        }
+    }
+
+    /// The message in numbers, with the size of its frame.
+    pub fn of(message: &MessageRef<'_>, size: u32) -> MessageAnswer
+        ensures { result ≡ message_answer size message.now }
+    {
+        let (kind, xid, operation) = match message {
+            MessageOf::Client(ClientFrameOf::Connect { .. }) => (1, 0, 0),
+            MessageOf::Client(ClientFrameOf::Ask { xid, ask }) => (2, *xid, op_number(ask.op())),
+            MessageOf::Server(ServerFrameOf::Connected { .. }) => (3, 0, 0),
+            MessageOf::Server(ServerFrameOf::Answered(reply)) => {
+                (4, reply.xid, op_number(reply.op()))
+            }
+            MessageOf::Server(ServerFrameOf::Event { .. }) => (5, -1, 0),
+        };
+        MessageAnswer {
+            status: WELL,
+            kind,
+            xid,
+            operation,
+            size,
+        }
+    }
+}
+
+impl LineAnswer {
+    /// There is no text.
+    pub fn none(status: u32) -> LineAnswer
+        ensures { result ≡ no_line status }
+    {
+        LineAnswer { status, length: 0 }
+    }
+
+    /// Writes the text first in the room, where it is long enough.
+    pub fn put(text: &[u8], out: &mut [u8]) -> LineAnswer
+        ensures { TellsText text.now out.old out.new result }
+    {
+        let length = text.len();
+        if length > out.len() {
+            return LineAnswer {
+                status: ROOM,
+                length,
+            };
+        }
+        out[..length].copy_from_slice(text);
+        LineAnswer {
+            status: WELL,
+            length,
+        }
+    }
+}

@@ -1,0 +1,93 @@
+//! A talk, and the room in which the lines of its messages are written.
+ghost use Rattle.std.specs.Prelude.{◌≡◌, [], IfOk};
+ghost use Rattle.zk_talk.specs.Stands.{Stands};
+ghost use Rattle.zk_c.specs.Handle.{IsStep, IsFinish, IsView, IsLine, IsEndingLine};
+
+use crate::answer::{LineAnswer, MessageAnswer};
+use crate::number::{NO_MEMORY, NO_MESSAGE};
+use std::alloc::{AllocError, Global};
+use std::marker::Model;
+use zk_lines::{ending_line, put_line_ref};
+use zk_talk::{Ending, Fault, Limits, Side, Stepped, Talk};
+
+/// A talk, and room for a line.
+#[derive(Drop)]
+pub struct Conversation {
+    talk: Talk,
+    line: Vec<u8>,
+}
+
+impl Model for Conversation {
+    ghost use Rattle.zk_talk.specs.Stands.{TalkState};
+
+    ghost Value = { TalkState };
+
+    ghost view = { λ c. c.talk };
+}
+
+impl Conversation {
+    /// A conversation of which nothing has come.
+    pub fn new(alloc: Global, limits: Limits) -> Result<Self, AllocError>
+        ensures limits { IfOk result (λ t. t.limits ≡ limits) }
+        ensures stands { IfOk result (λ t. Stands t [] []) }
+        ensures none { IfOk result (λ t. (t.client_kept ≡ []) × (t.server_kept ≡ [])) }
+    {
+        let talk = Talk::new(alloc, limits)?;
+        let line = Vec::new(alloc);
+        Ok(Conversation { talk, line })
+    }
+
+    /// Takes the piece up to the end of the first frame that becomes whole, or all of it.
+    ///
+    /// # Errors
+    ///
+    /// As `Talk::step`.
+    pub fn step(&mut self, side: Side, piece: &[u8]) -> Result<Stepped, Fault>
+        ensures { IsStep self.old side piece.now result self.new }
+    {
+        self.talk.step(side, piece)
+    }
+
+    /// How the history so far ends.
+    pub fn finish(&self) -> Ending
+        ensures { IsFinish self.now result }
+    {
+        self.talk.finish()
+    }
+
+    /// What the side's kept frame is.
+    pub fn view(&self, side: Side) -> MessageAnswer
+        ensures { IsView self.now side result }
+    {
+        match self.talk.view(side) {
+            Some(message) => MessageAnswer::of(&message, self.talk.held(side)),
+            None => MessageAnswer::none(NO_MESSAGE),
+        }
+    }
+
+    /// Writes the line of the side's kept frame, where there is room for it.
+    pub fn line(&mut self, side: Side, out: &mut [u8]) -> LineAnswer
+        ensures same { self.new ≡ self.old }
+        ensures line { IsLine self.old side out.old out.new result }
+    {
+        let Some(message) = self.talk.view(side) else {
+            return LineAnswer::none(NO_MESSAGE);
+        };
+        self.line.clear();
+        let Ok(()) = put_line_ref(&mut self.line, &message) else {
+            return LineAnswer::none(NO_MEMORY);
+        };
+        LineAnswer::put(&self.line, out)
+    }
+
+    /// Writes the line of the ending, where there is room for it.
+    pub fn ending_line(&self, alloc: Global, out: &mut [u8]) -> LineAnswer
+        ensures { IsEndingLine self.now out.old out.new result }
+    {
+        let ending = self.finish();
+        let Ok(line) = ending_line(alloc, &ending) else {
+            return LineAnswer::none(NO_MEMORY);
+        };
+        LineAnswer::put(&line, out)
+    }
+}

@@ -1,0 +1,92 @@
+//! Single payloads, judged with no handle.
+ghost use Rattle.std.specs.Prelude.{◌≡◌, ◌≢◌};
+ghost use Rattle.zk_records.specs.declared.profile.Profile.{Profile};
+ghost use Rattle.zk_asks.specs.Held.{ClientFrame};
+ghost use Rattle.zk_asks.specs.Faults.{IsFirstFault, IsAskFault};
+ghost use Rattle.zk_answers.specs.Held.{ServerFrame};
+ghost use Rattle.zk_answers.specs.Faults.{IsConnectedFault};
+ghost use Rattle.zk_c.specs.Numbers.{profile_number};
+ghost use Rattle.zk_c.specs.Judged.{payload_answer, TellsFault, IsToldBy, IsConnect, IsRequest, IsWelcome};
+
+use crate::number::{RANGE, WELL, profile_of, reason_number};
+use zk_answers::scan_connected;
+use zk_asks::{scan_ask, scan_first};
+use zk_jute::ItemFault;
+
+/// Whether a payload is a message's, and where not.
+#[repr(C)]
+#[derive(Clone, Copy)]
+pub struct PayloadAnswer {
+    /// 0, or the number of the reason why it isn't.
+    pub status: u32,
+    /// Where in the payload the fault stands.
+    pub place: u32,
+}
+
+impl PayloadAnswer {
+    /// Nothing was judged, or the payload is a message's.
+    fn none(status: u32) -> PayloadAnswer
+        ensures { result ≡ payload_answer status 0 }
+    {
+        PayloadAnswer { status, place: 0 }
+    }
+
+    fn refused(fault: ItemFault) -> PayloadAnswer
+        ensures { TellsFault fault result }
+    {
+        PayloadAnswer {
+            status: reason_number(fault.reason),
+            place: fault.place,
+        }
+    }
+}
+
+/// Whether the payload is that of a connect request.
+#[unsafe(no_mangle)]
+pub extern "C" fn zk_judge_first(bytes: &[u8]) -> PayloadAnswer
+    // It is taken for one exactly where it is one's.
+    ensures found { result.status ≡ 0 → (f : ClientFrame) × IsConnect bytes.now f }
+    ensures only { (f : ClientFrame) → IsConnect bytes.now f → result ≡ payload_answer 0 0 }
+    // Else the first case that applies is told.
+    ensures fault { result.status ≢ 0 → IsToldBy (IsFirstFault bytes.now) result }
+{
+    match scan_first(bytes) {
+        Ok(_frame) => PayloadAnswer::none(WELL),
+        Err(fault) => PayloadAnswer::refused(fault),
+    }
+}
+
+/// Whether the payload is that of a request of a profile, 34 or 35.
+#[unsafe(no_mangle)]
+pub extern "C" fn zk_judge_request(profile: u32, bytes: &[u8]) -> PayloadAnswer
+    // A number that is no profile's is refused.
+    ensures range { result.status ≡ 67 → (p : Profile) → profile ≢ profile_number p }
+    // It is taken for one exactly where it is one's.
+    ensures found { (p : Profile) → profile ≡ profile_number p → result.status ≡ 0 → (f : ClientFrame) × IsRequest p bytes.now f }
+    ensures only { (p : Profile) → profile ≡ profile_number p → (f : ClientFrame) → IsRequest p bytes.now f → result ≡ payload_answer 0 0 }
+    // Else the first case that applies is told.
+    ensures fault { (p : Profile) → profile ≡ profile_number p → result.status ≢ 0 → IsToldBy (IsAskFault p bytes.now) result }
+{
+    let Some(profile) = profile_of(profile) else {
+        return PayloadAnswer::none(RANGE);
+    };
+    match scan_ask(profile, bytes) {
+        Ok(_frame) => PayloadAnswer::none(WELL),
+        Err(fault) => PayloadAnswer::refused(fault),
+    }
+}
+
+/// Whether the payload is that of the answer to a connect request.
+#[unsafe(no_mangle)]
+pub extern "C" fn zk_judge_connected(bytes: &[u8]) -> PayloadAnswer
+    // It is taken for one exactly where it is one's.
+    ensures found { result.status ≡ 0 → (s : ServerFrame) × IsWelcome bytes.now s }
+    ensures only { (s : ServerFrame) → IsWelcome bytes.now s → result ≡ payload_answer 0 0 }
+    // Else the first case that applies is told.
+    ensures fault { result.status ≢ 0 → IsToldBy (IsConnectedFault bytes.now) result }
+{
+    match scan_connected(bytes) {
+        Ok(_frame) => PayloadAnswer::none(WELL),
+        Err(fault) => PayloadAnswer::refused(fault),
+    }
+}

@@ -1,0 +1,156 @@
+//! A speaker behind a handle.
+ghost use Rattle.std.specs.Prelude.{◌≡◌, ◌≢◌, ◌⊎◌, Some, None, IsSome, MatchOption};
+ghost use Rattle.std.specs.Option.{is_some};
+ghost use Rattle.zk_records.specs.declared.profile.Profile.{Profile};
+ghost use Rattle.zk_talk.specs.Ranges.{AreLimits};
+ghost use Rattle.zk_c.specs.Numbers.{profile_number};
+ghost use Rattle.zk_c.specs.Answer.{no_line};
+ghost use Rattle.zk_c.specs.Handle.{TellsText};
+ghost use Rattle.zk_c.specs.Voice.{VoiceState};
+ghost use Rattle.zk_c.specs.Saying.{say_answer, SaysLine, IsSilent};
+
+use crate::answer::LineAnswer;
+use crate::loose::Loose;
+use crate::number::{EMPTY, IN_USE, NO_MEMORY, RANGE, WELL};
+use crate::said::SayAnswer;
+use crate::talk::limits_of;
+use crate::voice::Voice;
+use crate::voice_box::VoiceBox;
+use std::alloc::Global;
+use std::mem::replace;
+
+/// A speaker that C keeps, or none: all bytes 0.
+#[repr(C)]
+#[derive(Drop)]
+pub struct SpeakerHandle {
+    /// The pointer.
+    pub held: VoiceBox,
+    live: bool,
+    ghost tied: { live ≡ is_some held.value },
+}
+
+impl SpeakerHandle {
+    fn none() -> SpeakerHandle
+        ensures { result.held.value ≡ None }
+    {
+        SpeakerHandle {
+            held: VoiceBox::none(),
+            live: false,
+        }
+    }
+
+    fn of(speaker: Box<Voice, Global>) -> SpeakerHandle
+        ensures { result.held.value ≡ Some speaker.value }
+    {
+        SpeakerHandle {
+            held: VoiceBox::of(Loose::of(speaker)),
+            live: true,
+        }
+    }
+
+    /// Takes the speaker out.
+    fn take(&mut self, alloc: Global) -> Option<Box<Voice, Global>>
+        ensures speaker { MatchOption result (self.old.held.value ≡ None) (λ b. self.old.held.value ≡ Some b.value) }
+        ensures left { self.new.held.value ≡ None }
+    {
+        let taken = replace(self, SpeakerHandle::none());
+        if !taken.live {
+            return None;
+        }
+        Some(taken.held.into_loose(alloc).into_box())
+    }
+
+    /// Puts a speaker in, where there is none.
+    fn put(&mut self, speaker: Box<Voice, Global>)
+        requires { self.old.held.value ≡ None }
+        ensures { self.new.held.value ≡ Some speaker.value }
+    {
+        *self = SpeakerHandle::of(speaker);
+    }
+}
+
+/// Makes a speaker with these limits, which has said nothing.
+#[unsafe(no_mangle)]
+pub extern "C" fn zk_speaker_new(
+    alloc: Global,
+    handle: &mut SpeakerHandle,
+    client: u32,
+    server: u32,
+    waiting: u32,
+    profile: u32,
+) -> u32
+    // A handle that holds a speaker keeps it.
+    ensures in_use { IsSome handle.old.held.value → result ≡ 66 }
+    // Limits in their ranges are refused for want of memory alone.
+    ensures range { result ≡ 67 → (p : Profile) → profile ≡ profile_number p → AreLimits client server waiting → ⊥ }
+    ensures status { handle.old.held.value ≡ None → (result ≡ 0) ⊎ (result ≡ 5) ⊎ (result ≡ 67) }
+    // What is made has said nothing.
+    ensures new { result ≡ 0 → IsSilent client server waiting profile handle.new.held.value }
+    // Nothing is changed where it is refused.
+    ensures same { result ≢ 0 → handle.new ≡ handle.old }
+{
+    if handle.live {
+        return IN_USE;
+    }
+    let Some(limits) = limits_of(client, server, waiting, profile) else {
+        return RANGE;
+    };
+    let Ok(voice) = Voice::new(alloc, limits) else {
+        return NO_MEMORY;
+    };
+    let Ok(boxed) = Box::new(alloc, voice) else {
+        return NO_MEMORY;
+    };
+    handle.put(boxed);
+    WELL
+}
+
+/// Says the message whose line the bytes are; its frame is kept until the next line.
+#[unsafe(no_mangle)]
+pub extern "C" fn zk_speaker_say(
+    alloc: Global,
+    handle: &mut SpeakerHandle,
+    line: &[u8],
+) -> SayAnswer
+    // With no speaker nothing is said.
+    ensures empty { handle.old.held.value ≡ None → (result ≡ say_answer 65 0 0) × (handle.new.held.value ≡ None) }
+    // The speaker says the line, and stays behind the handle.
+    ensures say { (v : VoiceState) → handle.old.held.value ≡ Some v → SaysLine v line.now result handle.new.held.value }
+{
+    let Some(mut voice) = handle.take(alloc) else {
+        return SayAnswer::none(EMPTY);
+    };
+    let answer = voice.say(alloc, line);
+    handle.put(voice);
+    answer
+}
+
+/// Writes the frame that was said last, where there is room for it.
+#[unsafe(no_mangle)]
+pub extern "C" fn zk_speaker_frame(
+    alloc: Global,
+    handle: &mut SpeakerHandle,
+    out: &mut [u8],
+) -> LineAnswer
+    // With no speaker there is no frame.
+    ensures empty { handle.old.held.value ≡ None → (result ≡ no_line 65) × (out.new ≡ out.old) }
+    // The frame is the speaker's.
+    ensures frame { (v : VoiceState) → handle.old.held.value ≡ Some v → TellsText v.frame out.old out.new result }
+    // The speaker stays as it is.
+    ensures same { handle.new.held.value ≡ handle.old.held.value }
+{
+    let Some(voice) = handle.take(alloc) else {
+        return LineAnswer::none(EMPTY);
+    };
+    let answer = voice.frame(out);
+    handle.put(voice);
+    answer
+}
+
+/// Gives up the speaker and its memory; with no speaker nothing is done.
+#[unsafe(no_mangle)]
+pub extern "C" fn zk_speaker_free(alloc: Global, handle: &mut SpeakerHandle)
+    ensures { handle.new.held.value ≡ None }
+{
+    drop(handle.take(alloc));
+}

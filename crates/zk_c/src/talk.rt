@@ -1,0 +1,240 @@
+//! A conversation behind a handle.
+ghost use Rattle.std.specs.Prelude.{◌≡◌, ◌≢◌, ◌↔◌, ◌⊎◌, Option, Some, None, [], IsSome, IfSome, MatchOption};
+ghost use Rattle.std.specs.Option.{is_some};
+ghost use Rattle.zk_talk.specs.declared.message.Side.{Side};
+ghost use Rattle.zk_records.specs.declared.profile.Profile.{Profile};
+ghost use Rattle.zk_talk.specs.Ranges.{AreLimits};
+ghost use Rattle.zk_talk.specs.Stands.{TalkState};
+ghost use Rattle.zk_c.specs.Numbers.{side_of, profile_number};
+ghost use Rattle.zk_c.specs.Answer.{no_step, no_ending, no_message, no_line};
+ghost use Rattle.zk_c.specs.Handle.{AreNumbers, IsNew, TellsStep, TellsEnding, IsView, IsLine, IsEndingLine};
+
+use crate::answer::{EndingAnswer, LineAnswer, MessageAnswer, StepAnswer};
+use crate::conversation::Conversation;
+use crate::loose::Loose;
+use crate::number::{EMPTY, IN_USE, NO_MEMORY, RANGE, WELL, profile_of, side_of};
+use crate::talk_box::TalkBox;
+use std::alloc::Global;
+use std::mem::replace;
+use zk_talk::Limits;
+
+/// A talk that C keeps, or none: all bytes 0.
+#[repr(C)]
+#[derive(Drop)]
+pub struct TalkHandle {
+    /// The pointer.
+    pub held: TalkBox,
+    live: bool,
+    ghost tied: { live ≡ is_some held.value },
+}
+
+impl TalkHandle {
+    fn none() -> TalkHandle
+        ensures { result.held.value ≡ None }
+    {
+        TalkHandle {
+            held: TalkBox::none(),
+            live: false,
+        }
+    }
+
+    fn of(talk: Box<Conversation, Global>) -> TalkHandle
+        ensures { result.held.value ≡ Some talk.value }
+    {
+        TalkHandle {
+            held: TalkBox::of(Loose::of(talk)),
+            live: true,
+        }
+    }
+
+    /// Takes the talk out.
+    fn take(&mut self, alloc: Global) -> Option<Box<Conversation, Global>>
+        ensures talk { MatchOption result (self.old.held.value ≡ None) (λ b. self.old.held.value ≡ Some b.value) }
+        ensures left { self.new.held.value ≡ None }
+    {
+        let taken = replace(self, TalkHandle::none());
+        if !taken.live {
+            return None;
+        }
+        Some(taken.held.into_loose(alloc).into_box())
+    }
+
+    /// Puts a talk in, where there is none.
+    fn put(&mut self, talk: Box<Conversation, Global>)
+        requires { self.old.held.value ≡ None }
+        ensures { self.new.held.value ≡ Some talk.value }
+    {
+        *self = TalkHandle::of(talk);
+    }
+}
+
+/// Limits of these numbers.
+pub fn limits_of(client: u32, server: u32, waiting: u32, profile: u32) -> Option<Limits>
+    ensures none { result ≡ None → (p : Profile) → profile ≡ profile_number p → AreLimits client server waiting → ⊥ }
+    ensures value { IfSome result (λ l. AreNumbers client server waiting profile l) }
+{
+    let profile = profile_of(profile)?;
+    let limits = Limits::new(client, server, waiting)?;
+    Some(limits.with_profile(profile))
+}
+
+/// Makes a talk with these limits, of which nothing has come.
+#[unsafe(no_mangle)]
+pub extern "C" fn zk_talk_new(
+    alloc: Global,
+    handle: &mut TalkHandle,
+    client: u32,
+    server: u32,
+    waiting: u32,
+    profile: u32,
+) -> u32
+    // A handle that holds a talk keeps it.
+    ensures in_use { IsSome handle.old.held.value → result ≡ 66 }
+    // Limits in their ranges are refused for want of memory alone.
+    ensures range { result ≡ 67 → (p : Profile) → profile ≡ profile_number p → AreLimits client server waiting → ⊥ }
+    ensures status { handle.old.held.value ≡ None → (result ≡ 0) ⊎ (result ≡ 5) ⊎ (result ≡ 67) }
+    // What is made stands for the empty history.
+    ensures new { result ≡ 0 → IsNew client server waiting profile handle.new.held.value }
+    // Nothing is changed where it is refused.
+    ensures same { result ≢ 0 → handle.new ≡ handle.old }
+{
+    if handle.live {
+        return IN_USE;
+    }
+    let Some(limits) = limits_of(client, server, waiting, profile) else {
+        return RANGE;
+    };
+    let Ok(talk) = Conversation::new(alloc, limits) else {
+        return NO_MEMORY;
+    };
+    let Ok(boxed) = Box::new(alloc, talk) else {
+        return NO_MEMORY;
+    };
+    handle.put(boxed);
+    WELL
+}
+
+/// Takes the piece's bytes up to the end of the first frame that becomes whole, or all of them.
+#[unsafe(no_mangle)]
+pub extern "C" fn zk_talk_step(
+    alloc: Global,
+    handle: &mut TalkHandle,
+    side: u32,
+    piece: &[u8],
+) -> StepAnswer
+    // A number that is no side's changes nothing.
+    ensures range { side_of side ≡ None → (result ≡ no_step 67) × (handle.new ≡ handle.old) }
+    // With no talk there is no step.
+    ensures empty { handle.old.held.value ≡ None → IsSome (side_of side) → (result ≡ no_step 65) × (handle.new.held.value ≡ None) }
+    // The talk makes the step, and stays behind the handle.
+    ensures step { (s : Side) (t : TalkState) → side_of side ≡ Some s → handle.old.held.value ≡ Some t → TellsStep t s piece.now result handle.new.held.value }
+{
+    let Some(side) = side_of(side) else {
+        return StepAnswer::none(RANGE);
+    };
+    let Some(mut talk) = handle.take(alloc) else {
+        return StepAnswer::none(EMPTY);
+    };
+    let answer = StepAnswer::of(talk.step(side, piece));
+    handle.put(talk);
+    answer
+}
+
+/// What message the frame is that the side keeps.
+#[unsafe(no_mangle)]
+pub extern "C" fn zk_talk_view(alloc: Global, handle: &mut TalkHandle, side: u32) -> MessageAnswer
+    // A number that is no side's is refused.
+    ensures range { side_of side ≡ None → result ≡ no_message 67 }
+    // With no talk there is no message.
+    ensures empty { handle.old.held.value ≡ None → IsSome (side_of side) → result ≡ no_message 65 }
+    // The message is the talk's.
+    ensures view { (s : Side) (t : TalkState) → side_of side ≡ Some s → handle.old.held.value ≡ Some t → IsView t s result }
+    // The talk stays as it is.
+    ensures same { handle.new.held.value ≡ handle.old.held.value }
+{
+    let Some(side) = side_of(side) else {
+        return MessageAnswer::none(RANGE);
+    };
+    let Some(talk) = handle.take(alloc) else {
+        return MessageAnswer::none(EMPTY);
+    };
+    let answer = talk.view(side);
+    handle.put(talk);
+    answer
+}
+
+/// Writes the line of the message whose frame the side keeps, where there is room for it.
+#[unsafe(no_mangle)]
+pub extern "C" fn zk_talk_line(
+    alloc: Global,
+    handle: &mut TalkHandle,
+    side: u32,
+    out: &mut [u8],
+) -> LineAnswer
+    // A number that is no side's is refused.
+    ensures range { side_of side ≡ None → (result ≡ no_line 67) × (out.new ≡ out.old) }
+    // With no talk there is no line.
+    ensures empty { handle.old.held.value ≡ None → IsSome (side_of side) → (result ≡ no_line 65) × (out.new ≡ out.old) }
+    // The line is that of the talk's message.
+    ensures line { (s : Side) (t : TalkState) → side_of side ≡ Some s → handle.old.held.value ≡ Some t → IsLine t s out.old out.new result }
+    // The talk stays as it is.
+    ensures same { handle.new.held.value ≡ handle.old.held.value }
+{
+    let Some(side) = side_of(side) else {
+        return LineAnswer::none(RANGE);
+    };
+    let Some(mut talk) = handle.take(alloc) else {
+        return LineAnswer::none(EMPTY);
+    };
+    let answer = talk.line(side, out);
+    handle.put(talk);
+    answer
+}
+
+/// How the history so far ends.
+#[unsafe(no_mangle)]
+pub extern "C" fn zk_talk_finish(alloc: Global, handle: &mut TalkHandle) -> EndingAnswer
+    // With no talk there is no ending.
+    ensures empty { handle.old.held.value ≡ None → result ≡ no_ending 65 }
+    // The ending is the talk's.
+    ensures ending { (t : TalkState) → handle.old.held.value ≡ Some t → TellsEnding t result }
+    // The talk stays as it is.
+    ensures same { handle.new.held.value ≡ handle.old.held.value }
+{
+    let Some(talk) = handle.take(alloc) else {
+        return EndingAnswer::none(EMPTY);
+    };
+    let answer = EndingAnswer::of(talk.finish());
+    handle.put(talk);
+    answer
+}
+
+/// Writes the line of the ending of the history so far, where there is room for it.
+#[unsafe(no_mangle)]
+pub extern "C" fn zk_talk_ending_line(
+    alloc: Global,
+    handle: &mut TalkHandle,
+    out: &mut [u8],
+) -> LineAnswer
+    // With no talk there is no line.
+    ensures empty { handle.old.held.value ≡ None → (result ≡ no_line 65) × (out.new ≡ out.old) }
+    // The line is that of the talk's ending.
+    ensures line { (t : TalkState) → handle.old.held.value ≡ Some t → IsEndingLine t out.old out.new result }
+    // The talk stays as it is.
+    ensures same { handle.new.held.value ≡ handle.old.held.value }
+{
+    let Some(talk) = handle.take(alloc) else {
+        return LineAnswer::none(EMPTY);
+    };
+    let answer = talk.ending_line(alloc, out);
+    handle.put(talk);
+    answer
+}
+
+/// Gives up the talk and its memory; with no talk nothing is done.
+#[unsafe(no_mangle)]
+pub extern "C" fn zk_talk_free(alloc: Global, handle: &mut TalkHandle)
+    ensures { handle.new.held.value ≡ None }
+{
+    drop(handle.take(alloc));
+}

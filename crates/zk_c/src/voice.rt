@@ -1,0 +1,62 @@
+//! A speaker, and the frame that it said last.
+ghost use Rattle.std.specs.Prelude.{◌≡◌, [], IfOk};
+ghost use Rattle.zk_talk.specs.Said.{Says};
+ghost use Rattle.zk_c.specs.Handle.{TellsText};
+ghost use Rattle.zk_c.specs.Saying.{TellsSay};
+
+use crate::answer::LineAnswer;
+use crate::said::SayAnswer;
+use std::alloc::{AllocError, Global};
+use std::marker::Model;
+use zk_lines::read_line;
+use zk_talk::{Limits, Speaker};
+
+/// A speaker, and its newest frame.
+#[derive(Drop)]
+pub struct Voice {
+    speaker: Speaker,
+    frame: Vec<u8>,
+}
+
+impl Model for Voice {
+    ghost use Rattle.zk_c.specs.Voice.{VoiceState};
+
+    ghost Value = { VoiceState };
+
+    ghost view = { λ v. record { speaker = v.speaker; frame = v.frame.items } };
+}
+
+impl Voice {
+    /// Nothing was said yet.
+    pub fn new(alloc: Global, limits: Limits) -> Result<Self, AllocError>
+        ensures limits { IfOk result (λ v. v.speaker.limits ≡ limits) }
+        ensures says { IfOk result (λ v. Says v.speaker []) }
+        ensures frame { IfOk result (λ v. v.frame ≡ []) }
+    {
+        let speaker = Speaker::new(alloc, limits)?;
+        let frame = Vec::new(alloc);
+        Ok(Voice { speaker, frame })
+    }
+
+    /// Says the message whose line the bytes are.
+    pub fn say(&mut self, alloc: Global, line: &[u8]) -> SayAnswer
+        ensures { TellsSay self.old line.now self.new result }
+    {
+        self.frame.clear();
+        let message = match read_line(alloc, line) {
+            Ok(message) => message,
+            Err(fault) => return SayAnswer::no_line(fault),
+        };
+        match self.speaker.say(&message, &mut self.frame) {
+            Ok(()) => SayAnswer::said(self.frame.len()),
+            Err(fault) => SayAnswer::refused(fault),
+        }
+    }
+
+    /// Writes the frame that was said last, where there is room for it.
+    pub fn frame(&self, out: &mut [u8]) -> LineAnswer
+        ensures { TellsText self.now.frame out.old out.new result }
+    {
+        LineAnswer::put(&self.frame, out)
+    }
+}

@@ -1,0 +1,139 @@
+//! The listing of a recording (docs/FORMATS.md, sections 9 and 12), by the proved library.
+//!
+//!     listing RECORDING
+
+use std::io::Write;
+
+/// The library's calls, behind types that keep what they ask for.
+mod zk {
+    #[repr(C)]
+    struct Handle {
+        held: *mut u8,
+        live: bool,
+    }
+
+    #[repr(C)]
+    #[derive(Clone, Copy, Debug, PartialEq, Eq)]
+    pub struct Fault {
+        pub frame: u64,
+        pub offset: u64,
+        pub side: u32,
+        pub place: u32,
+        pub reason: u32,
+        pub expected: i32,
+        pub got: i32,
+    }
+
+    #[repr(C)]
+    struct Step {
+        used: usize,
+        status: u32,
+        whole: bool,
+        fault: Fault,
+    }
+
+    #[repr(C)]
+    struct Line {
+        status: u32,
+        length: usize,
+    }
+
+    unsafe extern "C" {
+        fn zk_talk_new(talk: &mut Handle, client: u32, server: u32, waiting: u32, profile: u32) -> u32;
+        fn zk_talk_step(talk: &mut Handle, side: u32, piece: *const u8, length: usize) -> Step;
+        fn zk_talk_line(talk: &mut Handle, side: u32, out: *mut u8, room: usize) -> Line;
+        fn zk_talk_ending_line(talk: &mut Handle, out: *mut u8, room: usize) -> Line;
+        fn zk_talk_free(talk: &mut Handle);
+    }
+
+    #[derive(Clone, Copy)]
+    pub enum Side {
+        Client,
+        Server,
+    }
+
+    /// A conversation as it comes. It stays on its thread, as a pointer does.
+    pub struct Talk(Handle);
+
+    impl Talk {
+        /// A status where the limits are out of their ranges, or memory is wanted.
+        pub fn new(limit: u32, waiting: u32) -> Result<Talk, u32> {
+            let mut talk = Talk(Handle { held: std::ptr::null_mut(), live: false });
+            match unsafe { zk_talk_new(&mut talk.0, limit, limit, waiting, 34) } {
+                0 => Ok(talk),
+                status => Err(status),
+            }
+        }
+
+        /// How many bytes were used, and whether they made a message whole.
+        pub fn step(&mut self, side: Side, piece: &[u8]) -> Result<(usize, bool), Fault> {
+            let step = unsafe { zk_talk_step(&mut self.0, side as u32, piece.as_ptr(), piece.len()) };
+            if step.status == 0 { Ok((step.used, step.whole)) } else { Err(step.fault) }
+        }
+
+        /// Writes the line of the side's newest message into `text`; the status where there is none.
+        pub fn line(&mut self, side: Side, text: &mut Vec<u8>) -> Result<(), u32> {
+            written(text, |out, room| unsafe { zk_talk_line(&mut self.0, side as u32, out, room) })
+        }
+
+        /// Writes the line of the ending.
+        pub fn ending_line(&mut self, text: &mut Vec<u8>) -> Result<(), u32> {
+            written(text, |out, room| unsafe { zk_talk_ending_line(&mut self.0, out, room) })
+        }
+    }
+
+    /// Calls with the room that there is, and once more where it was too small.
+    fn written(text: &mut Vec<u8>, mut write: impl FnMut(*mut u8, usize) -> Line) -> Result<(), u32> {
+        text.resize(text.capacity().max(256), 0);
+        let mut line = write(text.as_mut_ptr(), text.len());
+        if line.status == 68 {
+            text.resize(line.length, 0);
+            line = write(text.as_mut_ptr(), text.len());
+        }
+        text.truncate(line.length);
+        if line.status == 0 { Ok(()) } else { Err(line.status) }
+    }
+
+    impl Drop for Talk {
+        fn drop(&mut self) {
+            unsafe { zk_talk_free(&mut self.0) }
+        }
+    }
+}
+
+/// The pieces of a recording: whose they are, and their bytes.
+fn pieces(recording: &[u8]) -> Option<Vec<(zk::Side, &[u8])>> {
+    let mut rest = recording.strip_prefix(b"ZKR1")?;
+    let mut pieces = Vec::new();
+    while let Some((head, behind)) = rest.split_first_chunk::<5>() {
+        let side = if head[0] == b'C' { zk::Side::Client } else { zk::Side::Server };
+        let length = u32::from_be_bytes([head[1], head[2], head[3], head[4]]) as usize;
+        let (piece, next) = behind.split_at_checked(length)?;
+        pieces.push((side, piece));
+        rest = next;
+    }
+    Some(pieces)
+}
+
+fn put(out: &mut impl Write, text: &[u8]) {
+    out.write_all(text).and_then(|()| out.write_all(b"\n")).expect("standard output");
+}
+
+fn main() {
+    let path = std::env::args().nth(1).expect("usage: listing RECORDING");
+    let recording = std::fs::read(path).expect("a recording");
+    let mut talk = zk::Talk::new(4_194_304, 65_536).expect("a talk");
+    let (mut out, mut text) = (std::io::stdout().lock(), Vec::new());
+    'all: for (side, mut rest) in pieces(&recording).expect("pieces") {
+        while !rest.is_empty() {
+            let Ok((used, whole)) = talk.step(side, rest) else { break 'all };
+            rest = &rest[used..];
+            if whole {
+                talk.line(side, &mut text).expect("a line");
+                put(&mut out, &text);
+            }
+        }
+    }
+    talk.ending_line(&mut text).expect("an ending");
+    put(&mut out, &text);
+}

@@ -1,0 +1,198 @@
+#!/usr/bin/env python3
+"""The proved library by ctypes: the listing of a recording, and a check of what a client library writes.
+
+    talk.py LIBRARY RECORDING     the listing
+    talk.py LIBRARY --say LISTING the recording of a listing's messages, a piece a frame
+    talk.py LIBRARY --kazoo       judges the requests that kazoo's own serializers make, where kazoo is installed
+
+LIBRARY is a shared library that was linked from libzk_c.a (docs/LIBRARY.md).
+"""
+
+import ctypes
+import sys
+
+CLIENT, SERVER = 0, 1
+ROOM_IS_SHORT = 68
+
+
+class Handle(ctypes.Structure):
+    _fields_ = [("held", ctypes.c_void_p), ("live", ctypes.c_bool)]
+
+
+class Fault(ctypes.Structure):
+    _fields_ = [("frame", ctypes.c_uint64), ("offset", ctypes.c_uint64), ("side", ctypes.c_uint32),
+                ("place", ctypes.c_uint32), ("reason", ctypes.c_uint32), ("expected", ctypes.c_int32),
+                ("got", ctypes.c_int32)]
+
+
+class Step(ctypes.Structure):
+    _fields_ = [("used", ctypes.c_size_t), ("status", ctypes.c_uint32), ("whole", ctypes.c_bool), ("fault", Fault)]
+
+
+class Line(ctypes.Structure):
+    _fields_ = [("status", ctypes.c_uint32), ("length", ctypes.c_size_t)]
+
+
+class Payload(ctypes.Structure):
+    _fields_ = [("status", ctypes.c_uint32), ("place", ctypes.c_uint32)]
+
+
+class Say(ctypes.Structure):
+    _fields_ = [("status", ctypes.c_uint32), ("length", ctypes.c_size_t), ("column", ctypes.c_uint32)]
+
+
+class Refused(Exception):
+    """A status, and the fault where there is one."""
+
+
+class Library:
+    """The calls, with their types."""
+
+    def __init__(self, path):
+        calls = ctypes.CDLL(path)
+        handle, number, size = ctypes.POINTER(Handle), ctypes.c_uint32, ctypes.c_size_t
+        for name, result, words in (
+            ("zk_talk_new", number, (handle, number, number, number, number)),
+            ("zk_talk_step", Step, (handle, number, ctypes.c_char_p, size)),
+            ("zk_talk_line", Line, (handle, number, ctypes.c_char_p, size)),
+            ("zk_talk_ending_line", Line, (handle, ctypes.c_char_p, size)),
+            ("zk_talk_free", None, (handle,)),
+            ("zk_speaker_new", number, (handle, number, number, number, number)),
+            ("zk_speaker_say", Say, (handle, ctypes.c_char_p, size)),
+            ("zk_speaker_frame", Line, (handle, ctypes.c_char_p, size)),
+            ("zk_speaker_free", None, (handle,)),
+            ("zk_judge_first", Payload, (ctypes.c_char_p, size)),
+            ("zk_judge_request", Payload, (number, ctypes.c_char_p, size)),
+            ("zk_judge_connected", Payload, (ctypes.c_char_p, size)),
+        ):
+            call = getattr(calls, name)
+            call.restype, call.argtypes = result, words
+            setattr(self, name, call)
+
+
+class Talk:
+    """A conversation as it comes; `with Talk(library) as talk:` gives its memory up."""
+
+    def __init__(self, library, limit=4194304, waiting=65536, profile=34):
+        self.library, self.handle, self.text = library, Handle(), ctypes.create_string_buffer(4096)
+        status = library.zk_talk_new(self.handle, limit, limit, waiting, profile)
+        if status != 0:
+            raise Refused(status)
+
+    def __enter__(self):
+        return self
+
+    def __exit__(self, *_):
+        self.library.zk_talk_free(self.handle)
+
+    def lines(self, side, piece):
+        """The line of each message that the piece makes whole."""
+        while piece:
+            step = self.library.zk_talk_step(self.handle, side, piece, len(piece))
+            if step.status != 0:
+                raise Refused(step.status, step.fault.frame, step.fault.offset, step.fault.place)
+            piece = piece[step.used:]
+            if step.whole:
+                yield self.written(lambda out, room: self.library.zk_talk_line(self.handle, side, out, room))
+
+    def ending_line(self):
+        return self.written(lambda out, room: self.library.zk_talk_ending_line(self.handle, out, room))
+
+    def written(self, write):
+        line = write(self.text, len(self.text))
+        if line.status == ROOM_IS_SHORT:
+            self.text = ctypes.create_string_buffer(line.length)
+            line = write(self.text, len(self.text))
+        if line.status != 0:
+            raise Refused(line.status)
+        return self.text.raw[:line.length]
+
+
+def pieces(recording):
+    """The side and the bytes of each piece of a recording of format ZKR1."""
+    if recording[:4] != b"ZKR1":
+        raise ValueError("no recording")
+    at = 4
+    while at < len(recording):
+        length = int.from_bytes(recording[at + 1:at + 5], "big")
+        yield CLIENT if recording[at:at + 1] == b"C" else SERVER, recording[at + 5:at + 5 + length]
+        at += 5 + length
+
+
+def listing(library, recording):
+    with Talk(library) as talk:
+        try:
+            for side, piece in pieces(recording):
+                yield from talk.lines(side, piece)
+        except Refused:
+            pass
+        yield talk.ending_line()
+
+
+class Speaker:
+    """Lines to frames; `with Speaker(library) as speaker:` gives its memory up."""
+
+    def __init__(self, library, limit=4194304, waiting=65536, profile=34):
+        self.library, self.handle = library, Handle()
+        status = library.zk_speaker_new(self.handle, limit, limit, waiting, profile)
+        if status != 0:
+            raise Refused(status)
+
+    def __enter__(self):
+        return self
+
+    def __exit__(self, *_):
+        self.library.zk_speaker_free(self.handle)
+
+    def say(self, line):
+        """The frame of the line's message, if that may come next."""
+        answer = self.library.zk_speaker_say(self.handle, line, len(line))
+        if answer.status != 0:
+            raise Refused(answer.status, answer.column)
+        frame = ctypes.create_string_buffer(answer.length)
+        self.library.zk_speaker_frame(self.handle, frame, answer.length)
+        return frame.raw
+
+
+def said(library, listing):
+    """The recording of the messages of a listing."""
+    with Speaker(library) as speaker:
+        yield b"ZKR1"
+        for line in listing.splitlines():
+            if not line.startswith(b"."):
+                frame = speaker.say(line)
+                yield line[:1] + len(frame).to_bytes(4, "big") + frame
+
+
+def judge_kazoo(library):
+    """As a unit test of a client library would: each of its requests is one, and damaged it is refused."""
+    from kazoo.protocol.serialization import Create, Exists, GetChildren, GetData, SetData, Transaction, int_struct
+    from kazoo.security import OPEN_ACL_UNSAFE
+
+    create = Create("/a", b"v", OPEN_ACL_UNSAFE, 0)
+    requests = [create, GetData("/a", None), Exists("/ünï", None), SetData("/a", b"", 3), GetChildren("/", None),
+                Transaction([create, SetData("/a", b"w", -1)])]
+    for xid, request in enumerate(requests, 1):
+        payload = bytes(int_struct.pack(xid) + int_struct.pack(request.type) + request.serialize())
+        for damage, statuses in (payload, {0}), (payload[:-1], {1}), (payload + b"\0", {6}):
+            answer = library.zk_judge_request(34, damage, len(damage))
+            assert answer.status in statuses, (request, damage, answer.status, answer.place)
+    print(f"{len(requests)} requests")
+
+
+def main():
+    library = Library(sys.argv[1])
+    if sys.argv[2] == "--kazoo":
+        judge_kazoo(library)
+        return
+    with open(sys.argv[-1], "rb") as file:
+        content = file.read()
+    if sys.argv[2] == "--say":
+        sys.stdout.buffer.writelines(said(library, content))
+        return
+    for line in listing(library, content):
+        sys.stdout.buffer.write(line + b"\n")
+
+
+if __name__ == "__main__":
+    main()

@@ -1,0 +1,186 @@
+/* A conversation of ZooKeeper's client protocol, read as it comes, by the proved library libzk_c.a.
+ *
+ * docs/LIBRARY.md says how a program is linked with it, and what each call promises. tests/library.py holds this header
+ * against the library's source (crates/zk_c/src).
+ *
+ * What a caller owes: a pointer to a handle or to bytes isn't null and points to as much as is said; a handle is all
+ * zeros before its first zk_talk_new (`struct zk_talk talk = {0};`), is written by these calls alone, is used by one
+ * call at a time on the thread that made it, and is never copied and then used twice. For no bytes pass any pointer
+ * that isn't null, and 0. All else is refused by a number. */
+#ifndef ZK_H
+#define ZK_H
+
+#include <stdbool.h>
+#include <stddef.h>
+#include <stdint.h>
+
+#ifdef __cplusplus
+extern "C" {
+#endif
+
+/* Sides. */
+enum { ZK_CLIENT = 0, ZK_SERVER = 1 };
+
+/* Profiles: the operations of ZooKeeper 3.4, and of 3.5, which has create2 too. */
+enum { ZK_PROFILE_34 = 34, ZK_PROFILE_35 = 35 };
+
+/* A status: 0, a reason (docs/REASONS.md), or why a call did nothing. */
+enum {
+    ZK_WELL = 0,
+    ZK_SHORT = 1,
+    ZK_BAD_BOOL = 2,
+    ZK_BAD_LENGTH = 3,
+    ZK_BAD_TEXT = 4,
+    ZK_NO_MEMORY = 5,
+    ZK_TRAILING = 6,
+    ZK_UNKNOWN_OP = 7,
+    ZK_XID_OP = 8,
+    ZK_BAD_PART = 9,
+    ZK_EVENT_ERR = 10,
+    ZK_LENGTH_RANGE = 11,
+    ZK_QUEUE_FULL = 12,
+    ZK_UNASKED = 13,
+    ZK_XID_ORDER = 14,
+    ZK_STREAM_END = 15,
+    ZK_EMPTY = 65,     /* the handle holds nothing */
+    ZK_IN_USE = 66,    /* the handle holds something already */
+    ZK_RANGE = 67,     /* a limit, a profile or a side is out of its range */
+    ZK_ROOM = 68,      /* the text is longer than the room */
+    ZK_NO_MESSAGE = 69, /* no frame is kept on the side */
+    ZK_NOT_FIRST = 81, /* a message can't be said: a connect message where its side has spoken, or another before it */
+    ZK_MISFIT = 82,    /* the xid or the operation isn't allowed, or the reply doesn't fit its request */
+    ZK_TOO_LONG = 83,  /* the payload is longer than its side's limit */
+    ZK_LINE_WORD = 91, /* a line is no message's (docs/REASONS.md): its column is told */
+    ZK_LINE_NUMBER = 92,
+    ZK_LINE_TEXT = 93,
+    ZK_LINE_BLOB = 94,
+    ZK_LINE_NAME = 95,
+    ZK_LINE_REST = 96,
+    ZK_LINE_ENDING = 97
+};
+
+/* A handle: a talk, or nothing where it is all zeros. Its fields are the library's. */
+struct zk_talk {
+    void *held;
+    bool live;
+};
+
+/* A handle of a speaker, likewise. */
+struct zk_speaker {
+    void *held;
+    bool live;
+};
+
+/* Why a conversation is refused, and where; all 0 where it isn't. expected and got are of ZK_XID_ORDER. */
+struct zk_fault {
+    uint64_t frame;
+    uint64_t offset;
+    uint32_t side;
+    uint32_t place;
+    uint32_t reason;
+    int32_t expected;
+    int32_t got;
+};
+
+/* What a step answers: so many bytes of the piece were used; whole: the last of them made a frame whole. */
+struct zk_step {
+    size_t used;
+    uint32_t status;
+    bool whole;
+    struct zk_fault fault;
+};
+
+/* Kinds of an ending. */
+enum { ZK_WHOLE = 1, ZK_CUT = 2, ZK_REFUSED = 3 };
+
+/* How a conversation ends: unanswered of ZK_WHOLE; side, got and frame of ZK_CUT; fault of ZK_REFUSED. */
+struct zk_ending {
+    uint32_t status;
+    uint32_t kind;
+    uint32_t unanswered;
+    uint32_t side;
+    uint32_t got;
+    uint64_t frame;
+    struct zk_fault fault;
+};
+
+/* Kinds of a message. */
+enum { ZK_CONNECT = 1, ZK_REQUEST = 2, ZK_CONNECTED = 3, ZK_REPLY = 4, ZK_EVENT = 5 };
+
+/* What message a frame is. operation is that of a request, or of the request that a reply answers. The frame's bytes,
+ * its length included, are the last `size` that were used of its side. */
+struct zk_message {
+    uint32_t status;
+    uint32_t kind;
+    int32_t xid;
+    int32_t operation;
+    uint32_t size;
+};
+
+/* A text's length; it is written where there is room for all of it (ZK_WELL, else ZK_ROOM). */
+struct zk_line {
+    uint32_t status;
+    size_t length;
+};
+
+/* Whether a line was said: so many bytes its frame has; the column of the fault, from 1, where it is no message's. */
+struct zk_say {
+    uint32_t status;
+    size_t length;
+    uint32_t column;
+};
+
+/* Whether a payload is a message's, and where its first fault stands. */
+struct zk_payload {
+    uint32_t status;
+    uint32_t place;
+};
+
+/* Makes a talk: payloads of the client and of the server of at most so many bytes (64 to 16777216), at most so many
+ * requests and parts that wait (1 to 1048576), a profile. ZK_WELL, ZK_IN_USE, ZK_RANGE or ZK_NO_MEMORY. */
+uint32_t zk_talk_new(struct zk_talk *talk, uint32_t client, uint32_t server, uint32_t waiting, uint32_t profile);
+
+/* Takes bytes of a side up to the end of the first frame that becomes whole, or all of them. No memory is taken. */
+struct zk_step zk_talk_step(struct zk_talk *talk, uint32_t side, const uint8_t *piece, size_t length);
+
+/* The message whose frame the side keeps: the one that its last step made whole. */
+struct zk_message zk_talk_view(struct zk_talk *talk, uint32_t side);
+
+/* Writes that message's line (docs/FORMATS.md, section 9), without line feed. */
+struct zk_line zk_talk_line(struct zk_talk *talk, uint32_t side, uint8_t *out, size_t room);
+
+/* How the conversation ends if nothing more comes. */
+struct zk_ending zk_talk_finish(struct zk_talk *talk);
+
+/* Writes the line of the ending (section 11), without line feed. */
+struct zk_line zk_talk_ending_line(struct zk_talk *talk, uint8_t *out, size_t room);
+
+/* Gives up the talk and its memory; the handle is then empty. */
+void zk_talk_free(struct zk_talk *talk);
+
+/* Makes a speaker, which has said nothing; the numbers are those of zk_talk_new. */
+uint32_t zk_speaker_new(struct zk_speaker *speaker, uint32_t client, uint32_t server, uint32_t waiting, uint32_t profile);
+
+/* Says the message of a line, without line feed, if it may come next; its frame is kept until the next line. */
+struct zk_say zk_speaker_say(struct zk_speaker *speaker, const uint8_t *line, size_t length);
+
+/* Writes that frame. */
+struct zk_line zk_speaker_frame(struct zk_speaker *speaker, uint8_t *out, size_t room);
+
+/* Gives up the speaker and its memory; the handle is then empty. */
+void zk_speaker_free(struct zk_speaker *speaker);
+
+/* Whether the payload is that of a connect request. */
+struct zk_payload zk_judge_first(const uint8_t *bytes, size_t length);
+
+/* Whether the payload is that of a request of this profile. */
+struct zk_payload zk_judge_request(uint32_t profile, const uint8_t *bytes, size_t length);
+
+/* Whether the payload is that of the answer to a connect request. */
+struct zk_payload zk_judge_connected(const uint8_t *bytes, size_t length);
+
+#ifdef __cplusplus
+}
+#endif
+
+#endif

@@ -1,0 +1,216 @@
+#!/usr/bin/env python3
+"""Holds the library for C against its header, and runs the examples that link it over the recordings.
+
+    library.py [--library PATH]
+
+Each call that crates/zk_c/src exports stands in include/zk.h with as many words, each struct that C sees with the same
+fields, and each number by the same name. The examples (docs/LIBRARY.md) in C, Rust and Python are compiled where there
+is a compiler, and give the listing of each recording in captures/; the one in C gives up its memory, where the compiler
+has what looks for that; the one in Python says the lines of whole listings again, and judges kazoo's requests where kazoo
+is installed. Payloads of docs/EXAMPLES.md are judged. What is skipped is told.
+
+The library is the one that `rt lib` makes, over what earlier checks kept, where no other is named. It prints what failed
+and one last line. The status is 0 where nothing did.
+"""
+
+import argparse
+import importlib
+import os
+import pathlib
+import re
+import shutil
+import subprocess
+import sys
+import tempfile
+
+TOP = pathlib.Path(__file__).resolve().parent.parent
+CRATE = TOP / "crates" / "zk_c"
+HEADER = TOP / "include" / "zk.h"
+EXAMPLES = TOP / "examples"
+C_TYPES = {"u8": "uint8_t", "u32": "uint32_t", "i32": "int32_t", "u64": "uint64_t", "usize": "size_t", "bool": "bool",
+           "*mut u8": "void *", "TalkBox": "void *", "TalkHandle": "struct zk_talk", "VoiceBox": "void *",
+           "SpeakerHandle": "struct zk_speaker", "SayAnswer": "struct zk_say", "FaultNumbers": "struct zk_fault",
+           "StepAnswer": "struct zk_step", "EndingAnswer": "struct zk_ending", "MessageAnswer": "struct zk_message",
+           "LineAnswer": "struct zk_line", "PayloadAnswer": "struct zk_payload"}
+INSIDE = {"TalkBox", "VoiceBox"}
+
+# Payloads, from docs/EXAMPLES.md, "Single payloads": the call, the payload, the status and the place.
+HELLO = "00000000 0000000000000000 00007530 0000000000000000 00000010 00000000000000000000000000000000"
+WELCOME = "00000000 00007530 0100000000000001 00000010 000102030405060708090a0b0c0d0e0f"
+JUDGED = (
+    ("request", "fffffff8 00000065 0000000000000005 00000001 00000002 2f61 00000000 ffffffff", "WELL", 0),
+    ("request", "fffffffc 00000064 00000000 00000006 646967657374 00000003 613a62", "WELL", 0),
+    ("request", "ffffffff 00000003 00000002 2f61 01", "XID_OP", 4),
+    ("request", "00000001 00000003 00000002 2f61 02", "BAD_BOOL", 14),
+    ("request", "00000001 00000003 00000002 2f61 01 00", "TRAILING", 15),
+    ("request", "00000001 0000000d 00000002 2f61 ffffffff", "UNKNOWN_OP", 4),
+    ("request", "00000001 00000003 00000002 2fc3 00", "BAD_TEXT", 13),
+    ("request", "00000001 0000000e 0000000e 00 ffffffff ffffffff 01 ffffffff", "BAD_PART", 8),
+    ("first", HELLO, "WELL", 0),
+    ("first", HELLO + "02", "BAD_BOOL", 44),
+    ("first", HELLO + "0000", "TRAILING", 45),
+    ("connected", WELCOME, "WELL", 0),
+    ("connected", WELCOME + "02", "BAD_BOOL", 36),
+    ("connected", WELCOME + "0000", "TRAILING", 37),
+)
+
+
+def plain(text):
+    """C or Rattle without its comments."""
+    return re.sub(r"/\*.*?\*/|//[^\n]*", "", text, flags=re.S)
+
+
+def c_words(word):
+    """The words of C for one parameter of an export."""
+    if word in ("&[u8]", "&mut [u8]"):
+        return ["const uint8_t *" if word == "&[u8]" else "uint8_t *", "size_t"]
+    if word.startswith("&mut "):
+        return [C_TYPES[word[5:]] + " *"]
+    return [C_TYPES[word]]
+
+
+def joined(text):
+    return re.sub(r" ?\* ?", " *", " ".join(text.split()))
+
+
+def exported():
+    """What the crate exports: of each call its result and the words of C for its parameters; the fields of each struct
+    that C sees; the numbers."""
+    calls, structs, numbers = {}, {}, {}
+    for path in sorted((CRATE / "src").glob("*.rt")):
+        text = plain(path.read_text())
+        for name, words, result in re.findall(r'extern "C" fn (\w+)\((.*?)\)(?: -> (\w+))?\s', text, flags=re.S):
+            types = [word.split(":", 1)[1].strip() for word in words.split(",") if ":" in word]
+            calls[name] = (C_TYPES.get(result, "void"), [c for t in types if t != "Global" for c in c_words(t)])
+        for name, body in re.findall(r"#\[repr\(C\)\][^{]*struct (\w+) \{(.*?)\n\}", text, flags=re.S):
+            if name not in INSIDE:
+                fields = re.findall(r"^\s+(?:pub )?(\w+): ([^,\n]+),", body, flags=re.M)
+                structs[C_TYPES[name]] = [(field, C_TYPES[kind]) for field, kind in fields]
+        numbers.update((name, int(n)) for name, n in re.findall(r"const (\w+): u32 = (\d+);", text))
+        for name, n in re.findall(r"LineReason::(\w+) => (\d+)", text):
+            numbers["LINE_" + name.upper()] = int(n)
+        for body in re.findall(r"fn (?:reason|say)_number.*?\n\}", text, flags=re.S):
+            for name, n in re.findall(r"(?:Reason|SayFault)::(\w+).*? => (\d+)", body):
+                numbers[re.sub(r"(?<=[a-z])(?=[A-Z])", "_", name).upper()] = int(n)
+    return calls, structs, numbers
+
+
+def declared():
+    """The same of the header."""
+    text = plain(HEADER.read_text())
+    calls, structs = {}, {}
+    for result, name, words in re.findall(r"^([a-z][\w ]*?[ *])(zk_\w+)\(([^)]*)\);", text, flags=re.M | re.S):
+        types = [joined(re.sub(r"\w+$", "", word.strip())) for word in words.split(",")]
+        calls[name] = (joined(result), types)
+    for name, body in re.findall(r"^(struct zk_\w+) \{(.*?)\n\};", text, flags=re.M | re.S):
+        fields = re.findall(r"^\s+(.*?)(\w+);", body, flags=re.M)
+        structs[name] = [(field, joined(kind)) for kind, field in fields]
+    numbers = {name: int(n) for name, n in re.findall(r"ZK_(\w+) = (\d+)", text)}
+    return calls, structs, numbers
+
+
+def compare_header():
+    """A line for each difference between the crate and its header."""
+    (calls, structs, numbers), (c_calls, c_structs, c_numbers) = exported(), declared()
+    for kind, ours, theirs in (("call", calls, c_calls), ("struct", structs, c_structs)):
+        for name in sorted({*ours, *theirs}):
+            yield (name, ours.get(name) == theirs.get(name),
+                   f"{kind} {name}: the crate has {ours.get(name)}, the header {theirs.get(name)}")
+    for name, number in sorted(numbers.items()):
+        yield (name, c_numbers.get(name) == number,
+               f"number {name}: the crate has {number}, the header {c_numbers.get(name)}")
+
+
+def kit_archive():
+    """The toolchain's archive by which the library asks for memory."""
+    page = subprocess.run(["rt", "doc"], capture_output=True, text=True, check=True).stdout.strip()
+    return pathlib.Path(page).parent / "c" / "liblibc_c.a"
+
+
+def made(folder, library, archive):
+    """The examples as programs: a name and the words that run it, or None where it can't be made."""
+    c = next(filter(shutil.which, filter(None, (os.environ.get("CC"), "cc", "gcc", "clang"))), None)
+    proxy, listing, shared = (os.path.join(folder, name) for name in ("proxy", "listing", "libzk.so"))
+    if c:
+        words = [c, "-O2", "-Wall", "-Wextra", "-Werror", f"-I{HEADER.parent}", "-o", proxy, EXAMPLES / "proxy.c",
+                 library, archive]
+        if subprocess.run([*words, "-fsanitize=address"], stderr=subprocess.DEVNULL).returncode != 0:
+            print("skipped: the example in C is not looked at for memory that isn't given up")
+            subprocess.run(words, check=True)
+        subprocess.run([c, "-shared", "-o", shared, "-Wl,--whole-archive", library, "-Wl,--no-whole-archive", archive],
+                       check=True)
+    yield "C", [proxy] if c else None
+    if shutil.which("rustc"):
+        subprocess.run(["rustc", "-O", "--edition", "2024", "-o", listing, EXAMPLES / "listing.rs",
+                        "-C", f"link-arg={library}", "-C", f"link-arg={archive}"], check=True)
+    yield "Rust", [listing] if shutil.which("rustc") else None
+    yield "Python", [sys.executable, EXAMPLES / "talk.py", shared] if c else None
+
+
+def sides(recording):
+    """The bytes of each side of a recording."""
+    found, at = {b"C": b"", b"S": b""}, 4
+    while at < len(recording):
+        length = int.from_bytes(recording[at + 1:at + 5], "big")
+        found[recording[at:at + 1]] += recording[at + 5:at + 5 + length]
+        at += 5 + length
+    return found
+
+
+def run_examples(name, words):
+    """Over each recording: its name, whether the example gives its listing, and what to tell. And whether the lines of
+    a whole listing, said again, give each side's bytes."""
+    for path in sorted((TOP / "captures").glob("*.zkr")):
+        listing = path.with_suffix(".show")
+        found = subprocess.run([*words, path], capture_output=True)
+        good = (found.returncode, found.stdout) == (0, listing.read_bytes())
+        yield path.stem, good, f"{name} {path.stem}: status {found.returncode}, {found.stderr.decode()[:200]}"
+        if name == "Python" and b"\n. whole " in listing.read_bytes():
+            found = subprocess.run([*words, "--say", listing], capture_output=True)
+            good = found.returncode == 0 and sides(found.stdout) == sides(path.read_bytes())
+            yield path.stem, good, f"{name} --say {path.stem}: status {found.returncode}, {found.stderr.decode()[-200:]}"
+    if name == "Python":
+        kazoo = subprocess.run([sys.executable, "-c", "import kazoo"], capture_output=True).returncode == 0
+        if not kazoo:
+            print("skipped: kazoo is not installed")
+            return
+        found = subprocess.run([*words, "--kazoo"], capture_output=True)
+        yield "kazoo", found.returncode == 0, f"{name} --kazoo: {found.stderr.decode()[-300:]}"
+
+
+def judge_payloads(shared):
+    """Whether each payload of the table is judged as it says."""
+    sys.path.append(str(EXAMPLES))
+    library, numbers = importlib.import_module("talk").Library(shared), declared()[2]
+    for call, digits, status, place in JUDGED:
+        payload = bytes.fromhex(digits)
+        words = (34, payload, len(payload)) if call == "request" else (payload, len(payload))
+        answer = getattr(library, f"zk_judge_{call}")(*words)
+        yield (digits, (answer.status, answer.place) == (numbers[status], place),
+               f"zk_judge_{call} {digits}: {answer.status} at {answer.place}, not {status} at {place}")
+
+
+def main():
+    parser = argparse.ArgumentParser(description="The library for C: its header, and the examples that link it.")
+    parser.add_argument("--library", type=pathlib.Path)
+    options = parser.parse_args()
+    if options.library is None:
+        options.library = CRATE / "out" / "libzk_c.a"
+        subprocess.run(["rt", "lib", "--jobs", "1"], cwd=CRATE, check=True, stdout=subprocess.DEVNULL)
+    results = list(compare_header())
+    with tempfile.TemporaryDirectory() as folder:
+        for name, words in made(folder, options.library, kit_archive()):
+            if words is None:
+                print(f"skipped: there is no compiler for the example in {name}")
+                continue
+            results += run_examples(name, words)
+            if name == "Python":
+                results += judge_payloads(words[-1])
+    failures = [told for _, good, told in results if not good]
+    print("\n".join(failures[:50]), end="\n" if failures else "")
+    print(f"{len(results) - len(failures)} passed, {len(failures)} failed")
+    return 1 if failures else 0
+
+
+if __name__ == "__main__":
+    sys.exit(main())
