@@ -64,6 +64,8 @@ class Library:
             ("zk_judge_first", Payload, (ctypes.c_char_p, size)),
             ("zk_judge_request", Payload, (number, ctypes.c_char_p, size)),
             ("zk_judge_connected", Payload, (ctypes.c_char_p, size)),
+            ("zk_judge_reply", Payload, (ctypes.c_int32, ctypes.POINTER(ctypes.c_int32), size, ctypes.c_char_p, size)),
+            ("zk_judge_event", Payload, (ctypes.c_char_p, size)),
         ):
             call = getattr(calls, name)
             call.restype, call.argtypes = result, words

@@ -48,7 +48,8 @@ enum {
     ZK_ROOM = 68,      /* the text is longer than the room */
     ZK_NO_MESSAGE = 69, /* no frame is kept on the side */
     ZK_NOT_FIRST = 81, /* a message can't be said: a connect message where its side has spoken, or another before it */
-    ZK_MISFIT = 82,    /* the xid or the operation isn't allowed, or the reply doesn't fit its request */
+    ZK_MISFIT = 82,    /* the xid or the operation isn't allowed, or the reply doesn't fit its request; or the payload's
+                          xid is that of the other kind, a reply or an event */
     ZK_TOO_LONG = 83,  /* the payload is longer than its side's limit */
     ZK_LINE_WORD = 91, /* a line is no message's (docs/REASONS.md): its column is told */
     ZK_LINE_NUMBER = 92,
@@ -178,6 +179,14 @@ struct zk_payload zk_judge_request(uint32_t profile, const uint8_t *bytes, size_
 
 /* Whether the payload is that of the answer to a connect request. */
 struct zk_payload zk_judge_connected(const uint8_t *bytes, size_t length);
+
+/* Whether the payload is that of a reply to a request of this operation; of a multi with so many parts, of which these
+ * are the operations. ZK_RANGE where a number is none's, or another operation has parts; ZK_MISFIT where the xid is -1,
+ * an event's. For no parts pass any pointer that isn't null, and 0. */
+struct zk_payload zk_judge_reply(int32_t operation, const int32_t *parts, size_t count, const uint8_t *bytes, size_t length);
+
+/* Whether the payload is that of an event. ZK_MISFIT where the xid isn't -1: a reply's. */
+struct zk_payload zk_judge_event(const uint8_t *bytes, size_t length);
 
 #ifdef __cplusplus
 }

@@ -14,6 +14,7 @@ and one last line. The status is 0 where nothing did.
 """
 
 import argparse
+import ctypes
 import importlib
 import os
 import pathlib
@@ -34,9 +35,13 @@ C_TYPES = {"u8": "uint8_t", "u32": "uint32_t", "i32": "int32_t", "u64": "uint64_
            "LineAnswer": "struct zk_line", "PayloadAnswer": "struct zk_payload"}
 INSIDE = {"TalkBox", "VoiceBox"}
 
-# Payloads, from docs/EXAMPLES.md, "Single payloads": the call, the payload, the status and the place.
+# Payloads, from docs/EXAMPLES.md, "Single payloads": the call, of a reply with the numbers of the operation and of its
+# parts, the payload, the status and the place.
 HELLO = "00000000 0000000000000000 00007530 0000000000000000 00000010 00000000000000000000000000000000"
 WELCOME = "00000000 00007530 0100000000000001 00000010 000102030405060708090a0b0c0d0e0f"
+SIXTEEN = "00000001 0000000000000005 00000000 0000000000000004 0000000000000004 00000000000003e8 00000000000003e8"
+STAT = SIXTEEN + "00000000 00000000 00000000 0000000000000000 00000003 00000000 0000000000000004"
+RESULTS = "00000001 0000000000000006 00000000 00000001 00 00000000 00000002 2f61 00000002 00 00000000 ffffffff 01 ffffffff"
 JUDGED = (
     ("request", "fffffff8 00000065 0000000000000005 00000001 00000002 2f61 00000000 ffffffff", "WELL", 0),
     ("request", "fffffffc 00000064 00000000 00000006 646967657374 00000003 613a62", "WELL", 0),
@@ -52,6 +57,27 @@ JUDGED = (
     ("connected", WELCOME, "WELL", 0),
     ("connected", WELCOME + "02", "BAD_BOOL", 36),
     ("connected", WELCOME + "0000", "TRAILING", 37),
+    ("reply 3", "00000001 0000000000000005 ffffff9b", "WELL", 0),
+    ("reply 3", "00000001 0000000000000005 ffffff9b 00", "TRAILING", 16),
+    ("reply 3", "00000001", "SHORT", 4),
+    ("reply 3", STAT, "WELL", 0),
+    ("reply 5", STAT, "WELL", 0),
+    ("reply 7", STAT, "WELL", 0),
+    ("reply 2", STAT, "TRAILING", 16),
+    ("reply 1", STAT, "TRAILING", 20),
+    ("reply 14 1 2", RESULTS, "WELL", 0),
+    ("reply 14 2 1", RESULTS, "BAD_PART", 16),
+    ("reply 14 1", RESULTS, "BAD_PART", 31),
+    ("reply 14 1 2 13", RESULTS, "BAD_PART", 40),
+    ("reply 14 13", "00000001 0000000000000006 00000000 ffffffff 00 ffffff99 ffffff9b ffffffff 01 ffffffff", "BAD_PART", 16),
+    ("reply 3", "ffffffff ffffffffffffffff 00000000", "MISFIT", 0),
+    ("reply 10", STAT, "RANGE", 0),
+    ("reply 3 1", STAT, "RANGE", 0),
+    ("reply 14 1 3", RESULTS, "RANGE", 0),
+    ("event", "ffffffff ffffffffffffffff 00000000 00000003 00000003 00000002 2f61", "WELL", 0),
+    ("event", "ffffffff ffffffffffffffff 00000001 00000003 00000003 00000002 2f", "EVENT_ERR", 12),
+    ("event", "ffffffff ffffffffffffffff 00000000 00000003 00000003 00000002 2f61 00", "TRAILING", 30),
+    ("event", STAT, "MISFIT", 0),
 )
 
 
@@ -62,8 +88,9 @@ def plain(text):
 
 def c_words(word):
     """The words of C for one parameter of an export."""
-    if word in ("&[u8]", "&mut [u8]"):
-        return ["const uint8_t *" if word == "&[u8]" else "uint8_t *", "size_t"]
+    slice = re.fullmatch(r"&(mut )?\[(\w+)\]", word)
+    if slice:
+        return [("" if slice[1] else "const ") + C_TYPES[slice[2]] + " *", "size_t"]
     if word.startswith("&mut "):
         return [C_TYPES[word[5:]] + " *"]
     return [C_TYPES[word]]
@@ -184,8 +211,12 @@ def judge_payloads(shared):
     library, numbers = importlib.import_module("talk").Library(shared), declared()[2]
     for call, digits, status, place in JUDGED:
         payload = bytes.fromhex(digits)
-        words = (34, payload, len(payload)) if call == "request" else (payload, len(payload))
-        answer = getattr(library, f"zk_judge_{call}")(*words)
+        kind, *asked = call.split()
+        before = (34,) if kind == "request" else ()
+        if kind == "reply":
+            operation, *parts = map(int, asked)
+            before = (operation, (ctypes.c_int32 * (len(parts) + 1))(*parts), len(parts))
+        answer = getattr(library, f"zk_judge_{kind}")(*before, payload, len(payload))
         yield (digits, (answer.status, answer.place) == (numbers[status], place),
                f"zk_judge_{call} {digits}: {answer.status} at {answer.place}, not {status} at {place}")
 

@@ -1,3 +1,5 @@
 mod Handles
+mod Opening
+mod Parts
 mod Values
 mod Walks

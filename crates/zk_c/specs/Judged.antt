@@ -1,10 +1,15 @@
 -- What is told of a payload, in numbers.
-use Rattle.std.specs.Prelude.{◌≡◌, ℕ, List}
+use Rattle.std.specs.Prelude.{◌≡◌, ◌≢◌, ℕ, ℤ, negsuc, List}
 use Rattle.zk_records.specs.declared.profile.Profile.{Profile}
+use Rattle.zk_records.specs.declared.header.ReplyHeader.{ReplyHeader}
+use Rattle.zk_records.specs.declared.op.Op.{Op}
+use Rattle.zk_records.specs.declared.op.PartOp.{PartOp}
+use Rattle.zk_jute.specs.declared.fault.Reason.TheVariants.{NoMemory}
 use Rattle.zk_asks.specs.Held.{ClientFrame}
 use Rattle.zk_asks.specs.Frames.{IsFirst, IsLater, IsSent, IsOfProfile, payload}
 use Rattle.zk_answers.specs.Held.{ServerFrame}
 use Rattle.zk_answers.specs.Frames as answers
+use Rattle.zk_answers.specs.Faults.{IsHead}
 use Rattle.zk_jute.specs.declared.fault.Reason.{Reason}
 use Rattle.zk_jute.specs.declared.fault.ItemFault.{ItemFault}
 use Rattle.zk_jute.specs.Told.{IsTold}
@@ -17,10 +22,11 @@ payload_answer status place = record { status = status; place = place }
 abbrev pub TellsFault : ItemFault → PayloadAnswer → Type 0
 TellsFault fault answer = answer ≡ payload_answer (reason_number fault.reason) fault.place
 
--- the answer tells a fault of this kind
+-- the answer tells a fault of this kind, and never want of memory
 pub record IsToldBy (Is : ℕ → Reason → Type 0) (answer : PayloadAnswer) : Type 0 where
   pub fault : ItemFault
   pub is : IsTold Is fault
+  pub ample : fault.reason ≢ NoMemory
   pub told : TellsFault fault answer
 
 -- the bytes are the payload of this connect request
@@ -41,3 +47,26 @@ pub record IsWelcome (bytes : List ℕ) (s : ServerFrame) : Type 0 where
   pub connected : answers.IsConnected s
   pub sent : answers.IsSent s
   pub is : bytes ≡ answers.payload s
+
+-- and of this reply to a request of the operation with parts of these
+pub record IsReply (op : Op) (parts : List PartOp) (bytes : List ℕ) (s : ServerFrame) : Type 0 where
+  pub reply : answers.IsReplyTo op parts s
+  pub sent : answers.IsSent s
+  pub is : bytes ≡ answers.payload s
+
+-- and of this event
+pub record IsNotice (bytes : List ℕ) (s : ServerFrame) : Type 0 where
+  pub event : answers.IsEvent s
+  pub sent : answers.IsSent s
+  pub is : bytes ≡ answers.payload s
+
+-- the bytes begin with a header whose xid is so
+abbrev pub HasHead : (ℤ → Type 0) → List ℕ → Type 0
+HasHead Is bytes = (header : ReplyHeader) × (rest : List ℕ) × IsHead bytes header rest × Is header.xid
+
+-- the header is that of an event, or that of a reply
+abbrev pub IsOfEvent : ℤ → Type 0
+IsOfEvent xid = xid ≡ negsuc 0
+
+abbrev pub IsOfReply : ℤ → Type 0
+IsOfReply xid = xid ≢ negsuc 0

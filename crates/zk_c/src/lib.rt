@@ -2,6 +2,7 @@
 #![tactic(auto)]
 
 mod answer;
+mod asked;
 mod conversation;
 mod loose;
 mod number;
@@ -13,7 +14,9 @@ mod talk_box;
 mod voice;
 mod voice_box;
 
-pub use payload::{zk_judge_connected, zk_judge_first, zk_judge_request};
+pub use payload::{
+    zk_judge_connected, zk_judge_event, zk_judge_first, zk_judge_reply, zk_judge_request,
+};
 pub use speaker::{zk_speaker_frame, zk_speaker_free, zk_speaker_new, zk_speaker_say};
 pub use talk::{
     zk_talk_ending_line, zk_talk_finish, zk_talk_free, zk_talk_line, zk_talk_new, zk_talk_step,

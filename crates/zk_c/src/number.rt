@@ -19,7 +19,7 @@ pub const EMPTY: u32 = 65;
 /// The handle holds something already.
 pub const IN_USE: u32 = 66;
 
-/// A number is out of its range: a limit, or a side.
+/// A number is out of its range, or is none's.
 pub const RANGE: u32 = 67;
 
 /// There is less room than is needed.
@@ -27,6 +27,9 @@ pub const ROOM: u32 = 68;
 
 /// No message is kept on this side.
 pub const NO_MESSAGE: u32 = 69;
+
+/// The xid is another kind's, or what is said doesn't fit.
+pub const MISFIT: u32 = 82;
 
 /// The side of this number, 0 for the client and 1 for the server.
 pub fn side_of(number: u32) -> Option<Side>

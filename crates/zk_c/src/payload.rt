@@ -1,15 +1,19 @@
 //! Single payloads, judged with no handle.
-ghost use Rattle.std.specs.Prelude.{◌≡◌, ◌≢◌};
+ghost use Rattle.std.specs.Prelude.{◌≡◌, ◌≢◌, ◌↔◌, List, IsTrue};
 ghost use Rattle.zk_records.specs.declared.profile.Profile.{Profile};
+ghost use Rattle.zk_records.specs.declared.op.Op.{Op};
+ghost use Rattle.zk_records.specs.declared.op.PartOp.{PartOp};
 ghost use Rattle.zk_asks.specs.Held.{ClientFrame};
 ghost use Rattle.zk_asks.specs.Faults.{IsFirstFault, IsAskFault};
 ghost use Rattle.zk_answers.specs.Held.{ServerFrame};
-ghost use Rattle.zk_answers.specs.Faults.{IsConnectedFault};
+ghost use Rattle.zk_answers.specs.Faults.{IsConnectedFault, IsReplyFault, IsEventFault};
 ghost use Rattle.zk_c.specs.Numbers.{profile_number};
-ghost use Rattle.zk_c.specs.Judged.{payload_answer, TellsFault, IsToldBy, IsConnect, IsRequest, IsWelcome};
+ghost use Rattle.zk_c.specs.Asked.{AreAsked};
+ghost use Rattle.zk_c.specs.Judged.{payload_answer, TellsFault, IsToldBy, IsConnect, IsRequest, IsWelcome, IsReply, IsNotice, HasHead, IsOfEvent, IsOfReply};
 
-use crate::number::{RANGE, WELL, profile_of, reason_number};
-use zk_answers::scan_connected;
+use crate::asked::Numbered;
+use crate::number::{MISFIT, RANGE, WELL, profile_of, reason_number};
+use zk_answers::{reply_head, scan_connected, scan_event, scan_reply};
 use zk_asks::{scan_ask, scan_first};
 use zk_jute::ItemFault;
 
@@ -60,7 +64,7 @@ pub extern "C" fn zk_judge_first(bytes: &[u8]) -> PayloadAnswer
 #[unsafe(no_mangle)]
 pub extern "C" fn zk_judge_request(profile: u32, bytes: &[u8]) -> PayloadAnswer
     // A number that is no profile's is refused.
-    ensures range { result.status ≡ 67 → (p : Profile) → profile ≢ profile_number p }
+    ensures range { ((p : Profile) → profile ≢ profile_number p) → result ≡ payload_answer 67 0 }
     // It is taken for one exactly where it is one's.
     ensures found { (p : Profile) → profile ≡ profile_number p → result.status ≡ 0 → (f : ClientFrame) × IsRequest p bytes.now f }
     ensures only { (p : Profile) → profile ≡ profile_number p → (f : ClientFrame) → IsRequest p bytes.now f → result ≡ payload_answer 0 0 }
@@ -86,6 +90,71 @@ pub extern "C" fn zk_judge_connected(bytes: &[u8]) -> PayloadAnswer
     ensures fault { result.status ≢ 0 → IsToldBy (IsConnectedFault bytes.now) result }
 {
     match scan_connected(bytes) {
+        Ok(_frame) => PayloadAnswer::none(WELL),
+        Err(fault) => PayloadAnswer::refused(fault),
+    }
+}
+
+/// Whether the payload begins with the header of an event.
+fn is_of_event(bytes: &[u8]) -> bool
+    ensures { IsTrue result ↔ HasHead IsOfEvent bytes.now }
+{
+    match reply_head(bytes) {
+        Ok(header) => header.xid == -1,
+        Err(_short) => false,
+    }
+}
+
+/// Whether the payload begins with the header of a reply.
+fn is_of_reply(bytes: &[u8]) -> bool
+    ensures { IsTrue result ↔ HasHead IsOfReply bytes.now }
+{
+    match reply_head(bytes) {
+        Ok(header) => header.xid != -1,
+        Err(_short) => false,
+    }
+}
+
+/// Whether the payload is that of a reply to a request of this operation with parts of these.
+#[unsafe(no_mangle)]
+pub extern "C" fn zk_judge_reply(operation: i32, parts: &[i32], bytes: &[u8]) -> PayloadAnswer
+    // Numbers that are none's, or parts of another operation than multi, are refused.
+    ensures range { ((op : Op) (ops : List PartOp) → AreAsked operation parts.now op ops → ⊥) → result ≡ payload_answer 67 0 }
+    // A header with the xid of events is another message's.
+    ensures event { (op : Op) (ops : List PartOp) → AreAsked operation parts.now op ops → HasHead IsOfEvent bytes.now → result ≡ payload_answer 82 0 }
+    // It is taken for one exactly where it is one's.
+    ensures found { (op : Op) (ops : List PartOp) → AreAsked operation parts.now op ops → result.status ≡ 0 → (s : ServerFrame) × IsReply op ops bytes.now s }
+    ensures only { (op : Op) (ops : List PartOp) → AreAsked operation parts.now op ops → (s : ServerFrame) → IsReply op ops bytes.now s → result ≡ payload_answer 0 0 }
+    // Else the first case that applies is told.
+    ensures fault { (op : Op) (ops : List PartOp) → AreAsked operation parts.now op ops → (HasHead IsOfEvent bytes.now → ⊥) → result.status ≢ 0 → IsToldBy (IsReplyFault op ops bytes.now) result }
+{
+    let Some(asked) = Numbered::of(operation, parts) else {
+        return PayloadAnswer::none(RANGE);
+    };
+    if is_of_event(bytes) {
+        return PayloadAnswer::none(MISFIT);
+    }
+    match scan_reply(&asked, bytes) {
+        Ok(_frame) => PayloadAnswer::none(WELL),
+        Err(fault) => PayloadAnswer::refused(fault),
+    }
+}
+
+/// Whether the payload is that of an event.
+#[unsafe(no_mangle)]
+pub extern "C" fn zk_judge_event(bytes: &[u8]) -> PayloadAnswer
+    // A header with another xid than that of events is another message's.
+    ensures reply { HasHead IsOfReply bytes.now → result ≡ payload_answer 82 0 }
+    // It is taken for one exactly where it is one's.
+    ensures found { result.status ≡ 0 → (s : ServerFrame) × IsNotice bytes.now s }
+    ensures only { (s : ServerFrame) → IsNotice bytes.now s → result ≡ payload_answer 0 0 }
+    // Else the first case that applies is told.
+    ensures fault { (HasHead IsOfReply bytes.now → ⊥) → result.status ≢ 0 → IsToldBy (IsEventFault bytes.now) result }
+{
+    if is_of_reply(bytes) {
+        return PayloadAnswer::none(MISFIT);
+    }
+    match scan_event(bytes) {
         Ok(_frame) => PayloadAnswer::none(WELL),
         Err(fault) => PayloadAnswer::refused(fault),
     }

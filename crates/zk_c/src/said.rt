@@ -2,7 +2,7 @@
 ghost use Rattle.std.specs.Prelude.{◌≡◌};
 ghost use Rattle.zk_c.specs.Saying.{say_number, line_number, say_answer};
 
-use crate::number::{NO_MEMORY, WELL};
+use crate::number::{MISFIT, NO_MEMORY, WELL};
 use zk_lines::{LineFault, LineReason};
 use zk_talk::SayFault;
 
@@ -26,7 +26,7 @@ fn say_number(fault: SayFault) -> u32
         SayFault::NotFirst => 81,
         SayFault::Unasked => 13,
         SayFault::XidOrder { .. } => 14,
-        SayFault::Misfit => 82,
+        SayFault::Misfit => MISFIT,
         SayFault::TooLong => 83,
         SayFault::QueueFull => 12,
         SayFault::NoMemory => NO_MEMORY,

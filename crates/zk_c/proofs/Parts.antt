@@ -1,0 +1,49 @@
+-- The numbers of parts.
+use Rattle.std.proofs.Common.{◌≡◌, ℕ, ◌+◌, ◌<◌, ℤ, List, [], ◌∷◌, ◌++◌, length, take, map, get_or, refl, sym, ap, ◌∙◌, arith, Some}
+use Rattle.std.specs.List.{slice_get}
+use Rattle.std.proofs.lemmas.List.{map-append, get_or-map, length-map, take_more}
+use Rattle.std.proofs.lemmas.Option.{slice_get_within, get_or_from_slice_get}
+use Rattle.zk_records.specs.Codes.{part_number}
+use Rattle.zk_records.specs.declared.op.PartOp.{PartOp}
+use Rattle.zk_records.specs.declared.op.PartOp.TheVariants.{Create, Delete, SetData, Check}
+use Rattle.zk_records.specs.declared.op.Op.{Op}
+use Rattle.zk_records.proofs.Numbers.{op_number_apart}
+use Rattle.zk_c.specs.Asked.{part_of, parts_of, AreParts, AreAsked}
+
+pub one_more : (numbers : List ℤ) (i : ℕ) (d : ℤ) (parts : List PartOp) (op : PartOp) → i < length numbers → AreParts (take i numbers) parts → get_or numbers i d ≡ part_number op
+    → AreParts (take (i + 1) numbers) (parts ++ op ∷ [])
+one_more numbers i d parts op within are is = take_more numbers i d within ∙ (λ k. are k ++ is k ∷ []) ∙ sym (map-append part_number parts (op ∷ []))
+
+pub none_there : (numbers : List ℤ) (i : ℕ) (d : ℤ) (parts : List PartOp) → i < length numbers → AreParts numbers parts → get_or numbers i d ≡ part_number (get_or parts i Check)
+none_there numbers i d parts within are = ap (λ (xs : List ℤ). get_or xs i d) are ∙ get_or-map part_number parts i Check d (omega (arith, within, ap length are, length-map parts part_number))
+
+pub known : (op : PartOp) → part_of (part_number op) ≡ Some op
+known Create = refl
+known Delete = refl
+known SetData = refl
+known Check = refl
+
+of_parts : (parts : List PartOp) → parts_of (map part_number parts) ≡ parts
+of_parts [] = refl
+of_parts (op ∷ parts) = rw (known op) (ap (λ (ops : List PartOp). op ∷ ops) (of_parts parts))
+
+-- numbers are those of one list of parts
+pub parts_are : (numbers : List ℤ) (parts : List PartOp) → AreParts numbers parts → parts_of numbers ≡ parts
+parts_are numbers parts are = ap parts_of are ∙ of_parts parts
+
+-- and of one operation with its parts
+pub one_asked : (number : ℤ) (numbers : List ℤ) (op other : Op) (parts others : List PartOp) → AreAsked number numbers op parts → AreAsked number numbers other others → (op ≡ other) × (parts ≡ others)
+one_asked number numbers op other parts others a b = (op_number_apart op other (sym a.is ∙ b.is), sym (parts_are numbers parts a.are) ∙ parts_are numbers others b.are)
+
+pub as_many : (numbers : List ℤ) (parts : List PartOp) → AreParts numbers parts → length numbers ≡ length parts
+as_many numbers parts are = ap length are ∙ length-map parts part_number
+
+pub no_parts : (parts : List PartOp) → length parts ≡ 0 → parts ≡ []
+no_parts [] e = refl
+no_parts (op ∷ parts) e = absurd (omega arith)
+
+-- the parts that were copied so far, and the next one
+pub copied_next : (xs done : List PartOp) (j : ℕ) (x : PartOp) → done ≡ take j xs → slice_get xs j ≡ Some x → done ++ x ∷ [] ≡ take (j + 1) xs
+copied_next xs done j x e got =
+    let within = slice_get_within xs j x got in
+    ap (λ z. z ++ x ∷ []) e ∙ ap (λ z. take j xs ++ z ∷ []) (sym (get_or_from_slice_get xs j x x got)) ∙ sym (take_more xs j x within)

@@ -1,0 +1,31 @@
+-- What a reply is judged by, in numbers.
+use Rattle.std.specs.Prelude.{◌≡◌, ◌≢◌, ℕ, ℤ, pos, negsuc, ◌<◌, ◌^◌, ◌==◌, if◌then◌else◌, List, [], length, map, Option, Some, None}
+use Rattle.std.specs.List.{filter_map}
+use Rattle.zk_records.specs.declared.op.Op.{Op}
+use Rattle.zk_records.specs.declared.op.Op.TheVariants.{Multi}
+use Rattle.zk_records.specs.declared.op.PartOp.{PartOp}
+use Rattle.zk_records.specs.declared.op.PartOp.TheVariants.{Create, Delete, SetData, Check}
+use Rattle.zk_records.specs.Codes.{op_number, part_number}
+
+-- the part that has the number, if one has
+abbrev pub part_with : ℕ → Option PartOp
+part_with n = if n == 1 then Some Create else if n == 2 then Some Delete else if n == 5 then Some SetData else if n == 13 then Some Check else None
+
+abbrev pub part_of : ℤ → Option PartOp
+part_of (pos n) = part_with n
+part_of (negsuc n) = None
+
+-- the parts of these numbers
+abbrev pub parts_of : List ℤ → List PartOp
+parts_of numbers = filter_map part_of numbers
+
+-- the numbers are those of parts
+abbrev pub AreParts : List ℤ → List PartOp → Type 0
+AreParts numbers parts = numbers ≡ map part_number parts
+
+-- the numbers are those of an operation and of its parts, which a multi has alone
+pub record AreAsked (number : ℤ) (numbers : List ℤ) (op : Op) (parts : List PartOp) : Type 0 where
+  pub is : number ≡ op_number op
+  pub are : AreParts numbers parts
+  pub few : length parts < 2 ^ 32
+  pub lawful : op ≢ Multi → parts ≡ []

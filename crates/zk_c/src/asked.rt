@@ -1,0 +1,92 @@
+//! What a reply is judged by, in numbers.
+ghost use Rattle.std.specs.Prelude.{◌≡◌, ◌≢◌, ◌<◌, ◌^◌, List, [], length, MatchBool, MatchOption, IsTrue, ◌↔◌};
+ghost use Rattle.zk_records.specs.declared.op.Op.{Op};
+ghost use Rattle.zk_records.specs.declared.op.Op.TheVariants as ops;
+ghost use Rattle.zk_records.specs.declared.op.PartOp.{PartOp};
+ghost use Rattle.zk_c.specs.Asked.{parts_of, AreParts, AreAsked};
+
+use zk_asks::{Asked, Room};
+use zk_records::{Op, PartOp, Profile, op_of, part_of};
+
+/// An operation, and the numbers of its parts' operations: it takes no memory.
+#[derive(Drop)]
+pub struct Numbered<'a> {
+    pub op: Op,
+    pub numbers: &'a [i32],
+    pub ghost named: { AreParts numbers.now (parts_of numbers.now) },
+    pub ghost bounded: { length (parts_of numbers.now) < 2 ^ 32 },
+    pub ghost lawful: { op ≢ ops.Multi → parts_of numbers.now ≡ [] },
+}
+
+/// Whether each number is a part's.
+fn are_parts(numbers: &[i32]) -> bool
+    ensures { MatchBool result ((parts : List PartOp) × AreParts numbers.now parts) ((parts : List PartOp) → AreParts numbers.now parts → ⊥) }
+{
+    for number in numbers {
+        let number = *number;
+        match part_of(number) {
+            Some(_part) => {}
+            None => return false,
+        }
+    }
+    true
+}
+
+/// Whether there are at most 4,294,967,295.
+fn are_few(numbers: &[i32]) -> bool
+    ensures { IsTrue result ↔ (length numbers.now < 2 ^ 32) }
+{
+    numbers.len() <= u32::MAX as usize
+}
+
+/// Whether the operation may have so many parts.
+fn may_have(op: Op, numbers: &[i32]) -> bool
+    ensures { IsTrue result ↔ (op ≢ ops.Multi → length numbers.now ≡ 0) }
+{
+    op == Op::Multi || numbers.is_empty()
+}
+
+impl<'a> Numbered<'a> {
+    /// The operation of this number, with parts of these.
+    pub fn of(number: i32, numbers: &'a [i32]) -> Option<Self>
+        ensures { MatchOption result ((op : Op) (parts : List PartOp) → AreAsked number numbers.now op parts → ⊥) (λ a. AreAsked number numbers.now a.op (parts_of a.numbers.now)) }
+    {
+        let op = op_of(Profile::V35, number)?;
+        if !are_few(numbers) {
+            return None;
+        }
+        if !may_have(op, numbers) {
+            return None;
+        }
+        if !are_parts(numbers) {
+            return None;
+        }
+        Some(Numbered { op, numbers })
+    }
+}
+
+impl<'a> Asked for Numbered<'a> {
+    ghost operation = { λ a. a.op };
+
+    ghost part_ops = { λ a. parts_of a.numbers.now };
+
+    fn op(&self) -> Op {
+        self.op
+    }
+
+    fn parts(&self) -> u32 {
+        self.numbers.len() as u32
+    }
+
+    fn part(&self, j: u32) -> Option<PartOp> {
+        part_of(*self.numbers.get(j as usize)?)
+    }
+
+    fn put_ops<R: Room>(&self, room: &mut R) {
+        for j in 0..self.parts() {
+            room.push(self.part(j).unwrap());
+        }
+    }
+
+    ghost lawful = { λ a. a.lawful };
+}
