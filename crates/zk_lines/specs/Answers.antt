@@ -1,5 +1,6 @@
 -- The lines of what a server sends.
 use Rattle.std.specs.Prelude.{ℕ, ℤ, List, [], ◌∷◌, ◌++◌, Option, Some, Bool, codes}
+use Rattle.std.specs.Fmt.{signed_decimal}
 use Rattle.zk_jute.specs.Held.{Text, Blob, Vector}
 use Rattle.zk_records.specs.Held.{Acl, ConnectResponse, WatcherEvent}
 use Rattle.zk_records.specs.declared.stat.Stat.{Stat}
@@ -182,5 +183,9 @@ abbrev pub named_outcome : Form (ℤ × Outcome)
 named_outcome = named outcome_bodies
 
 -- the xid, the name, the zxid and the outcome
+-- a reply whose outcome is spelled so
+abbrev pub reply_to : Op → ℤ → ℤ → List ℕ → List ℕ
+reply_to op xid zxid outcome = signed_decimal xid ++ (word_of words.Blank ++ (op_name op ++ ((word_of words.Zxid ++ signed_decimal zxid) ++ outcome)))
+
 abbrev pub reply : Form Reply
 reply = fields (int and field words.Blank named_outcome) (λ r. (r.xid, (r.zxid, r.outcome))) (λ p. record { xid = p.0; zxid = p.1.0; outcome = p.1.1 })

@@ -1,5 +1,6 @@
 -- The records that are items: an entry of an access list, and what is known of a node.
-use Rattle.std.specs.Prelude.{ℤ}
+use Rattle.std.specs.Prelude.{ℕ, ℤ, List, ◌++◌}
+use Rattle.std.specs.Fmt.{signed_decimal}
 use Rattle.zk_records.specs.Held.{Acl}
 use Rattle.zk_records.specs.declared.stat.Stat.{Stat}
 use Rattle.zk_items.specs.Form.{Form, closed, fields, ◌and◌}
@@ -13,22 +14,35 @@ acl = fields (int and field Colon text and field Colon text)
     (λ a. (a.perms, (a.who.scheme, a.who.ident)))
     (λ p. record { perms = p.0; who = record { scheme = p.1.0; ident = p.1.1 } })
 
+-- such an entry, where its texts are spelled so
+abbrev pub entry : {X : Type 0} → (X → List ℕ) → ℤ → X → X → List ℕ
+entry spell perms scheme ident = signed_decimal perms ++ ((word_of Colon ++ spell scheme) ++ (word_of Colon ++ spell ident))
+
 -- czxid, mzxid, ctime, mtime
 abbrev pub times : Form (ℤ × (ℤ × (ℤ × ℤ)))
 times = field Open long and field Comma long and field Comma long and field Comma long
+
+abbrev pub times_of : Stat → ℤ × (ℤ × (ℤ × ℤ))
+times_of s = (s.czxid, (s.mzxid, (s.ctime, s.mtime)))
 
 -- version, cversion, aversion
 abbrev pub versions : Form (ℤ × (ℤ × ℤ))
 versions = field Comma int and field Comma int and field Comma int
 
+abbrev pub versions_of : Stat → ℤ × (ℤ × ℤ)
+versions_of s = (s.version, (s.cversion, s.aversion))
+
 -- ephemeral_owner, data_length, num_children, pzxid
 abbrev pub sizes : Form (ℤ × (ℤ × (ℤ × ℤ)))
 sizes = field Comma long and field Comma int and field Comma int and field Comma long
 
+abbrev pub sizes_of : Stat → ℤ × (ℤ × (ℤ × ℤ))
+sizes_of s = (s.ephemeral_owner, (s.data_length, (s.num_children, s.pzxid)))
+
 -- the eleven numbers in order
 abbrev pub stat : Form Stat
 stat = fields (closed (times and versions and sizes) (word_of Close))
-    (λ s. ((s.czxid, (s.mzxid, (s.ctime, s.mtime))), ((s.version, (s.cversion, s.aversion)), (s.ephemeral_owner, (s.data_length, (s.num_children, s.pzxid))))))
+    (λ s. (times_of s, (versions_of s, sizes_of s)))
     (λ p. record {
       czxid = p.0.0;
       mzxid = p.0.1.0;

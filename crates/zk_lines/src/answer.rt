@@ -1,7 +1,5 @@
 //! What a server sends, as a line shows it.
 ghost use Rattle.std.specs.Prelude.{◌≡◌, ◌≢◌, ◌++◌, OnOk, pos};
-ghost use Rattle.std.specs.Fmt.{signed_decimal};
-ghost use Rattle.zk_records.specs.Names.{op_name as named};
 ghost use Rattle.zk_items.specs.Form.{Gives, Keeps};
 ghost use Rattle.zk_items.specs.Codes.{failure_code};
 ghost use Rattle.zk_items.specs.Leaf.{int, long};
@@ -259,7 +257,7 @@ fn put_named<O: Put>(
     zxid: &i64,
     outcome: &O,
 ) -> Result<(), AllocError>
-    ensures spelled { OnOk result (out.new.items ≡ out.old.items ++ (signed_decimal xid ++ (word_of words.Blank ++ (named op ++ ((word_of words.Zxid ++ signed_decimal zxid.now) ++ O.spell outcome.now))))) }
+    ensures spelled { OnOk result (out.new.items ≡ out.old.items ++ answers.reply_to op xid zxid.now (O.spell outcome.now)) }
     ensures fits { OnOk result (int.fits xid × (long.fits zxid.now × O.fits outcome.now)) }
     ensures keeps { Keeps out.old.items out.new.items }
 {

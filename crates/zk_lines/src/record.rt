@@ -1,10 +1,7 @@
 //! The records that are items of a line: an entry of an access list, and what is known of a node.
 ghost use Rattle.std.specs.Prelude.{◌≡◌, ◌++◌, OnOk};
 ghost use Rattle.zk_items.specs.Form.{Gives, Keeps};
-ghost use Rattle.std.specs.Fmt.{signed_decimal};
 ghost use Rattle.zk_items.specs.Leaf.{int};
-ghost use Rattle.zk_items.specs.Words.{word_of};
-ghost use Rattle.zk_items.specs.declared.word.Word.TheVariants.{Colon};
 ghost use Rattle.zk_lines.specs.Records as records;
 
 use crate::item::{Item, read_field};
@@ -15,7 +12,7 @@ use zk_records::{Acl, AclRef, Id, Stat};
 
 /// Appends an entry: its bits, and its two texts behind colons.
 fn put_entry<T: Put>(out: &mut Vec<u8>, perms: i32, scheme: &T, ident: &T) -> Result<(), AllocError>
-    ensures spelled { OnOk result (out.new.items ≡ out.old.items ++ (signed_decimal perms ++ ((word_of Colon ++ T.spell scheme.now) ++ (word_of Colon ++ T.spell ident.now)))) }
+    ensures spelled { OnOk result (out.new.items ≡ out.old.items ++ records.entry T.spell perms scheme.now ident.now) }
     ensures fits { OnOk result (int.fits perms × (T.fits scheme.now × T.fits ident.now)) }
     ensures keeps { Keeps out.old.items out.new.items }
 {
@@ -138,8 +135,8 @@ fn sizes(line: &mut Reader<'_>) -> Result<(i64, (i32, (i32, i64))), LineFault>
 }
 
 fn put_times(out: &mut Vec<u8>, stat: &Stat) -> Result<(), AllocError>
-    ensures spelled { OnOk result (out.new.items ≡ out.old.items ++ records.times.spell (stat.now.czxid, (stat.now.mzxid, (stat.now.ctime, stat.now.mtime)))) }
-    ensures fits { OnOk result (records.times.fits (stat.now.czxid, (stat.now.mzxid, (stat.now.ctime, stat.now.mtime)))) }
+    ensures spelled { OnOk result (out.new.items ≡ out.old.items ++ records.times.spell (records.times_of stat.now)) }
+    ensures fits { OnOk result (records.times.fits (records.times_of stat.now)) }
     ensures keeps { Keeps out.old.items out.new.items }
 {
     put_field(out, Word::Open, &stat.czxid)?;
@@ -149,8 +146,8 @@ fn put_times(out: &mut Vec<u8>, stat: &Stat) -> Result<(), AllocError>
 }
 
 fn put_versions(out: &mut Vec<u8>, stat: &Stat) -> Result<(), AllocError>
-    ensures spelled { OnOk result (out.new.items ≡ out.old.items ++ records.versions.spell (stat.now.version, (stat.now.cversion, stat.now.aversion))) }
-    ensures fits { OnOk result (records.versions.fits (stat.now.version, (stat.now.cversion, stat.now.aversion))) }
+    ensures spelled { OnOk result (out.new.items ≡ out.old.items ++ records.versions.spell (records.versions_of stat.now)) }
+    ensures fits { OnOk result (records.versions.fits (records.versions_of stat.now)) }
     ensures keeps { Keeps out.old.items out.new.items }
 {
     put_field(out, Word::Comma, &stat.version)?;
@@ -159,8 +156,8 @@ fn put_versions(out: &mut Vec<u8>, stat: &Stat) -> Result<(), AllocError>
 }
 
 fn put_sizes(out: &mut Vec<u8>, stat: &Stat) -> Result<(), AllocError>
-    ensures spelled { OnOk result (out.new.items ≡ out.old.items ++ records.sizes.spell (stat.now.ephemeral_owner, (stat.now.data_length, (stat.now.num_children, stat.now.pzxid)))) }
-    ensures fits { OnOk result (records.sizes.fits (stat.now.ephemeral_owner, (stat.now.data_length, (stat.now.num_children, stat.now.pzxid)))) }
+    ensures spelled { OnOk result (out.new.items ≡ out.old.items ++ records.sizes.spell (records.sizes_of stat.now)) }
+    ensures fits { OnOk result (records.sizes.fits (records.sizes_of stat.now)) }
     ensures keeps { Keeps out.old.items out.new.items }
 {
     put_field(out, Word::Comma, &stat.ephemeral_owner)?;

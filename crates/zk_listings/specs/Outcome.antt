@@ -96,3 +96,11 @@ pub record HasBegun (limits : Limits) (before after : Option (List ℕ)) (messag
 -- a writer's contents have grown by a front of the text
 abbrev pub HasGrownIn : Option (List ℕ) → Option (List ℕ) → List ℕ → Type 0
 HasGrownIn old new text = (k : ℕ) × Appends old new (take k text)
+
+-- the recording comes to one thing at most
+abbrev pub HasOneOutcome : Limits → Recording → Type 0
+HasOneOutcome limits r = (messages others : List Message) (summary other : Summary) → IsOutcome limits r messages summary → IsOutcome limits r others other → (others ≡ messages) × (other ≡ summary)
+
+-- what the one comes to the other comes to
+abbrev pub KeepsOutcome : Limits → Recording → Recording → Type 0
+KeepsOutcome limits r s = (messages : List Message) (summary : Summary) → IsOutcome limits r messages summary → IsOutcome limits s messages summary

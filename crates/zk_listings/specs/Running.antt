@@ -1,11 +1,14 @@
 -- What a run has read and written when it answers.
-use Rattle.std.specs.Prelude.{◌≡◌, ℕ, ◌+◌, ◌≤◌, ◌⊎◌, List, ◌++◌, Bool, true, Option}
+use Rattle.std.specs.Prelude.{◌≡◌, ℕ, ◌+◌, ◌≤◌, ◌⊎◌, List, ◌++◌, Bool, true, Option, Result, IsErrOf}
 use Rattle.std.specs.Io.KnownBytes.{IsAtEnd, Appends}
 use Rattle.zk_talk.specs.declared.limits.Limits.{Limits}
 use Rattle.zk_talk.specs.Held.{Message}
 use Rattle.zk_talk.specs.History.{History}
 use Rattle.zk_talk.specs.Stands.{TalkState}
 use Rattle.zk_listings.specs.declared.listing.Listing.{Listing}
+use Rattle.zk_listings.specs.declared.listing.RunFault.{RunFault}
+use Rattle.zk_listings.specs.declared.listing.RunFault.TheVariants.{Read}
+use Rattle.zk_listings.specs.declared.progress.Progress.{Progress}
 use Rattle.zk_listings.specs.declared.summary.Summary.{Summary}
 use Rattle.zk_listings.specs.declared.summary.Status.{Status}
 use Rattle.zk_listings.specs.Lines.{text_of, last_line, status_of}
@@ -17,6 +20,10 @@ use Rattle.zk_listings.specs.Outcome.{Reads, IsGoodWith, IsOutcome, IsDecided, I
 abbrev pub IsSpent : Bool → ℕ → ℕ → Type 0
 IsSpent failed reads reads_now = (failed ≡ true) ⊎ (reads + 4294967296 ≤ reads_now)
 
+-- after a failed read, or where one more than a run may make is wanted
+abbrev pub OnRead : {X : Type 0} → Result X RunFault → Type 0 → Type 0
+OnRead result P = IsErrOf result Read → P
+
 -- the lines of all messages in what was read were written, and it comes to this
 pub record HasFound (limits : Limits) (listing : Listing) (unread unread_now contents contents_now : Option (List ℕ)) (summary : Summary) : Type 0 where
   pub messages : List Message
@@ -27,6 +34,10 @@ pub record HasFound (limits : Limits) (listing : Listing) (unread unread_now con
 pub record HasFoundBy (limits : Limits) (listing : Listing) (unread unread_now contents contents_now : Option (List ℕ)) (talk : Option TalkState) (summary : Summary) : Type 0 where
   pub all : HasFound limits listing unread unread_now contents contents_now summary
   pub kept : IsKept (limits_of limits all.found.recording) talk (history_of all.found.recording) all.messages summary
+
+-- the same, of what a run answers
+abbrev pub HasFoundWith : Limits → Listing → Option (List ℕ) → Option (List ℕ) → Option (List ℕ) → Option (List ℕ) → Summary × Progress → Type 0
+HasFoundWith limits listing unread unread_now contents contents_now found = HasFoundBy limits listing unread unread_now contents contents_now found.1.talk found.0
 
 -- the listing of what was read was written
 pub record HasListed (limits : Limits) (listing : Listing) (unread unread_now contents contents_now : Option (List ℕ)) (status : Status) : Type 0 where
@@ -43,7 +54,7 @@ pub record HasReached (limits : Limits) (listing : Listing) (unread unread_now c
   pub written : Appends contents contents_now (text_of listing messages)
 
 -- what was read begins with some messages, and a front of their lines was written
-pub record HasBegunListing (limits : Limits) (listing : Listing) (unread unread_now contents contents_now : Option (List ℕ)) : Type 0 where
+pub record HasBegunLines (limits : Limits) (listing : Listing) (unread unread_now contents contents_now : Option (List ℕ)) : Type 0 where
   pub messages : List Message
   pub begun : HasBegun limits unread unread_now messages
   pub written : HasGrownIn contents contents_now (text_of listing messages)

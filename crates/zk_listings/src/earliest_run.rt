@@ -5,7 +5,7 @@ ghost use Rattle.zk_answers.specs.declared.layout.Layout.TheVariants as layouts;
 ghost use Rattle.zk_talk.specs.Refused.{header_size as size_of};
 ghost use Rattle.zk_listings.specs.declared.listing.Listing.TheVariants.{Last};
 ghost use Rattle.zk_listings.specs.Earliest.{answer_line as line_of, IsToldOf, HasToldEarliest, HasStoppedEarliest};
-ghost use Rattle.zk_listings.specs.Running.{IsSpent, HasReached};
+ghost use Rattle.zk_listings.specs.Running.{IsSpent, OnRead, HasReached};
 
 use crate::engines::read_on;
 use crate::listing::{Listing, RunFault};
@@ -78,10 +78,10 @@ pub fn check_earliest_run<R: Source, W: Sink>(
     requires writer { W.has_failed writer.old ≡ false }
 
     // The last line is written of what was read, and then that of the first impossible byte.
-    ensures ok { IfOk result (λ status. HasToldEarliest limits (R.remaining reader.old) (R.remaining reader.new) (W.contents writer.old) (W.contents writer.new) status) }
+    ensures ok { IfOk result (HasToldEarliest limits (R.remaining reader.old) (R.remaining reader.new) (W.contents writer.old) (W.contents writer.new)) }
 
     // A failed read, or one too many, leaves nothing written.
-    ensures read { IsErrOf result RunFault.Read → HasReached limits Last (R.remaining reader.old) (R.remaining reader.new) (W.contents writer.old) (W.contents writer.new) }
+    ensures read { OnRead result (HasReached limits Last (R.remaining reader.old) (R.remaining reader.new) (W.contents writer.old) (W.contents writer.new)) }
     ensures spent { IsErrOf result RunFault.Read → IsSpent (R.has_failed reader.new) (R.read_count reader.old) (R.read_count reader.new) }
 
     // A failed write, or one that takes nothing, is told as that.

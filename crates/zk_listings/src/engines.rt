@@ -1,7 +1,7 @@
 //! The engines that read a recording: its listing, and the listing's last line alone.
 ghost use Rattle.std.specs.Prelude.{◌≡◌, ◌+◌, ◌^◌, ◌<◌, ◌≤◌, false, true, IfOk, OnErr, IsErrOf};
 ghost use Rattle.zk_listings.specs.declared.listing.Listing.TheVariants.{All, Last};
-ghost use Rattle.zk_listings.specs.Running.{IsSpent, HasFoundBy, HasBegunListing, HasListed, HasReached, HasStopped};
+ghost use Rattle.zk_listings.specs.Running.{IsSpent, OnRead, HasFoundWith, HasBegunLines, HasListed, HasReached, HasStopped};
 
 use crate::listing::{Listing, RunFault};
 use crate::progress::Progress;
@@ -28,10 +28,10 @@ pub(crate) fn read_on<R: Source, W: Sink>(
     requires reader { R.has_failed reader.old ≡ false }
     requires reads { R.read_count reader.old < 2 ^ 62 }
     requires writer { W.has_failed writer.old ≡ false }
-    ensures ok { IfOk result (λ f. HasFoundBy limits listing (R.remaining reader.old) (R.remaining reader.new) (W.contents writer.old) (W.contents writer.new) f.1.talk f.0) }
-    ensures read { IsErrOf result RunFault.Read → HasReached limits listing (R.remaining reader.old) (R.remaining reader.new) (W.contents writer.old) (W.contents writer.new) }
+    ensures ok { IfOk result (HasFoundWith limits listing (R.remaining reader.old) (R.remaining reader.new) (W.contents writer.old) (W.contents writer.new)) }
+    ensures read { OnRead result (HasReached limits listing (R.remaining reader.old) (R.remaining reader.new) (W.contents writer.old) (W.contents writer.new)) }
     ensures spent { IsErrOf result RunFault.Read → IsSpent (R.has_failed reader.new) (R.read_count reader.old) (R.read_count reader.new) }
-    ensures begun { OnErr result (HasBegunListing limits listing (R.remaining reader.old) (R.remaining reader.new) (W.contents writer.old) (W.contents writer.new)) }
+    ensures begun { OnErr result (HasBegunLines limits listing (R.remaining reader.old) (R.remaining reader.new) (W.contents writer.old) (W.contents writer.new)) }
     ensures write { IsErrOf result RunFault.Write → W.has_failed writer.new ≡ true }
     ensures alive { IfOk result (λ _. R.has_failed reader.new ≡ false) }
     ensures memory { IsErrOf result RunFault.Memory → R.has_failed reader.new ≡ false }
@@ -70,8 +70,8 @@ fn run<R: Source, W: Sink>(
     requires reader { R.has_failed reader.old ≡ false }
     requires reads { R.read_count reader.old < 2 ^ 62 }
     requires writer { W.has_failed writer.old ≡ false }
-    ensures ok { IfOk result (λ status. HasListed limits listing (R.remaining reader.old) (R.remaining reader.new) (W.contents writer.old) (W.contents writer.new) status) }
-    ensures read { IsErrOf result RunFault.Read → HasReached limits listing (R.remaining reader.old) (R.remaining reader.new) (W.contents writer.old) (W.contents writer.new) }
+    ensures ok { IfOk result (HasListed limits listing (R.remaining reader.old) (R.remaining reader.new) (W.contents writer.old) (W.contents writer.new)) }
+    ensures read { OnRead result (HasReached limits listing (R.remaining reader.old) (R.remaining reader.new) (W.contents writer.old) (W.contents writer.new)) }
     ensures spent { IsErrOf result RunFault.Read → IsSpent (R.has_failed reader.new) (R.read_count reader.old) (R.read_count reader.new) }
     ensures write { IsErrOf result RunFault.Write → W.has_failed writer.new ≡ true }
     ensures alive { IfOk result (λ _. R.has_failed reader.new ≡ false) }
@@ -103,10 +103,10 @@ pub fn check_run<R: Source, W: Sink>(
     requires writer { W.has_failed writer.old ≡ false }
 
     // The last line is written of what was read: all there is, or what decides.
-    ensures ok { IfOk result (λ status. HasListed limits Last (R.remaining reader.old) (R.remaining reader.new) (W.contents writer.old) (W.contents writer.new) status) }
+    ensures ok { IfOk result (HasListed limits Last (R.remaining reader.old) (R.remaining reader.new) (W.contents writer.old) (W.contents writer.new)) }
 
     // A failed read, or one too many, leaves nothing written.
-    ensures read { IsErrOf result RunFault.Read → HasReached limits Last (R.remaining reader.old) (R.remaining reader.new) (W.contents writer.old) (W.contents writer.new) }
+    ensures read { OnRead result (HasReached limits Last (R.remaining reader.old) (R.remaining reader.new) (W.contents writer.old) (W.contents writer.new)) }
     ensures spent { IsErrOf result RunFault.Read → IsSpent (R.has_failed reader.new) (R.read_count reader.old) (R.read_count reader.new) }
 
     // A failed write, or one that takes nothing, is told as that.
@@ -141,10 +141,10 @@ pub fn show_run<R: Source, W: Sink>(
     requires writer { W.has_failed writer.old ≡ false }
 
     // The listing is written of what was read: all there is, or what decides.
-    ensures ok { IfOk result (λ status. HasListed limits All (R.remaining reader.old) (R.remaining reader.new) (W.contents writer.old) (W.contents writer.new) status) }
+    ensures ok { IfOk result (HasListed limits All (R.remaining reader.old) (R.remaining reader.new) (W.contents writer.old) (W.contents writer.new)) }
 
     // After a failed read, or one too many, the line of each message that is whole in what was read stands written.
-    ensures read { IsErrOf result RunFault.Read → HasReached limits All (R.remaining reader.old) (R.remaining reader.new) (W.contents writer.old) (W.contents writer.new) }
+    ensures read { OnRead result (HasReached limits All (R.remaining reader.old) (R.remaining reader.new) (W.contents writer.old) (W.contents writer.new)) }
     ensures spent { IsErrOf result RunFault.Read → IsSpent (R.has_failed reader.new) (R.read_count reader.old) (R.read_count reader.new) }
 
     // A failed write, or one that takes nothing, is told as that.

@@ -202,7 +202,7 @@ impl Progress {
 
     /// The layout and the bytes of the body in which the fault lies that was found.
     pub fn refused_body(&self) -> Option<(Layout, &[u8])>
-        ensures tells { (limits : Limits) (h : History) (messages : List Message) (fault : fault_of) → HasRefused limits self.now.talk h messages fault → TellsBody limits h fault result }
+        ensures tells { (limits : Limits) (h : History) (M : List Message) (f : fault_of) → HasRefused limits self.now.talk h M f → TellsBody limits h f result }
         ensures small { IfSome result (λ b. length b.1.now ≤ 16777216) }
         ensures known { IfSome result (λ b. b.0 ≢ layouts.Answered ops.Multi) }
     {

@@ -1,9 +1,7 @@
 //! What any bytes are as a recording: a law that is no call's result.
 ghost use Rattle.std.specs.Prelude.{◌≡◌, ℕ, List, ◌++◌};
 ghost use Rattle.zk_talk.specs.declared.limits.Limits.{Limits};
-ghost use Rattle.zk_talk.specs.Held.{Message};
-ghost use Rattle.zk_listings.specs.declared.summary.Summary.{Summary};
-ghost use Rattle.zk_listings.specs.Outcome.{IsOutcome, IsDecided};
+ghost use Rattle.zk_listings.specs.Outcome.{IsDecided, HasOneOutcome, KeepsOutcome};
 ghost use Rattle.zk_recordings.specs.Recording.{Recording, Spells};
 
 /// Any bytes are one recording, and it comes to one thing.
@@ -13,9 +11,7 @@ pub fn recording_laws()
     // They are no other.
     ensures once { (x : List ℕ) (r s : Recording) → Spells x r → Spells x s → s ≡ r }
     // It comes to the same messages and to the same summary.
-    ensures outcome { (limits : Limits) (r : Recording) (messages others : List Message) (summary other : Summary) →
-        IsOutcome limits r messages summary → IsOutcome limits r others other → (others ≡ messages) × (other ≡ summary) }
+    ensures outcome { (limits : Limits) (r : Recording) → HasOneOutcome limits r }
     // What a front decides stands whatever follows it.
-    ensures decided { (limits : Limits) (x more : List ℕ) (r s : Recording) (messages : List Message) (summary : Summary) →
-        Spells x r → Spells (x ++ more) s → IsDecided limits x r → IsOutcome limits r messages summary → IsOutcome limits s messages summary }
+    ensures decided { (limits : Limits) (x more : List ℕ) (r s : Recording) → Spells x r → Spells (x ++ more) s → IsDecided limits x r → KeepsOutcome limits r s }
 {}

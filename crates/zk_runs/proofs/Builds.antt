@@ -14,7 +14,7 @@ use Rattle.zk_runs.specs.Building.{head, built_bytes}
 use Rattle.zk_recordings.specs.Recording.{First, InPieces, front}
 use Rattle.zk_listings.specs.Outcome.{HasGrownIn}
 use Rattle.zk_runs.specs.Building.{AreLines, StandFirst, recording_of, piece_of, AreAccepted, IsNextLine, IsBuilt, without_ending, with_ending, behind_ending, other_ending, no_message, not_said, Covers, HasBuilt, HasBegunBuilding}
-use Rattle.zk_runs.specs.Rebuilding.{AreAlike}
+use Rattle.zk_runs.specs.Rebuilding.{AreAlike, AreBuilt, BuildsAlike, BuildsWithin, Stopped}
 use Rattle.zk_runs.proofs.Splits.{lines_once, first_lines}
 use Rattle.zk_runs.proofs.Verdicts.{messages_once, alike_once, accepted_first}
 
@@ -69,14 +69,12 @@ pub leaves : (x bytes : List ℕ) (unread : Option (List ℕ)) → Consumes (Som
 leaves x bytes None c = absurd c
 leaves x bytes (Some rest) c = record { rest = rest; is = c; ends = λ e. e }
 
-pub run_once : (limits : Limits) (x : List ℕ) (lines : List (List ℕ)) (messages : List Message) (built : Built) → AreLines x lines → IsBuilt limits lines messages built →
-    (unread contents contents_now : Option (List ℕ)) (other : Built) → HasBuilt limits (Some x) unread contents contents_now other →
-    AreAlike built other × Appends contents contents_now (recording_of messages)
-run_once limits x lines messages built are is unread contents contents_now other h =
+pub run_once : (limits : Limits) (x : List ℕ) (messages : List Message) (built : Built) → AreBuilt limits x messages built → BuildsAlike limits x messages built
+run_once limits x messages built b unread contents contents_now other h =
     let l = leaves x h.bytes unread h.consumed in
-    let known = covered limits h.bytes l.rest unread l.ends lines (subst (λ z. AreLines z lines) l.is are) h.lines h.messages other h.covers h.is in (
-      alike_once limits lines messages h.messages built other is known,
-      subst (λ z. Appends contents contents_now (recording_of z)) (sym (messages_once limits lines messages h.messages built other is known)) h.written,
+    let known = covered limits h.bytes l.rest unread l.ends b.lines (subst (λ z. AreLines z b.lines) l.is b.are) h.lines h.messages other h.covers h.is in (
+      alike_once limits b.lines messages h.messages built other b.is known,
+      subst (λ z. Appends contents contents_now (recording_of z)) (sym (messages_once limits b.lines messages h.messages built other b.is known)) h.written,
     )
 
 -- ---- a run that stopped
@@ -103,16 +101,16 @@ module _ (limits : Limits) (all : List (List ℕ)) (others : List Message) (buil
       (grown_less before after (recording_of messages) (flat_map built_bytes (map piece_of f.0)) g)
 
 -- whose bytes are known
-pub begun_of_known : (limits : Limits) (x : List ℕ) (all : List (List ℕ)) (others : List Message) (built : Built) → AreLines x all → IsBuilt limits all others built →
-    (unread contents contents_now : Option (List ℕ)) → HasBegunBuilding limits (Some x) unread contents contents_now → HasGrownIn contents contents_now (recording_of others)
-begun_of_known limits x all others built are is unread contents contents_now b =
+pub begun_of_known : (limits : Limits) (x : List ℕ) (messages : List Message) (built : Built) → AreBuilt limits x messages built → BuildsWithin limits x messages
+begun_of_known limits x messages built all unread contents contents_now b =
     let l = leaves x b.bytes unread b.consumed in
-    let f = first_lines b.bytes l.rest unread b.lines all l.ends b.stand (subst (λ z. AreLines z all) l.is are) in
-    grown_first limits all others built is contents contents_now b.lines f.0 b.messages b.accepted f.1 b.written
+    let f = first_lines b.bytes l.rest unread b.lines all.lines l.ends b.stand (subst (λ z. AreLines z all.lines) l.is all.are) in
+    grown_first limits all.lines messages built all.is contents contents_now b.lines f.0 b.messages b.accepted f.1 b.written
 
 -- by the bytes that were read
-pub begun_of_read : (limits : Limits) (unread unread_now contents contents_now : Option (List ℕ)) (b : HasBegunBuilding limits unread unread_now contents contents_now)
-    (all : List (List ℕ)) (others : List Message) (built : Built) → AreLines b.bytes all → IsBuilt limits all others built → HasGrownIn contents contents_now (recording_of others)
-begun_of_read limits unread unread_now contents contents_now b all others built are is =
-    let f = first_lines b.bytes [] unread_now b.lines all (λ e. refl) b.stand (subst (λ z. AreLines z all) (sym (append-nil b.bytes)) are) in
-    grown_first limits all others built is contents contents_now b.lines f.0 b.messages b.accepted f.1 b.written
+pub begun_of_read : (s : Stopped) → HasGrownIn s.contents s.contents_now (recording_of s.messages)
+begun_of_read s =
+    let b = s.begun in
+    let all = s.are in
+    let f = first_lines b.bytes [] s.unread_now b.lines all.lines (λ e. refl) b.stand (subst (λ z. AreLines z all.lines) (sym (append-nil b.bytes)) all.are) in
+    grown_first s.limits all.lines s.messages s.built all.is s.contents s.contents_now b.lines f.0 b.messages b.accepted f.1 b.written

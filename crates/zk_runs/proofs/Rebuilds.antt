@@ -16,7 +16,7 @@ use Rattle.zk_talk.specs.declared.message.Side.TheVariants.{Client, Server}
 use Rattle.zk_talk.specs.Held.{Message}
 use Rattle.zk_talk.specs.declared.message.MessageOf.TheVariants.{Client as FromClient, Server as FromServer}
 use Rattle.zk_talk.specs.declared.message.Ending.TheVariants.{Whole as whole}
-use Rattle.zk_talk.specs.History.{History, side_bytes}
+use Rattle.zk_talk.specs.History.{History, side_bytes, HaveSameBytes}
 use Rattle.zk_talk.specs.Conversation.{Conversation}
 use Rattle.zk_talk.specs.Good.{Good, IsOrder}
 use Rattle.zk_talk.specs.Ending.{IsEnding, unanswered}
@@ -39,7 +39,7 @@ use Rattle.zk_recordings.specs.Parts.{number, is_good, is_within}
 use Rattle.zk_recordings.specs.Recording.{IsPiece, side_byte, piece_history, Spells, history_of}
 use Rattle.zk_listings.specs.Outcome.{IsOutcome}
 use Rattle.zk_runs.specs.Building.{IsLine, with_feed, fed, AreLines, all_fed, recording_of, piece_of, due_ending, IsBuilt, with_ending, HasBuilt}
-use Rattle.zk_runs.specs.Rebuilding.{whole_listing, one_a_piece, AreAlike}
+use Rattle.zk_runs.specs.Rebuilding.{whole_listing, one_a_piece, AreAlike, AreBuilt, BuildsJust}
 use Rattle.zk_runs.proofs.Builds.{run_once}
 
 -- ---- messages that were said
@@ -151,13 +151,13 @@ module _ (limits : Limits) (h : History) (v : Conversation) (messages : List Mes
         omega (arith, good.server_size, ap length o.2),
       )
 
-  pub listing_built : (listed : List (List ℕ)) × AreLines (whole_listing messages n) listed × IsBuilt limits listed messages Whole
-  listing_built = (lines limits messages are, are_lines limits messages are n count, is_built limits messages are)
+  pub listing_built : AreBuilt limits (whole_listing messages n) messages Whole
+  listing_built = record { lines = lines limits messages are; are = are_lines limits messages are n count; is = is_built limits messages are }
 
   pub built_spelled : Spells (recording_of messages) (one_a_piece messages)
   built_spelled = spelled limits messages are
 
-  pub same_bytes : (side_bytes Client (history_of (one_a_piece messages)) ≡ side_bytes Client h) × (side_bytes Server (history_of (one_a_piece messages)) ≡ side_bytes Server h)
+  pub same_bytes : HaveSameBytes (history_of (one_a_piece messages)) h
   same_bytes =
       let o = order_said limits h v messages good order in (
         ap (side_bytes Client) (said_in_pieces messages) ∙ o.1,
@@ -179,8 +179,7 @@ module _ (limits : Limits) (h : History) (v : Conversation) (messages : List Mes
   whole_alike (LineRefused at fault) a = absurd a
   whole_alike (SayRefused at fault) a = absurd a
 
-  pub listing_run : (unread contents contents_now : Option (List ℕ)) (built : Built) → HasBuilt limits (Some (whole_listing messages n)) unread contents contents_now built →
-      (built ≡ Whole) × Appends contents contents_now (recording_of messages)
+  pub listing_run : BuildsJust limits (whole_listing messages n) messages Whole
   listing_run unread contents contents_now built has =
-      let r = run_once limits (whole_listing messages n) (lines limits messages are) messages Whole (are_lines limits messages are n count) (is_built limits messages are) unread contents contents_now built has in
+      let r = run_once limits (whole_listing messages n) messages Whole listing_built unread contents contents_now built has in
       (whole_alike built r.0, r.1)

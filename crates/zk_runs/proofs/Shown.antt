@@ -17,7 +17,7 @@ use Rattle.zk_listings.specs.Lines.{text_of, last_line, status_of}
 use Rattle.zk_listings.specs.Outcome.{IsOutcome, IsDecided}
 use Rattle.zk_listings.specs.Running.{HasListed}
 use Rattle.zk_runs.specs.Building.{recording_of}
-use Rattle.zk_runs.specs.Rebuilding.{one_a_piece}
+use Rattle.zk_runs.specs.Rebuilding.{one_a_piece, ListsJust}
 use Rattle.zk_recordings.proofs.Once.{spells-once}
 use Rattle.zk_listings.proofs.Outcomes.{outcome-once}
 use Rattle.zk_listings.proofs.Decided.{undecided}
@@ -42,8 +42,7 @@ module _ (limits : Limits) (h : History) (v : Conversation) (messages : List Mes
   all_read bytes unread l r i (inr decided) =
       absurd (undecided limits bytes l.rest r (one_a_piece messages) i (subst (λ z. Spells z (one_a_piece messages)) l.is spelled) is_good refl decided)
 
-  pub listed_again : (listing : Listing) (unread contents contents_now : Option (List ℕ)) (status : Status) → HasListed limits listing (Some (recording_of messages)) unread contents contents_now status →
-      Appends contents contents_now (text_of listing messages ++ last_line (Ended (whole n))) × (status ≡ good_end)
+  pub listed_again : (listing : Listing) → ListsJust limits listing (recording_of messages) (text_of listing messages ++ last_line (Ended (whole n)))
   listed_again listing unread contents contents_now status has =
       let f = has.found in
       let l = leaves (recording_of messages) f.bytes unread f.reads.consumed in

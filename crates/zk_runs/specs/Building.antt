@@ -6,6 +6,7 @@ use Rattle.std.specs.Io.KnownBytes.{Consumes, IsAtEnd, Appends}
 use Rattle.zk_frames.specs.Framing.{frame}
 use Rattle.zk_talk.specs.declared.limits.Limits.{Limits}
 use Rattle.zk_talk.specs.Held.{Message}
+use Rattle.zk_talk.specs.declared.message.Side.{Side}
 use Rattle.zk_talk.specs.declared.message.Ending.TheVariants.{Whole as whole}
 use Rattle.zk_talk.specs.declared.say.SayFault.{SayFault}
 use Rattle.zk_talk.specs.Ending.{unanswered}
@@ -47,9 +48,13 @@ pub data StandFirst (x : List ℕ) (unread : Option (List ℕ)) (lines : List (L
 
 -- ---- recordings
 
+-- a piece of these bytes that came at no time
+abbrev pub untimed : Side → List ℕ → Piece
+untimed side content = record { side = side; time = no_time; size = to_be_bytes w32 (length content); content = content }
+
 -- a message's frame as a piece
 abbrev pub piece_of : Message → Piece
-piece_of m = record { side = side_of m; time = no_time; size = to_be_bytes w32 (length (frame (payload_of m))); content = frame (payload_of m) }
+piece_of m = untimed (side_of m) (frame (payload_of m))
 
 -- what a recording that is built begins with
 abbrev pub head : List ℕ

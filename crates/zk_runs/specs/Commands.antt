@@ -1,5 +1,5 @@
 -- What each command has read and written when it answers.
-use Rattle.std.specs.Prelude.{◌≡◌, ℕ, List, Option}
+use Rattle.std.specs.Prelude.{◌≡◌, ◌≤◌, ◌<◌, ℕ, List, Option}
 use Rattle.zk_talk.specs.declared.limits.Limits.{Limits}
 use Rattle.zk_runs.specs.declared.built.Built.{Built}
 use Rattle.zk_listings.specs.declared.listing.Listing.TheVariants.{All, Last}
@@ -36,3 +36,10 @@ IsDone s unread unread_now contents contents_now exit = HasDone s.command s.limi
 
 abbrev pub IsFailed : Settings → Option (List ℕ) → Option (List ℕ) → Option (List ℕ) → Option (List ℕ) → Type 0
 IsFailed s unread unread_now contents contents_now = HasFailed s.command s.limits unread unread_now contents contents_now
+
+-- the status of a run of what was chosen: below 2 where it came to its end, else 3
+abbrev pub Answers : Settings → Option (List ℕ) → Option (List ℕ) → Option (List ℕ) → Option (List ℕ) → ℕ → Type 0
+Answers s unread unread_now contents contents_now exit = exit < 2 → IsDone s unread unread_now contents contents_now exit
+
+abbrev pub Stops : Settings → Option (List ℕ) → Option (List ℕ) → Option (List ℕ) → Option (List ℕ) → ℕ → Type 0
+Stops s unread unread_now contents contents_now exit = 2 ≤ exit → (exit ≡ 3) × IsFailed s unread unread_now contents contents_now

@@ -4,4 +4,5 @@ pub mod Migrating
 pub mod Profiles
 pub mod Building
 pub mod Accepting
+pub mod Stepping
 pub mod Commands

@@ -8,6 +8,7 @@ use Rattle.zk_talk.specs.declared.limits.Limits.{Limits}
 use Rattle.zk_talk.specs.Held.{Message}
 use Rattle.zk_listings.specs.declared.listing.Listing.{Listing}
 use Rattle.zk_runs.specs.declared.migrate.Migrated.{Migrated}
+use Rattle.zk_runs.specs.declared.migrate.Migrator.{Migrator}
 use Rattle.zk_runs.specs.declared.migrate.Migrated.TheVariants.{Whole, Damaged}
 use Rattle.zk_recordings.specs.declared.parts.DamageAt.{DamageAt}
 use Rattle.zk_recordings.specs.declared.parts.Format.{Format}
@@ -133,6 +134,10 @@ pub record IsListing (limits : Limits) (listing : Listing) (x text : List ℕ) :
   pub is : IsOutcome limits recording messages summary
   pub text_is : text ≡ text_of listing messages ++ last_line summary
 
+-- what lists the one under its limits lists the other under its own
+abbrev pub ListsAs : Limits → List ℕ → Limits → List ℕ → Type 0
+ListsAs limits x others y = (listing : Listing) (text : List ℕ) → IsListing limits listing x text → IsListing others listing y text
+
 -- a head of this format stands before the place
 abbrev pub IsOf : Format → Place → Type 0
 IsOf format AtLetters = ⊥
@@ -144,3 +149,24 @@ pub record IsWhole (format : Format) (x : List ℕ) (r : Recording) : Type 0 whe
   pub spells : Spells x r
   pub undamaged : damage_of r ≡ None
   pub format_is : IsOf format (place_of r)
+
+-- ---- what a migrator's calls add to what was moved before, whatever that was
+
+-- the bytes x were read, and the whole pieces in them were written
+abbrev pub HasMigratedTo : Limits → List ℕ → Option (List ℕ) → Option (List ℕ) → Migrator → Type 0
+HasMigratedTo options x before now m = HasMoved options x m.headed m.begun.items m.reader before now
+
+-- the bytes are read too, and the pieces that end in them are written
+abbrev pub MovesOn : Limits → Migrator → Migrator → List ℕ → Option (List ℕ) → Option (List ℕ) → Type 0
+MovesOn options old new bytes was now = (x : List ℕ) (before : Option (List ℕ)) →
+    HasMigratedTo options x before was old → HasMigratedTo options (x ++ bytes) before now new
+
+-- the same, where no damage stands in them; or this one does
+abbrev pub MovesBy : Limits → Migrator → Migrator → List ℕ → Option (List ℕ) → Option (List ℕ) → Option DamageAt → Type 0
+MovesBy options old new bytes was now found = (x : List ℕ) (before : Option (List ℕ)) →
+    HasMigratedTo options x before was old → HasMovedBy options (x ++ bytes) new.headed new.begun.items new.reader before now found
+
+-- a front of what they are migrated to is written
+abbrev pub MovesIn : Limits → Migrator → List ℕ → Option (List ℕ) → Option (List ℕ) → Type 0
+MovesIn options old bytes was now = (x : List ℕ) (before : Option (List ℕ)) →
+    HasMigratedTo options x before was old → HasMovedIn options (x ++ bytes) before now

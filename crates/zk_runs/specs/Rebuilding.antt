@@ -1,16 +1,26 @@
 -- The recording that is built of a listing, and what two answers about the same lines have in common.
-use Rattle.std.specs.Prelude.{◌≡◌, ◌≢◌, ℕ, List, ◌++◌, map}
+use Rattle.std.specs.Prelude.{◌≡◌, ◌≢◌, ℕ, List, [], ◌++◌, map, Option, Some}
+use Rattle.std.specs.Io.KnownBytes.{Appends}
 use Rattle.zk_talk.specs.declared.limits.Limits.{Limits}
 use Rattle.zk_talk.specs.Held.{Message}
 use Rattle.zk_talk.specs.declared.message.Ending.TheVariants.{Whole as whole}
+use Rattle.zk_talk.specs.History.{History}
+use Rattle.zk_talk.specs.Conversation.{Conversation}
+use Rattle.zk_talk.specs.Good.{Good, IsOrder}
+use Rattle.zk_talk.specs.Ending.{IsEnding}
 use Rattle.zk_lines.specs.Lines.{line, Fits}
 use Rattle.zk_runs.specs.declared.built.Built.{Built}
 use Rattle.zk_runs.specs.declared.built.Built.TheVariants.{Whole, LineRefused, SayRefused}
+use Rattle.zk_listings.specs.declared.listing.Listing.{Listing}
 use Rattle.zk_listings.specs.declared.listing.Listing.TheVariants.{All}
+use Rattle.zk_listings.specs.declared.summary.Status.{Status}
+use Rattle.zk_listings.specs.declared.summary.Status.TheVariants.{Good as good_end}
 use Rattle.zk_listings.specs.declared.summary.Summary.TheVariants.{Ended}
 use Rattle.zk_recordings.specs.Recording.{First, InPieces, Recording, Breaks, nothing}
 use Rattle.zk_listings.specs.Lines.{text_of, last_line}
-use Rattle.zk_runs.specs.Building.{piece_of, IsNextLine, IsDotted}
+use Rattle.zk_listings.specs.Outcome.{HasGrownIn}
+use Rattle.zk_listings.specs.Running.{HasListed}
+use Rattle.zk_runs.specs.Building.{AreLines, IsBuilt, HasBuilt, HasBegunBuilding, recording_of, piece_of, IsNextLine, IsDotted}
 
 -- what is listed of a conversation that ends whole, with so many requests that nothing answers
 abbrev pub whole_listing : List Message → ℕ → List ℕ
@@ -36,3 +46,71 @@ AreAlike (SayRefused at fault) (SayRefused other cause) = (at ≡ other) × (fau
 abbrev pub IsForeign : Limits → List (List ℕ) → List Message → Type 0
 IsForeign limits lines messages =
     (next : List ℕ) × IsNextLine limits lines messages next × (IsDotted next → ⊥) × ((m : Message) → Fits m → next ≢ line m)
+
+-- a conversation that ends whole, however it came: its messages in their order, and how many requests nothing answers
+pub record WholeConversation : Type 0 where
+  pub limits : Limits
+  pub history : History
+  pub conversation : Conversation
+  pub messages : List Message
+  pub unanswered : ℕ
+  pub good : Good limits history conversation [] []
+  pub order : IsOrder limits history conversation messages
+  pub ending : IsEnding limits history (whole unanswered)
+
+-- its listing
+abbrev pub listing_of : WholeConversation → List ℕ
+listing_of w = whole_listing w.messages w.unanswered
+
+-- that listing, or its last line alone
+abbrev pub listed_by : Listing → WholeConversation → List ℕ
+listed_by listing w = text_of listing w.messages ++ last_line (Ended (whole w.unanswered))
+
+-- the bytes are lines that come to this
+pub record AreBuilt (limits : Limits) (x : List ℕ) (messages : List Message) (built : Built) : Type 0 where
+  pub lines : List (List ℕ)
+  pub are : AreLines x lines
+  pub is : IsBuilt limits lines messages built
+
+-- a run over these bytes that answers, answers so, and has written the recording of these messages
+abbrev pub BuildsJust : Limits → List ℕ → List Message → Built → Type 0
+BuildsJust limits x messages built = (unread contents contents_now : Option (List ℕ)) (answered : Built) →
+    HasBuilt limits (Some x) unread contents contents_now answered → (answered ≡ built) × Appends contents contents_now (recording_of messages)
+
+-- the same, but for what a refused line that is no message's holds
+abbrev pub BuildsAlike : Limits → List ℕ → List Message → Built → Type 0
+BuildsAlike limits x messages built = (unread contents contents_now : Option (List ℕ)) (answered : Built) →
+    HasBuilt limits (Some x) unread contents contents_now answered → AreAlike built answered × Appends contents contents_now (recording_of messages)
+
+-- a run over these bytes that stops has written a front of the recording of these messages
+abbrev pub BuildsWithin : Limits → List ℕ → List Message → Type 0
+BuildsWithin limits x messages = (unread contents contents_now : Option (List ℕ)) →
+    HasBegunBuilding limits (Some x) unread contents contents_now → HasGrownIn contents contents_now (recording_of messages)
+
+-- a run over these bytes that answers has written this text, and its status is good
+abbrev pub ListsJust : Limits → Listing → List ℕ → List ℕ → Type 0
+ListsJust limits listing x text = (unread contents contents_now : Option (List ℕ)) (status : Status) →
+    HasListed limits listing (Some x) unread contents contents_now status → Appends contents contents_now text × (status ≡ good_end)
+
+-- two things that the same lines come to
+pub record BuiltTwice : Type 0 where
+  pub limits : Limits
+  pub lines : List (List ℕ)
+  pub messages : List Message
+  pub others : List Message
+  pub built : Built
+  pub other : Built
+  pub one : IsBuilt limits lines messages built
+  pub two : IsBuilt limits lines others other
+
+-- a run that stopped, and what the bytes come to that it read
+pub record Stopped : Type 0 where
+  pub limits : Limits
+  pub unread : Option (List ℕ)
+  pub unread_now : Option (List ℕ)
+  pub contents : Option (List ℕ)
+  pub contents_now : Option (List ℕ)
+  pub begun : HasBegunBuilding limits unread unread_now contents contents_now
+  pub messages : List Message
+  pub built : Built
+  pub are : AreBuilt limits begun.bytes messages built

@@ -1,6 +1,6 @@
 //! The engine that makes a recording of lines.
 ghost use Rattle.std.specs.Prelude.{◌≡◌, ◌+◌, ◌^◌, ◌<◌, ◌≤◌, false, true, IfOk, OnErr, IsErrOf};
-ghost use Rattle.zk_listings.specs.Running.{IsSpent};
+ghost use Rattle.zk_listings.specs.Running.{IsSpent, OnRead};
 ghost use Rattle.zk_runs.specs.Building.{HasBuilt, HasBuiltSoFar, HasBegunBuilding};
 
 use crate::builder::Builder;
@@ -28,10 +28,10 @@ pub fn build_run<R: Source, W: Sink>(
     requires writer { W.has_failed writer.old ≡ false }
 
     // The recording is written of the lines that were read: all there are, or those before one that is refused.
-    ensures ok { IfOk result (λ built. HasBuilt limits (R.remaining reader.old) (R.remaining reader.new) (W.contents writer.old) (W.contents writer.new) built) }
+    ensures ok { IfOk result (HasBuilt limits (R.remaining reader.old) (R.remaining reader.new) (W.contents writer.old) (W.contents writer.new)) }
 
     // After a failed read, or one too many, the piece of each line that is whole in what was read stands written.
-    ensures read { IsErrOf result RunFault.Read → HasBuiltSoFar limits (R.remaining reader.old) (R.remaining reader.new) (W.contents writer.old) (W.contents writer.new) }
+    ensures read { OnRead result (HasBuiltSoFar limits (R.remaining reader.old) (R.remaining reader.new) (W.contents writer.old) (W.contents writer.new)) }
     ensures spent { IsErrOf result RunFault.Read → IsSpent (R.has_failed reader.new) (R.read_count reader.old) (R.read_count reader.new) }
 
     // A failed write, or one that takes nothing, is told as that.

@@ -11,8 +11,9 @@ ghost use Rattle.zk_lines.specs.Lines.{Fits, line};
 ghost use Rattle.zk_runs.specs.declared.builder.Halt.TheVariants.{Fails};
 ghost use Rattle.zk_listings.specs.declared.listing.RunFault.TheVariants.{Read, Write, Memory};
 ghost use Rattle.zk_recordings.specs.Recording.{no_time, side_byte};
-ghost use Rattle.zk_runs.specs.Building.{head, built_bytes, IsDotted, due_ending};
-ghost use Rattle.zk_runs.specs.Accepting.{Took, HasTaken, HaltsAt, HaltsIn, IfSpared, BuildsAll, BeginsAll};
+ghost use Rattle.zk_runs.specs.Building.{built_bytes, untimed, IsDotted, due_ending};
+ghost use Rattle.zk_runs.specs.Accepting.{IfSpared};
+ghost use Rattle.zk_runs.specs.Stepping.{IsBegun, TakesLine, HaltsOn, TakesIn, HaltsWithin, IsAnswered, HasWrittenFirst};
 
 use crate::built::Built;
 use std::alloc::{AllocError, Global};
@@ -125,8 +126,7 @@ fn byte_of(side: Side) -> u8
 
 /// A piece of these bytes.
 fn piece_of(alloc: Global, side: Side, content: &[u8]) -> Result<Vec<u8>, AllocError>
-    ensures { IfOk result (λ piece. length content.now < 2 ^ 32 →
-        piece.items ≡ built_bytes (record { side = side; time = no_time; size = to_be_bytes w32 (length content.now); content = content.now })) }
+    ensures { IfOk result (λ piece. length content.now < 2 ^ 32 → piece.items ≡ built_bytes (untimed side content.now)) }
 {
     let size = u32::try_from(content.len()).unwrap_or(u32::MAX);
     let mut piece = Vec::new(alloc);
@@ -148,7 +148,7 @@ pub struct Builder {
 impl Builder {
     /// Nothing was read.
     pub fn new(alloc: Global, limits: Limits) -> Result<Builder, AllocError>
-        ensures start { IfOk result (λ b. (before now : Option (List ℕ)) → Appends before now head → HasTaken limits [] before now b.begun.items b.lines b.ended b.speaker) }
+        ensures start { IfOk result (IsBegun limits) }
         ensures count { IfOk result (λ b. b.lines ≡ 0) }
     {
         let speaker = Speaker::new(alloc, limits)?;
@@ -172,12 +172,8 @@ impl Builder {
         requires fits { Fits message.now }
         requires live { W.has_failed writer.old ≡ false }
         ensures count { OnOk result (self.new.lines ≡ self.old.lines + 1) }
-        ensures goes_on { OnOk result ((limits : Limits) (lines : List (List ℕ)) (before : Option (List ℕ)) →
-            Took limits lines before (W.contents writer.old) self.old.lines self.old.ended self.old.speaker →
-            Took limits (lines ++ line message.now ∷ []) before (W.contents writer.new) self.new.lines self.new.ended self.new.speaker) }
-        ensures halts { IfErr result (λ halt. (limits : Limits) (lines : List (List ℕ)) (before : Option (List ℕ)) →
-            Took limits lines before (W.contents writer.old) self.old.lines self.old.ended self.old.speaker →
-            HaltsAt limits lines (line message.now) before halt (W.contents writer.new)) }
+        ensures goes_on { OnOk result (TakesLine self.old self.new (line message.now) (W.contents writer.old) (W.contents writer.new)) }
+        ensures halts { IfErr result (HaltsOn self.old (line message.now) (W.contents writer.old) (W.contents writer.new)) }
         ensures live { OnOk result (W.has_failed writer.new ≡ false) }
         ensures spared { IfErr result (λ halt. IfSpared halt (W.has_failed writer.new ≡ false)) }
         ensures failed { IsErrOf result (Fails Write) → W.has_failed writer.new ≡ true }
@@ -199,12 +195,8 @@ impl Builder {
         requires going { self.old.ended ≡ false }
         requires dotted { IsDotted self.old.begun.items }
         ensures count { OnOk result (self.new.lines ≡ self.old.lines + 1) }
-        ensures goes_on { OnOk result ((limits : Limits) (lines : List (List ℕ)) (before now : Option (List ℕ)) →
-            Took limits lines before now self.old.lines self.old.ended self.old.speaker →
-            Took limits (lines ++ self.old.begun.items ∷ []) before now self.new.lines self.new.ended self.new.speaker) }
-        ensures halts { IfErr result (λ halt. (limits : Limits) (lines : List (List ℕ)) (before now : Option (List ℕ)) →
-            Took limits lines before now self.old.lines self.old.ended self.old.speaker →
-            HaltsAt limits lines self.old.begun.items before halt now) }
+        ensures goes_on { OnOk result ((now : Option (List ℕ)) → TakesLine self.old self.new self.old.begun.items now now) }
+        ensures halts { IfErr result (λ halt. (now : Option (List ℕ)) → HaltsOn self.old self.old.begun.items now now halt) }
         ensures no_read { result ≢ Err (Fails Read) }
         ensures no_write { result ≢ Err (Fails Write) }
     {
@@ -224,12 +216,8 @@ impl Builder {
         requires room { self.old.lines + 1 < 2 ^ 64 }
         requires live { W.has_failed writer.old ≡ false }
         ensures count { OnOk result (self.new.lines ≡ self.old.lines + 1) }
-        ensures goes_on { OnOk result ((limits : Limits) (lines : List (List ℕ)) (before : Option (List ℕ)) →
-            Took limits lines before (W.contents writer.old) self.old.lines self.old.ended self.old.speaker →
-            Took limits (lines ++ self.old.begun.items ∷ []) before (W.contents writer.new) self.new.lines self.new.ended self.new.speaker) }
-        ensures halts { IfErr result (λ halt. (limits : Limits) (lines : List (List ℕ)) (before : Option (List ℕ)) →
-            Took limits lines before (W.contents writer.old) self.old.lines self.old.ended self.old.speaker →
-            HaltsAt limits lines self.old.begun.items before halt (W.contents writer.new)) }
+        ensures goes_on { OnOk result (TakesLine self.old self.new self.old.begun.items (W.contents writer.old) (W.contents writer.new)) }
+        ensures halts { IfErr result (HaltsOn self.old self.old.begun.items (W.contents writer.old) (W.contents writer.new)) }
         ensures live { OnOk result (W.has_failed writer.new ≡ false) }
         ensures spared { IfErr result (λ halt. IfSpared halt (W.has_failed writer.new ≡ false)) }
         ensures failed { IsErrOf result (Fails Write) → W.has_failed writer.new ≡ true }
@@ -260,12 +248,8 @@ impl Builder {
         ensures progress { IfOk result (λ n. 0 < n) }
         ensures used { IfOk result (λ n. n ≤ length block.now) }
         ensures count { IfOk result (λ n. self.new.lines ≤ self.old.lines + n) }
-        ensures goes_on { IfOk result (λ n. (limits : Limits) (x : List ℕ) (before : Option (List ℕ)) →
-            HasTaken limits x before (W.contents writer.old) self.old.begun.items self.old.lines self.old.ended self.old.speaker →
-            HasTaken limits (x ++ take n block.now) before (W.contents writer.new) self.new.begun.items self.new.lines self.new.ended self.new.speaker) }
-        ensures halts { IfErr result (λ halt. (limits : Limits) (x : List ℕ) (before : Option (List ℕ)) →
-            HasTaken limits x before (W.contents writer.old) self.old.begun.items self.old.lines self.old.ended self.old.speaker →
-            HaltsIn limits (x ++ block.now) before halt (W.contents writer.new)) }
+        ensures goes_on { IfOk result (λ n. TakesIn self.old self.new (take n block.now) (W.contents writer.old) (W.contents writer.new)) }
+        ensures halts { IfErr result (HaltsWithin self.old block.now (W.contents writer.old) (W.contents writer.new)) }
         ensures live { OnOk result (W.has_failed writer.new ≡ false) }
         ensures spared { IfErr result (λ halt. IfSpared halt (W.has_failed writer.new ≡ false)) }
         ensures failed { IsErrOf result (Fails Write) → W.has_failed writer.new ≡ true }
@@ -286,12 +270,8 @@ impl Builder {
         requires room { self.old.lines + length block.now < 2 ^ 64 }
         requires live { W.has_failed writer.old ≡ false }
         ensures count { OnOk result (self.new.lines ≤ self.old.lines + length block.now) }
-        ensures goes_on { OnOk result ((limits : Limits) (x : List ℕ) (before : Option (List ℕ)) →
-            HasTaken limits x before (W.contents writer.old) self.old.begun.items self.old.lines self.old.ended self.old.speaker →
-            HasTaken limits (x ++ block.now) before (W.contents writer.new) self.new.begun.items self.new.lines self.new.ended self.new.speaker) }
-        ensures halts { IfErr result (λ halt. (limits : Limits) (x : List ℕ) (before : Option (List ℕ)) →
-            HasTaken limits x before (W.contents writer.old) self.old.begun.items self.old.lines self.old.ended self.old.speaker →
-            HaltsIn limits (x ++ block.now) before halt (W.contents writer.new)) }
+        ensures goes_on { OnOk result (TakesIn self.old self.new block.now (W.contents writer.old) (W.contents writer.new)) }
+        ensures halts { IfErr result (HaltsWithin self.old block.now (W.contents writer.old) (W.contents writer.new)) }
         ensures live { OnOk result (W.has_failed writer.new ≡ false) }
         ensures spared { IfErr result (λ halt. IfSpared halt (W.has_failed writer.new ≡ false)) }
         ensures failed { IsErrOf result (Fails Write) → W.has_failed writer.new ≡ true }
@@ -308,12 +288,8 @@ impl Builder {
     pub fn finish<W: Sink>(&mut self, alloc: Global, writer: &mut W) -> Result<Built, RunFault>
         requires room { self.old.lines + 1 < 2 ^ 64 }
         requires live { W.has_failed writer.old ≡ false }
-        ensures built { IfOk result (λ built. (limits : Limits) (x : List ℕ) (before : Option (List ℕ)) →
-            HasTaken limits x before (W.contents writer.old) self.old.begun.items self.old.lines self.old.ended self.old.speaker →
-            BuildsAll limits x before (W.contents writer.new) built) }
-        ensures begun { OnErr result ((limits : Limits) (x : List ℕ) (before : Option (List ℕ)) →
-            HasTaken limits x before (W.contents writer.old) self.old.begun.items self.old.lines self.old.ended self.old.speaker →
-            BeginsAll limits x before (W.contents writer.new)) }
+        ensures built { IfOk result (IsAnswered self.old (W.contents writer.old) (W.contents writer.new)) }
+        ensures begun { OnErr result (HasWrittenFirst self.old (W.contents writer.old) (W.contents writer.new)) }
         ensures open { IfOk result (λ _. W.has_failed writer.new ≡ false) }
         ensures spared { IsErrOf result Memory → W.has_failed writer.new ≡ false }
         ensures failed { IsErrOf result Write → W.has_failed writer.new ≡ true }

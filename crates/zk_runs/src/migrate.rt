@@ -2,10 +2,10 @@
 ghost use Rattle.std.specs.Prelude.{◌≡◌, ◌+◌, ◌^◌, ◌<◌, ◌≤◌, ◌++◌, ℕ, List, [], ◌≢◌, Option, None, Some, Err, false, true, IfOk, OnOk, OnErr, IsErrOf, length, take, drop};
 ghost use Rattle.zk_talk.specs.declared.limits.Limits.{Limits};
 ghost use Rattle.zk_runs.specs.Migrating as migrating;
-ghost use Rattle.zk_runs.specs.Migrating.{HasBegunMigrating, HasMigrated, HasMigratedSoFar, HasMoved, HasMovedBy, HasMovedIn};
+ghost use Rattle.zk_runs.specs.Migrating.{HasBegunMigrating, HasMigrated, HasMigratedSoFar, HasMoved, MovesOn, MovesBy, MovesIn};
 ghost use Rattle.zk_recordings.specs.Reading.{IsAt, place_in};
 ghost use Rattle.zk_recordings.specs.Recording.{Recording, damage_of, head_bytes, no_time};
-ghost use Rattle.zk_listings.specs.Running.{IsSpent};
+ghost use Rattle.zk_listings.specs.Running.{IsSpent, OnRead};
 
 use std::alloc::{AllocError, Global};
 use std::fmt;
@@ -136,12 +136,8 @@ impl Migrator {
         ensures progress { IfOk result (λ n. 0 < n) }
         ensures used { IfOk result (λ n. n ≤ length block.now) }
         ensures place { IfOk result (λ n. place_in self.new.reader ≤ place_in self.old.reader + n) }
-        ensures goes_on { IfOk result (λ n. (x : List ℕ) (before : Option (List ℕ)) →
-            HasMoved limits x self.old.headed self.old.begun.items self.old.reader before (W.contents writer.old) →
-            HasMoved limits (x ++ take n block.now) self.new.headed self.new.begun.items self.new.reader before (W.contents writer.new)) }
-        ensures stops { OnErr result ((x : List ℕ) (before : Option (List ℕ)) →
-            HasMoved limits x self.old.headed self.old.begun.items self.old.reader before (W.contents writer.old) →
-            HasMovedIn limits (x ++ block.now) before (W.contents writer.new)) }
+        ensures goes_on { IfOk result (λ n. MovesOn limits self.old self.new (take n block.now) (W.contents writer.old) (W.contents writer.new)) }
+        ensures stops { OnErr result (MovesIn limits self.old block.now (W.contents writer.old) (W.contents writer.new)) }
         ensures live { IfOk result (λ _. W.has_failed writer.new ≡ false) }
         ensures spared { IsErrOf result RunFault.Memory → W.has_failed writer.new ≡ false }
         ensures failed { IsErrOf result RunFault.Write → W.has_failed writer.new ≡ true }
@@ -169,12 +165,8 @@ impl Migrator {
         requires room { place_in self.old.reader + length block.now < 2 ^ 64 }
         requires live { W.has_failed writer.old ≡ false }
         ensures place { IfOk result (λ found. found ≡ None → place_in self.new.reader ≤ place_in self.old.reader + length block.now) }
-        ensures goes_on { IfOk result (λ found. (x : List ℕ) (before : Option (List ℕ)) →
-            HasMoved limits x self.old.headed self.old.begun.items self.old.reader before (W.contents writer.old) →
-            HasMovedBy limits (x ++ block.now) self.new.headed self.new.begun.items self.new.reader before (W.contents writer.new) found) }
-        ensures stops { OnErr result ((x : List ℕ) (before : Option (List ℕ)) →
-            HasMoved limits x self.old.headed self.old.begun.items self.old.reader before (W.contents writer.old) →
-            HasMovedIn limits (x ++ block.now) before (W.contents writer.new)) }
+        ensures goes_on { IfOk result (MovesBy limits self.old self.new block.now (W.contents writer.old) (W.contents writer.new)) }
+        ensures stops { OnErr result (MovesIn limits self.old block.now (W.contents writer.old) (W.contents writer.new)) }
         ensures live { IfOk result (λ _. W.has_failed writer.new ≡ false) }
         ensures spared { IsErrOf result RunFault.Memory → W.has_failed writer.new ≡ false }
         ensures failed { IsErrOf result RunFault.Write → W.has_failed writer.new ≡ true }
@@ -216,10 +208,10 @@ pub fn migrate_run<R: Source, W: Sink>(
     requires writer { W.has_failed writer.old ≡ false }
 
     // What was read is migrated, all there is or what is damaged whatever follows, and its damage is the answer.
-    ensures ok { IfOk result (λ answer. HasMigrated limits (R.remaining reader.old) (R.remaining reader.new) (W.contents writer.old) (W.contents writer.new) answer) }
+    ensures ok { IfOk result (HasMigrated limits (R.remaining reader.old) (R.remaining reader.new) (W.contents writer.old) (W.contents writer.new)) }
 
     // After a failed read, or one too many, what was read stands migrated as far as its pieces are whole.
-    ensures read { IsErrOf result RunFault.Read → HasMigratedSoFar limits (R.remaining reader.old) (R.remaining reader.new) (W.contents writer.old) (W.contents writer.new) }
+    ensures read { OnRead result (HasMigratedSoFar limits (R.remaining reader.old) (R.remaining reader.new) (W.contents writer.old) (W.contents writer.new)) }
     ensures spent { IsErrOf result RunFault.Read → IsSpent (R.has_failed reader.new) (R.read_count reader.old) (R.read_count reader.new) }
 
     // A failed write, or one that takes nothing, is told as that.

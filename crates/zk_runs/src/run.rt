@@ -1,6 +1,6 @@
 //! The whole program, over a reader and two writers.
 ghost use Rattle.std.specs.Prelude.{◌≡◌, ◌^◌, ◌<◌, ◌≤◌, false, IfOk, IfErr, OnErr};
-ghost use Rattle.zk_runs.specs.Commands.{IsDone, IsFailed};
+ghost use Rattle.zk_runs.specs.Commands.{IsDone, IsFailed, Answers, Stops};
 ghost use Rattle.zk_runs.specs.Exits.{exit_of, exit_of_built, exit_of_migrated, refusal_of};
 
 use crate::build::build_run;
@@ -132,15 +132,13 @@ pub fn run_settings<R: Source, W: Sink, F: Sink>(
     ensures known { result ≤ 3 }
 
     // The command that was chosen is done, under its limits: what was read is listed, or made a recording.
-    ensures done { IfOk chosen (λ s. result < 2 →
-        IsDone s (R.remaining reader.old) (R.remaining reader.new) (W.contents writer.old) (W.contents writer.new) result) }
+    ensures done { IfOk chosen (λ s. Answers s (R.remaining reader.old) (R.remaining reader.new) (W.contents writer.old) (W.contents writer.new) result) }
 
     // Words that are refused leave everything unread and unwritten.
     ensures refused { IfErr chosen (λ fault. (result ≡ refusal_of fault) × (reader.new ≡ reader.old) × (writer.new ≡ writer.old)) }
 
     // A failure comes after a front of what the command writes.
-    ensures stopped { IfOk chosen (λ s. 2 ≤ result →
-        (result ≡ 3) × IsFailed s (R.remaining reader.old) (R.remaining reader.new) (W.contents writer.old) (W.contents writer.new)) }
+    ensures stopped { IfOk chosen (λ s. Stops s (R.remaining reader.old) (R.remaining reader.new) (W.contents writer.old) (W.contents writer.new) result) }
 {
     let chosen = match chosen {
         Ok(chosen) => chosen,

@@ -33,7 +33,7 @@ pub fn read_is_said()
     // Where the frames of messages are a good history of them, the messages may be said.
     ensures messages { (limits : Limits) (M : List Message) → Good limits (said M) (conversation_of M) [] [] → AreSaid limits M }
     // The messages of a history of whole frames, said in their order, give its bytes.
-    ensures again { (limits : Limits) (h : History) (v : Conversation) (M : List Message) → AreFrames limits h → AreWholly limits h v M → AreSaid limits M × (said M ≡ h) }
+    ensures again { (limits : Limits) (h : History) (v : Conversation) (M : List Message) → AreFrames limits h → AreWholly limits h v M → said M ≡ h }
 {}
 
 /// Whatever was read whole may be said: the messages of a good history that ends whole, however its

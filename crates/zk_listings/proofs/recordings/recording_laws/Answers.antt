@@ -14,4 +14,4 @@ pub returns-clause-outcome : goal.returns-clause-outcome
 returns-clause-outcome c = λ limits r messages others summary other i j. outcome-once limits r messages others summary other i j
 
 pub returns-clause-decided : goal.returns-clause-decided
-returns-clause-decided c = λ limits x more r s messages summary i j decided o. decided-more limits x more r s messages i j summary decided o
+returns-clause-decided c = λ limits x more r s i j decided messages summary o. decided-more limits x more r s messages i j summary decided o

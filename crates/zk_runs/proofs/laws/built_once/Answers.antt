@@ -7,13 +7,13 @@ pub returns-clause-lines : goal.returns-clause-lines
 returns-clause-lines c = lines_once
 
 pub returns-clause-messages : goal.returns-clause-messages
-returns-clause-messages c = messages_once
+returns-clause-messages c b = messages_once b.limits b.lines b.messages b.others b.built b.other b.one b.two
 
 pub returns-clause-alike : goal.returns-clause-alike
-returns-clause-alike c = alike_once
+returns-clause-alike c b = alike_once b.limits b.lines b.messages b.others b.built b.other b.one b.two
 
 pub returns-clause-same : goal.returns-clause-same
-returns-clause-same c = same_once
+returns-clause-same c b = same_once b.limits b.lines b.messages b.others b.built b.other b.one b.two
 
 pub returns-clause-run : goal.returns-clause-run
 returns-clause-run c = run_once

@@ -1,0 +1,51 @@
+-- What a builder's calls add to what was taken before, whatever that was.
+use Rattle.std.specs.Prelude.{ℕ, List, [], ◌∷◌, ◌++◌, Option}
+use Rattle.std.specs.Io.KnownBytes.{Appends}
+use Rattle.zk_talk.specs.declared.limits.Limits.{Limits}
+use Rattle.zk_runs.specs.declared.built.Built.{Built}
+use Rattle.zk_runs.specs.declared.builder.Halt.{Halt}
+use Rattle.zk_runs.specs.declared.builder.Builder.{Builder}
+use Rattle.zk_runs.specs.Building.{head}
+use Rattle.zk_runs.specs.Accepting.{Took, HasTaken, HaltsAt, HaltsIn, BuildsAll, BeginsAll}
+
+-- these lines were taken, and the recording of their messages was written
+abbrev pub HasLines : Limits → List (List ℕ) → Option (List ℕ) → Option (List ℕ) → Builder → Type 0
+HasLines limits lines before now b = Took limits lines before now b.lines b.ended b.speaker
+
+-- these bytes were taken: whole lines, and the one that is begun
+abbrev pub HasBytes : Limits → List ℕ → Option (List ℕ) → Option (List ℕ) → Builder → Type 0
+HasBytes limits x before now b = HasTaken limits x before now b.begun.items b.lines b.ended b.speaker
+
+-- nothing was taken, and the head is written
+abbrev pub IsBegun : Limits → Builder → Type 0
+IsBegun limits b = (before now : Option (List ℕ)) → Appends before now head → HasBytes limits [] before now b
+
+-- the line is taken, and its piece is written
+abbrev pub TakesLine : Builder → Builder → List ℕ → Option (List ℕ) → Option (List ℕ) → Type 0
+TakesLine old new next was now = (limits : Limits) (lines : List (List ℕ)) (before : Option (List ℕ)) →
+    HasLines limits lines before was old → HasLines limits (lines ++ next ∷ []) before now new
+
+-- the line is refused, or the run fails at it
+abbrev pub HaltsOn : Builder → List ℕ → Option (List ℕ) → Option (List ℕ) → Halt → Type 0
+HaltsOn old next was now halt = (limits : Limits) (lines : List (List ℕ)) (before : Option (List ℕ)) →
+    HasLines limits lines before was old → HaltsAt limits lines next before halt now
+
+-- the bytes are taken, and the pieces of the lines that end in them are written
+abbrev pub TakesIn : Builder → Builder → List ℕ → Option (List ℕ) → Option (List ℕ) → Type 0
+TakesIn old new bytes was now = (limits : Limits) (x : List ℕ) (before : Option (List ℕ)) →
+    HasBytes limits x before was old → HasBytes limits (x ++ bytes) before now new
+
+-- a line that ends in the bytes is refused, or the run fails in them
+abbrev pub HaltsWithin : Builder → List ℕ → Option (List ℕ) → Option (List ℕ) → Halt → Type 0
+HaltsWithin old bytes was now halt = (limits : Limits) (x : List ℕ) (before : Option (List ℕ)) →
+    HasBytes limits x before was old → HaltsIn limits (x ++ bytes) before halt now
+
+-- what was taken is all there is, and this is what it comes to
+abbrev pub IsAnswered : Builder → Option (List ℕ) → Option (List ℕ) → Built → Type 0
+IsAnswered old was now built = (limits : Limits) (x : List ℕ) (before : Option (List ℕ)) →
+    HasBytes limits x before was old → BuildsAll limits x before now built
+
+-- a front of the recording that it comes to is written
+abbrev pub HasWrittenFirst : Builder → Option (List ℕ) → Option (List ℕ) → Type 0
+HasWrittenFirst old was now = (limits : Limits) (x : List ℕ) (before : Option (List ℕ)) →
+    HasBytes limits x before was old → BeginsAll limits x before now
