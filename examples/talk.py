@@ -37,6 +37,10 @@ class Payload(ctypes.Structure):
     _fields_ = [("status", ctypes.c_uint32), ("place", ctypes.c_uint32)]
 
 
+class Piece(ctypes.Structure):
+    _fields_ = [("side", ctypes.c_uint32), ("length", ctypes.c_size_t)]
+
+
 class Say(ctypes.Structure):
     _fields_ = [("status", ctypes.c_uint32), ("length", ctypes.c_size_t), ("column", ctypes.c_uint32)]
 
@@ -66,6 +70,8 @@ class Library:
             ("zk_judge_connected", Payload, (ctypes.c_char_p, size)),
             ("zk_judge_reply", Payload, (ctypes.c_int32, ctypes.POINTER(ctypes.c_int32), size, ctypes.c_char_p, size)),
             ("zk_judge_event", Payload, (ctypes.c_char_p, size)),
+            ("zk_listing", Line, (ctypes.POINTER(Piece), size, ctypes.c_char_p, size, number, number, number, number,
+                                  ctypes.c_char_p, size)),
         ):
             call = getattr(calls, name)
             call.restype, call.argtypes = result, words

@@ -137,6 +137,12 @@ struct zk_payload {
     uint32_t place;
 };
 
+/* So many bytes of a side, for zk_listing. */
+struct zk_piece {
+    uint32_t side;
+    size_t length;
+};
+
 /* Makes a talk: payloads of the client and of the server of at most so many bytes (64 to 16777216), at most so many
  * requests and parts that wait (1 to 1048576), a profile. ZK_WELL, ZK_IN_USE, ZK_RANGE or ZK_NO_MEMORY. */
 uint32_t zk_talk_new(struct zk_talk *talk, uint32_t client, uint32_t server, uint32_t waiting, uint32_t profile);
@@ -187,6 +193,12 @@ struct zk_payload zk_judge_reply(int32_t operation, const int32_t *parts, size_t
 
 /* Whether the payload is that of an event. ZK_MISFIT where the xid isn't -1: a reply's. */
 struct zk_payload zk_judge_event(const uint8_t *bytes, size_t length);
+
+/* Writes the listing of a conversation that lies there whole: the line of each message and of the ending, each with a
+ * line feed. The pieces are in the order in which they came, and the bytes of all lie one behind the other; the numbers
+ * are those of zk_talk_new. ZK_RANGE where one is out of its range, or the pieces aren't just the bytes; ZK_ROOM with
+ * the length that is needed, and the room as it was. It takes memory for all messages and for the text. */
+struct zk_line zk_listing(const struct zk_piece *pieces, size_t count, const uint8_t *bytes, size_t length, uint32_t client, uint32_t server, uint32_t waiting, uint32_t profile, uint8_t *out, size_t room);
 
 #ifdef __cplusplus
 }

@@ -32,7 +32,7 @@ C_TYPES = {"u8": "uint8_t", "u32": "uint32_t", "i32": "int32_t", "u64": "uint64_
            "*mut u8": "void *", "TalkBox": "void *", "TalkHandle": "struct zk_talk", "VoiceBox": "void *",
            "SpeakerHandle": "struct zk_speaker", "SayAnswer": "struct zk_say", "FaultNumbers": "struct zk_fault",
            "StepAnswer": "struct zk_step", "EndingAnswer": "struct zk_ending", "MessageAnswer": "struct zk_message",
-           "LineAnswer": "struct zk_line", "PayloadAnswer": "struct zk_payload"}
+           "LineAnswer": "struct zk_line", "Piece": "struct zk_piece", "PayloadAnswer": "struct zk_payload"}
 INSIDE = {"TalkBox", "VoiceBox"}
 
 # Payloads, from docs/EXAMPLES.md, "Single payloads": the call, of a reply with the numbers of the operation and of its
@@ -221,6 +221,23 @@ def judge_payloads(shared):
                f"zk_judge_{call} {digits}: {answer.status} at {answer.place}, not {status} at {place}")
 
 
+def list_whole(shared):
+    """Whether each recording's listing comes by one call, or its length where there is no room; and pieces that aren't
+    the bytes are refused."""
+    talk, numbers = importlib.import_module("talk"), declared()[2]
+    library = talk.Library(shared)
+    for path in sorted((TOP / "captures").glob("*.zkr")):
+        pieces, listing = list(talk.pieces(path.read_bytes())), path.with_suffix(".show").read_bytes()
+        cut = (talk.Piece * (len(pieces) + 1))(*((side, len(piece)) for side, piece in pieces))
+        content = b"".join(piece for _, piece in pieces)
+        for room, count, status in ((len(listing), 0, "WELL"), (len(listing) - 1, 0, "ROOM"), (len(listing), 1, "RANGE")):
+            out = ctypes.create_string_buffer(len(listing))
+            found = library.zk_listing(cut, len(pieces), content, len(content) - count, 4194304, 4194304, 65536, 34, out, room)
+            wanted = (numbers[status], 0 if status == "RANGE" else len(listing))
+            good = (found.status, found.length) == wanted and out.raw == (listing if status == "WELL" else bytes(len(listing)))
+            yield path.stem, good, f"zk_listing {path.stem}, a room of {room}: {found.status}, {found.length}"
+
+
 def main():
     parser = argparse.ArgumentParser(description="The library for C: its header, and the examples that link it.")
     parser.add_argument("--library", type=pathlib.Path)
@@ -237,6 +254,7 @@ def main():
             results += run_examples(name, words)
             if name == "Python":
                 results += judge_payloads(words[-1])
+                results += list_whole(words[-1])
     failures = [told for _, good, told in results if not good]
     print("\n".join(failures[:50]), end="\n" if failures else "")
     print(f"{len(results) - len(failures)} passed, {len(failures)} failed")

@@ -1,5 +1,7 @@
+mod Cutting
 mod Handles
 mod Opening
 mod Parts
+mod Texts
 mod Values
 mod Walks

@@ -4,5 +4,7 @@ pub mod Answer
 pub mod Handle
 pub mod Asked
 pub mod Judged
+pub mod Cut
+pub mod Listing
 pub mod Voice
 pub mod Saying

@@ -4,6 +4,8 @@
 mod answer;
 mod asked;
 mod conversation;
+mod cut;
+mod listing;
 mod loose;
 mod number;
 mod payload;
@@ -14,6 +16,7 @@ mod talk_box;
 mod voice;
 mod voice_box;
 
+pub use listing::zk_listing;
 pub use payload::{
     zk_judge_connected, zk_judge_event, zk_judge_first, zk_judge_reply, zk_judge_request,
 };

@@ -1,0 +1,12 @@
+-- Pieces that lie one behind the other.
+use Rattle.std.specs.Prelude.{◌≡◌, ℕ, ◌≤◌, List, [], ◌∷◌, ◌++◌, length, take, drop, Some}
+use Rattle.zk_talk.specs.declared.message.Side.{Side}
+use Rattle.zk_talk.specs.History.{History, on}
+use Rattle.zk_c.specs.declared.cut.Piece.{Piece}
+use Rattle.zk_c.specs.Numbers.{side_of}
+
+-- the bytes are those of the pieces, and no more; with their sides they are this history
+abbrev pub AreCut : List Piece → List ℕ → History → Type 0
+AreCut [] bytes h = (bytes ≡ []) × (h ≡ [])
+AreCut (p ∷ pieces) bytes h =
+    (side : Side) × (side_of p.side ≡ Some side) × (p.length ≤ length bytes) × (later : History) × AreCut pieces (drop p.length bytes) later × (h ≡ on side (take p.length bytes) ++ later)

@@ -1,0 +1,48 @@
+-- The listing of a conversation that lies there whole.
+use Rattle.std.specs.Prelude.{◌≡◌, ℕ, ◌⊎◌, List, [], ◌∷◌, ◌++◌}
+use Rattle.std.specs.List.{flat_map}
+use Rattle.zk_talk.specs.Held.{Message}
+use Rattle.zk_talk.specs.History.{History}
+use Rattle.zk_talk.specs.Answer.{AreMessages}
+use Rattle.zk_talk.specs.Ending.{IsEnding}
+use Rattle.zk_talk.specs.declared.message.Ending.{Ending}
+use Rattle.zk_talk.specs.declared.limits.Limits.{Limits}
+use Rattle.zk_lines.specs.Lines.{line}
+use Rattle.zk_lines.specs.Endings.{ending_text}
+use Rattle.zk_c.specs.declared.answer.LineAnswer.{LineAnswer}
+use Rattle.zk_c.specs.declared.cut.Piece.{Piece}
+use Rattle.zk_c.specs.Answer.{no_line}
+use Rattle.zk_c.specs.Cut.{AreCut}
+use Rattle.zk_c.specs.Handle.{AreNumbers, TellsText}
+
+-- a message's line with its line feed
+abbrev pub message_line : Message → List ℕ
+message_line message = line message ++ 10 ∷ []
+
+-- the lines of the messages, and of the ending
+abbrev pub listing : List Message → Ending → List ℕ
+listing messages ending = flat_map message_line messages ++ (ending_text ending ++ 10 ∷ [])
+
+-- the text is the listing of the history's messages and ending
+pub record IsListing (limits : Limits) (h : History) (text : List ℕ) : Type 0 where
+  pub messages : List Message
+  pub ending : Ending
+  pub are : AreMessages limits h messages ending
+  pub ends : IsEnding limits h ending
+  pub is : text ≡ listing messages ending
+
+-- the pieces are a history, and the text is its listing
+pub record IsListed (limits : Limits) (pieces : List Piece) (bytes text : List ℕ) : Type 0 where
+  pub history : History
+  pub cut : AreCut pieces bytes history
+  pub is : (h : History) → AreCut pieces bytes h → IsListing limits h text
+
+-- the answer tells the listing under limits of these numbers, or that memory is wanted
+pub data TellsListing (client server waiting profile : ℕ) (h : History) (before after : List ℕ) (answer : LineAnswer) : Type 0 where
+  told : (limits : Limits) (text : List ℕ) → AreNumbers client server waiting profile limits → IsListing limits h text → TellsText text before after answer → TellsListing client server waiting profile h before after answer
+  lacks : answer ≡ no_line 5 → after ≡ before → TellsListing client server waiting profile h before after answer
+
+-- nothing is listed: numbers are out of their ranges, or memory is wanted
+pub record ListsNothing (before after : List ℕ) (answer : LineAnswer) : Type 0 where
+  pub told : (answer ≡ no_line 67) ⊎ (answer ≡ no_line 5)
+  pub same : after ≡ before
