@@ -235,7 +235,7 @@ impl Talk {
     /// Keeps the whole frame of the client that the piece begins with, where none is begun and it may come; else all is as
     /// before, and None says no more.
     // Most frames come so, and no fault, and no frame as a value, is made on the way: this and the hints on what it calls
-    // take a third of the instructions off `check` on small messages.
+    // take a quarter of the instructions off `check` on small messages.
     #[inline(always)]
     fn front_client(&mut self, piece: &[u8]) -> Option<usize>
         requires good { self.old.fault ≡ None }
