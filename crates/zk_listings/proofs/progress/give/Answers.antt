@@ -13,8 +13,8 @@ returns-in-Some-talk-clause-gives c =
     let now = c.feed.new.lines.items in
     let begun = subst (λ talk. MatchOption talk ((t.limits ≡ c.args.limits) × Stands t [] []) (λ old. t ≡ old)) (sym c.in-Some-talk.is) refl in
     IfOk-weaker c.feed.result _ _ (λ refused taken.
-        subst (λ s. Gives c.args.limits c.args.listing c.args.talk.now lines (content_of s c.args.bytes.now) refused (Some c.feed.new.talk) now) (sym c.in-Some.is)
-        (gives-by c.args.limits c.args.listing c.args.talk.now t c.feed.new.talk lines now _ refused begun c.feed.ensures.limits taken)) c.feed.ensures.taken
+    subst (λ s. Gives c.args.limits c.args.listing c.args.talk.now lines (content_of s c.args.bytes.now) refused (Some c.feed.new.talk) now) (sym c.in-Some.is)
+    (gives-by c.args.limits c.args.listing c.args.talk.now t c.feed.new.talk lines now _ refused begun c.feed.ensures.limits taken)) c.feed.ensures.taken
 
 pub returns-in_ok-refused-in-None-clause-gives : goal.returns-in_ok-refused-in-None-clause-gives
 returns-in_ok-refused-in-None-clause-gives c =

@@ -28,7 +28,7 @@ returns-clause-some c =
     let was = sym (held_all s.kept s.frames.bytes open') in
     let is = sym (held_all s.kept f.bytes open') in
     rw (← c.self.view_is) (IfSome_then c.take_front.result c.take_front.ensures.some (λ used x.
-        let same = subst (λ l. IsFront s.frames.bytes part used (record { limit = l; bytes = f.bytes })) c.take_front.ensures.limit x in
-        let y = front_taken s.frames.limit s.size s.frames.bytes piece part f.bytes c.within-room.result c.front.ensures c.within-room.ensures.part c.within-room.ensures.fits used same in
-        subst (λ z. (z ≡ []) × IsAdvance s.frames.limit s.size z piece (Whole used) (held_where s.kept f.bytes)) was
-        (subst (λ z. (s.frames.bytes ≡ []) × IsAdvance s.frames.limit s.size s.frames.bytes piece (Whole used) z) is y)))
+    let same = subst (λ l. IsFront s.frames.bytes part used (record { limit = l; bytes = f.bytes })) c.take_front.ensures.limit x in
+    let y = front_taken s.frames.limit s.size s.frames.bytes piece part f.bytes c.within-room.result c.front.ensures c.within-room.ensures.part c.within-room.ensures.fits used same in
+    subst (λ z. (z ≡ []) × IsAdvance s.frames.limit s.size z piece (Whole used) (held_where s.kept f.bytes)) was
+    (subst (λ z. (s.frames.bytes ≡ []) × IsAdvance s.frames.limit s.size s.frames.bytes piece (Whole used) z) is y)))
