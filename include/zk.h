@@ -3,10 +3,11 @@
  * docs/LIBRARY.md says how a program is linked with it, and what each call promises. tests/library.py holds this header
  * against the library's source (crates/zk_c/src).
  *
- * What a caller owes: a pointer to a handle or to bytes isn't null and points to as much as is said; a handle is all
- * zeros before its first zk_talk_new (`struct zk_talk talk = {0};`), is written by these calls alone, is used by one
- * call at a time on the thread that made it, and is never copied and then used twice. For no bytes pass any pointer
- * that isn't null, and 0. All else is refused by a number. */
+ * What a caller owes: a pointer points to as much as is said; a handle is all zeros before its first zk_talk_new
+ * (`struct zk_talk talk = {0};`), is written by these calls alone, is used by one call at a time on the thread that made
+ * it, and is never copied and then used twice. All else is refused by a number: a null pointer too, and a length that no
+ * bytes have, by the functions at the end of this header, which stand before the library's own. For no bytes pass any
+ * pointer that isn't null, and 0. */
 #ifndef ZK_H
 #define ZK_H
 
@@ -44,9 +45,10 @@ enum {
     ZK_STREAM_END = 15,
     ZK_EMPTY = 65,     /* the handle holds nothing */
     ZK_IN_USE = 66,    /* the handle holds something already */
-    ZK_RANGE = 67,     /* a limit, a profile or a side is out of its range */
+    ZK_RANGE = 67,     /* a limit, a profile, a side or a length is out of its range */
     ZK_ROOM = 68,      /* the text is longer than the room */
     ZK_NO_MESSAGE = 69, /* no frame is kept on the side */
+    ZK_NULL = 70,      /* a pointer is null */
     ZK_NOT_FIRST = 81, /* a message can't be said: a connect message where its side has spoken, or another before it */
     ZK_MISFIT = 82,    /* the xid or the operation isn't allowed, or the reply doesn't fit its request; or the payload's
                           xid is that of the other kind, a reply or an event */
@@ -199,6 +201,142 @@ struct zk_payload zk_judge_event(const uint8_t *bytes, size_t length);
  * are those of zk_talk_new. ZK_RANGE where one is out of its range, or the pieces aren't just the bytes; ZK_ROOM with
  * the length that is needed, and the room as it was. It takes memory for all messages and for the text. */
 struct zk_line zk_listing(const struct zk_piece *pieces, size_t count, const uint8_t *bytes, size_t length, uint32_t client, uint32_t server, uint32_t waiting, uint32_t profile, uint8_t *out, size_t room);
+
+/* ---- Null pointers, and lengths of more than PTRDIFF_MAX bytes
+ *
+ * The library's calls take what is there. The functions below look at each pointer and length first, and answer ZK_NULL
+ * or ZK_RANGE; the names above stand for them from here on. Nothing is changed then. */
+
+/* A fault of so many things of this size at a pointer, or ZK_WELL. */
+static inline uint32_t zk_fault_at(const void *at, size_t count, size_t size) {
+    if (at == NULL) {
+        return ZK_NULL;
+    }
+    return count > (size_t)PTRDIFF_MAX / size ? ZK_RANGE : ZK_WELL;
+}
+
+/* The first of two that is a fault. */
+static inline uint32_t zk_first_of(uint32_t one, uint32_t other) {
+    return one != ZK_WELL ? one : other;
+}
+
+static inline uint32_t zk_safe_talk_new(struct zk_talk *talk, uint32_t client, uint32_t server, uint32_t waiting, uint32_t profile) {
+    uint32_t fault = zk_fault_at(talk, 1, sizeof *talk);
+    return fault != ZK_WELL ? fault : zk_talk_new(talk, client, server, waiting, profile);
+}
+
+static inline struct zk_step zk_safe_talk_step(struct zk_talk *talk, uint32_t side, const uint8_t *piece, size_t length) {
+    struct zk_step answer = {0};
+    answer.status = zk_first_of(zk_fault_at(talk, 1, sizeof *talk), zk_fault_at(piece, length, sizeof *piece));
+    return answer.status != ZK_WELL ? answer : zk_talk_step(talk, side, piece, length);
+}
+
+static inline struct zk_message zk_safe_talk_view(struct zk_talk *talk, uint32_t side) {
+    struct zk_message answer = {0};
+    answer.status = zk_fault_at(talk, 1, sizeof *talk);
+    return answer.status != ZK_WELL ? answer : zk_talk_view(talk, side);
+}
+
+static inline struct zk_line zk_safe_talk_line(struct zk_talk *talk, uint32_t side, uint8_t *out, size_t room) {
+    struct zk_line answer = {0};
+    answer.status = zk_first_of(zk_fault_at(talk, 1, sizeof *talk), zk_fault_at(out, room, sizeof *out));
+    return answer.status != ZK_WELL ? answer : zk_talk_line(talk, side, out, room);
+}
+
+static inline struct zk_ending zk_safe_talk_finish(struct zk_talk *talk) {
+    struct zk_ending answer = {0};
+    answer.status = zk_fault_at(talk, 1, sizeof *talk);
+    return answer.status != ZK_WELL ? answer : zk_talk_finish(talk);
+}
+
+static inline struct zk_line zk_safe_talk_ending_line(struct zk_talk *talk, uint8_t *out, size_t room) {
+    struct zk_line answer = {0};
+    answer.status = zk_first_of(zk_fault_at(talk, 1, sizeof *talk), zk_fault_at(out, room, sizeof *out));
+    return answer.status != ZK_WELL ? answer : zk_talk_ending_line(talk, out, room);
+}
+
+static inline void zk_safe_talk_free(struct zk_talk *talk) {
+    if (zk_fault_at(talk, 1, sizeof *talk) == ZK_WELL) {
+        zk_talk_free(talk);
+    }
+}
+
+static inline uint32_t zk_safe_speaker_new(struct zk_speaker *speaker, uint32_t client, uint32_t server, uint32_t waiting, uint32_t profile) {
+    uint32_t fault = zk_fault_at(speaker, 1, sizeof *speaker);
+    return fault != ZK_WELL ? fault : zk_speaker_new(speaker, client, server, waiting, profile);
+}
+
+static inline struct zk_say zk_safe_speaker_say(struct zk_speaker *speaker, const uint8_t *line, size_t length) {
+    struct zk_say answer = {0};
+    answer.status = zk_first_of(zk_fault_at(speaker, 1, sizeof *speaker), zk_fault_at(line, length, sizeof *line));
+    return answer.status != ZK_WELL ? answer : zk_speaker_say(speaker, line, length);
+}
+
+static inline struct zk_line zk_safe_speaker_frame(struct zk_speaker *speaker, uint8_t *out, size_t room) {
+    struct zk_line answer = {0};
+    answer.status = zk_first_of(zk_fault_at(speaker, 1, sizeof *speaker), zk_fault_at(out, room, sizeof *out));
+    return answer.status != ZK_WELL ? answer : zk_speaker_frame(speaker, out, room);
+}
+
+static inline void zk_safe_speaker_free(struct zk_speaker *speaker) {
+    if (zk_fault_at(speaker, 1, sizeof *speaker) == ZK_WELL) {
+        zk_speaker_free(speaker);
+    }
+}
+
+static inline struct zk_payload zk_safe_judge_first(const uint8_t *bytes, size_t length) {
+    struct zk_payload answer = {0};
+    answer.status = zk_fault_at(bytes, length, sizeof *bytes);
+    return answer.status != ZK_WELL ? answer : zk_judge_first(bytes, length);
+}
+
+static inline struct zk_payload zk_safe_judge_request(uint32_t profile, const uint8_t *bytes, size_t length) {
+    struct zk_payload answer = {0};
+    answer.status = zk_fault_at(bytes, length, sizeof *bytes);
+    return answer.status != ZK_WELL ? answer : zk_judge_request(profile, bytes, length);
+}
+
+static inline struct zk_payload zk_safe_judge_connected(const uint8_t *bytes, size_t length) {
+    struct zk_payload answer = {0};
+    answer.status = zk_fault_at(bytes, length, sizeof *bytes);
+    return answer.status != ZK_WELL ? answer : zk_judge_connected(bytes, length);
+}
+
+static inline struct zk_payload zk_safe_judge_reply(int32_t operation, const int32_t *parts, size_t count, const uint8_t *bytes, size_t length) {
+    struct zk_payload answer = {0};
+    answer.status = zk_first_of(zk_fault_at(parts, count, sizeof *parts), zk_fault_at(bytes, length, sizeof *bytes));
+    return answer.status != ZK_WELL ? answer : zk_judge_reply(operation, parts, count, bytes, length);
+}
+
+static inline struct zk_payload zk_safe_judge_event(const uint8_t *bytes, size_t length) {
+    struct zk_payload answer = {0};
+    answer.status = zk_fault_at(bytes, length, sizeof *bytes);
+    return answer.status != ZK_WELL ? answer : zk_judge_event(bytes, length);
+}
+
+static inline struct zk_line zk_safe_listing(const struct zk_piece *pieces, size_t count, const uint8_t *bytes, size_t length, uint32_t client, uint32_t server, uint32_t waiting, uint32_t profile, uint8_t *out, size_t room) {
+    struct zk_line answer = {0};
+    answer.status = zk_first_of(zk_fault_at(pieces, count, sizeof *pieces), zk_first_of(zk_fault_at(bytes, length, sizeof *bytes), zk_fault_at(out, room, sizeof *out)));
+    return answer.status != ZK_WELL ? answer : zk_listing(pieces, count, bytes, length, client, server, waiting, profile, out, room);
+}
+
+#define zk_talk_new zk_safe_talk_new
+#define zk_talk_step zk_safe_talk_step
+#define zk_talk_view zk_safe_talk_view
+#define zk_talk_line zk_safe_talk_line
+#define zk_talk_finish zk_safe_talk_finish
+#define zk_talk_ending_line zk_safe_talk_ending_line
+#define zk_talk_free zk_safe_talk_free
+#define zk_speaker_new zk_safe_speaker_new
+#define zk_speaker_say zk_safe_speaker_say
+#define zk_speaker_frame zk_safe_speaker_frame
+#define zk_speaker_free zk_safe_speaker_free
+#define zk_judge_first zk_safe_judge_first
+#define zk_judge_request zk_safe_judge_request
+#define zk_judge_connected zk_safe_judge_connected
+#define zk_judge_reply zk_safe_judge_reply
+#define zk_judge_event zk_safe_judge_event
+#define zk_listing zk_safe_listing
 
 #ifdef __cplusplus
 }

@@ -7,7 +7,8 @@ Each call that crates/zk_c/src exports stands in include/zk.h with as many words
 fields, and each number by the same name. The examples (docs/LIBRARY.md) in C, Rust and Python are compiled where there
 is a compiler, and give the listing of each recording in captures/; the one in C gives up its memory, where the compiler
 has what looks for that; the one in Python says the lines of whole listings again, and judges kazoo's requests where kazoo
-is installed. Payloads of docs/EXAMPLES.md are judged. What is skipped is told.
+is installed. Payloads of docs/EXAMPLES.md are judged. Null pointers and lengths that no bytes have are refused
+(tests/nulls.c). What is skipped is told.
 
 The library is the one that `rt lib` makes, over what earlier checks kept, where no other is named. It prints what failed
 and one last line. The status is 0 where nothing did.
@@ -157,7 +158,7 @@ def kit_archive():
 def made(folder, library, archive):
     """The examples as programs: a name and the words that run it, or None where it can't be made."""
     c = next(filter(shutil.which, filter(None, (os.environ.get("CC"), "cc", "gcc", "clang"))), None)
-    proxy, listing, shared = (os.path.join(folder, name) for name in ("proxy", "listing", "libzk.so"))
+    proxy, nulls, listing, shared = (os.path.join(folder, name) for name in ("proxy", "nulls", "listing", "libzk.so"))
     if c:
         words = [c, "-O2", "-Wall", "-Wextra", "-Werror", f"-I{HEADER.parent}", "-o", proxy, EXAMPLES / "proxy.c",
                  library, archive]
@@ -166,6 +167,9 @@ def made(folder, library, archive):
             subprocess.run(words, check=True)
         subprocess.run([c, "-shared", "-o", shared, "-Wl,--whole-archive", library, "-Wl,--no-whole-archive", archive],
                        check=True)
+        subprocess.run([c, "-O2", "-Wall", "-Wextra", "-Werror", f"-I{HEADER.parent}", "-o", nulls, TOP / "tests" / "nulls.c",
+                        library, archive], check=True)
+    yield "null pointers", [nulls] if c else None
     yield "C", [proxy] if c else None
     if shutil.which("rustc"):
         subprocess.run(["rustc", "-O", "--edition", "2024", "-o", listing, EXAMPLES / "listing.rs",
@@ -250,6 +254,10 @@ def main():
         for name, words in made(folder, options.library, kit_archive()):
             if words is None:
                 print(f"skipped: there is no compiler for the example in {name}")
+                continue
+            if name == "null pointers":
+                found = subprocess.run(words, capture_output=True, text=True)
+                results.append((name, found.returncode == 0, f"{name}: status {found.returncode}, {found.stdout}"))
                 continue
             results += run_examples(name, words)
             if name == "Python":

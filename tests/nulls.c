@@ -1,0 +1,71 @@
+/* Null pointers, and lengths that no bytes have, are refused by a number and change nothing. It prints each call that isn't. */
+#include "zk.h"
+
+#include <stdio.h>
+
+static int failures;
+
+static void wants(const char *call, uint32_t status, uint32_t wanted) {
+    if (status != wanted) {
+        printf("%s: %u, not %u\n", call, (unsigned)status, (unsigned)wanted);
+        failures++;
+    }
+}
+
+int main(void) {
+    const uint8_t byte = 0;
+    const int32_t part = 1;
+    const struct zk_piece piece = {ZK_CLIENT, 1};
+    uint8_t out[1] = {7};
+    const size_t room = sizeof out, most = (size_t)PTRDIFF_MAX, more = most + 1;
+    struct zk_talk talk = {0};
+    struct zk_speaker speaker = {0};
+
+    wants("zk_talk_new", zk_talk_new(NULL, 64, 64, 1, 34), ZK_NULL);
+    wants("zk_talk_step", zk_talk_step(NULL, ZK_CLIENT, &byte, 1).status, ZK_NULL);
+    wants("zk_talk_view", zk_talk_view(NULL, ZK_CLIENT).status, ZK_NULL);
+    wants("zk_talk_line", zk_talk_line(NULL, ZK_CLIENT, out, room).status, ZK_NULL);
+    wants("zk_talk_finish", zk_talk_finish(NULL).status, ZK_NULL);
+    wants("zk_talk_ending_line", zk_talk_ending_line(NULL, out, room).status, ZK_NULL);
+    zk_talk_free(NULL);
+    wants("zk_speaker_new", zk_speaker_new(NULL, 64, 64, 1, 34), ZK_NULL);
+    wants("zk_speaker_say", zk_speaker_say(NULL, &byte, 1).status, ZK_NULL);
+    wants("zk_speaker_frame", zk_speaker_frame(NULL, out, room).status, ZK_NULL);
+    zk_speaker_free(NULL);
+
+    wants("zk_talk_new, well", zk_talk_new(&talk, 64, 64, 1, 34), ZK_WELL);
+    wants("zk_talk_step, no bytes", zk_talk_step(&talk, ZK_CLIENT, NULL, 0).status, ZK_NULL);
+    wants("zk_talk_step, too long", zk_talk_step(&talk, ZK_CLIENT, &byte, more).status, ZK_RANGE);
+    wants("zk_talk_line, no room", zk_talk_line(&talk, ZK_CLIENT, NULL, 0).status, ZK_NULL);
+    wants("zk_talk_line, too long", zk_talk_line(&talk, ZK_CLIENT, out, more).status, ZK_RANGE);
+    wants("zk_talk_ending_line, no room", zk_talk_ending_line(&talk, NULL, 0).status, ZK_NULL);
+    wants("zk_talk_ending_line, too long", zk_talk_ending_line(&talk, out, more).status, ZK_RANGE);
+    wants("zk_talk_finish, nothing came", zk_talk_finish(&talk).kind, ZK_WHOLE);
+    wants("zk_talk_step, well", zk_talk_step(&talk, ZK_CLIENT, &byte, 1).status, ZK_WELL);
+    wants("zk_talk_finish, a byte came", zk_talk_finish(&talk).kind, ZK_CUT);
+    zk_talk_free(&talk);
+
+    wants("zk_speaker_new, well", zk_speaker_new(&speaker, 64, 64, 1, 34), ZK_WELL);
+    wants("zk_speaker_say, no line", zk_speaker_say(&speaker, NULL, 0).status, ZK_NULL);
+    wants("zk_speaker_say, too long", zk_speaker_say(&speaker, &byte, more).status, ZK_RANGE);
+    wants("zk_speaker_frame, no room", zk_speaker_frame(&speaker, NULL, 0).status, ZK_NULL);
+    wants("zk_speaker_frame, too long", zk_speaker_frame(&speaker, out, more).status, ZK_RANGE);
+    zk_speaker_free(&speaker);
+
+    wants("zk_judge_first", zk_judge_first(NULL, 0).status, ZK_NULL);
+    wants("zk_judge_request", zk_judge_request(34, NULL, 0).status, ZK_NULL);
+    wants("zk_judge_connected", zk_judge_connected(NULL, 0).status, ZK_NULL);
+    wants("zk_judge_event", zk_judge_event(&byte, more).status, ZK_RANGE);
+    wants("zk_judge_event, no byte", zk_judge_event(&byte, 0).status, ZK_SHORT);
+    wants("zk_judge_reply, no parts", zk_judge_reply(14, NULL, 0, &byte, 1).status, ZK_NULL);
+    wants("zk_judge_reply, no bytes", zk_judge_reply(14, &part, 1, NULL, 0).status, ZK_NULL);
+    wants("zk_judge_reply, too many parts", zk_judge_reply(14, &part, most / 4 + 1, &byte, 1).status, ZK_RANGE);
+    wants("zk_judge_reply, no byte", zk_judge_reply(14, &part, 1, &byte, 0).status, ZK_SHORT);
+    wants("zk_listing, no pieces", zk_listing(NULL, 0, &byte, 1, 64, 64, 1, 34, out, room).status, ZK_NULL);
+    wants("zk_listing, no bytes", zk_listing(&piece, 1, NULL, 0, 64, 64, 1, 34, out, room).status, ZK_NULL);
+    wants("zk_listing, no room", zk_listing(&piece, 1, &byte, 1, 64, 64, 1, 34, NULL, 0).status, ZK_NULL);
+    wants("zk_listing, too many pieces", zk_listing(&piece, most / 16 + 1, &byte, 1, 64, 64, 1, 34, out, room).status, ZK_RANGE);
+    wants("zk_listing, too small", zk_listing(&piece, 1, &byte, 1, 64, 64, 1, 34, out, room).status, ZK_ROOM);
+    wants("the room", out[0], 7);
+    return failures != 0;
+}
