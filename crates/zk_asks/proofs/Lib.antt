@@ -9,3 +9,4 @@ pub mod Later
 pub mod Openings
 pub mod Opened
 pub mod Flags
+mod Ends

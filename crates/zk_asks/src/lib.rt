@@ -1,9 +1,11 @@
 //! Client payloads of ZooKeeper 3.4, and `create2` of 3.5.
 #![tactic(auto)]
 
+mod alone;
 mod asked;
 mod codes;
 mod frame;
+mod front;
 mod known;
 mod laws;
 mod multi;
@@ -14,9 +16,11 @@ mod request;
 mod scan;
 mod write;
 
+pub use alone::Alone;
 pub use asked::{Asked, Room, asked_laws};
 pub use codes::allowed;
 pub use frame::{Ask, AskOf, AskRef, ClientFrame, ClientFrameOf, ClientRef, Part, PartOf, PartRef};
+pub use front::front_ask;
 pub use known::client_ref;
 pub use laws::{ask_laws, first_laws, form_laws, opening_laws};
 pub use part_list::{PartItems, PartList};

@@ -23,7 +23,7 @@ pub use output::Output;
 pub use payload::{read_flagged, scan_flagged};
 pub use series::{Element, Elements, Series, TextList};
 pub use source::{Kept, Payload, Source};
-pub use stands::{Form, Stands, read_ref};
+pub use stands::{Form, Stands, end_of, read_ref};
 pub use value::{
     Blob, BlobRef, Bytes, BytesRef, Chars, CharsRef, Items, List, Nullable, Text, TextRef,
 };

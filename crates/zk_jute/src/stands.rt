@@ -1,5 +1,5 @@
 //! Values that are read from a payload, copied out of it or borrowed from it.
-ghost use Rattle.std.specs.Prelude.{◌≡◌, ◌≢◌, ℕ, ◌≤◌, ◌<◌, List, length, get_or, IfOk, IfErr};
+ghost use Rattle.std.specs.Prelude.{◌≡◌, ◌≢◌, ℕ, ◌≤◌, ◌<◌, List, length, get_or, IfOk, IfErr, IfSome};
 ghost use Rattle.std.specs.List.{flat_map};
 ghost use Rattle.zk_jute.specs.declared.fault.Reason.TheVariants.{NoMemory};
 ghost use Rattle.zk_jute.specs.Item.{HaveBytes};
@@ -68,6 +68,20 @@ pub fn read_ref<'a, T: Stands<Payload<'a>>>(
     ensures within { IfOk result (λ x. x.1 ≤ length src.now.bytes.now) }
 {
     T::read_in(src, place)
+}
+
+/// The place after a value that lies at a place of a payload; None says no more. No value is made.
+// Never inlined: a match over records is then one call an arm, with what it answers in registers.
+#[inline(never)]
+pub fn end_of<'a, T: Stands<Payload<'a>>>(payload: &'a [u8], place: usize) -> Option<usize>
+    requires { place ≤ length payload.now }
+    ensures some { IfSome result (λ end. (x : T) × HaveBytes (T.wired.items x) × StandsAt (T.wired.items x) payload.now place end) }
+    ensures within { IfSome result (λ end. end ≤ length payload.now) }
+{
+    match T::read_in(&Payload { bytes: payload }, place) {
+        Ok((_, end)) => Some(end),
+        Err(_) => None,
+    }
 }
 
 /// Bytes are numbers below 256; the function does nothing.

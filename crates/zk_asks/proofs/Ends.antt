@@ -1,0 +1,35 @@
+-- Where a record ends that a request is made of, the request's body ends.
+use Rattle.std.proofs.Common.{◌≡◌, ℕ, List, [], refl, sym, subst, arith}
+use Rattle.std.specs.Prelude.{Option, IfSome}
+use Rattle.std.proofs.lemmas.Option.{IfSome_then}
+use Rattle.zk_jute.specs.Item.{Item, HaveBytes}
+use Rattle.zk_jute.specs.Told.{StandsAt}
+use Rattle.zk_jute.specs.Wired.{Wired}
+use Rattle.zk_records.specs.declared.op.Op.{Op}
+use Rattle.zk_asks.specs.Held.{Ask}
+use Rattle.zk_asks.specs.Rows.{op_of_ask, body_items}
+use Rattle.zk_asks.specs.Frames.{ops_of_ask}
+use Rattle.zk_asks.specs.Fronts.{IsBodyAlone}
+
+module _ (src : List ℕ) (place : ℕ) (op : Op) where
+  -- of one record
+  pub of_record : {X : Type 0} (w : Wired X) (make : X → Ask) → ((x : X) → op_of_ask (make x) ≡ op) → ((x : X) → ops_of_ask (make x) ≡ []) → ((x : X) → body_items (make x) ≡ w.items x)
+      → (end : Option ℕ) → IfSome end (λ n. (x : X) × HaveBytes (w.items x) × StandsAt (w.items x) src place n) → IfSome end (λ n. IsBodyAlone op src place n)
+  of_record w make is none same end h =
+      IfSome_then end h (λ n s. (
+        make s.0,
+        is s.0,
+        none s.0,
+        subst (λ (i : List Item). HaveBytes i) (sym (same s.0)) s.1,
+        subst (λ (i : List Item). StandsAt i src place n) (sym (same s.0)) s.2,
+      ))
+
+  -- of nothing
+  pub of_nothing : (a : Ask) → op_of_ask a ≡ op → ops_of_ask a ≡ [] → body_items a ≡ [] → IsBodyAlone op src place place
+  of_nothing a is none same = (
+    a,
+    is,
+    none,
+    subst (λ (i : List Item). HaveBytes i) (sym same) tt,
+    subst (λ (i : List Item). StandsAt i src place place) (sym same) (refl, omega arith),
+  )

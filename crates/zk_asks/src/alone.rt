@@ -1,0 +1,37 @@
+//! A request without parts, by its operation.
+ghost use Rattle.std.specs.Prelude.{[], refl};
+
+use crate::asked::{Asked, Room};
+use zk_records::{Op, PartOp};
+
+/// A request without parts, as its reply is read by.
+#[derive(Clone, Copy, Debug, Drop)]
+pub struct Alone {
+    pub op: Op,
+}
+
+impl Asked for Alone {
+    ghost operation = { λ a. a.op };
+
+    ghost part_ops = { λ a. [] };
+
+    #[inline(always)]
+    fn op(&self) -> Op {
+        self.op
+    }
+
+    #[inline(always)]
+    fn parts(&self) -> u32 {
+        0
+    }
+
+    #[inline(always)]
+    fn part(&self, _j: u32) -> Option<PartOp> {
+        None
+    }
+
+    #[inline(always)]
+    fn put_ops<R: Room>(&self, _room: &mut R) {}
+
+    ghost lawful = { λ a other. refl };
+}

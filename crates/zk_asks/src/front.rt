@@ -1,0 +1,56 @@
+//! Requests without parts, judged where they lie: no record and no frame is made.
+ghost use Rattle.std.specs.Prelude.{◌≡◌, ◌≤◌, length, IfSome};
+ghost use Rattle.zk_jute.specs.Item.{HaveBytes};
+ghost use Rattle.zk_jute.specs.Told.{StandsAt};
+ghost use Rattle.zk_asks.specs.Fronts.{IsBodyAlone, IsAlone};
+
+use crate::alone::Alone;
+use crate::codes::allowed;
+use zk_jute::{Payload, end_of, read_ref};
+use zk_records::{
+    AuthAskRef, CreateAskRef, DeleteAskRef, Op, PathAskRef, Profile, RequestHeader, SetAclAskRef,
+    SetDataAskRef, SetWatchesAskRef, WatchAskRef, op_of,
+};
+
+/// The place after the record of an operation that has no parts; None says no more.
+#[inline(always)]
+fn body_end(payload: &[u8], place: usize, op: Op) -> Option<usize>
+    requires { place ≤ length payload.now }
+    ensures some { IfSome result (λ end. IsBodyAlone op payload.now place end) }
+    ensures within { IfSome result (λ end. end ≤ length payload.now) }
+{
+    match op {
+        Op::Create | Op::Create2 => end_of::<CreateAskRef>(payload, place),
+        Op::Delete => end_of::<DeleteAskRef>(payload, place),
+        Op::Exists | Op::GetData | Op::GetChildren | Op::GetChildren2 => {
+            end_of::<WatchAskRef>(payload, place)
+        }
+        Op::SetData => end_of::<SetDataAskRef>(payload, place),
+        Op::GetAcl | Op::Sync => end_of::<PathAskRef>(payload, place),
+        Op::SetAcl => end_of::<SetAclAskRef>(payload, place),
+        Op::Auth => end_of::<AuthAskRef>(payload, place),
+        Op::SetWatches => end_of::<SetWatchesAskRef>(payload, place),
+        Op::Ping | Op::CloseSession => Some(place),
+        Op::Multi => None,
+    }
+}
+
+/// The xid of a later payload of a client, and what it asks, where it is that of a request without parts; None says no
+/// more: `scan_ask` decides.
+#[inline(always)]
+pub fn front_ask(profile: Profile, payload: &[u8]) -> Option<(i32, Alone)>
+    ensures some { IfSome result (λ r. IsAlone profile r.0 r.1.op payload.now) }
+{
+    let Ok((header, place)) = read_ref::<RequestHeader>(&Payload { bytes: payload }, 0) else {
+        return None;
+    };
+    let op = op_of(profile, header.kind)?;
+    if !allowed(header.xid, op) {
+        return None;
+    }
+    let end = body_end(payload, place, op)?;
+    if end < payload.len() {
+        return None;
+    }
+    Some((header.xid, Alone { op }))
+}
