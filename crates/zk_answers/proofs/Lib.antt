@@ -18,3 +18,4 @@ pub mod Covered
 pub mod Lying
 pub mod Passing
 pub mod Knowing
+mod Ends

@@ -1,7 +1,7 @@
 -- Results of a multi that stand one behind the other, passed one by one.
-use Rattle.std.proofs.Common.{◌≡◌, ℕ, ◌+◌, ◌≤◌, List, [], ◌∷◌, ◌++◌, Bool, true, false, length, drop, Some, None, Ok, Err, refl, sym, ap, subst, ◌∙◌, append_assoc, arith}
+use Rattle.std.proofs.Common.{◌≡◌, ℕ, ◌+◌, ◌≤◌, List, [], ◌∷◌, ◌++◌, true, false, length, drop, Some, None, Ok, Err, refl, sym, ap, subst, ◌∙◌, append_assoc, arith}
 use Rattle.std.proofs.lemmas.List.{append-nil}
-use Rattle.std.specs.Prelude.{Result, Option, ◌≢◌}
+use Rattle.std.specs.Prelude.{Result, Option}
 use Rattle.std.specs.List.{flat_map}
 use Rattle.zk_jute.specs.declared.fault.ItemFault.{ItemFault}
 use Rattle.zk_jute.specs.Item.{Item, bytes_of, HaveBytes}
@@ -9,7 +9,6 @@ use Rattle.zk_jute.specs.Layout.{IsValueOf}
 use Rattle.zk_jute.specs.Told.{StandsAt, HasToldFault}
 use Rattle.zk_jute.specs.Shown.{Stretch}
 use Rattle.zk_jute.proofs.Layouts.{bytes_only, have_parts}
-use Rattle.zk_jute.proofs.Sequels.{excluded}
 use Rattle.zk_jute.proofs.Stretches.{stands_split, none_passed, one_passed, values_told}
 use Rattle.zk_records.specs.Records.{multi_header}
 use Rattle.zk_records.specs.declared.header.MultiHeader.{MultiHeader}

@@ -8,3 +8,4 @@ pub mod Faults
 pub mod Openings
 pub mod Forms
 pub mod Layouts
+pub mod Fronts

@@ -14,9 +14,9 @@ use crate::done_list::{DoneList, done_in, lying};
 use crate::frame::{BodyOf, Failure, OutcomeOf, ReplyOf, ServerFrameOf, ServerRef};
 use crate::multi::is_end;
 use crate::scan::{scan_connected, scan_event, scan_reply};
-use zk_asks::{Asked, Room};
+use zk_asks::Alone;
 use zk_jute::{Payload, read_ref};
-use zk_records::{MultiHeader, Op, PartOp, ReplyHeader};
+use zk_records::{MultiHeader, Op, ReplyHeader};
 
 /// The answer to the connect request that the payload is known to be, where it lies; no memory is
 /// taken.
@@ -65,36 +65,6 @@ fn results_there<'a>(src: &Payload<'a>, place: usize) -> DoneList<'a>
         count += 1;
     }
     lying(src.bytes, count, place)
-}
-
-/// A request without parts.
-#[derive(Drop)]
-struct Alone {
-    op: Op,
-}
-
-impl Asked for Alone {
-    ghost use Rattle.std.specs.Prelude.{[], refl};
-
-    ghost operation = { λ a. a.op };
-
-    ghost part_ops = { λ a. [] };
-
-    fn op(&self) -> Op {
-        self.op
-    }
-
-    fn parts(&self) -> u32 {
-        0
-    }
-
-    fn part(&self, _j: u32) -> Option<PartOp> {
-        None
-    }
-
-    fn put_ops<R: Room>(&self, _room: &mut R) {}
-
-    ghost lawful = { λ a other. refl };
 }
 
 /// A multi's reply that the payload is known to be.

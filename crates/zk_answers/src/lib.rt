@@ -5,6 +5,7 @@ mod done_list;
 mod fit;
 mod form;
 mod frame;
+mod front;
 mod known;
 mod laws;
 mod layout;
@@ -21,6 +22,7 @@ pub use frame::{
     Body, BodyOf, BodyRef, Failure, Outcome, OutcomeOf, OutcomeRef, PartDone, PartDoneOf,
     PartDoneRef, Reply, ReplyOf, ReplyRef, ServerFrame, ServerFrameOf, ServerRef,
 };
+pub use front::front_reply;
 pub use known::{connected_ref, event_ref, reply_ref};
 pub use laws::{connected_laws, event_laws, form_laws, head_laws, opening_laws, reply_laws};
 pub use layout::Layout;

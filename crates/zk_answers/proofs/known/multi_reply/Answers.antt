@@ -1,4 +1,4 @@
-use Rattle.std.proofs.Common.{◌≡◌, pos, sym, ap, ◌∙◌}
+use Rattle.std.proofs.Common.{sym, ◌∙◌}
 use Rattle.std.specs.Int.{w32, w64}
 use Rattle.std.proofs.lemmas.Int.{to_z-of_z}
 use Rattle.zk_answers.proofs.Knowing.{header_stands, stand_behind, is_failed, is_done}

@@ -1,4 +1,4 @@
-use Rattle.std.proofs.Common.{◌≡◌, sym, ◌∙◌, arith}
+use Rattle.std.proofs.Common.{◌∙◌, arith}
 use Rattle.zk_answers.proofs.Passing.{left_first, left_on, one_more, all_left}
 use Rattle.zk_answers.proofs.known.results_there.Goals as goal
 

@@ -1,0 +1,47 @@
+//! Replies, judged where they lie: no body and no frame is made.
+ghost use Rattle.std.specs.Prelude.{◌≡◌, ◌≢◌, ◌≤◌, ℕ, List, length, negsuc, IfSome, IsTrue};
+ghost use Rattle.zk_answers.specs.Faults.{IsHead};
+ghost use Rattle.zk_answers.specs.Fronts.{IsBodyAlone, IsReplyUnder};
+
+use zk_asks::Asked;
+use zk_jute::{TextList, TextRef, end_of};
+use zk_records::{AclBodyRef, ChildrenBodyRef, CreateBodyRef, DataBodyRef, Op, ReplyHeader, Stat};
+
+/// The bytes of a reply's header.
+const HEADER: usize = 16;
+
+/// The place after the body of a reply to an operation that has no parts; None says no more.
+#[inline(always)]
+fn body_end(payload: &[u8], place: usize, op: Op) -> Option<usize>
+    requires { place ≤ length payload.now }
+    ensures { IfSome result (λ end. IsBodyAlone op payload.now place end) }
+{
+    match op {
+        Op::Create | Op::Sync => end_of::<TextRef>(payload, place),
+        Op::Exists | Op::SetData | Op::SetAcl => end_of::<Stat>(payload, place),
+        Op::GetData => end_of::<DataBodyRef>(payload, place),
+        Op::GetAcl => end_of::<AclBodyRef>(payload, place),
+        Op::GetChildren => end_of::<TextList>(payload, place),
+        Op::GetChildren2 => end_of::<ChildrenBodyRef>(payload, place),
+        Op::Create2 => end_of::<CreateBodyRef>(payload, place),
+        Op::Delete | Op::Ping | Op::Auth | Op::SetWatches | Op::CloseSession => Some(place),
+        Op::Multi => None,
+    }
+}
+
+/// Whether the payload, which begins with this header, is a reply to what was asked; false says no more: `scan_reply`
+/// decides. Never true of the results of a multi.
+#[inline(always)]
+pub fn front_reply<F: Asked>(form: &F, head: &ReplyHeader, payload: &[u8]) -> bool
+    requires head { (rest : List ℕ) × IsHead payload.now head.now rest }
+    requires reply { head.now.xid ≢ negsuc 0 }
+    ensures { IsTrue result → IsReplyUnder head.now.xid (F.operation form.now) (F.part_ops form.now) payload.now }
+{
+    if head.err != 0 {
+        return payload.len() == HEADER;
+    }
+    match body_end(payload, HEADER, form.op()) {
+        Some(end) => end == payload.len(),
+        None => false,
+    }
+}
