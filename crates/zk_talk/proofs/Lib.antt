@@ -39,3 +39,4 @@ pub mod Spoken
 pub mod Bodies
 pub mod Refusing
 pub mod Viewing
+pub mod Settling

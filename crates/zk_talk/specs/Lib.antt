@@ -15,6 +15,7 @@ pub mod Streams
 pub mod Viewed
 pub mod Sound
 pub mod Judged
+pub mod Settled
 pub mod Advance
 pub mod Taking
 pub mod Answer

@@ -9,7 +9,7 @@ ghost use Rattle.zk_talk.specs.Judged.{KeepsClient, KeepsServer, TellsClient, Te
 ghost use Rattle.zk_talk.specs.Streams.{IsAtFrame, TakenBack, passed, kept_now};
 ghost use Rattle.zk_talk.specs.Viewed.{answered_by};
 
-use crate::judge::{await_reply, forget_seen, next_client, next_reply, next_request, next_server};
+use crate::judge::{await_front, await_reply, forget_front, forget_seen, next_client, next_server};
 use crate::stream::Stream;
 use std::alloc::Global;
 use zk_answers::{ServerFrame, ServerFrameOf, ServerRef};
@@ -43,10 +43,9 @@ pub fn keep_client(
     ensures kept { IsTrue result → stream.new ≡ kept_now stream.old used }
     ensures same { result ≡ false → (waiting.new ≡ waiting.old) × (stream.new ≡ stream.old) }
 {
-    let Some(frame) = next_request(profile, stream.count(), waiting, stream.payload()) else {
+    if !await_front(profile, stream.count(), waiting, stream.payload()) {
         return false;
-    };
-    await_reply(waiting, &frame);
+    }
     stream.keep(used);
     true
 }
@@ -126,11 +125,9 @@ pub fn keep_server(stream: &mut Stream, waiting: &mut Waiting, used: usize) -> O
     ensures kept { IfSome result (λ op. stream.new ≡ kept_now stream.old used) }
     ensures same { IfNone result ((waiting.new ≡ waiting.old) × (stream.new ≡ stream.old)) }
 {
-    let frame = next_reply(stream.count(), waiting, stream.payload())?;
-    let answered = answered(&frame);
-    forget_seen(waiting, &frame);
+    let op = forget_front(stream.count(), waiting, stream.payload())?;
     stream.keep(used);
-    Some(answered)
+    Some(Some(op))
 }
 
 /// The server's frame, likewise, where the client has sent so many; the operation whose request it

@@ -1,9 +1,11 @@
 //! Whether a payload may come now.
-ghost use Rattle.std.specs.Prelude.{◌≡◌, ◌≢◌, ◌≤◌, ◌<◌, ◌+◌, ◌^◌, ◌⊎◌, ◌↔◌, ℕ, List, length, IsOk, IfOk, IfErr, IfSome, OnOk, IsTrue, Some, slice_get};
+ghost use Rattle.std.specs.Prelude.{◌≡◌, ◌≢◌, ◌≤◌, ◌<◌, ◌+◌, ◌^◌, ◌⊎◌, ◌↔◌, ℕ, List, length, IsOk, IfOk, IfErr, IfSome, IfNone, OnOk, IsTrue, false, Some, slice_get};
 ghost use Rattle.zk_jute.specs.declared.fault.Reason.TheVariants.{NoMemory};
 ghost use Rattle.zk_asks.specs.Codes.{event_xid};
+ghost use Rattle.zk_asks.specs.Held as asks;
 ghost use Rattle.zk_asks.specs.Frames.{IsFirst, IsSent};
 ghost use Rattle.zk_answers.specs.Faults.{IsHead};
+ghost use Rattle.zk_answers.specs.Held as answered;
 ghost use Rattle.zk_answers.specs.Frames as answers;
 ghost use Rattle.zk_waiting.specs.Lane.{lane_of};
 ghost use Rattle.zk_waiting.specs.Waiting.{queue_on};
@@ -11,16 +13,19 @@ ghost use Rattle.zk_talk.specs.Payloads.{client_payload, server_payload};
 ghost use Rattle.zk_talk.specs.Conversation.{Conversation, ServerMay};
 ghost use Rattle.zk_talk.specs.Fault.{IsServerFault};
 ghost use Rattle.zk_talk.specs.Describes.{Describes};
+ghost use Rattle.zk_talk.specs.Settled.{IsAwaited, IsDueReply, IsSettled};
 ghost use Rattle.zk_talk.specs.Judged.{Tells, TellsClient, TellsServer, IsInTurn, IsTurnFault, IsPutRefusal, HasRoomFor, IsRemembered, IsDue, HasAsk, IsForgotten};
 
 use std::alloc::Global;
 use zk_answers::{
-    ServerFrame, ServerFrameOf, ServerRef, form_of, reply_head, scan_connected, scan_event,
-    scan_reply,
+    ServerFrame, ServerFrameOf, ServerRef, form_of, front_reply, reply_head, scan_connected,
+    scan_event, scan_reply,
 };
-use zk_asks::{ClientFrame, ClientFrameOf, ClientRef, RequestRef, scan_ask, scan_first};
+use zk_asks::{
+    Asked, ClientFrame, ClientFrameOf, ClientRef, RequestRef, front_ask, scan_ask, scan_first,
+};
 use zk_jute::{ItemFault, Reason};
-use zk_records::{Profile, ReplyHeader};
+use zk_records::{Op, Profile, ReplyHeader};
 use zk_waiting::{PutFault, Waiting, lane_of};
 
 /// The frame after so many of the client, where it lies.
@@ -70,29 +75,20 @@ pub fn next_client<'a>(
     }
 }
 
-/// The client's next frame, where it is a request that may come; None says no more. No fault is made, and where the frame
-/// is asked for no more than what `await_reply` wants of it, no frame.
+/// The client's next frame waits for its reply, where it is a request without parts that may come; false says no more, and
+/// all is as before. No fault and no frame is made.
 #[inline(always)]
-pub fn next_request<'a>(
-    profile: Profile,
-    count: u64,
-    waiting: &Waiting,
-    payload: &'a [u8],
-) -> Option<ClientRef<'a>>
-    requires { length payload.now < 2 ^ 32 }
-    ensures found { IfSome result (λ f. IsInTurn profile count f × IsSent f × (client_payload f ≡ payload.now)) }
-    ensures room { IfSome result (λ f. HasRoomFor f waiting.now) }
+pub fn await_front(profile: Profile, count: u64, waiting: &mut Waiting, payload: &[u8]) -> bool
+    ensures max { waiting.new.max ≡ waiting.old.max }
+    ensures found { IsTrue result → (f : asks.ClientFrame) × IsAwaited profile count payload.now waiting.old waiting.new f }
+    ensures same { result ≡ false → waiting.new ≡ waiting.old }
 {
     if count == 0 {
-        return None;
+        return false;
     }
-    let Ok(frame) = scan_ask(profile, payload) else {
-        return None;
-    };
-    if has_room(waiting, &frame) {
-        Some(frame)
-    } else {
-        None
+    match front_ask(profile, payload) {
+        Some((xid, ask)) => waiting.put(xid, &ask).is_ok(),
+        None => false,
     }
 }
 
@@ -186,13 +182,28 @@ pub fn next_server<'a>(
     seen_answer(&head, waiting, payload)
 }
 
-/// The server's next frame, where it is a reply that may come; None says no more. No fault is made, and where no more is
-/// asked for than its xid and its operation, no frame.
+/// The operation of the oldest request of its lane, where the payload under this header is a reply to it.
 #[inline(always)]
-pub fn next_reply<'a>(count: u64, waiting: &Waiting, payload: &'a [u8]) -> Option<ServerRef<'a>>
-    ensures due { IfSome result (λ s. IsDue s waiting.now × answers.IsSent s × (server_payload s ≡ payload.now)) }
-    ensures turn { IfSome result (λ s. (count ≡ 0 → ⊥) × (answers.IsConnected s → ⊥)) }
-    ensures may { IfSome result (λ s. (asked : ℕ) (v : Conversation) → Describes asked count waiting.now v → ServerMay v.client v.server s) }
+fn front_answer(head: &ReplyHeader, waiting: &Waiting, payload: &[u8]) -> Option<Op>
+    requires head { (rest : List ℕ) × IsHead payload.now head.now rest }
+    requires reply { head.now.xid ≢ event_xid }
+    ensures { IfSome result (λ op. (r : answered.Reply) × IsDueReply head.now.xid payload.now op waiting.now r) }
+{
+    let slot = waiting.oldest(lane_of(head.xid))?;
+    if slot.xid() == head.xid && front_reply(&slot, head, payload) {
+        Some(slot.op())
+    } else {
+        None
+    }
+}
+
+/// What the server's next frame answers waits no more, where it is a reply that may come, and none with the results of a
+/// multi: the operation that was asked; None says no more, and all is as before. No fault and no frame is made.
+#[inline(always)]
+pub fn forget_front(count: u64, waiting: &mut Waiting, payload: &[u8]) -> Option<Op>
+    ensures max { waiting.new.max ≡ waiting.old.max }
+    ensures found { IfSome result (λ op. (s : answered.ServerFrame) × IsSettled count payload.now op waiting.old waiting.new s) }
+    ensures same { IfNone result (waiting.new ≡ waiting.old) }
 {
     if count == 0 {
         return None;
@@ -203,10 +214,10 @@ pub fn next_reply<'a>(count: u64, waiting: &Waiting, payload: &'a [u8]) -> Optio
     if head.xid == -1 {
         return None;
     }
-    match seen_answer(&head, waiting, payload) {
-        Ok(frame) => Some(frame),
-        Err(_) => None,
-    }
+    let lane = lane_of(head.xid);
+    let op = front_answer(&head, waiting, payload)?;
+    waiting.drop_oldest(lane);
+    Some(op)
 }
 
 /// What the server's frame answers waits no more.

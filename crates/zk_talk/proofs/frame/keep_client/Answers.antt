@@ -1,28 +1,24 @@
-use Rattle.std.proofs.Common.{subst, sym, length, ap, ◌∙◌, ◌+◌, arith}
+use Rattle.std.proofs.Common.{subst, sym, ap, ◌∙◌, ◌+◌}
 use Rattle.zk_frames.specs.Framing.{frame}
 use Rattle.zk_talk.specs.Streams.{StreamState}
 use Rattle.zk_talk.specs.Viewed.{ShowsClient}
 use Rattle.zk_talk.proofs.Viewing.{client_shown}
-use Rattle.zk_talk.proofs.Seen.{payload_small, client_seen}
+use Rattle.zk_talk.proofs.Seen.{client_seen}
+use Rattle.zk_talk.proofs.Settling.{room_before}
 use Rattle.zk_talk.proofs.frame.keep_client.Goals as goal
-
-pub next_request-requires : goal.next_request-requires
-next_request-requires c = payload_small c.args.stream.now c.args.used c.count.result c.requires c.payload.result.now c.payload.ensures c.count.ensures c.args.waiting.now
-
-pub await_reply-requires-clause-small : goal.await_reply-requires-clause-small
-await_reply-requires-clause-small c =
-    omega (arith, payload_small c.args.stream.now c.args.used c.count.result c.requires c.payload.result.now c.payload.ensures c.count.ensures c.args.waiting.now, ap length c.in-Some.ensures.found.2)
 
 pub returns-clause-found : goal.returns-clause-found
 returns-clause-found c = λ yes.
-    let k = c.in-Some.ensures in
-    let f = c.in-Some.frame in
+    let found = c.await_front.ensures.found c.if-not-await_front.false in
+    let f = found.0 in
+    let k = found.1 in
     let old = c.args.stream.now in
-    let shows = client_shown c.count.result old.held f c.args.profile k.found.0 k.found.1 (c.payload.ensures ∙ ap frame (sym k.found.2)) in (
+    let w = c.args.waiting.now in
+    let shows = client_shown c.count.result old.held f c.args.profile k.turn k.sent (c.payload.ensures ∙ ap frame (sym k.is)) in (
       f,
       (
-        client_seen old c.args.used c.count.result c.requires c.payload.result.now c.payload.ensures c.count.ensures c.args.waiting.now c.args.profile f k.found.0 k.found.1 k.found.2 k.room,
-        c.await_reply.ensures.waits,
+        client_seen old c.args.used c.count.result c.requires c.payload.result.now c.payload.ensures c.count.ensures w c.args.profile f k.turn k.sent k.is (room_before f w c.await_front.new.waiting k.waits),
+        k.waits,
         subst (λ (z : StreamState). ShowsClient z.count z.kept f) (sym c.keep.ensures) (subst (λ n. ShowsClient (n + 1) old.held f) c.count.ensures shows),
       ),
     )
