@@ -5,7 +5,7 @@ use crate::asked::{Asked, Room};
 use zk_records::{Op, PartOp};
 
 /// A request without parts, as its reply is read by.
-#[derive(Clone, Copy, Debug, Drop)]
+#[derive(Clone, Copy, Debug)]
 pub struct Alone {
     pub op: Op,
 }

@@ -20,8 +20,8 @@ use zk_records::{
 
 /// The record of an operation.
 #[tactic(auto, using(crate::proofs::Lying::fields_lying))]
-// Inlined where only the xid and the operation are asked for, so that no record is made (number.rt of zk_jute). A build
-// passes over this hint on `body_ref`, for its size: inlined here and in zk_answers it would save another 15%.
+// As in number.rt of zk_jute; but a build passes over the hint on `body_ref`, for its size. A step asks front.rt first, which
+// makes no record.
 #[inline(always)]
 fn body_ref<'a>(src: &Payload<'a>, place: usize, op: Op) -> Result<(AskRef<'a>, usize), ItemFault>
     requires { place ≤ length src.now.bytes.now }
