@@ -1,5 +1,5 @@
 //! Replies, judged where they lie: no body and no frame is made.
-ghost use Rattle.std.specs.Prelude.{◌≡◌, ◌≢◌, ◌≤◌, ℕ, List, length, negsuc, IfSome, IsTrue};
+ghost use Rattle.std.specs.Prelude.{◌≢◌, ◌≤◌, ℕ, List, length, negsuc, IfSome, IsTrue};
 ghost use Rattle.zk_answers.specs.Faults.{IsHead};
 ghost use Rattle.zk_answers.specs.Fronts.{IsBodyAlone, IsReplyUnder};
 

@@ -1,7 +1,5 @@
 //! Requests without parts, judged where they lie: no record and no frame is made.
-ghost use Rattle.std.specs.Prelude.{◌≡◌, ◌≤◌, length, IfSome};
-ghost use Rattle.zk_jute.specs.Item.{HaveBytes};
-ghost use Rattle.zk_jute.specs.Told.{StandsAt};
+ghost use Rattle.std.specs.Prelude.{◌≤◌, length, IfSome};
 ghost use Rattle.zk_asks.specs.Fronts.{IsBodyAlone, IsAlone};
 
 use crate::alone::Alone;
