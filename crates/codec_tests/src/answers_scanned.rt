@@ -3,8 +3,8 @@ use std::alloc::Global;
 use std::process::Abort;
 use std::test::Fail;
 use zk_answers::{
-    BodyOf, Form, OutcomeOf, PartDoneOf, ServerFrameOf, ServerRef, reply_head, scan_connected,
-    scan_event, scan_reply,
+    BodyOf, Form, OutcomeOf, PartDoneOf, ServerFrameOf, ServerRef, front_reply, reply_head,
+    scan_connected, scan_event, scan_reply,
 };
 use zk_asks::Asked;
 use zk_jute::{ItemFault, Reason};
@@ -52,6 +52,17 @@ fn reply<'a>(form: &Form, payload: &'a [u8]) -> Result<ServerRef<'a>, ItemFault>
     scan_reply(form, payload)
 }
 
+/// Whether the payload is a reply to what left the form, and nothing but that, by where its body ends.
+fn front(form: &Form, payload: &[u8]) -> bool {
+    let Ok(head) = reply_head(payload) else {
+        return false;
+    };
+    if head.xid == -1 {
+        return false;
+    }
+    front_reply(form, &head, payload)
+}
+
 /// What a multi of a creation and a deletion leaves.
 fn two(alloc: Global) -> Result<Form, Fail> {
     let mut parts = Vec::new(alloc);
@@ -61,6 +72,19 @@ fn two(alloc: Global) -> Result<Form, Fail> {
         op: Op::Multi,
         parts,
     })
+}
+
+#[test]
+fn fronts(rt: HostRuntime) -> Result<(), Fail> {
+    let form = Form {
+        op: Op::Exists,
+        parts: Vec::new(rt.alloc()),
+    };
+    let no_node = b"\0\0\0\x01\0\0\0\0\0\0\0\x05\xff\xff\xff\x9b";
+    assert!(rt; front(&form, no_node));
+    assert!(rt; !front(&form, &no_node[..15]));
+    assert!(rt; !front(&two(rt.alloc())?, TWO));
+    Ok(())
 }
 
 #[test]

@@ -3,7 +3,9 @@ ghost use Rattle.std.specs.Prelude.{◌≤◌, take};
 
 use std::process::Abort;
 use std::test::Fail;
-use zk_asks::{AskOf, Asked, ClientFrameOf, PartOf, RequestRef, Room, scan_ask, scan_first};
+use zk_asks::{
+    AskOf, Asked, ClientFrameOf, PartOf, RequestRef, Room, front_ask, scan_ask, scan_first,
+};
 use zk_jute::{ItemFault, Reason};
 use zk_records::{Op, PartOp, Profile};
 
@@ -44,6 +46,17 @@ fn parts_in_order(rt: HostRuntime) -> Result<(), Fail> {
     assert!(rt; matches!(items.next(), Some(PartOf::Delete(_))));
     assert!(rt; matches!(items.next(), Some(PartOf::Check(_))));
     assert!(rt; items.next().is_none());
+    Ok(())
+}
+
+#[test]
+fn fronts(rt: HostRuntime) -> Result<(), Fail> {
+    let exists = b"\0\0\0\x01\0\0\0\x03\0\0\0\x02/a\x01";
+    let front = front_ask(Profile::V34, exists).ok_or("no request")?;
+    assert_eq!(rt; (front.0, front.1.op), (1, Op::Exists));
+    for other in [b"\0\0\0\x01\0\0\0\x03\0\0\0\x02/a\x02" as &[u8], TWO] {
+        assert!(rt; front_ask(Profile::V34, other).is_none());
+    }
     Ok(())
 }
 

@@ -4,7 +4,7 @@ use std::process::Abort;
 use std::test::Fail;
 use zk_jute::{
     Blob, BlobRef, ItemFault, List, Payload, Reason, Spell, Stands, Text, TextList, TextRef, Wire,
-    bool_at, int_at, laws, long_at, read_flagged, reason_name,
+    bool_at, end_of, int_at, laws, long_at, read_flagged, reason_name,
 };
 
 /// The value of all the bytes, written again as them.
@@ -164,6 +164,13 @@ fn flags(rt: HostRuntime) -> Result<(), Fail> {
         assert_eq!(rt; fault, ItemFault { place, reason });
     }
     laws::<Text>();
+    Ok(())
+}
+
+#[test]
+fn ends_of_values(rt: HostRuntime) -> Result<(), Fail> {
+    assert_eq!(rt; end_of::<TextRef>(b"\0\0\0\x02/ab", 0), Some(6));
+    assert_eq!(rt; end_of::<TextRef>(b"\0\0\0\x02/", 0), None);
     Ok(())
 }
 
