@@ -69,6 +69,17 @@ fn operations(rt: HostRuntime) {
 }
 
 #[test]
+fn profiles(rt: HostRuntime) {
+    for (number, profile) in [(34, Profile::V34), (35, Profile::V35)] {
+        let told = (Profile::of_number(number), profile.number());
+        assert_eq!(rt; told, (Some(profile), number));
+    }
+    for number in [0, 3, 33, 36, 340, u32::MAX] {
+        assert_eq!(rt; Profile::of_number(number), None);
+    }
+}
+
+#[test]
 fn operations_of_parts(rt: HostRuntime) {
     for (number, op, name) in [
         (1, PartOp::Create, "create"),

@@ -18,3 +18,7 @@ pub record IsPassed (d : PartDone) (ds : List PartDone) (src : List ℕ) (place 
 abbrev pub IsBehind : List PartDone → List ℕ → ℕ → ℕ → Option ℕ → Type 0
 IsBehind [] src place end answer = answer ≡ None
 IsBehind (d ∷ ds) src place end answer = (next : ℕ) × (answer ≡ Some next) × IsPassed d ds src place end next
+
+-- the same, whatever results stand there
+abbrev pub IsBehindFirst : List ℕ → ℕ → Option ℕ → Type 0
+IsBehindFirst src place answer = (ds : List PartDone) (end : ℕ) → HaveBytes (multi_items ds) → StandsAt (multi_items ds) src place end → IsBehind ds src place end answer

@@ -2,6 +2,7 @@ pub mod Results
 pub mod Rows
 pub mod Held
 pub mod Known
+pub mod Scanned
 pub mod Shown
 pub mod Frames
 pub mod Faults

@@ -6,7 +6,7 @@ ghost use Rattle.zk_jute.specs.declared.fault.Reason.TheVariants.{NoMemory};
 ghost use Rattle.zk_jute.specs.Item.{HaveBytes};
 ghost use Rattle.zk_jute.specs.Shown.{Begins};
 ghost use Rattle.zk_jute.specs.Layout.{IsValueOf};
-ghost use Rattle.zk_jute.specs.Told.{StandsAt, HasToldFault, IsToldAt};
+ghost use Rattle.zk_jute.specs.Told.{StandsAt, IsToldAt, HasSureFault, IsSurelyToldAt};
 ghost use Rattle.zk_records.specs.declared.op.PartOp as codes;
 ghost use Rattle.zk_answers.specs.Held.{PartDone};
 ghost use Rattle.zk_answers.specs.Results.{done_items, multi_items, result_layout, result_of, Answers, AnswerAll, IsDoneFault, Own};
@@ -135,7 +135,7 @@ fn result_ref<'a>(
 ) -> Result<(PartDoneRef<'a>, usize), ItemFault>
     requires { place ≤ length src.now.bytes.now }
     ensures found { IfOk result (λ x. Own op x.0 × IsValueOf (result_layout op) (result_of x.0) × StandsAt (result_of x.0) src.now.bytes.now place x.1) }
-    ensures fault { IfErr result (λ e. HasToldFault (IsValueOf (result_layout op)) src.now.bytes.now place e × (e.reason ≢ NoMemory)) }
+    ensures fault { IfErr result (HasSureFault (IsValueOf (result_layout op)) src.now.bytes.now place) }
     ensures within { IfOk result (λ x. x.1 ≤ length src.now.bytes.now) }
 {
     match op {
@@ -218,7 +218,7 @@ pub(crate) fn results_ref<'a, F: Asked>(
 ) -> Result<(DoneList<'a>, usize), ItemFault>
     requires { place ≤ length src.now.bytes.now }
     ensures found { IfOk result (λ x. AnswerAll (F.part_ops form.now) x.0 × HaveBytes (multi_items x.0) × StandsAt (multi_items x.0) src.now.bytes.now place x.1) }
-    ensures fault { IfErr result (λ e. IsToldAt (IsDoneFault (F.part_ops form.now)) src.now.bytes.now place e × (e.reason ≢ NoMemory)) }
+    ensures fault { IfErr result (IsSurelyToldAt (IsDoneFault (F.part_ops form.now)) src.now.bytes.now place) }
     ensures within { IfOk result (λ x. x.1 ≤ length src.now.bytes.now) }
 {
     let mut at = place;

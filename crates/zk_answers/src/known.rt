@@ -1,5 +1,5 @@
 //! Server payloads that are known to be frames, where they lie.
-ghost use Rattle.std.specs.Prelude.{◌≡◌, ◌≤◌, ℕ, List, length, negsuc};
+ghost use Rattle.std.specs.Prelude.{◌≡◌, ◌≤◌, ℕ, List, length};
 ghost use Rattle.zk_jute.specs.Item.{HaveBytes};
 ghost use Rattle.zk_jute.specs.Told.{StandsAt};
 ghost use Rattle.zk_records.specs.declared.op.Op.TheVariants as ops;
@@ -8,7 +8,7 @@ ghost use Rattle.zk_answers.specs.Held.{PartDone, ServerFrame};
 ghost use Rattle.zk_answers.specs.Results.{multi_items};
 ghost use Rattle.zk_answers.specs.Frames.{IsConnected, IsEvent, IsReplyTo, IsSent};
 ghost use Rattle.zk_answers.specs.Frames as sent;
-ghost use Rattle.zk_answers.specs.Known.{IsBehind};
+ghost use Rattle.zk_answers.specs.Known.{IsBehindFirst};
 
 use crate::done_list::{DoneList, done_in, lying};
 use crate::frame::{BodyOf, Failure, OutcomeOf, ReplyOf, ServerFrameOf, ServerRef};
@@ -38,7 +38,7 @@ pub fn event_ref(payload: &[u8]) -> ServerRef<'_>
 /// The place behind the result that stands at a place; None at the end marker.
 fn behind_result(src: &Payload<'_>, place: usize) -> Option<usize>
     requires { place ≤ length src.now.bytes.now }
-    ensures { (ds : List PartDone) (end : ℕ) → HaveBytes (multi_items ds) → StandsAt (multi_items ds) src.now.bytes.now place end → IsBehind ds src.now.bytes.now place end result }
+    ensures { IsBehindFirst src.now.bytes.now place result }
 {
     let Ok((header, _)) = read_ref::<MultiHeader>(src, place) else {
         return None;

@@ -4,7 +4,7 @@ ghost use Rattle.zk_jute.specs.Reading.{told_place};
 ghost use Rattle.zk_jute.specs.Told.{IsTold};
 ghost use Rattle.zk_jute.specs.Flagged.{IsReadAs};
 ghost use Rattle.zk_records.specs.declared.header.ReplyHeader as records;
-ghost use Rattle.zk_answers.specs.Held as frames;
+ghost use Rattle.zk_answers.specs.Held as held;
 ghost use Rattle.zk_answers.specs.Frames.{IsConnected, IsEvent, IsReplyTo, IsSent};
 ghost use Rattle.zk_answers.specs.Frames as sent;
 ghost use Rattle.zk_answers.specs.Faults.{IsConnectedFault, IsHead, IsHeadFault, IsReplyFault, IsEventFault};
@@ -36,7 +36,7 @@ pub fn read_connected(alloc: Global, payload: &[u8]) -> Result<ServerFrame, Item
     // What is read has the form, and is the payload's one value.
     ensures found { IfOk result (λ s. IsConnected s × IsSent s × (payload.now ≡ sent.payload s)) }
     // What has the form is read, unless memory is wanted.
-    ensures only { (s : frames.ServerFrame) → IsConnected s → IsSent s → payload.now ≡ sent.payload s → IsReadAs s result }
+    ensures only { (s : held.ServerFrame) → IsConnected s → IsSent s → payload.now ≡ sent.payload s → IsReadAs s result }
     // Else the first case that applies is told, unless memory is wanted.
     ensures fault { IfErr result (λ e. IsTold (IsConnectedFault payload.now) e) }
 {
@@ -54,7 +54,7 @@ pub fn read_reply<F: Asked>(
     // What is read has the form that the request fixes, and is the payload's one value.
     ensures found { IfOk result (λ s. IsReplyTo (F.operation form.now) (F.part_ops form.now) s × IsSent s × (payload.now ≡ sent.payload s)) }
     // What has the form is read, unless memory is wanted.
-    ensures only { (s : frames.ServerFrame) → IsReplyTo (F.operation form.now) (F.part_ops form.now) s → IsSent s → payload.now ≡ sent.payload s → IsReadAs s result }
+    ensures only { (s : held.ServerFrame) → IsReplyTo (F.operation form.now) (F.part_ops form.now) s → IsSent s → payload.now ≡ sent.payload s → IsReadAs s result }
     // Else the first case that applies is told, unless memory is wanted.
     ensures fault { IfErr result (λ e. IsTold (IsReplyFault (F.operation form.now) (F.part_ops form.now) payload.now) e) }
 {
@@ -68,7 +68,7 @@ pub fn read_event(alloc: Global, payload: &[u8]) -> Result<ServerFrame, ItemFaul
     // What is read has the form, and is the payload's one value.
     ensures found { IfOk result (λ s. IsEvent s × IsSent s × (payload.now ≡ sent.payload s)) }
     // What has the form is read, unless memory is wanted.
-    ensures only { (s : frames.ServerFrame) → IsEvent s → IsSent s → payload.now ≡ sent.payload s → IsReadAs s result }
+    ensures only { (s : held.ServerFrame) → IsEvent s → IsSent s → payload.now ≡ sent.payload s → IsReadAs s result }
     // Else the first case that applies is told, unless memory is wanted.
     ensures fault { IfErr result (λ e. IsTold (IsEventFault payload.now) e) }
 {

@@ -1,13 +1,12 @@
 //! Server payloads where they lie: what their readers decide, without memory.
 ghost use Rattle.std.specs.Prelude.{◌≡◌, ◌≢◌, ◌≤◌, ℕ, List, Ok, length, negsuc, IfOk, IfErr};
 ghost use Rattle.zk_jute.specs.declared.fault.Reason.TheVariants.{NoMemory};
-ghost use Rattle.zk_jute.specs.Item.{HaveBytes};
-ghost use Rattle.zk_jute.specs.Told.{StandsAt, IsTold, IsToldAt};
+ghost use Rattle.zk_jute.specs.Told.{IsToldAt, IsSurelyTold, IsSurelyToldAt};
 ghost use Rattle.zk_records.specs.declared.header.ReplyHeader as records;
-ghost use Rattle.zk_answers.specs.Held as frames;
-ghost use Rattle.zk_answers.specs.Rows.{op_of_body, body_items};
-ghost use Rattle.zk_answers.specs.Frames.{BodyFits, err_of, rest_items, IsOutcome, OutcomeFits, IsConnected, IsEvent, IsReplyTo, IsSent};
+ghost use Rattle.zk_answers.specs.Held as held;
+ghost use Rattle.zk_answers.specs.Frames.{IsConnected, IsEvent, IsReplyTo, IsSent};
 ghost use Rattle.zk_answers.specs.Frames as sent;
+ghost use Rattle.zk_answers.specs.Scanned.{IsBodyAt, IsOutcomeAt};
 ghost use Rattle.zk_answers.specs.Faults.{IsShapeFault, body_shape, rest_shape, IsConnectedFault, IsHead, IsReplyFault, IsEventFault};
 
 use crate::done_list::results_ref;
@@ -31,8 +30,8 @@ fn body_ref<'a, F: Asked>(
     form: &F,
 ) -> Result<(BodyRef<'a>, usize), ItemFault>
     requires { place ≤ length src.now.bytes.now }
-    ensures found { IfOk result (λ x. (op_of_body x.0 ≡ F.operation form.now) × BodyFits (F.part_ops form.now) x.0 × HaveBytes (body_items x.0) × StandsAt (body_items x.0) src.now.bytes.now place x.1) }
-    ensures fault { IfErr result (λ e. IsToldAt (IsShapeFault (body_shape (F.operation form.now) (F.part_ops form.now))) src.now.bytes.now place e × (e.reason ≢ NoMemory)) }
+    ensures found { IfOk result (λ x. IsBodyAt (F.operation form.now) (F.part_ops form.now) x.0 src.now.bytes.now place x.1) }
+    ensures fault { IfErr result (IsSurelyToldAt (IsShapeFault (body_shape (F.operation form.now) (F.part_ops form.now))) src.now.bytes.now place) }
     ensures within { IfOk result (λ x. x.1 ≤ length src.now.bytes.now) }
 {
     macro_rules! body {
@@ -79,8 +78,8 @@ fn outcome_ref<'a, F: Asked>(
     err: i32,
 ) -> Result<(OutcomeRef<'a>, usize), ItemFault>
     requires { place ≤ length src.now.bytes.now }
-    ensures found { IfOk result (λ x. OutcomeFits (F.operation form.now) (F.part_ops form.now) x.0 × IsOutcome x.0 × (err_of x.0 ≡ err) × HaveBytes (rest_items x.0) × StandsAt (rest_items x.0) src.now.bytes.now place x.1) }
-    ensures fault { IfErr result (λ e. IsToldAt (IsShapeFault (rest_shape (F.operation form.now) (F.part_ops form.now) err)) src.now.bytes.now place e × (e.reason ≢ NoMemory)) }
+    ensures found { IfOk result (λ x. IsOutcomeAt (F.operation form.now) (F.part_ops form.now) err x.0 src.now.bytes.now place x.1) }
+    ensures fault { IfErr result (IsSurelyToldAt (IsShapeFault (rest_shape (F.operation form.now) (F.part_ops form.now) err)) src.now.bytes.now place) }
     ensures within { IfOk result (λ x. x.1 ≤ length src.now.bytes.now) }
 {
     match Failure::new(err) {
@@ -94,7 +93,7 @@ fn outcome_ref<'a, F: Asked>(
 
 fn connected_in<'a>(payload: &'a [u8]) -> Result<ServerRef<'a>, ItemFault>
     ensures found { IfOk result (λ s. IsConnected s × IsSent s × (payload.now ≡ sent.payload s)) }
-    ensures fault { IfErr result (λ e. IsTold (IsConnectedFault payload.now) e × (e.reason ≢ NoMemory)) }
+    ensures fault { IfErr result (IsSurelyTold (IsConnectedFault payload.now)) }
 {
     let (hello, read_only) = scan_flagged::<ConnectResponseRef>(payload)?;
     Ok(ServerFrameOf::Connected { hello, read_only })
@@ -106,9 +105,9 @@ pub fn scan_connected<'a>(payload: &'a [u8]) -> Result<ServerRef<'a>, ItemFault>
     // What is read has the form, and is the payload's one value.
     ensures found { IfOk result (λ s. IsConnected s × IsSent s × (payload.now ≡ sent.payload s)) }
     // What has the form is read.
-    ensures only { (s : frames.ServerFrame) → IsConnected s → IsSent s → payload.now ≡ sent.payload s → result ≡ Ok s }
+    ensures only { (s : held.ServerFrame) → IsConnected s → IsSent s → payload.now ≡ sent.payload s → result ≡ Ok s }
     // Else the first case that applies is told.
-    ensures fault { IfErr result (λ e. IsTold (IsConnectedFault payload.now) e × (e.reason ≢ NoMemory)) }
+    ensures fault { IfErr result (IsSurelyTold (IsConnectedFault payload.now)) }
 {
     connected_in(payload)
 }
@@ -117,7 +116,7 @@ pub fn scan_connected<'a>(payload: &'a [u8]) -> Result<ServerRef<'a>, ItemFault>
 fn reply_in<'a, F: Asked>(form: &F, src: &Payload<'a>) -> Result<ServerRef<'a>, ItemFault>
     requires { (header : records.ReplyHeader) (rest : List ℕ) → IsHead src.now.bytes.now header rest → header.xid ≢ negsuc 0 }
     ensures found { IfOk result (λ s. IsReplyTo (F.operation form.now) (F.part_ops form.now) s × IsSent s × (src.now.bytes.now ≡ sent.payload s)) }
-    ensures fault { IfErr result (λ e. IsTold (IsReplyFault (F.operation form.now) (F.part_ops form.now) src.now.bytes.now) e × (e.reason ≢ NoMemory)) }
+    ensures fault { IfErr result (IsSurelyTold (IsReplyFault (F.operation form.now) (F.part_ops form.now) src.now.bytes.now)) }
 {
     let (header, place) = read_ref::<ReplyHeader>(src, 0)?;
     let (outcome, place) = outcome_ref(src, place, form, header.err)?;
@@ -139,9 +138,9 @@ pub fn scan_reply<'a, F: Asked>(form: &F, payload: &'a [u8]) -> Result<ServerRef
     // What is read has the form that the request fixes, and is the payload's one value.
     ensures found { IfOk result (λ s. IsReplyTo (F.operation form.now) (F.part_ops form.now) s × IsSent s × (payload.now ≡ sent.payload s)) }
     // What has the form is read.
-    ensures only { (s : frames.ServerFrame) → IsReplyTo (F.operation form.now) (F.part_ops form.now) s → IsSent s → payload.now ≡ sent.payload s → result ≡ Ok s }
+    ensures only { (s : held.ServerFrame) → IsReplyTo (F.operation form.now) (F.part_ops form.now) s → IsSent s → payload.now ≡ sent.payload s → result ≡ Ok s }
     // Else the first case that applies is told.
-    ensures fault { IfErr result (λ e. IsTold (IsReplyFault (F.operation form.now) (F.part_ops form.now) payload.now) e × (e.reason ≢ NoMemory)) }
+    ensures fault { IfErr result (IsSurelyTold (IsReplyFault (F.operation form.now) (F.part_ops form.now) payload.now)) }
 {
     reply_in(form, &Payload { bytes: payload })
 }
@@ -149,7 +148,7 @@ pub fn scan_reply<'a, F: Asked>(form: &F, payload: &'a [u8]) -> Result<ServerRef
 fn event_in<'a>(src: &Payload<'a>) -> Result<ServerRef<'a>, ItemFault>
     requires { (header : records.ReplyHeader) (rest : List ℕ) → IsHead src.now.bytes.now header rest → header.xid ≡ negsuc 0 }
     ensures found { IfOk result (λ s. IsEvent s × IsSent s × (src.now.bytes.now ≡ sent.payload s)) }
-    ensures fault { IfErr result (λ e. IsTold (IsEventFault src.now.bytes.now) e × (e.reason ≢ NoMemory)) }
+    ensures fault { IfErr result (IsSurelyTold (IsEventFault src.now.bytes.now)) }
 {
     let (header, place) = read_ref::<ReplyHeader>(src, 0)?;
     if header.err != 0 {
@@ -172,9 +171,9 @@ pub fn scan_event<'a>(payload: &'a [u8]) -> Result<ServerRef<'a>, ItemFault>
     // What is read has the form, and is the payload's one value.
     ensures found { IfOk result (λ s. IsEvent s × IsSent s × (payload.now ≡ sent.payload s)) }
     // What has the form is read.
-    ensures only { (s : frames.ServerFrame) → IsEvent s → IsSent s → payload.now ≡ sent.payload s → result ≡ Ok s }
+    ensures only { (s : held.ServerFrame) → IsEvent s → IsSent s → payload.now ≡ sent.payload s → result ≡ Ok s }
     // Else the first case that applies is told.
-    ensures fault { IfErr result (λ e. IsTold (IsEventFault payload.now) e × (e.reason ≢ NoMemory)) }
+    ensures fault { IfErr result (IsSurelyTold (IsEventFault payload.now)) }
 {
     event_in(&Payload { bytes: payload })
 }

@@ -1,12 +1,10 @@
 //! The parts of a multi where they lie in a payload.
-ghost use Rattle.std.specs.Prelude.{◌≡◌, ◌≢◌, ◌≤◌, ◌++◌, ℕ, Ok, Some, length, IfOk, IfErr, IfSome};
-ghost use Rattle.std.specs.List.{flat_map};
+ghost use Rattle.std.specs.Prelude.{◌≡◌, ◌≤◌, ℕ, Ok, Some, length, IfOk, IfErr, IfSome};
 ghost use Rattle.std.specs.Iterator.{YieldsFirst, UpTo, item_count};
 ghost use Rattle.std.specs.Iterator.SizeHint.{IsWithinCount};
-ghost use Rattle.zk_jute.specs.declared.fault.Reason.TheVariants.{NoMemory};
 ghost use Rattle.zk_jute.specs.Item.{HaveBytes};
 ghost use Rattle.zk_jute.specs.Layout.{IsValueOf};
-ghost use Rattle.zk_jute.specs.Told.{StandsAt, HasToldFault, IsToldAt};
+ghost use Rattle.zk_jute.specs.Told.{StandsAt, HasSureFault, IsSurelyToldAt};
 ghost use Rattle.zk_asks.specs.Held.{Part};
 ghost use Rattle.zk_asks.specs.Parts.{part_layout, op_of_part, record_of, part_items, multi_items};
 ghost use Rattle.zk_asks.specs.Faults.{IsMultiFault};
@@ -136,7 +134,7 @@ fn record_ref<'a>(
 ) -> Result<(PartRef<'a>, usize), ItemFault>
     requires { place ≤ length src.now.bytes.now }
     ensures found { IfOk result (λ x. (op_of_part x.0 ≡ op) × IsValueOf (part_layout op) (record_of x.0) × StandsAt (record_of x.0) src.now.bytes.now place x.1) }
-    ensures fault { IfErr result (λ e. HasToldFault (IsValueOf (part_layout op)) src.now.bytes.now place e × (e.reason ≢ NoMemory)) }
+    ensures fault { IfErr result (HasSureFault (IsValueOf (part_layout op)) src.now.bytes.now place) }
     ensures within { IfOk result (λ x. x.1 ≤ length src.now.bytes.now) }
 {
     macro_rules! read {
@@ -188,7 +186,7 @@ pub(crate) fn multi_ref<'a>(
 ) -> Result<(PartList<'a>, usize), ItemFault>
     requires { place ≤ length src.now.bytes.now }
     ensures found { IfOk result (λ x. HaveBytes (multi_items x.0) × StandsAt (multi_items x.0) src.now.bytes.now place x.1) }
-    ensures fault { IfErr result (λ e. IsToldAt IsMultiFault src.now.bytes.now place e × (e.reason ≢ NoMemory)) }
+    ensures fault { IfErr result (IsSurelyToldAt IsMultiFault src.now.bytes.now place) }
     ensures within { IfOk result (λ x. x.1 ≤ length src.now.bytes.now) }
 {
     let mut count = 0;

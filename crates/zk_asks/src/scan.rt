@@ -1,8 +1,8 @@
 //! Client payloads where they lie: what their readers decide, without memory.
-ghost use Rattle.std.specs.Prelude.{◌≡◌, ◌≢◌, ◌≤◌, Ok, length, IfOk, IfErr};
+ghost use Rattle.std.specs.Prelude.{◌≡◌, ◌≤◌, Ok, length, IfOk, IfErr};
 ghost use Rattle.zk_jute.specs.declared.fault.Reason.TheVariants.{NoMemory};
 ghost use Rattle.zk_jute.specs.Item.{HaveBytes};
-ghost use Rattle.zk_jute.specs.Told.{StandsAt, IsTold, IsToldAt};
+ghost use Rattle.zk_jute.specs.Told.{StandsAt, IsSurelyTold, IsSurelyToldAt};
 ghost use Rattle.zk_asks.specs.Held.{ClientFrame};
 ghost use Rattle.zk_asks.specs.Rows.{op_of_ask, body_items};
 ghost use Rattle.zk_asks.specs.Frames.{IsSent, IsFirst, IsLater, IsOfProfile};
@@ -26,7 +26,7 @@ use zk_records::{
 fn body_ref<'a>(src: &Payload<'a>, place: usize, op: Op) -> Result<(AskRef<'a>, usize), ItemFault>
     requires { place ≤ length src.now.bytes.now }
     ensures found { IfOk result (λ x. (op_of_ask x.0 ≡ op) × HaveBytes (body_items x.0) × StandsAt (body_items x.0) src.now.bytes.now place x.1) }
-    ensures fault { IfErr result (λ e. IsToldAt (IsBodyFault op) src.now.bytes.now place e × (e.reason ≢ NoMemory)) }
+    ensures fault { IfErr result (IsSurelyToldAt (IsBodyFault op) src.now.bytes.now place) }
     ensures within { IfOk result (λ x. x.1 ≤ length src.now.bytes.now) }
 {
     macro_rules! read {
@@ -61,7 +61,7 @@ fn body_ref<'a>(src: &Payload<'a>, place: usize, op: Op) -> Result<(AskRef<'a>, 
 #[inline(always)]
 fn ask_ref<'a>(profile: Profile, src: &Payload<'a>) -> Result<ClientRef<'a>, ItemFault>
     ensures found { IfOk result (λ f. IsLater f × IsOfProfile profile f × IsSent f × (src.now.bytes.now ≡ frames.payload f)) }
-    ensures fault { IfErr result (λ e. IsTold (IsAskFault profile src.now.bytes.now) e × (e.reason ≢ NoMemory)) }
+    ensures fault { IfErr result (IsSurelyTold (IsAskFault profile src.now.bytes.now)) }
 {
     let (header, place) = read_ref::<RequestHeader>(src, 0)?;
     let Some(op) = op_of(profile, header.kind) else {
@@ -89,14 +89,14 @@ pub fn scan_ask<'a>(profile: Profile, payload: &'a [u8]) -> Result<ClientRef<'a>
     // What has the form is read.
     ensures only { (f : ClientFrame) → IsLater f → IsOfProfile profile f → IsSent f → payload.now ≡ frames.payload f → result ≡ Ok f }
     // Else the first case that applies is told.
-    ensures fault { IfErr result (λ e. IsTold (IsAskFault profile payload.now) e × (e.reason ≢ NoMemory)) }
+    ensures fault { IfErr result (IsSurelyTold (IsAskFault profile payload.now)) }
 {
     ask_ref(profile, &Payload { bytes: payload })
 }
 
 fn first_in<'a>(payload: &'a [u8]) -> Result<ClientRef<'a>, ItemFault>
     ensures found { IfOk result (λ f. IsFirst f × IsSent f × (payload.now ≡ frames.payload f)) }
-    ensures fault { IfErr result (λ e. IsTold (IsFirstFault payload.now) e × (e.reason ≢ NoMemory)) }
+    ensures fault { IfErr result (IsSurelyTold (IsFirstFault payload.now)) }
 {
     let (hello, read_only) = scan_flagged::<ConnectRequestRef>(payload)?;
     Ok(ClientFrameOf::Connect { hello, read_only })
@@ -110,7 +110,7 @@ pub fn scan_first<'a>(payload: &'a [u8]) -> Result<ClientRef<'a>, ItemFault>
     // What has the form is read.
     ensures only { (f : ClientFrame) → IsFirst f → IsSent f → payload.now ≡ frames.payload f → result ≡ Ok f }
     // Else the first case that applies is told.
-    ensures fault { IfErr result (λ e. IsTold (IsFirstFault payload.now) e × (e.reason ≢ NoMemory)) }
+    ensures fault { IfErr result (IsSurelyTold (IsFirstFault payload.now)) }
 {
     first_in(payload)
 }

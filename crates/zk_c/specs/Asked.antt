@@ -29,3 +29,11 @@ pub record AreAsked (number : ℤ) (numbers : List ℤ) (op : Op) (parts : List 
   pub are : AreParts numbers parts
   pub few : length parts < 2 ^ 32
   pub lawful : op ≢ Multi → parts ≡ []
+
+-- they are none's
+abbrev pub AreNoneAsked : ℤ → List ℤ → Type 0
+AreNoneAsked number numbers = (op : Op) (parts : List PartOp) → AreAsked number numbers op parts → ⊥
+
+-- this holds of the operation and the parts whose numbers they are
+abbrev pub WhereAsked : ℤ → List ℤ → (Op → List PartOp → Type 0) → Type 0
+WhereAsked number numbers Holds = (op : Op) (parts : List PartOp) → AreAsked number numbers op parts → Holds op parts

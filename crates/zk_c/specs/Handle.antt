@@ -15,7 +15,9 @@ use Rattle.zk_talk.specs.Taking.{StepsOn, IsRefused, given_up}
 use Rattle.zk_talk.specs.Viewed.{Shows, Leaves, other_side}
 use Rattle.zk_c.specs.declared.answer.StepAnswer.{StepAnswer}
 use Rattle.zk_c.specs.declared.answer.EndingAnswer.{EndingAnswer}
-use Rattle.zk_c.specs.Numbers.{profile_number}
+use Rattle.zk_records.specs.declared.profile.Profile.{Profile}
+use Rattle.zk_records.specs.Codes.{profile_number}
+use Rattle.zk_talk.specs.Ranges.{AreLimits}
 use Rattle.zk_c.specs.Answer.{step_answer, ending_answer, no_message, message_answer, no_line}
 use Rattle.zk_c.specs.declared.answer.MessageAnswer.{MessageAnswer}
 use Rattle.zk_c.specs.declared.answer.LineAnswer.{LineAnswer}
@@ -46,6 +48,10 @@ pub record AreNumbers (c s w p : ℕ) (limits : Limits) : Type 0 where
   pub server : limits.server ≡ s
   pub waiting : limits.waiting ≡ w
   pub profile : p ≡ profile_number limits.profile
+
+-- they are no limits'
+abbrev pub AreNoLimits : ℕ → ℕ → ℕ → ℕ → Type 0
+AreNoLimits client server waiting profile = (p : Profile) → profile ≡ profile_number p → AreLimits client server waiting → ⊥
 
 -- a talk of these limits is behind the handle, and nothing has come
 pub record IsNew (client server waiting profile : ℕ) (after : Option TalkState) : Type 0 where

@@ -64,6 +64,10 @@ pub record IsNotice (bytes : List ℕ) (s : ServerFrame) : Type 0 where
 abbrev pub HasHead : (ℤ → Type 0) → List ℕ → Type 0
 HasHead Is bytes = (header : ReplyHeader) × (rest : List ℕ) × IsHead bytes header rest × Is header.xid
 
+-- they don't
+abbrev pub HasNoHead : (ℤ → Type 0) → List ℕ → Type 0
+HasNoHead Is bytes = HasHead Is bytes → ⊥
+
 -- the header is that of an event, or that of a reply
 abbrev pub IsOfEvent : ℤ → Type 0
 IsOfEvent xid = xid ≡ negsuc 0

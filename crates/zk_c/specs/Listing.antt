@@ -7,6 +7,9 @@ use Rattle.zk_talk.specs.Answer.{AreMessages}
 use Rattle.zk_talk.specs.Ending.{IsEnding}
 use Rattle.zk_talk.specs.declared.message.Ending.{Ending}
 use Rattle.zk_talk.specs.declared.limits.Limits.{Limits}
+use Rattle.zk_records.specs.declared.profile.Profile.{Profile}
+use Rattle.zk_records.specs.Codes.{profile_number}
+use Rattle.zk_talk.specs.Ranges.{AreLimits}
 use Rattle.zk_lines.specs.Lines.{line}
 use Rattle.zk_lines.specs.Endings.{ending_text}
 use Rattle.zk_c.specs.declared.answer.LineAnswer.{LineAnswer}
@@ -41,6 +44,11 @@ pub record IsListed (limits : Limits) (pieces : List Piece) (bytes text : List �
 pub data TellsListing (client server waiting profile : ℕ) (h : History) (before after : List ℕ) (answer : LineAnswer) : Type 0 where
   told : (limits : Limits) (text : List ℕ) → AreNumbers client server waiting profile limits → IsListing limits h text → TellsText text before after answer → TellsListing client server waiting profile h before after answer
   lacks : answer ≡ no_line 5 → after ≡ before → TellsListing client server waiting profile h before after answer
+
+-- the same, where the numbers are those of limits
+abbrev pub ListsUnder : ℕ → ℕ → ℕ → ℕ → History → List ℕ → List ℕ → LineAnswer → Type 0
+ListsUnder client server waiting profile h before after answer =
+    (p : Profile) → profile ≡ profile_number p → AreLimits client server waiting → TellsListing client server waiting profile h before after answer
 
 -- nothing is listed: numbers are out of their ranges, or memory is wanted
 pub record ListsNothing (before after : List ℕ) (answer : LineAnswer) : Type 0 where

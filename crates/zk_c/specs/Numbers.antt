@@ -2,8 +2,6 @@
 use Rattle.std.specs.Prelude.{ℕ, zero, suc, ℤ, pos, Option, Some, None}
 use Rattle.zk_jute.specs.declared.fault.Reason.{Reason}
 use Rattle.zk_jute.specs.declared.fault.Reason.TheVariants as reasons
-use Rattle.zk_records.specs.declared.profile.Profile.{Profile}
-use Rattle.zk_records.specs.declared.profile.Profile.TheVariants.{V34, V35}
 use Rattle.zk_talk.specs.declared.message.Side.{Side}
 use Rattle.zk_talk.specs.declared.message.Side.TheVariants.{Client, Server}
 
@@ -42,8 +40,3 @@ expected_of reason = pos 0
 abbrev pub got_of : Reason → ℤ
 got_of (reasons.XidOrder expected got) = got
 got_of reason = pos 0
-
--- the number of a profile: its release, without the point
-abbrev pub profile_number : Profile → ℕ
-profile_number V34 = 34
-profile_number V35 = 35

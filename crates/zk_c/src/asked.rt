@@ -3,7 +3,7 @@ ghost use Rattle.std.specs.Prelude.{◌≡◌, ◌≢◌, ◌<◌, ◌^◌, List
 ghost use Rattle.zk_records.specs.declared.op.Op.{Op};
 ghost use Rattle.zk_records.specs.declared.op.Op.TheVariants as ops;
 ghost use Rattle.zk_records.specs.declared.op.PartOp.{PartOp};
-ghost use Rattle.zk_c.specs.Asked.{parts_of, AreParts, AreAsked};
+ghost use Rattle.zk_c.specs.Asked.{parts_of, AreParts, AreAsked, AreNoneAsked};
 
 use zk_asks::{Asked, Room};
 use zk_records::{Op, PartOp, Profile, op_of, part_of};
@@ -49,7 +49,7 @@ fn may_have(op: Op, numbers: &[i32]) -> bool
 impl<'a> Numbered<'a> {
     /// The operation of this number, with parts of these.
     pub fn of(number: i32, numbers: &'a [i32]) -> Option<Self>
-        ensures { MatchOption result ((op : Op) (parts : List PartOp) → AreAsked number numbers.now op parts → ⊥) (λ a. AreAsked number numbers.now a.op (parts_of a.numbers.now)) }
+        ensures { MatchOption result (AreNoneAsked number numbers.now) (λ a. AreAsked number numbers.now a.op (parts_of a.numbers.now)) }
     {
         let op = op_of(Profile::V35, number)?;
         if !are_few(numbers) {

@@ -1,8 +1,7 @@
 //! Pieces of a conversation that lie one behind the other.
-ghost use Rattle.std.specs.Prelude.{◌≡◌, ◌↔◌, IfOk, MatchOption};
+ghost use Rattle.std.specs.Prelude.{IfOk, MatchOption};
 ghost use Rattle.zk_talk.specs.Answer.{history_of};
-ghost use Rattle.zk_talk.specs.History.{History};
-ghost use Rattle.zk_c.specs.Cut.{AreCut};
+ghost use Rattle.zk_c.specs.Cut.{AreNotCut, AreJust};
 
 use crate::number::side_of;
 use std::alloc::{AllocError, Global};
@@ -24,7 +23,7 @@ pub fn cut_of<'a>(
     pieces: &[Piece],
     bytes: &'a [u8],
 ) -> Result<Option<Vec<(Side, &'a [u8])>>, AllocError>
-    ensures { IfOk result (λ found. MatchOption found ((h : History) → AreCut pieces.now bytes.now h → ⊥) (λ cut. (h : History) → AreCut pieces.now bytes.now h ↔ (h ≡ history_of cut.items))) }
+    ensures { IfOk result (λ found. MatchOption found (AreNotCut pieces.now bytes.now) (λ cut. AreJust pieces.now bytes.now (history_of cut.items))) }
 {
     let mut rest = bytes;
     let mut cut = Vec::new(alloc);

@@ -1,11 +1,9 @@
 //! The listing of a conversation that lies there whole.
 ghost use Rattle.std.specs.Prelude.{◌≡◌, ◌++◌, OnOk, IfOk, MatchOption};
-ghost use Rattle.zk_records.specs.declared.profile.Profile.{Profile};
 ghost use Rattle.zk_talk.specs.History.{History};
-ghost use Rattle.zk_talk.specs.Ranges.{AreLimits};
-ghost use Rattle.zk_c.specs.Numbers.{profile_number};
-ghost use Rattle.zk_c.specs.Cut.{AreCut};
-ghost use Rattle.zk_c.specs.Listing.{message_line, listing, IsListed, TellsListing, ListsNothing};
+ghost use Rattle.zk_c.specs.Handle.{AreNoLimits};
+ghost use Rattle.zk_c.specs.Cut.{AreCut, AreNotCut};
+ghost use Rattle.zk_c.specs.Listing.{message_line, listing, IsListed, ListsUnder, ListsNothing};
 
 use crate::answer::LineAnswer;
 use crate::cut::{Piece, cut_of};
@@ -44,7 +42,7 @@ fn listed(
     pieces: &[Piece],
     bytes: &[u8],
 ) -> Result<Option<Vec<u8>>, AllocError>
-    ensures { IfOk result (λ found. MatchOption found ((h : History) → AreCut pieces.now bytes.now h → ⊥) (λ text. IsListed limits pieces.now bytes.now text.items)) }
+    ensures { IfOk result (λ found. MatchOption found (AreNotCut pieces.now bytes.now) (λ text. IsListed limits pieces.now bytes.now text.items)) }
 {
     let Some(cut) = cut_of(alloc, pieces, bytes)? else {
         return Ok(None);
@@ -67,11 +65,11 @@ pub extern "C" fn zk_listing(
     out: &mut [u8],
 ) -> LineAnswer
     // Limits out of their ranges are refused.
-    ensures limits { ((p : Profile) → profile ≡ profile_number p → AreLimits client server waiting → ⊥) → ListsNothing out.old out.new result }
+    ensures limits { AreNoLimits client server waiting profile → ListsNothing out.old out.new result }
     // So are pieces that aren't just the bytes.
-    ensures pieces { ((h : History) → AreCut pieces.now bytes.now h → ⊥) → ListsNothing out.old out.new result }
+    ensures pieces { AreNotCut pieces.now bytes.now → ListsNothing out.old out.new result }
     // Else the listing is that of the pieces.
-    ensures listing { (p : Profile) (h : History) → profile ≡ profile_number p → AreLimits client server waiting → AreCut pieces.now bytes.now h → TellsListing client server waiting profile h out.old out.new result }
+    ensures listing { (h : History) → AreCut pieces.now bytes.now h → ListsUnder client server waiting profile h out.old out.new result }
 {
     let Some(limits) = limits_of(client, server, waiting, profile) else {
         return LineAnswer::none(RANGE);

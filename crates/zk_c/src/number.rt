@@ -1,7 +1,7 @@
 //! Numbers for C: what a call answers, sides, reasons.
-ghost use Rattle.std.specs.Prelude.{◌≡◌, ◌≢◌, MatchOption};
+ghost use Rattle.std.specs.Prelude.{◌≡◌};
 ghost use Rattle.zk_records.specs.declared.profile.Profile.{Profile};
-ghost use Rattle.zk_c.specs.Numbers.{side_number, side_of, reason_number, profile_number};
+ghost use Rattle.zk_c.specs.Numbers.{side_number, side_of, reason_number};
 
 use zk_jute::Reason;
 use zk_records::Profile;
@@ -72,16 +72,5 @@ pub fn reason_number(reason: Reason) -> u32
         Reason::Unasked => 13,
         Reason::XidOrder { .. } => 14,
         Reason::StreamEnd => 15,
-    }
-}
-
-/// The profile of this number, 34 or 35.
-pub fn profile_of(number: u32) -> Option<Profile>
-    ensures { MatchOption result ((profile : Profile) → number ≢ profile_number profile) (λ profile. number ≡ profile_number profile) }
-{
-    match number {
-        34 => Some(Profile::V34),
-        35 => Some(Profile::V35),
-        _ => None,
     }
 }

@@ -1,21 +1,20 @@
 //! Single payloads, judged with no handle.
-ghost use Rattle.std.specs.Prelude.{◌≡◌, ◌≢◌, ◌↔◌, List, IsTrue};
+ghost use Rattle.std.specs.Prelude.{◌≡◌, ◌≢◌, ◌↔◌, IsTrue};
 ghost use Rattle.zk_records.specs.declared.profile.Profile.{Profile};
-ghost use Rattle.zk_records.specs.declared.op.Op.{Op};
-ghost use Rattle.zk_records.specs.declared.op.PartOp.{PartOp};
 ghost use Rattle.zk_asks.specs.Held.{ClientFrame};
 ghost use Rattle.zk_asks.specs.Faults.{IsFirstFault, IsAskFault};
 ghost use Rattle.zk_answers.specs.Held.{ServerFrame};
 ghost use Rattle.zk_answers.specs.Faults.{IsConnectedFault, IsReplyFault, IsEventFault};
-ghost use Rattle.zk_c.specs.Numbers.{profile_number};
-ghost use Rattle.zk_c.specs.Asked.{AreAsked};
-ghost use Rattle.zk_c.specs.Judged.{payload_answer, TellsFault, IsToldBy, IsConnect, IsRequest, IsWelcome, IsReply, IsNotice, HasHead, IsOfEvent, IsOfReply};
+ghost use Rattle.zk_records.specs.Codes.{profile_number};
+ghost use Rattle.zk_c.specs.Asked.{AreNoneAsked, WhereAsked};
+ghost use Rattle.zk_c.specs.Judged.{payload_answer, TellsFault, IsToldBy, IsConnect, IsRequest, IsWelcome, IsReply, IsNotice, HasHead, HasNoHead, IsOfEvent, IsOfReply};
 
 use crate::asked::Numbered;
-use crate::number::{MISFIT, RANGE, WELL, profile_of, reason_number};
+use crate::number::{MISFIT, RANGE, WELL, reason_number};
 use zk_answers::{reply_head, scan_connected, scan_event, scan_reply};
 use zk_asks::{scan_ask, scan_first};
 use zk_jute::ItemFault;
+use zk_records::Profile;
 
 /// Whether a payload is a message's, and where not.
 #[repr(C)]
@@ -71,7 +70,7 @@ pub extern "C" fn zk_judge_request(profile: u32, bytes: &[u8]) -> PayloadAnswer
     // Else the first case that applies is told.
     ensures fault { (p : Profile) → profile ≡ profile_number p → result.status ≢ 0 → IsToldBy (IsAskFault p bytes.now) result }
 {
-    let Some(profile) = profile_of(profile) else {
+    let Some(profile) = Profile::of_number(profile) else {
         return PayloadAnswer::none(RANGE);
     };
     match scan_ask(profile, bytes) {
@@ -119,14 +118,14 @@ fn is_of_reply(bytes: &[u8]) -> bool
 #[unsafe(no_mangle)]
 pub extern "C" fn zk_judge_reply(operation: i32, parts: &[i32], bytes: &[u8]) -> PayloadAnswer
     // Numbers that are none's, or parts of another operation than multi, are refused.
-    ensures range { ((op : Op) (ops : List PartOp) → AreAsked operation parts.now op ops → ⊥) → result ≡ payload_answer 67 0 }
+    ensures range { AreNoneAsked operation parts.now → result ≡ payload_answer 67 0 }
     // A header with the xid of events is another message's.
-    ensures event { (op : Op) (ops : List PartOp) → AreAsked operation parts.now op ops → HasHead IsOfEvent bytes.now → result ≡ payload_answer 82 0 }
+    ensures event { WhereAsked operation parts.now (λ op ops. HasHead IsOfEvent bytes.now → result ≡ payload_answer 82 0) }
     // It is taken for one exactly where it is one's.
-    ensures found { (op : Op) (ops : List PartOp) → AreAsked operation parts.now op ops → result.status ≡ 0 → (s : ServerFrame) × IsReply op ops bytes.now s }
-    ensures only { (op : Op) (ops : List PartOp) → AreAsked operation parts.now op ops → (s : ServerFrame) → IsReply op ops bytes.now s → result ≡ payload_answer 0 0 }
+    ensures found { WhereAsked operation parts.now (λ op ops. result.status ≡ 0 → (s : ServerFrame) × IsReply op ops bytes.now s) }
+    ensures only { WhereAsked operation parts.now (λ op ops. (s : ServerFrame) → IsReply op ops bytes.now s → result ≡ payload_answer 0 0) }
     // Else the first case that applies is told.
-    ensures fault { (op : Op) (ops : List PartOp) → AreAsked operation parts.now op ops → (HasHead IsOfEvent bytes.now → ⊥) → result.status ≢ 0 → IsToldBy (IsReplyFault op ops bytes.now) result }
+    ensures fault { WhereAsked operation parts.now (λ op ops. HasNoHead IsOfEvent bytes.now → result.status ≢ 0 → IsToldBy (IsReplyFault op ops bytes.now) result) }
 {
     let Some(asked) = Numbered::of(operation, parts) else {
         return PayloadAnswer::none(RANGE);
@@ -149,7 +148,7 @@ pub extern "C" fn zk_judge_event(bytes: &[u8]) -> PayloadAnswer
     ensures found { result.status ≡ 0 → (s : ServerFrame) × IsNotice bytes.now s }
     ensures only { (s : ServerFrame) → IsNotice bytes.now s → result ≡ payload_answer 0 0 }
     // Else the first case that applies is told.
-    ensures fault { (HasHead IsOfReply bytes.now → ⊥) → result.status ≢ 0 → IsToldBy (IsEventFault bytes.now) result }
+    ensures fault { HasNoHead IsOfReply bytes.now → result.status ≢ 0 → IsToldBy (IsEventFault bytes.now) result }
 {
     if is_of_reply(bytes) {
         return PayloadAnswer::none(MISFIT);

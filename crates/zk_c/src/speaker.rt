@@ -1,11 +1,8 @@
 //! A speaker behind a handle.
 ghost use Rattle.std.specs.Prelude.{◌≡◌, ◌≢◌, ◌⊎◌, Some, None, IsSome, MatchOption};
 ghost use Rattle.std.specs.Option.{is_some};
-ghost use Rattle.zk_records.specs.declared.profile.Profile.{Profile};
-ghost use Rattle.zk_talk.specs.Ranges.{AreLimits};
-ghost use Rattle.zk_c.specs.Numbers.{profile_number};
 ghost use Rattle.zk_c.specs.Answer.{no_line};
-ghost use Rattle.zk_c.specs.Handle.{TellsText};
+ghost use Rattle.zk_c.specs.Handle.{TellsText, AreNoLimits};
 ghost use Rattle.zk_c.specs.Voice.{VoiceState};
 ghost use Rattle.zk_c.specs.Saying.{say_answer, SaysLine, IsSilent};
 
@@ -82,7 +79,7 @@ pub extern "C" fn zk_speaker_new(
     // A handle that holds a speaker keeps it.
     ensures in_use { IsSome handle.old.held.value → result ≡ 66 }
     // Limits in their ranges are refused for want of memory alone.
-    ensures range { result ≡ 67 → (p : Profile) → profile ≡ profile_number p → AreLimits client server waiting → ⊥ }
+    ensures range { result ≡ 67 → AreNoLimits client server waiting profile }
     ensures status { handle.old.held.value ≡ None → (result ≡ 0) ⊎ (result ≡ 5) ⊎ (result ≡ 67) }
     // What is made has said nothing.
     ensures new { result ≡ 0 → IsSilent client server waiting profile handle.new.held.value }

@@ -1,21 +1,21 @@
 //! A conversation behind a handle.
-ghost use Rattle.std.specs.Prelude.{◌≡◌, ◌≢◌, ◌↔◌, ◌⊎◌, Option, Some, None, [], IsSome, IfSome, MatchOption};
+ghost use Rattle.std.specs.Prelude.{◌≡◌, ◌≢◌, ◌⊎◌, Option, Some, None, IsSome, IfSome, MatchOption};
 ghost use Rattle.std.specs.Option.{is_some};
 ghost use Rattle.zk_talk.specs.declared.message.Side.{Side};
 ghost use Rattle.zk_records.specs.declared.profile.Profile.{Profile};
-ghost use Rattle.zk_talk.specs.Ranges.{AreLimits};
 ghost use Rattle.zk_talk.specs.Stands.{TalkState};
-ghost use Rattle.zk_c.specs.Numbers.{side_of, profile_number};
+ghost use Rattle.zk_c.specs.Numbers.{side_of};
 ghost use Rattle.zk_c.specs.Answer.{no_step, no_ending, no_message, no_line};
-ghost use Rattle.zk_c.specs.Handle.{AreNumbers, IsNew, TellsStep, TellsEnding, IsView, IsLine, IsEndingLine};
+ghost use Rattle.zk_c.specs.Handle.{AreNumbers, IsNew, TellsStep, TellsEnding, IsView, IsLine, IsEndingLine, AreNoLimits};
 
 use crate::answer::{EndingAnswer, LineAnswer, MessageAnswer, StepAnswer};
 use crate::conversation::Conversation;
 use crate::loose::Loose;
-use crate::number::{EMPTY, IN_USE, NO_MEMORY, RANGE, WELL, profile_of, side_of};
+use crate::number::{EMPTY, IN_USE, NO_MEMORY, RANGE, WELL, side_of};
 use crate::talk_box::TalkBox;
 use std::alloc::Global;
 use std::mem::replace;
+use zk_records::Profile;
 use zk_talk::Limits;
 
 /// A talk that C keeps, or none: all bytes 0.
@@ -70,10 +70,10 @@ impl TalkHandle {
 
 /// Limits of these numbers.
 pub fn limits_of(client: u32, server: u32, waiting: u32, profile: u32) -> Option<Limits>
-    ensures none { result ≡ None → (p : Profile) → profile ≡ profile_number p → AreLimits client server waiting → ⊥ }
+    ensures none { result ≡ None → AreNoLimits client server waiting profile }
     ensures value { IfSome result (λ l. AreNumbers client server waiting profile l) }
 {
-    let profile = profile_of(profile)?;
+    let profile = Profile::of_number(profile)?;
     let limits = Limits::new(client, server, waiting)?;
     Some(limits.with_profile(profile))
 }
@@ -91,7 +91,7 @@ pub extern "C" fn zk_talk_new(
     // A handle that holds a talk keeps it.
     ensures in_use { IsSome handle.old.held.value → result ≡ 66 }
     // Limits in their ranges are refused for want of memory alone.
-    ensures range { result ≡ 67 → (p : Profile) → profile ≡ profile_number p → AreLimits client server waiting → ⊥ }
+    ensures range { result ≡ 67 → AreNoLimits client server waiting profile }
     ensures status { handle.old.held.value ≡ None → (result ≡ 0) ⊎ (result ≡ 5) ⊎ (result ≡ 67) }
     // What is made stands for the empty history.
     ensures new { result ≡ 0 → IsNew client server waiting profile handle.new.held.value }

@@ -2,8 +2,8 @@
 ghost use Rattle.std.specs.Prelude.{◌≡◌, ◌≤◌, ◌+◌, ◌-◌, ℕ, List, [], ◌++◌, ◌↔◌, length, take, drop, IfOk, IfErr, IfSome, IfNone, OnOk, IsTrue, Err};
 ghost use Rattle.std.specs.Prelude.{vec_capacity};
 ghost use Rattle.zk_frames.specs.declared.frames.FrameFault.TheVariants.{LengthRange};
-ghost use Rattle.zk_frames.specs.Framing.{frame, IsCut};
-ghost use Rattle.zk_frames.specs.Held.{IsWhole, IsRefused, IsHeld, IsNow, IsLeft, IsTaken, IsRefusal, GoesOn, IsFront};
+ghost use Rattle.zk_frames.specs.Framing.{frame};
+ghost use Rattle.zk_frames.specs.Held.{IsWhole, IsRefused, IsHeld, IsNow, IsLeft, IsTaken, IsRefusal, GoesOnAlways, IsFront};
 ghost use Rattle.zk_frames.specs.Advance.{left_of, IsAnswer};
 
 use crate::cutter::{Standing, cut};
@@ -79,7 +79,7 @@ impl Frames {
         // A length out of range is refused for good.
         ensures again { IsRefused self.old → (result ≡ Err LengthRange) × (self.new ≡ self.old) }
         // The bytes that were taken are whole frames and what is held.
-        ensures stream { IfOk result (λ t. (before taken : List ℕ) (payloads : List (List ℕ)) → IsLeft self.old before → IsCut self.old.limit taken payloads before → GoesOn self.old.limit taken payloads (take t.used piece.now) t.whole self.new.bytes) }
+        ensures stream { IfOk result (λ t. GoesOnAlways self.old (take t.used piece.now) t.whole self.new.bytes) }
     {
         if let Standing::Refused = self.standing {
             return Err(FrameFault::LengthRange);

@@ -5,6 +5,7 @@ use Rattle.zk_jute.specs.declared.fault.Reason.TheVariants.{Trailing}
 use Rattle.zk_jute.specs.Item.{Boolean, Item, ABoolean, bytes_of}
 use Rattle.zk_jute.specs.Layout.{Layout, End, One, IsValueOf}
 use Rattle.zk_jute.specs.Faults.{IsFault, Opens}
+use Rattle.zk_jute.specs.Wired.{Wired}
 pub use Rattle.zk_jute.specs.Told.{IsReadAs}
 
 abbrev pub flag_items : Option Bool → List Item
@@ -13,6 +14,10 @@ flag_items (Some b) = ABoolean b ∷ []
 
 abbrev pub flag_layout : Layout
 flag_layout = One Boolean End
+
+-- a value's items, and those of the boolean behind it
+abbrev pub flagged : {X : Type 0} → Wired X → X → Option Bool → List Item
+flagged wired value flag = wired.items value ++ flag_items flag
 
 -- the items are those of a value of the layout, and of a boolean where it is there
 abbrev pub IsFlagged : Layout → List Item → Type 0

@@ -1,11 +1,11 @@
 //! A payload that is a value, and then nothing or one boolean: those that open a connection, where
 //! old peers leave the boolean out (`ClientCnxnSocket.readConnectResult` of ZooKeeper 3.4).
-ghost use Rattle.std.specs.Prelude.{◌≡◌, ◌≢◌, ◌++◌, Option, Bool, Ok, IfOk, IfErr};
+ghost use Rattle.std.specs.Prelude.{◌≡◌, ◌≢◌, Option, Bool, Ok, IfOk, IfErr};
 ghost use Rattle.zk_jute.specs.declared.fault.Reason.TheVariants.{NoMemory};
 ghost use Rattle.zk_jute.specs.Standing.{IsPlain};
 ghost use Rattle.zk_jute.specs.Item.{bytes_of, HaveBytes};
-ghost use Rattle.zk_jute.specs.Told.{IsReadAs, IsTold};
-ghost use Rattle.zk_jute.specs.Flagged.{flag_items, IsFlaggedFault};
+ghost use Rattle.zk_jute.specs.Told.{IsReadAs, IsTold, IsSurelyTold};
+ghost use Rattle.zk_jute.specs.Flagged.{flag_items, flagged, IsFlaggedFault};
 
 use crate::fault::{ItemFault, Reason};
 use crate::output::Output;
@@ -27,7 +27,7 @@ impl Spell for Option<bool> {
 
 #[tactic(auto, using(crate::proofs::Flagged::refusals))]
 fn flagged_of<P: Source, T: Stands<P>>(src: &P) -> Result<(T, Option<bool>), ItemFault>
-    ensures found { IfOk result (λ x. HaveBytes (T.wired.items x.0 ++ flag_items x.1) × (P.payload src.now ≡ bytes_of (T.wired.items x.0 ++ flag_items x.1))) }
+    ensures found { IfOk result (λ x. HaveBytes (flagged T.wired x.0 x.1) × (P.payload src.now ≡ bytes_of (flagged T.wired x.0 x.1))) }
     ensures fault { IfErr result (λ e. IsTold (IsFlaggedFault T.wired.layout (P.payload src.now)) e) }
     ensures plain { IsPlain P.grows T.wired.layout → IfErr result (λ e. e.reason ≢ NoMemory) }
 {
@@ -50,9 +50,9 @@ pub fn read_flagged<'a, T: Stands<Kept<'a>>>(
     payload: &'a [u8],
 ) -> Result<(T, Option<bool>), ItemFault>
     // What is read is the whole payload.
-    ensures found { IfOk result (λ x. HaveBytes (T.wired.items x.0 ++ flag_items x.1) × (payload.now ≡ bytes_of (T.wired.items x.0 ++ flag_items x.1))) }
+    ensures found { IfOk result (λ x. HaveBytes (flagged T.wired x.0 x.1) × (payload.now ≡ bytes_of (flagged T.wired x.0 x.1))) }
     // What has the form is read, unless memory is wanted.
-    ensures only { (x : T) (flag : Option Bool) → HaveBytes (T.wired.items x ++ flag_items flag) → payload.now ≡ bytes_of (T.wired.items x ++ flag_items flag) → IsReadAs (x, flag) result }
+    ensures only { (x : T) (flag : Option Bool) → HaveBytes (flagged T.wired x flag) → payload.now ≡ bytes_of (flagged T.wired x flag) → IsReadAs (x, flag) result }
     // Else the first case that applies is told, unless memory is wanted.
     ensures fault { IfErr result (λ e. IsTold (IsFlaggedFault T.wired.layout payload.now) e) }
 {
@@ -67,11 +67,11 @@ pub fn scan_flagged<'a, T: Stands<Payload<'a>>>(
     payload: &'a [u8],
 ) -> Result<(T, Option<bool>), ItemFault>
     // What is read is the whole payload.
-    ensures found { IfOk result (λ x. HaveBytes (T.wired.items x.0 ++ flag_items x.1) × (payload.now ≡ bytes_of (T.wired.items x.0 ++ flag_items x.1))) }
+    ensures found { IfOk result (λ x. HaveBytes (flagged T.wired x.0 x.1) × (payload.now ≡ bytes_of (flagged T.wired x.0 x.1))) }
     // What has the form is read.
-    ensures only { (x : T) (flag : Option Bool) → HaveBytes (T.wired.items x ++ flag_items flag) → payload.now ≡ bytes_of (T.wired.items x ++ flag_items flag) → result ≡ Ok (x, flag) }
+    ensures only { (x : T) (flag : Option Bool) → HaveBytes (flagged T.wired x flag) → payload.now ≡ bytes_of (flagged T.wired x flag) → result ≡ Ok (x, flag) }
     // Else the first case that applies is told.
-    ensures fault { IfErr result (λ e. IsTold (IsFlaggedFault T.wired.layout payload.now) e × (e.reason ≢ NoMemory)) }
+    ensures fault { IfErr result (IsSurelyTold (IsFlaggedFault T.wired.layout payload.now)) }
 {
     flagged_of(&Payload { bytes: payload })
 }

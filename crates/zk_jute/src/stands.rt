@@ -1,10 +1,9 @@
 //! Values that are read from a payload, copied out of it or borrowed from it.
-ghost use Rattle.std.specs.Prelude.{◌≡◌, ◌≢◌, ℕ, ◌≤◌, ◌<◌, List, length, get_or, IfOk, IfErr, IfSome};
+ghost use Rattle.std.specs.Prelude.{◌≡◌, ℕ, ◌≤◌, ◌<◌, List, length, get_or, IfOk, IfErr, IfSome};
 ghost use Rattle.std.specs.List.{flat_map};
-ghost use Rattle.zk_jute.specs.declared.fault.Reason.TheVariants.{NoMemory};
 ghost use Rattle.zk_jute.specs.Item.{HaveBytes};
 ghost use Rattle.zk_jute.specs.Layout.{IsValueOf};
-ghost use Rattle.zk_jute.specs.Told.{StandsAt, IsReadAs, HasToldFault, IsToldFault};
+ghost use Rattle.zk_jute.specs.Told.{StandsAt, IsReadAs, IsToldFault, HasSureFault};
 ghost use Rattle.zk_jute.specs.Reading.{Fails, Gives, items_at, times_at};
 ghost use Rattle.zk_jute.specs.Wired.{Wired, int, long, boolean, ustring, buffer, vector, ◌and◌};
 ghost use Rattle.zk_jute.specs.Standing.{IsPlain};
@@ -47,7 +46,7 @@ pub trait Stands<P: Source>: Form {
         // Nothing stands there where a fault is answered, and the items fix which one it is.
         ensures fault { IfErr result (λ e. IsToldFault (IsValueOf Self.wired.layout) (P.payload src.now) place e) }
         // Numbers, booleans, and what is borrowed, never want memory.
-        ensures plain { IsPlain P.grows Self.wired.layout → IfErr result (λ e. HasToldFault (IsValueOf Self.wired.layout) (P.payload src.now) place e × (e.reason ≢ NoMemory)) }
+        ensures plain { IsPlain P.grows Self.wired.layout → IfErr result (HasSureFault (IsValueOf Self.wired.layout) (P.payload src.now) place) }
         ensures within { IfOk result (λ x. x.1 ≤ length (P.payload src.now)) }
     {
         are_bytes(src.payload());
@@ -64,7 +63,7 @@ pub fn read_ref<'a, T: Stands<Payload<'a>>>(
 ) -> Result<(T, usize), ItemFault>
     requires { place ≤ length src.now.bytes.now }
     ensures found { IfOk result (λ x. IsValueOf T.wired.layout (T.wired.items x.0) × StandsAt (T.wired.items x.0) src.now.bytes.now place x.1) }
-    ensures fault { IfErr result (λ e. HasToldFault (IsValueOf T.wired.layout) src.now.bytes.now place e × (e.reason ≢ NoMemory)) }
+    ensures fault { IfErr result (HasSureFault (IsValueOf T.wired.layout) src.now.bytes.now place) }
     ensures within { IfOk result (λ x. x.1 ≤ length src.now.bytes.now) }
 {
     T::read_in(src, place)

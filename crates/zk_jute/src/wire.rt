@@ -1,12 +1,10 @@
 //! Values that stand as bytes in a payload: `BinaryInputArchive` and `BinaryOutputArchive` of
 //! ZooKeeper's jute.
-ghost use Rattle.std.specs.Prelude.{◌≡◌, ◌≢◌, ℕ, ◌≤◌, ◌<◌, ◌++◌, List, length, IfOk, IfErr, IsTrue, OnOk, OnErr};
-ghost use Rattle.zk_jute.specs.declared.fault.Reason.{Reason};
-ghost use Rattle.zk_jute.specs.declared.fault.Reason.TheVariants.{NoMemory};
+ghost use Rattle.std.specs.Prelude.{◌≡◌, ℕ, ◌≤◌, ◌<◌, ◌++◌, List, length, IfOk, IfErr, IsTrue, OnOk, OnErr};
 ghost use Rattle.zk_jute.specs.Faults.{IsFault};
-ghost use Rattle.zk_jute.specs.Item.{Item, bytes_of, HaveBytes, Fit, Keeps, IsSizeWithin};
+ghost use Rattle.zk_jute.specs.Item.{Item, bytes_of, HaveBytes, Fit, IsSizeWithin};
 ghost use Rattle.zk_jute.specs.Layout.{Layout, Unfolds, IsValueOf, HasFields, takes_none};
-ghost use Rattle.zk_jute.specs.Told.{StandsAt, IsReadAs, HasToldFault, IsToldFault};
+ghost use Rattle.zk_jute.specs.Told.{StandsAt, IsReadAs, IsToldFault, HasSureFault};
 ghost use Rattle.zk_jute.specs.Once.{HaveOneFault, IsReadFirst, BeginAlike};
 ghost use Rattle.zk_jute.specs.Reading.{Fails, Gives, items_at};
 
@@ -73,7 +71,7 @@ pub trait Wire: Spell + Sized + Drop {
         // Nothing stands there where a fault is answered, and the items fix which one it is.
         ensures fault { IfErr result (λ e. IsToldFault (IsValueOf layout) src.now place e) }
         // Numbers, booleans and records of these never want memory.
-        ensures plain { IsTrue (takes_none layout) → IfErr result (λ e. HasToldFault (IsValueOf layout) src.now place e × (e.reason ≢ NoMemory)) }
+        ensures plain { IsTrue (takes_none layout) → IfErr result (HasSureFault (IsValueOf layout) src.now place) }
         ensures within { IfOk result (λ x. x.1 ≤ length src.now) }
     {
         Self::decode(alloc, src, place)

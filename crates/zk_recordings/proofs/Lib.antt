@@ -2,5 +2,6 @@ pub mod Lists
 pub mod Walks
 pub mod Stages
 pub mod Accepts
+pub mod Passing
 pub mod Any
 pub mod Once

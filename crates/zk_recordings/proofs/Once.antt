@@ -1,5 +1,5 @@
 -- Bytes are one recording at most: the one that is read from them.
-use Rattle.std.proofs.Common.{◌≡◌, ℕ, ◌+◌, ◌<◌, ◌≤◌, zero, suc, List, [], ◌∷◌, ◌++◌, length, take, drop, Bool, true, false, cond, nat_lt, refl, sym, ◌∙◌, ap, subst, append_assoc, append-nil, arith, length-append}
+use Rattle.std.proofs.Common.{◌≡◌, ℕ, ◌<◌, ◌≤◌, zero, suc, List, [], ◌∷◌, ◌++◌, length, take, drop, cond, nat_lt, refl, sym, ◌∙◌, ap, append_assoc, append-nil, arith, length-append}
 use Rattle.std.specs.List.{All, flat_map}
 use Rattle.std.specs.Str.{bytes_eq}
 use Rattle.std.proofs.lemmas.List.Elements.{All-head, All-tail}
@@ -10,7 +10,7 @@ use Rattle.zk_recordings.specs.declared.parts.Format.{Format}
 use Rattle.zk_recordings.specs.declared.parts.Format.TheVariants.{Zkr1, Zkr2}
 use Rattle.zk_recordings.specs.declared.parts.Part.TheVariants.{Letters}
 use Rattle.zk_recordings.specs.Parts.{letters, number, head_parts, piece_parts}
-use Rattle.zk_recordings.specs.Recording.{AreValues, spelled, Break, IsBreak, break_bytes, Head, First, Second, format_of, head_values, IsHead, head_bytes, Piece, piece_values, IsTimed, IsPiece, IsCut, piece_bytes, no_time, side_byte, Place, AtLetters, InHead, InPieces, front, Recording, Breaks, Ends, Spells, nothing}
+use Rattle.zk_recordings.specs.Recording.{AreValues, spelled, Break, IsBreak, break_bytes, Head, First, Second, format_of, IsHead, head_bytes, Piece, piece_values, IsTimed, IsPiece, IsCut, piece_bytes, no_time, side_byte, AtLetters, InHead, InPieces, front, Recording, Breaks, Ends, Spells, nothing}
 use Rattle.zk_recordings.proofs.Walks.{Walk, Walked, Broke, walk, walk-values, walk-break, spelled-append, cond-true, cond-false, lt-true, lt-false}
 
 abbrev pub with_content : Piece → List ℕ → Piece

@@ -1,28 +1,19 @@
 -- One step of the reader of recordings.
-use Rattle.std.proofs.Common.{◌≡◌, ◌≢◌, ℕ, ◌+◌, ◌-◌, ◌<◌, ◌≤◌, inl, inr, List, [], ◌∷◌, ◌++◌, length, take, set, map, Option, None, Some, true, false, IfSome, IsSome, ◌↔◌, refl, sym, ap, ◌∙◌, subst, append_assoc, append-nil, arith, length-append, length-take}
-use Rattle.std.specs.List.{All, flat_map}
-use Rattle.std.proofs.lemmas.List.{take_more_set, take_all, map-append}
+use Rattle.std.proofs.Common.{◌≡◌, ◌≢◌, ℕ, ◌+◌, ◌<◌, ◌≤◌, List, [], ◌∷◌, ◌++◌, length, take, set, None, Some, false, refl, sym, ap, ◌∙◌, subst, append_assoc, append-nil, arith, length-append, length-take}
+use Rattle.std.proofs.lemmas.List.{take_more_set, map-append}
 use Rattle.std.proofs.Math.ListN.{length-set}
-use Rattle.std.proofs.Math.Seq.{take-length}
-use Rattle.zk_talk.specs.declared.limits.Limits.{Limits}
-use Rattle.zk_talk.specs.declared.message.Side.{Side}
-use Rattle.zk_talk.specs.Ranges.{AreLimits}
-use Rattle.zk_talk.specs.History.{History, on}
-use Rattle.zk_recordings.specs.declared.parts.Damage.{Damage}
+use Rattle.zk_talk.specs.History.{on}
 use Rattle.zk_recordings.specs.declared.parts.Damage.TheVariants.{Short}
 use Rattle.zk_recordings.specs.declared.parts.DamageAt.{DamageAt}
-use Rattle.zk_recordings.specs.declared.parts.Format.{Format}
 use Rattle.zk_recordings.specs.declared.parts.Format.TheVariants.{Zkr1, Zkr2}
 use Rattle.zk_recordings.specs.declared.parts.Part.{Part}
 use Rattle.zk_recordings.specs.declared.parts.Part.TheVariants.{Letters, ClientLimit, ServerLimit, Waiting, Profile, SideByte, Time, Size}
 use Rattle.zk_recordings.specs.declared.recording.Stage.{Stage}
 use Rattle.zk_recordings.specs.declared.recording.Stage.TheVariants.{Fixed, Content, Damaged}
 use Rattle.zk_recordings.specs.declared.recording.State.{State}
-use Rattle.zk_recordings.specs.Parts.{number, width, is_good, letters, damage_bad, head_parts, piece_parts}
-use Rattle.zk_recordings.specs.HeadLimits.{limits_or, limits_by, are_or_not}
-use Rattle.zk_recordings.specs.Recording.{IsValue, spelled, End, Cut, Bad, IsEnd, end_bytes, Break, IsBreakIn, IsBreak, break_bytes, Head, First, Second, format_of, head_limits, head_bytes, Piece, piece_values, IsPiece, IsCut, piece_bytes, piece_history, side_byte, Place, AtLetters, InHead, InPieces, parts_at, IsPlace, front, Recording, Breaks, Ends, Spells, place_of, begun_of, begun_history, damage_of, behind, nothing}
-use Rattle.zk_recordings.specs.Reading.{chosen, HasHead, HasHeadAt, Knows, before_size, AtPart, AtFixed, AtContent, IsDecidedBy, AtStage, IsAt, then_at, MayHold, GoesOn, within, in_head, ends, ReadsOn}
-use Rattle.zk_recordings.proofs.Lists.{flat_map-snoc, on-append}
+use Rattle.zk_recordings.specs.Parts.{width, is_good, damage_bad, piece_parts}
+use Rattle.zk_recordings.specs.Recording.{spelled, End, Cut, Bad, IsEnd, end_bytes, Break, IsBreakIn, IsBreak, Head, First, Second, format_of, Piece, piece_values, IsPiece, piece_bytes, piece_history, Place, AtLetters, InHead, InPieces, parts_at, front, Recording, Breaks, Ends, Spells, place_of, begun_of, begun_history, damage_of, behind, nothing}
+use Rattle.zk_recordings.specs.Reading.{chosen, HasHead, HasHeadAt, Knows, AtPart, AtFixed, AtContent, IsDecidedBy, AtStage, IsAt, then_at, MayHold, within, ends, ReadsOn}
 use Rattle.zk_recordings.proofs.Any.{same-values, begun-with, bytes-with, front-snoc, are-snoc}
 use Rattle.zk_recordings.proofs.Walks.{spelled-append, length-spelled}
 

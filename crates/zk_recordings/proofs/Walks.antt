@@ -1,5 +1,5 @@
 -- Values of parts are read from bytes in one way.
-use Rattle.std.proofs.Common.{◌≡◌, ℕ, ◌+◌, ◌<◌, ◌≤◌, ◌⊎◌, inl, inr, List, [], ◌∷◌, ◌++◌, length, take, drop, Bool, true, false, cond, nat_lt, refl, sym, ◌∙◌, ap, subst, append_assoc, arith, length-append, length-take, length-drop}
+use Rattle.std.proofs.Common.{◌≡◌, ℕ, ◌+◌, ◌<◌, ◌≤◌, inl, inr, List, [], ◌∷◌, ◌++◌, length, take, drop, Bool, true, false, cond, nat_lt, refl, sym, ◌∙◌, ap, subst, append_assoc, arith, length-append, length-take}
 use Rattle.std.proofs.lemmas.Bool.{cases_lt, cases_Bool}
 use Rattle.std.proofs.lemmas.Bool.Decides.{nat_tests}
 use Rattle.std.proofs.lemmas.List.{take_at, drop_at, take-append-drop}

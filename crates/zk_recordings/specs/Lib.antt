@@ -2,3 +2,4 @@ pub mod Parts
 pub mod HeadLimits
 pub mod Recording
 pub mod Reading
+pub mod Heads

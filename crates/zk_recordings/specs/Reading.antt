@@ -13,7 +13,7 @@ use Rattle.zk_recordings.specs.declared.recording.Stage.{Stage}
 use Rattle.zk_recordings.specs.declared.recording.Stage.TheVariants.{Fixed, Content, Damaged}
 use Rattle.zk_recordings.specs.declared.recording.State.{State}
 use Rattle.zk_recordings.specs.Parts.{number, width}
-use Rattle.zk_recordings.specs.Recording.{Head, format_of, head_limits, Piece, piece_values, piece_bytes, piece_history, side_byte, no_time, Place, AtLetters, InHead, InPieces, Break, Cut, Bad, Recording, Breaks, Ends, Spells, place_of, begun_of, begun_history, damage_of, behind, nothing}
+use Rattle.zk_recordings.specs.Recording.{Head, format_of, head_limits, Piece, piece_values, piece_bytes, piece_history, side_byte, no_time, Place, AtLetters, InHead, InPieces, Cut, Bad, Recording, Breaks, Ends, Spells, place_of, begun_of, begun_history, damage_of, behind, nothing}
 
 -- the limits that a head has, else the options
 abbrev pub chosen : Option Limits → Limits → Limits
@@ -182,6 +182,10 @@ pub record ReadsOn (s : State) (x : List ℕ) (old : Recording) (used : List ℕ
 abbrev pub Accepts : State → Part → List ℕ → State → Type 0
 Accepts s part bytes new = (x begun : List ℕ) (byte : ℕ) (r : Recording) →
     begun ++ byte ∷ [] ≡ bytes → Spells x r → HasHeadAt s (place_of r) → AtPart s part begun r → ReadsOn new x r (byte ∷ []) None
+
+-- whatever was read before a part and of it, these bytes are read on, and this state stands behind them
+abbrev pub GoesOnFrom : State → Part → List ℕ → ℕ → List ℕ → State → Type 0
+GoesOnFrom s part bytes got used new = (x : List ℕ) (r : Recording) → Spells x r → HasHeadAt s (place_of r) → AtFixed s part bytes got r → ReadsOn new x r used None
 
 -- the reader stands behind a head or a whole piece of this format, and nothing is begun; or it does not
 abbrev pub IsBetweenOf : State → Format → Type 0

@@ -1,6 +1,7 @@
 //! Recordings of a conversation, in two formats: the table of their parts, and the reader that takes them in blocks.
 #![tactic(auto)]
 
+mod heads;
 mod parts;
 mod recording;
 

@@ -1,14 +1,16 @@
 //! The reader of recordings of both formats: a head, and pieces of either side.
-ghost use Rattle.std.specs.Prelude.{◌≡◌, ◌+◌, ◌^◌, ◌<◌, ◌≤◌, ◌++◌, ◌∷◌, ℕ, List, [], true, None, Some, MatchOption, length, take};
+ghost use Rattle.std.specs.Prelude.{◌≡◌, ◌+◌, ◌^◌, ◌<◌, ◌≤◌, ◌∷◌, ℕ, List, [], true, None, Some, MatchOption, IfSome, length, take};
 ghost use Rattle.zk_recordings.specs.declared.parts.DamageAt.{DamageAt};
 ghost use Rattle.zk_recordings.specs.declared.parts.Format.TheVariants.{Zkr1, Zkr2};
 ghost use Rattle.zk_recordings.specs.declared.parts.Part.TheVariants.{Letters, ClientLimit, SideByte, Time, Size};
 ghost use Rattle.zk_recordings.specs.declared.recording.Stage.TheVariants.{Content};
 ghost use Rattle.zk_recordings.specs.HeadLimits.{limits_or, profile_by};
 ghost use Rattle.zk_recordings.specs.Parts as parts;
-ghost use Rattle.zk_recordings.specs.Recording.{Recording, Breaks, AtLetters, Cut, Spells, damage_of, limits_of, place_of, side_byte};
-ghost use Rattle.zk_recordings.specs.Reading.{Accepts, AtFixed, IsAt, IsBetweenOf, IsNeverBetween, IsDamagedBy, IsUndamaged, IsHeaded, IsSound, ReadsOn, HasHeadAt, chosen, place_in, then_at};
+ghost use Rattle.zk_recordings.specs.Recording.{Recording, Breaks, AtLetters, Cut, damage_of, limits_of, place_of, side_byte};
+ghost use Rattle.zk_recordings.specs.Heads.{PassesHead};
+ghost use Rattle.zk_recordings.specs.Reading.{GoesOnFrom, Accepts, IsAt, IsBetweenOf, IsNeverBetween, IsDamagedBy, IsUndamaged, IsHeaded, IsSound, ReadsOn, chosen, place_in, then_at};
 
+use crate::heads::{behind_time, side_named, size_in};
 use crate::parts::{Bytes, Damage, DamageAt, Format, Part, number, word};
 use std::marker::Model;
 use zk_records::Profile;
@@ -197,7 +199,7 @@ impl State {
         requires room { self.at + got + 1 < 2 ^ 64 }
         ensures sound { IsSound result }
         ensures place { place_in result ≤ self.at + got + 1 }
-        ensures reads { (x : List ℕ) (r : Recording) → Spells x r → HasHeadAt self (place_of r) → AtFixed self part bytes got r → ReadsOn result x r (byte ∷ []) None }
+        ensures reads { GoesOnFrom self part bytes got (byte ∷ []) result }
     {
         bytes[got] = byte;
         if got + 1 < part.width() {
@@ -216,6 +218,48 @@ impl State {
             stage: Stage::Damaged(damage),
             ..self
         }
+    }
+
+    /// Behind the whole head of a piece that the block begins with, and how long that is; None says no more.
+    // Most pieces come so, with all their content in the block: 11% fewer instructions in `check` on small messages than
+    // byte by byte.
+    #[inline(always)]
+    fn pass_head(self, block: &[u8]) -> Option<(State, usize)>
+        requires { self.at + length block.now < 2 ^ 64 }
+        ensures { IfSome result (λ x. PassesHead self block.now x.1 x.0) }
+    {
+        let side = side_named(*block.first()?)?;
+        let at = behind_time(self.format, block)?;
+        let size = size_in(block, at)?;
+        let used = at + 4;
+        let state = State {
+            at: self.at + used as u64,
+            stage: Stage::Content { got: 0 },
+            side,
+            size,
+            ..self
+        };
+        Some((state, used))
+    }
+
+    /// Within a part: behind the next byte, or behind the whole head of a piece, and how many bytes that is.
+    fn in_part(self, part: Part, bytes: Bytes, got: usize, block: &[u8]) -> (State, usize)
+        requires some { 0 < length block.now }
+        requires got { got < parts.width part }
+        requires eight { length bytes ≡ 8 }
+        requires room { self.at + got + length block.now < 2 ^ 64 }
+        ensures sound { IsSound result.0 }
+        ensures progress { 0 < result.1 }
+        ensures used { result.1 ≤ length block.now }
+        ensures place { place_in result.0 ≤ self.at + got + result.1 }
+        ensures reads { GoesOnFrom self part bytes got (take result.1 block.now) result.0 }
+    {
+        if let Part::SideByte = part {
+            if let Some(passed) = self.pass_head(block) {
+                return passed;
+            }
+        }
+        (self.take_byte(part, bytes, got, block[0]), 1)
     }
 
     /// So many more bytes of a content, which isn't whole with them.
@@ -266,11 +310,9 @@ impl RecordingReader {
         let state = self.state;
         match state.stage {
             Stage::Fixed { part, bytes, got } => {
-                self.state = state.take_byte(part, bytes, got, block[0]);
-                Run {
-                    used: 1,
-                    side: None,
-                }
+                let (state, used) = state.in_part(part, bytes, got, block);
+                self.state = state;
+                Run { used, side: None }
             }
             Stage::Content { got } => {
                 let side = Some(state.side);

@@ -30,6 +30,11 @@ op_number ops.Auth = pos 100
 op_number ops.SetWatches = pos 101
 op_number ops.CloseSession = minus 11
 
+-- a profile's number: its release, without the point
+abbrev pub profile_number : Profile → ℕ
+profile_number profiles.V34 = 34
+profile_number profiles.V35 = 35
+
 -- the operations of a profile: of 3.4 all but create2, of 3.5 all
 abbrev pub HasOp : Profile → Op → Type 0
 HasOp profiles.V34 op = op ≢ ops.Create2

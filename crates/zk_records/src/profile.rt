@@ -1,4 +1,6 @@
 //! Which operations requests may have.
+ghost use Rattle.std.specs.Prelude.{◌≡◌, ◌≢◌, MatchOption};
+ghost use Rattle.zk_records.specs.Codes.{profile_number};
 
 /// The operations of a conversation's requests, by the release of ZooKeeper that brought the last
 /// of them (`ZooDefs.OpCode`).
@@ -8,4 +10,27 @@ pub enum Profile {
     V34,
     /// Those of 3.4, and `create2`.
     V35,
+}
+
+impl Profile {
+    /// The number that stands for it wherever a number does: its release, without the point.
+    pub fn number(self) -> u32
+        ensures { result ≡ profile_number self }
+    {
+        match self {
+            Profile::V34 => 34,
+            Profile::V35 => 35,
+        }
+    }
+
+    /// The profile of such a number; None where it is no profile's.
+    pub fn of_number(number: u32) -> Option<Profile>
+        ensures { MatchOption result ((profile : Profile) → number ≢ profile_number profile) (λ profile. number ≡ profile_number profile) }
+    {
+        match number {
+            34 => Some(Profile::V34),
+            35 => Some(Profile::V35),
+            _ => None,
+        }
+    }
 }

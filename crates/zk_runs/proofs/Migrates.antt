@@ -9,6 +9,7 @@ use Rattle.zk_talk.specs.Held.{Message}
 use Rattle.zk_talk.specs.History.{History}
 use Rattle.zk_records.specs.declared.profile.Profile.{Profile as ProfileType}
 use Rattle.zk_records.specs.declared.profile.Profile.TheVariants.{V34, V35}
+use Rattle.zk_records.specs.Codes.{profile_number}
 use Rattle.zk_listings.specs.declared.listing.Listing.{Listing}
 use Rattle.zk_recordings.specs.declared.parts.Damage.{Damage}
 use Rattle.zk_recordings.specs.declared.parts.Damage.TheVariants.{Short}
@@ -23,7 +24,7 @@ use Rattle.zk_recordings.specs.HeadLimits.{profile_by}
 use Rattle.zk_recordings.specs.Recording.{IsValue, spelled, End, Cut, Bad, end_bytes, Break, IsBreakIn, Head, First, Second, IsHead, Piece, IsPiece, no_time, Place, AtLetters, InHead, InPieces, AreIn, Recording, Breaks, Ends, IsRecording, bytes_of, Spells, place_of, front, behind, damage_at, end_damage, history_of, limits_of, damage_of, nothing}
 use Rattle.zk_listings.specs.Lines.{text_of, last_line}
 use Rattle.zk_listings.specs.Outcome.{ComesTo, HasMessages, IsOutcome}
-use Rattle.zk_runs.specs.Migrating.{head_of, profile_number, migrated, IsListing, IsOf, IsWhole}
+use Rattle.zk_runs.specs.Migrating.{head_of, migrated, IsListing, IsOf, IsWhole}
 use Rattle.zk_recordings.proofs.Accepts.{limits-some}
 use Rattle.zk_runs.proofs.Moves.{break_with}
 use Rattle.zk_recordings.proofs.Once.{spells-once}

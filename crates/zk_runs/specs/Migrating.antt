@@ -2,8 +2,7 @@
 use Rattle.std.specs.Prelude.{◌≡◌, ℕ, ◌⊎◌, List, [], ◌∷◌, ◌++◌, take, drop, Bool, true, false, Option, None, Some}
 use Rattle.std.specs.Int.{w32, to_be_bytes}
 use Rattle.std.specs.Io.KnownBytes.{IsAtEnd, Appends}
-use Rattle.zk_records.specs.declared.profile.Profile.{Profile}
-use Rattle.zk_records.specs.declared.profile.Profile.TheVariants.{V34, V35}
+use Rattle.zk_records.specs.Codes.{profile_number}
 use Rattle.zk_talk.specs.declared.limits.Limits.{Limits}
 use Rattle.zk_talk.specs.Held.{Message}
 use Rattle.zk_listings.specs.declared.listing.Listing.{Listing}
@@ -19,11 +18,6 @@ use Rattle.zk_recordings.specs.Recording.{Head, First, Second, format_of, head_b
 use Rattle.zk_recordings.specs.Reading.{IsAt, IsDecidedBy, IsHeaded}
 use Rattle.zk_listings.specs.Lines.{text_of, last_line}
 use Rattle.zk_listings.specs.Outcome.{Reads, IsOutcome, IsBroken, HasGrownIn}
-
--- 34 is the profile of ZooKeeper 3.4, and 35 that of 3.5
-abbrev pub profile_number : Profile → ℕ
-profile_number V34 = 34
-profile_number V35 = 35
 
 -- the head of the second format that has these limits
 abbrev pub head_of : Limits → Head

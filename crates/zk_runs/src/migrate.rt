@@ -46,15 +46,6 @@ fn answered(damage: Option<DamageAt>) -> Migrated
     }
 }
 
-fn profile_number(profile: Profile) -> u32
-    ensures { result ≡ migrating.profile_number profile }
-{
-    match profile {
-        Profile::V34 => 34,
-        Profile::V35 => 35,
-    }
-}
-
 /// Appends the head of the second format that has these limits.
 fn put_head(limits: Limits, head: &mut Vec<u8>) -> Result<(), AllocError>
     ensures { OnOk result (head.new.items ≡ head.old.items ++ head_bytes (migrating.head_of limits)) }
@@ -63,7 +54,7 @@ fn put_head(limits: Limits, head: &mut Vec<u8>) -> Result<(), AllocError>
     head.extend_from_slice(&limits.client().to_be_bytes())?;
     head.extend_from_slice(&limits.server().to_be_bytes())?;
     head.extend_from_slice(&limits.waiting().to_be_bytes())?;
-    head.extend_from_slice(&profile_number(limits.profile()).to_be_bytes())?;
+    head.extend_from_slice(&limits.profile().number().to_be_bytes())?;
     Ok(())
 }
 

@@ -36,6 +36,10 @@ TellsClient profile count waiting p e = (limits : Limits) (m : ℕ) (v : Convers
 abbrev pub TellsServer : ℕ → ℕ → Lanes → List ℕ → ItemFault → Type 0
 TellsServer asked count waiting p e = (v : Conversation) → Describes asked count waiting v → Tells (IsServerFault v p) e
 
+-- and of the server's behind its first
+abbrev pub TellsLater : Lanes → List ℕ → ItemFault → Type 0
+TellsLater waiting p e = (n m : ℕ) (v : Conversation) → (m ≡ 0 → ⊥) → Describes n m waiting v → Tells (IsServerFault v p) e
+
 -- by the number of frames before it: the first frame's kind, or another's, of the profile
 abbrev pub IsInTurn : Profile → ℕ → ClientFrame → Type 0
 IsInTurn profile count f = (count ≡ 0 → IsFirst f) × ((count ≡ 0 → ⊥) → IsLater f × IsOfProfile profile f)
@@ -92,6 +96,13 @@ pub record IsNextServer (asked count : ℕ) (waiting : Lanes) (p : List ℕ) (s 
   pub due : HasAsk s waiting
   pub is : server_payload s ≡ p
   pub may : (v : Conversation) → Describes asked count waiting v → ServerMay v.client v.server s
+
+-- there is one, in the frame that the stream holds
+abbrev pub HasNextClient : Profile → StreamState → Lanes → Type 0
+HasNextClient profile stream waiting = (f : ClientFrame) × IsNextClient profile stream.count waiting (drop 4 stream.held) f
+
+abbrev pub HasNextServer : ℕ → StreamState → Lanes → Type 0
+HasNextServer asked stream waiting = (s : ServerFrame) × IsNextServer asked stream.count waiting (drop 4 stream.held) s
 
 -- the client's frame that may come next is counted and kept, and waits for its reply
 abbrev pub KeepsClient : Profile → StreamState → Lanes → ClientFrame → Lanes → StreamState → Type 0

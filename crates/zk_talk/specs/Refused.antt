@@ -60,3 +60,8 @@ pub record IsRefusedBody (limits : Limits) (h : History) (fault : Fault) (is : I
   pub payload : List ℕ
   pub whole : rest_on fault.side is.client_rest is.server_rest ++ is.byte ∷ [] ≡ frame payload
   pub has : HasBody is.conversation payload fault.side layout body
+
+-- this is that body and its layout, or there is none
+abbrev pub TellsRefusedBody : (limits : Limits) (h : History) (fault : Fault) → IsFaultOf limits h fault → Option (Layout × Bor (List ℕ)) → Type 0
+TellsRefusedBody limits h fault is found =
+    MatchOption found ((layout : Layout) (body : List ℕ) → IsRefusedBody limits h fault is layout body → ⊥) (λ b. IsRefusedBody limits h fault is b.0 b.1.now)

@@ -50,6 +50,11 @@ pub record Stands (t : TalkState) (h : History) (messages : List Message) : Type
   pub queues : (lane : Lane) → IsQueue lane conversation (queue_on lane t.waiting)
   pub no_fault : t.fault ≡ None
 
+-- of any conversation that such a history is, and what its sides have begun
+abbrev pub WhereItStands : TalkState → (Conversation → List ℕ → List ℕ → Type 0) → Type 0
+WhereItStands t Says = (h : History) (M : List Message) (v : Conversation) (client_rest server_rest : List ℕ)
+    → Stands t h M → Good t.limits h v client_rest server_rest → Says v client_rest server_rest
+
 -- The talk has refused this history, after these messages. What waits is what waited before the byte that decided it,
 -- and where that byte made a frame whole whose items are bad, the frame is still held.
 pub record Refuses (t : TalkState) (h : History) (messages : List Message) (fault : Fault) : Type 0 where

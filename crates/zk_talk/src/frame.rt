@@ -1,11 +1,9 @@
 //! Whole frames: each is decided, and then kept or done with.
-ghost use Rattle.std.specs.Prelude.{◌≡◌, ◌≢◌, ◌≤◌, ◌<◌, ◌+◌, ◌^◌, ◌++◌, ◌↔◌, ℕ, List, [], length, drop, IfOk, IfErr, IfSome, IfNone, OnOk, IsTrue, false};
+ghost use Rattle.std.specs.Prelude.{◌≡◌, ◌≢◌, ◌<◌, ◌↔◌, ℕ, drop, IfOk, IfErr, IfSome, IfNone, OnOk, IsTrue, false};
 ghost use Rattle.zk_jute.specs.declared.fault.Reason.TheVariants.{NoMemory};
-ghost use Rattle.zk_jute.specs.Reading.{no_memory};
-ghost use Rattle.zk_frames.specs.Framing.{IsFrame};
 ghost use Rattle.zk_asks.specs.Held as asks;
 ghost use Rattle.zk_answers.specs.Held as answers;
-ghost use Rattle.zk_talk.specs.Judged.{KeepsClient, KeepsServer, TellsClient, TellsServer, IsNextClient, IsNextServer, IsRemembered, IsForgotten};
+ghost use Rattle.zk_talk.specs.Judged.{KeepsClient, KeepsServer, TellsClient, TellsServer, IsNextClient, IsNextServer, HasNextClient, HasNextServer, IsRemembered, IsForgotten};
 ghost use Rattle.zk_talk.specs.Streams.{IsAtFrame, TakenBack, passed, kept_now};
 ghost use Rattle.zk_talk.specs.Viewed.{answered_by};
 
@@ -84,7 +82,7 @@ pub fn client_frame(
     ensures found { IfOk result (λ f. IsNextClient profile stream.old.count waiting.old (drop 4 stream.old.held) f × IsRemembered f waiting.old waiting.new) }
     ensures passed { IfOk result (λ f. stream.new ≡ passed stream.old used) }
     ensures same { IfErr result (λ e. waiting.new ≡ waiting.old) }
-    ensures lacks { IfErr result (λ e. e.reason ≡ NoMemory → (f : asks.ClientFrame) × IsNextClient profile stream.old.count waiting.old (drop 4 stream.old.held) f) }
+    ensures lacks { IfErr result (λ e. e.reason ≡ NoMemory → HasNextClient profile stream.old waiting.old) }
     ensures back { IfErr result (λ e. e.reason ≡ NoMemory → TakenBack stream.old used stream.new) }
     ensures stays { IfErr result (λ e. e.reason ≢ NoMemory → stream.new ≡ stream.old) }
     ensures fault { IfErr result (λ e. e.reason ≢ NoMemory → TellsClient profile stream.old.count waiting.old (drop 4 stream.old.held) e) }
@@ -104,7 +102,6 @@ pub fn client_frame(
 }
 
 /// The operation whose request the frame answers; None where it isn't a reply.
-#[inline(always)]
 fn answered(frame: &ServerRef<'_>) -> Option<Op>
     ensures { result ≡ answered_by frame.now }
 {
@@ -118,16 +115,16 @@ fn answered(frame: &ServerRef<'_>) -> Option<Op>
 /// The server's frame, which so many bytes have made whole, is kept where it is a reply that may come, and
 /// the answer is the operation whose request it answers; else all is as before, and no fault is made.
 #[inline(always)]
-pub fn keep_server(stream: &mut Stream, waiting: &mut Waiting, used: usize) -> Option<Option<Op>>
+pub fn keep_server(stream: &mut Stream, waiting: &mut Waiting, used: usize) -> Option<Op>
     requires { IsAtFrame stream.old used }
     ensures max { waiting.new.max ≡ waiting.old.max }
-    ensures found { (asked : ℕ) → IfSome result (λ op. (s : answers.ServerFrame) × KeepsServer asked stream.old waiting.old op s waiting.new stream.new) }
+    ensures found { (asked : ℕ) → IfSome result (λ op. (s : answers.ServerFrame) × KeepsServer asked stream.old waiting.old (Some op) s waiting.new stream.new) }
     ensures kept { IfSome result (λ op. stream.new ≡ kept_now stream.old used) }
     ensures same { IfNone result ((waiting.new ≡ waiting.old) × (stream.new ≡ stream.old)) }
 {
     let op = forget_front(stream.count(), waiting, stream.payload())?;
     stream.keep(used);
-    Some(Some(op))
+    Some(op)
 }
 
 /// The server's frame, likewise, where the client has sent so many; the operation whose request it
@@ -166,7 +163,7 @@ pub fn server_frame(
     ensures found { IfOk result (λ s. IsNextServer asked stream.old.count waiting.old (drop 4 stream.old.held) s × IsForgotten s waiting.old waiting.new) }
     ensures passed { IfOk result (λ s. stream.new ≡ passed stream.old used) }
     ensures same { IfErr result (λ e. waiting.new ≡ waiting.old) }
-    ensures lacks { IfErr result (λ e. e.reason ≡ NoMemory → (s : answers.ServerFrame) × IsNextServer asked stream.old.count waiting.old (drop 4 stream.old.held) s) }
+    ensures lacks { IfErr result (λ e. e.reason ≡ NoMemory → HasNextServer asked stream.old waiting.old) }
     ensures back { IfErr result (λ e. e.reason ≡ NoMemory → TakenBack stream.old used stream.new) }
     ensures stays { IfErr result (λ e. e.reason ≢ NoMemory → stream.new ≡ stream.old) }
     ensures fault { IfErr result (λ e. e.reason ≢ NoMemory → TellsServer asked stream.old.count waiting.old (drop 4 stream.old.held) e) }

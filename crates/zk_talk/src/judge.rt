@@ -1,5 +1,5 @@
 //! Whether a payload may come now.
-ghost use Rattle.std.specs.Prelude.{◌≡◌, ◌≢◌, ◌≤◌, ◌<◌, ◌+◌, ◌^◌, ◌⊎◌, ◌↔◌, ℕ, List, length, IsOk, IfOk, IfErr, IfSome, IfNone, OnOk, IsTrue, false, Some, slice_get};
+ghost use Rattle.std.specs.Prelude.{◌≡◌, ◌≢◌, ◌<◌, ◌^◌, ◌↔◌, ℕ, List, length, IsOk, IfOk, IfErr, IfSome, IfNone, OnOk, IsTrue, false, Some};
 ghost use Rattle.zk_jute.specs.declared.fault.Reason.TheVariants.{NoMemory};
 ghost use Rattle.zk_asks.specs.Codes.{event_xid};
 ghost use Rattle.zk_asks.specs.Held as asks;
@@ -8,13 +8,11 @@ ghost use Rattle.zk_answers.specs.Faults.{IsHead};
 ghost use Rattle.zk_answers.specs.Held as answered;
 ghost use Rattle.zk_answers.specs.Frames as answers;
 ghost use Rattle.zk_waiting.specs.Lane.{lane_of};
-ghost use Rattle.zk_waiting.specs.Waiting.{queue_on};
 ghost use Rattle.zk_talk.specs.Payloads.{client_payload, server_payload};
 ghost use Rattle.zk_talk.specs.Conversation.{Conversation, ServerMay};
-ghost use Rattle.zk_talk.specs.Fault.{IsServerFault};
 ghost use Rattle.zk_talk.specs.Describes.{Describes};
 ghost use Rattle.zk_talk.specs.Settled.{IsAwaited, IsDueReply, IsSettled};
-ghost use Rattle.zk_talk.specs.Judged.{Tells, TellsClient, TellsServer, IsInTurn, IsTurnFault, IsPutRefusal, HasRoomFor, IsRemembered, IsDue, HasAsk, IsForgotten};
+ghost use Rattle.zk_talk.specs.Judged.{TellsLater, TellsClient, TellsServer, IsInTurn, IsTurnFault, IsPutRefusal, HasRoomFor, IsRemembered, IsDue, HasAsk, IsForgotten};
 
 use std::alloc::Global;
 use zk_answers::{
@@ -29,8 +27,6 @@ use zk_records::{Op, Profile, ReplyHeader};
 use zk_waiting::{PutFault, Waiting, lane_of};
 
 /// The frame after so many of the client, where it lies.
-// Inlined for the front of talk.rt.
-#[inline(always)]
 fn seen_client(profile: Profile, count: u64, payload: &[u8]) -> Result<ClientRef<'_>, ItemFault>
     ensures found { IfOk result (λ f. IsInTurn profile count f × IsSent f × (client_payload f ≡ payload.now)) }
     ensures fault { IfErr result (λ e. (e.reason ≢ NoMemory) × IsTurnFault profile count payload.now e) }
@@ -43,7 +39,6 @@ fn seen_client(profile: Profile, count: u64, payload: &[u8]) -> Result<ClientRef
 }
 
 /// Whether there is room for what is to wait for the frame's reply.
-#[inline(always)]
 fn has_room(waiting: &Waiting, frame: &ClientRef<'_>) -> bool
     requires { length (client_payload frame.now) < 2 ^ 32 }
     ensures { IsTrue result ↔ HasRoomFor frame.now waiting.now }
@@ -55,7 +50,6 @@ fn has_room(waiting: &Waiting, frame: &ClientRef<'_>) -> bool
 }
 
 /// The client's next frame, where it lies; there is room for what is to wait for its reply.
-#[inline(always)]
 pub fn next_client<'a>(
     profile: Profile,
     count: u64,
@@ -93,7 +87,6 @@ pub fn await_front(profile: Profile, count: u64, waiting: &mut Waiting, payload:
 }
 
 /// The client's frame, for which there is room, waits for its reply, if it is to have one.
-#[inline(always)]
 pub fn await_reply(waiting: &mut Waiting, frame: &ClientRef<'_>)
     requires small { length (client_payload frame.now) < 2 ^ 32 }
     requires room { HasRoomFor frame.now waiting.old }
@@ -130,7 +123,6 @@ pub fn remember(alloc: Global, waiting: &mut Waiting, frame: &ClientFrame) -> Re
 }
 
 /// The reply under this header to the oldest request of its lane, where it lies.
-#[inline(always)]
 fn seen_answer<'a>(
     head: &ReplyHeader,
     waiting: &Waiting,
@@ -141,7 +133,7 @@ fn seen_answer<'a>(
     ensures due { IfOk result (λ s. IsDue s waiting.now × answers.IsSent s × (server_payload s ≡ payload.now)) }
     ensures turn { IfOk result (λ s. answers.IsConnected s → ⊥) }
     ensures may { IfOk result (λ s. (n m : ℕ) (v : Conversation) → (m ≡ 0 → ⊥) → Describes n m waiting.now v → ServerMay v.client v.server s) }
-    ensures fault { IfErr result (λ e. (e.reason ≢ NoMemory) × ((n m : ℕ) (v : Conversation) → (m ≡ 0 → ⊥) → Describes n m waiting.now v → Tells (IsServerFault v payload.now) e)) }
+    ensures fault { IfErr result (λ e. (e.reason ≢ NoMemory) × TellsLater waiting.now payload.now e) }
 {
     match waiting.oldest(lane_of(head.xid)) {
         None => Err(ItemFault::at(0, Reason::Unasked)),
@@ -157,7 +149,6 @@ fn seen_answer<'a>(
 }
 
 /// The server's next frame, where it lies: the client has sent so many, the server so many.
-#[inline(always)]
 pub fn next_server<'a>(
     asked: u64,
     count: u64,
@@ -232,7 +223,6 @@ pub fn forget(waiting: &mut Waiting, frame: &ServerFrame)
 }
 
 /// Likewise, where the frame lies.
-#[inline(always)]
 pub fn forget_seen(waiting: &mut Waiting, frame: &ServerRef<'_>)
     requires { HasAsk frame.now waiting.old }
     ensures max { waiting.new.max ≡ waiting.old.max }

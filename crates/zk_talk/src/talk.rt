@@ -1,5 +1,5 @@
 //! The conversation, as it comes.
-ghost use Rattle.std.specs.Prelude.{false, true, ◌≡◌, ◌≢◌, ◌≤◌, ◌<◌, ◌+◌, ◌^◌, ℕ, List, [], length, take, Some, None, Err, IsOk, IfOk, IfErr, OnErr, IfSome, IfNone, MatchOption};
+ghost use Rattle.std.specs.Prelude.{false, true, ◌≡◌, ◌≢◌, ◌≤◌, ◌<◌, ◌+◌, ◌^◌, List, [], length, take, Some, None, Err, IsOk, IfOk, IfErr, OnErr, IfSome, IfNone, MatchOption};
 ghost use Rattle.std.specs.Option.{option_to_list};
 ghost use Rattle.zk_jute.specs.declared.fault.Reason.TheVariants.{NoMemory};
 ghost use Rattle.zk_jute.specs.Reading.{no_memory};
@@ -8,15 +8,13 @@ ghost use Rattle.zk_talk.specs.declared.message.Fault.{Fault};
 ghost use Rattle.zk_talk.specs.Held.{Message};
 ghost use Rattle.zk_talk.specs.declared.message.Ending.TheVariants.{Refused};
 ghost use Rattle.zk_talk.specs.History.{History};
-ghost use Rattle.zk_talk.specs.Conversation.{Conversation, load};
-ghost use Rattle.zk_talk.specs.Good.{Good};
+ghost use Rattle.zk_talk.specs.Conversation.{load};
 ghost use Rattle.zk_talk.specs.Fault.{fault_of, side_limit, rest_on};
 ghost use Rattle.zk_talk.specs.Ending.{IsEnding};
 ghost use Rattle.zk_talk.specs.Sound.{IsKnown};
-ghost use Rattle.zk_talk.specs.Stands.{held_on, kept_on, Stands, Refuses};
-ghost use Rattle.zk_talk.specs.Refused.{IsRefusedBody};
+ghost use Rattle.zk_talk.specs.Stands.{held_on, kept_on, Stands, Refuses, WhereItStands};
+ghost use Rattle.zk_talk.specs.Refused.{TellsRefusedBody};
 ghost use Rattle.zk_records.specs.declared.op.Op.TheVariants as ops;
-ghost use Rattle.zk_answers.specs.declared.layout.Layout.{Layout as Kind};
 ghost use Rattle.zk_answers.specs.declared.layout.Layout.TheVariants as layouts;
 ghost use Rattle.zk_talk.specs.Viewed.{Shows, Leaves, other_side};
 ghost use Rattle.zk_talk.specs.Taking.{TakesOn, StepsOn, IsRefused, Fails, given_up};
@@ -116,7 +114,7 @@ fn refuse(
 ) -> Fault
     requires { stream.now.size + used < 2 ^ 64 }
     ensures wanting { item.reason ≡ NoMemory → (result ≡ fault_of side stream.now.count stream.now.size 0 NoMemory) × (kept.new ≡ kept.old) }
-    ensures refused { (item.reason ≡ NoMemory → ⊥) → (result ≡ fault_of side stream.now.count (stream.now.size + used) item.place item.reason) × (kept.new ≡ Some result) }
+    ensures told { item.reason ≢ NoMemory → (result ≡ fault_of side stream.now.count (stream.now.size + used) item.place item.reason) × (kept.new ≡ Some result) }
     ensures known { IsKnown kept.old → IsKnown kept.new }
 {
     if is_no_memory(item) {
@@ -305,7 +303,7 @@ impl Talk {
         let used = self.server.take_front(piece)?;
         match keep_server(&mut self.server, &mut self.waiting, used) {
             Some(op) => {
-                self.answered = op;
+                self.answered = Some(op);
                 Some(used)
             }
             None => {
@@ -511,7 +509,7 @@ impl Talk {
     /// where it lies elsewhere, in a side's frame 0, or where no fault is kept.
     pub fn refused_body(&self) -> Option<(Layout, &[u8])>
         ensures stands { (h : History) (M : List Message) → Stands self.now h M → result ≡ None }
-        ensures refuses { (h : History) (M : List Message) (f : Fault) (r : Refuses self.now h M f) → MatchOption result ((layout : Kind) (body : List ℕ) → IsRefusedBody self.now.limits h f r.is layout body → ⊥) (λ b. IsRefusedBody self.now.limits h f r.is b.0 b.1.now) }
+        ensures refuses { (h : History) (M : List Message) (f : Fault) (r : Refuses self.now h M f) → TellsRefusedBody self.now.limits h f r.is result }
         ensures small { IfSome result (λ b. length b.1.now ≤ 16777216) }
         ensures known { IfSome result (λ b. b.0 ≢ layouts.Answered ops.Multi) }
     {
@@ -530,7 +528,7 @@ impl Talk {
     pub fn held(&self, side: Side) -> u32
         ensures value { result ≡ length (held_on side self.now) + length (kept_on side self.now) }
         // Where no frame is kept it is the length of the side's beginning.
-        ensures stands { (h : History) (M : List Message) (v : Conversation) (client_rest server_rest : List ℕ) → Stands self.now h M → Good self.now.limits h v client_rest server_rest → result ≡ length (rest_on side client_rest server_rest) + length (kept_on side self.now) }
+        ensures stands { WhereItStands self.now (λ v client_rest server_rest. result ≡ length (rest_on side client_rest server_rest) + length (kept_on side self.now)) }
         ensures most { result ≤ 4 + side_limit self.now.limits side }
     {
         match side {
@@ -542,7 +540,7 @@ impl Talk {
     /// What the requests weigh that wait for their replies: 1 each, and 1 more for each part of a
     /// multi. After a fault those before the byte that decided it.
     pub fn waiting(&self) -> u32
-        ensures stands { (h : History) (M : List Message) (v : Conversation) (client_rest server_rest : List ℕ) → Stands self.now h M → Good self.now.limits h v client_rest server_rest → result ≡ load v.client v.server }
+        ensures stands { WhereItStands self.now (λ v client_rest server_rest. result ≡ load v.client v.server) }
         ensures refuses { (h : History) (M : List Message) (f : Fault) (r : Refuses self.now h M f) → result ≡ load r.is.conversation.client r.is.conversation.server }
         ensures most { result ≤ self.now.limits.waiting }
     {

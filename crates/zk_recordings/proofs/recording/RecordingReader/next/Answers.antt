@@ -1,4 +1,4 @@
-use Rattle.std.proofs.Common.{◌≡◌, ◌+◌, ◌-◌, ◌∙◌, None, sym, subst, ap, take, length, length-take, arith}
+use Rattle.std.proofs.Common.{◌≡◌, ◌+◌, ◌-◌, None, sym, subst, take, length, length-take, arith}
 use Rattle.std.proofs.Math.Seq.{take-length}
 use Rattle.zk_recordings.specs.Reading.{IsAt, AtStage, IsSoundAt, ReadsOn}
 use Rattle.zk_recordings.proofs.Stages.{content-more, content-whole, damaged-on}

@@ -1,6 +1,6 @@
-use Rattle.std.proofs.Common.{◌≡◌, ◌+◌, ◌∙◌, ◌++◌, ◌∷◌, [], sym, ap, set, take, length, length-take, arith}
+use Rattle.std.proofs.Common.{◌≡◌, ◌∙◌, ◌++◌, ◌∷◌, [], sym, set, take, length, length-take, arith}
 use Rattle.std.proofs.Math.ListN.{length-set}
-use Rattle.zk_recordings.specs.Parts.{width, is_good}
+use Rattle.zk_recordings.specs.Parts.{width}
 use Rattle.zk_recordings.proofs.Accepts.{width-most, whole-value}
 use Rattle.zk_recordings.proofs.Stages.{part-more, part-bad}
 use Rattle.zk_recordings.proofs.recording.State.take_byte.Goals as goal

@@ -34,7 +34,7 @@ returns-in-Err-clause-err c =
     let none = subst (λ (z : TalkState). z.client_kept ≡ []) (sym c.self.view_is) c.requires.given_up in
     let a = subst (λ z. IsAdvance z T.client_size T.client_held c.args.piece.now (Whole c.in-Whole.used) s.held) c.self.invariant.0.same t.advance in
     rw (← c.self.view_is) (client_fails T c.args.piece.now s c.client_frame.new.stream t.stays c.client_frame.new.waiting c.refuse.new.kept c.in-Whole.used c.in-Err.item c.refuse.result a c.self.invariant.2 none
-    c.refuse.ensures.wanting c.refuse.ensures.refused k.same (λ n. let f = k.lacks n in (f.0, subst (λ z. IsNextClient z s.count T.waiting (drop 4 s.held) f.0) c.profile-profile.ensures f.1)) k.back k.stays (λ n limits m v q o d. k.fault n limits m v q (o ∙ sym c.profile-profile.ensures) d))
+    c.refuse.ensures.wanting c.refuse.ensures.told k.same (λ n. let f = k.lacks n in (f.0, subst (λ z. IsNextClient z s.count T.waiting (drop 4 s.held) f.0) c.profile-profile.ensures f.1)) k.back k.stays (λ n limits m v q o d. k.fault n limits m v q (o ∙ sym c.profile-profile.ensures) d))
 
 pub returns-in-Refused-clause-err : goal.returns-in-Refused-clause-err
 returns-in-Refused-clause-err c =
@@ -42,7 +42,7 @@ returns-in-Refused-clause-err c =
     let s = c.take.new.self in
     let k = c.in-Refused.ensures in
     let a = subst (λ z. IsAdvance z T.client_size T.client_held c.args.piece.now (Refused c.in-Refused.used c.in-Refused.reason) s.held) c.self.invariant.0.same k.advance in
-    rw (← c.self.view_is) (inr (client_stops T c.args.piece.now s s k.stays c.refuse-in-Refused.new.kept c.in-Refused.used c.in-Refused.reason c.refuse-in-Refused.result a c.refuse-in-Refused.ensures.refused).1)
+    rw (← c.self.view_is) (inr (client_stops T c.args.piece.now s s k.stays c.refuse-in-Refused.new.kept c.in-Refused.used c.in-Refused.reason c.refuse-in-Refused.result a c.refuse-in-Refused.ensures.told).1)
 
 pub returns-in-Err-clause-empty : goal.returns-in-Err-clause-empty
 returns-in-Err-clause-empty c = λ none. absurd (let a = (c.in-Whole.ensures).advance in no_bytes_whole a.0 a.1 none)

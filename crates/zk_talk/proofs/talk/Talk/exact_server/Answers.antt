@@ -36,7 +36,7 @@ returns-in-Err-clause-err c =
     let t = c.in-Whole.ensures in
     let e = k.fault in
     let a = subst (λ z. IsAdvance z T.server_size T.server_held c.args.piece.now (Whole c.in-Whole.used) s.held) c.self.invariant.1.same t.advance in
-    rw (← c.self.view_is) (server_bad T c.args.piece.now s c.server_step.new.stream t.stays c.server_step.new.waiting c.refuse.new.kept c.in-Whole.used c.in-Err.item c.refuse.result a c.self.invariant.2 e.0 c.refuse.ensures.refused k.same.0 k.same.1 (λ v d. e.1 v (subst (λ z. Describes z s.count T.waiting v) (sym c.count-asked.ensures) d)))
+    rw (← c.self.view_is) (server_bad T c.args.piece.now s c.server_step.new.stream t.stays c.server_step.new.waiting c.refuse.new.kept c.in-Whole.used c.in-Err.item c.refuse.result a c.self.invariant.2 e.0 c.refuse.ensures.told k.same.0 k.same.1 (λ v d. e.1 v (subst (λ z. Describes z s.count T.waiting v) (sym c.count-asked.ensures) d)))
 
 pub returns-in-Refused-clause-err : goal.returns-in-Refused-clause-err
 returns-in-Refused-clause-err c =
@@ -44,4 +44,4 @@ returns-in-Refused-clause-err c =
     let s = c.take.new.self in
     let k = c.in-Refused.ensures in
     let a = subst (λ z. IsAdvance z T.server_size T.server_held c.args.piece.now (Refused c.in-Refused.used c.in-Refused.reason) s.held) c.self.invariant.1.same k.advance in
-    rw (← c.self.view_is) (server_stops T c.args.piece.now s s k.stays c.refuse-in-Refused.new.kept c.in-Refused.used c.in-Refused.reason c.refuse-in-Refused.result a c.refuse-in-Refused.ensures.refused)
+    rw (← c.self.view_is) (server_stops T c.args.piece.now s s k.stays c.refuse-in-Refused.new.kept c.in-Refused.used c.in-Refused.reason c.refuse-in-Refused.result a c.refuse-in-Refused.ensures.told)

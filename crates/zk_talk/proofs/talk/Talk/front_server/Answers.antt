@@ -1,4 +1,4 @@
-use Rattle.std.proofs.Common.{◌∙◌, ap, arith, inl, subst, sym}
+use Rattle.std.proofs.Common.{◌∙◌, Some, ap, arith, inl, subst, sym}
 use Rattle.zk_talk.specs.contracts.talk.Talk.{the_view}
 use Rattle.zk_talk.specs.declared.stream.Advance.TheVariants.{Whole}
 use Rattle.zk_talk.specs.Advance.{IsAdvance}
@@ -33,4 +33,4 @@ returns-in-Some-clause-some c =
     let f = k.found T.client_frames in
     let t = c.in_ok-used.ensures in
     let a = subst (λ z. IsAdvance z T.server_size T.server_held c.args.piece.now (Whole c.in_ok-used.used) s.held) c.self.invariant.1.same t.some.1 in
-    rw (← c.self.view_is) (a.1, (λ l. a.0), server_keeps T c.args.piece.now s c.keep_server.new.stream t.stays c.in_ok-used.used f.0 c.keep_server.new.waiting c.in-Some.op a c.self.invariant.2 (f.1.0, f.1.1) f.1.2 k.kept)
+    rw (← c.self.view_is) (a.1, (λ l. a.0), server_keeps T c.args.piece.now s c.keep_server.new.stream t.stays c.in_ok-used.used f.0 c.keep_server.new.waiting (Some c.in-Some.op) a c.self.invariant.2 (f.1.0, f.1.1) f.1.2 k.kept)

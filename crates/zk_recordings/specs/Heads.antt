@@ -1,0 +1,26 @@
+-- The head of a piece, where it stands whole at the front of a block.
+use Rattle.std.specs.Prelude.{◌≡◌, ℕ, ◌+◌, ◌≤◌, List, [], ◌∷◌, length, take, drop, true}
+use Rattle.zk_talk.specs.declared.message.Side.{Side}
+use Rattle.zk_recordings.specs.declared.parts.Format.{Format}
+use Rattle.zk_recordings.specs.declared.parts.Format.TheVariants.{Zkr1, Zkr2}
+use Rattle.zk_recordings.specs.declared.parts.Part.TheVariants.{Time, Size}
+use Rattle.zk_recordings.specs.declared.recording.Stage.TheVariants.{Content}
+use Rattle.zk_recordings.specs.declared.recording.State.{State}
+use Rattle.zk_recordings.specs.Parts.{number, is_good}
+use Rattle.zk_recordings.specs.Recording.{side_byte}
+
+-- a good time stands behind a side's byte, and the size behind it; the first format has no time
+abbrev pub IsTimeIn : Format → List ℕ → ℕ → Type 0
+IsTimeIn Zkr1 block at = at ≡ 1
+IsTimeIn Zkr2 block at = (at ≡ 9) × (is_good Time (take 8 (drop 1 block)) ≡ true)
+
+-- the block begins with the whole head of a piece, each part of it good, and this state stands behind it
+pub record PassesHead (s : State) (block : List ℕ) (used : ℕ) (new : State) : Type 0 where
+  pub side : Side
+  pub at : ℕ
+  pub named : take 1 block ≡ side_byte side ∷ []
+  pub time : IsTimeIn s.format block at
+  pub size : is_good Size (take 4 (drop at block)) ≡ true
+  pub behind_size : used ≡ at + 4
+  pub within : used ≤ length block
+  pub is : new ≡ record s { at = s.at + used; side = side; size = number (take 4 (drop at block)); stage = Content 0 }
