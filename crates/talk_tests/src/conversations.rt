@@ -1,4 +1,5 @@
 //! Whole conversations, limits, and what is held.
+use crate::tables::{C, Row, S, fault, row};
 use std::alloc::Global;
 use std::process::Abort;
 use std::test::Fail;
@@ -15,9 +16,21 @@ pub(crate) const CONNECT: &[u8] =
 pub(crate) const CONNECTED: &[u8] =
     b"\0\0\0%\0\0\0\0\0\0u0\x01\0\0\0\0\0\0\x01\0\0\0\x10\0\x01\x02\x03\x04\x05\x06\x07\x08\x09\x0a\x0b\x0c\x0d\x0e\x0f\0";
 
+/// An exists request of `/a`, under xid 1.
 pub(crate) const EXISTS: &[u8] = b"\0\0\0\x0f\0\0\0\x01\0\0\0\x03\0\0\0\x02/a\x01";
 
+/// Its reply: there is no such node.
 pub(crate) const NO_NODE: &[u8] = b"\0\0\0\x10\0\0\0\x01\0\0\0\0\0\0\0\x05\xff\xff\xff\x9b";
+
+/// The same request under xid 2.
+pub(crate) const EXISTS_2: &[u8] = b"\0\0\0\x0f\0\0\0\x02\0\0\0\x03\0\0\0\x02/a\x01";
+
+/// The same reply under xid 2.
+pub(crate) const NO_NODE_2: &[u8] = b"\0\0\0\x10\0\0\0\x02\0\0\0\0\0\0\0\x05\xff\xff\xff\x9b";
+
+/// A multi of three parts, which weighs 4: a create, a check and a setData.
+pub(crate) const MULTI: &[u8] =
+    b"\0\0\0n\0\0\0\x01\0\0\0\x0e\0\0\0\x01\0\xff\xff\xff\xff\0\0\0\x02/a\0\0\0\0\0\0\0\x01\0\0\0\x1f\0\0\0\x05world\0\0\0\x06anyone\0\0\0\0\0\0\0\x0d\0\xff\xff\xff\xff\0\0\0\x02/a\0\0\0\x03\0\0\0\x05\0\xff\xff\xff\xff\0\0\0\x02/a\0\0\0\x01a\0\0\0\x03\xff\xff\xff\xff\x01\xff\xff\xff\xff";
 
 pub(crate) fn usual() -> Result<Limits, Fail> {
     limits(4_194_304, 65_536)
@@ -115,13 +128,6 @@ pub(crate) fn reads(
     labelled(rt, alloc, &ended.messages, labels)
 }
 
-/// A conversation: its pieces, the messages that they are read as, and the ending.
-pub(crate) type Row = (
-    &'static [(Side, &'static [u8])],
-    &'static [&'static str],
-    Ending,
-);
-
 pub(crate) fn row_read(
     rt: &impl Abort,
     alloc: Global,
@@ -143,64 +149,23 @@ pub(crate) fn all_read(
     Ok(())
 }
 
+/// A connect request without its last byte, as old clients write it.
+const OLD_CONNECT: &[u8] =
+    b"\0\0\0,\0\0\0\0\0\0\0\0\0\0\0\0\0\0u0\0\0\0\0\0\0\0\0\0\0\0\x10\0\0\0\0\0\0\0\0\0\0\0\0\0\0\0\0";
+
+/// A connect response without its last byte, as old servers write it.
+const OLD_CONNECTED: &[u8] =
+    b"\0\0\0$\0\0\0\0\0\0u0\x01\0\0\0\0\0\0\x01\0\0\0\x10\0\x01\x02\x03\x04\x05\x06\x07\x08\x09\x0a\x0b\x0c\x0d\x0e\x0f";
+
 /// Connect messages, and what is none.
 const CONNECTS: [Row; 7] = [
-    (
-        &[(Side::Client, CONNECT), (Side::Server, CONNECTED)],
-        &["C connect", "S connect"],
-        Ending::Whole { unanswered: 0 },
-    ),
-    (
-        &[
-            (
-                Side::Client,
-                b"\0\0\0,\0\0\0\0\0\0\0\0\0\0\0\0\0\0u0\0\0\0\0\0\0\0\0\0\0\0\x10\0\0\0\0\0\0\0\0\0\0\0\0\0\0\0\0",
-            ),
-            (
-                Side::Server,
-                b"\0\0\0$\0\0\0\0\0\0u0\x01\0\0\0\0\0\0\x01\0\0\0\x10\0\x01\x02\x03\x04\x05\x06\x07\x08\x09\x0a\x0b\x0c\x0d\x0e\x0f",
-            ),
-        ],
-        &["C connect", "S connect"],
-        Ending::Whole { unanswered: 0 },
-    ),
-    (&[], &[], Ending::Whole { unanswered: 0 }),
-    (
-        &[(Side::Client, CONNECT)],
-        &["C connect"],
-        Ending::Whole { unanswered: 1 },
-    ),
-    (
-        &[(Side::Client, b"\0\0\0")],
-        &[],
-        Ending::Cut {
-            side: Side::Client,
-            frame: 0,
-            got: 3,
-        },
-    ),
-    (
-        &[(Side::Client, b"\0\0\0\0")],
-        &[],
-        Ending::Refused(Fault {
-            side: Side::Client,
-            frame: 0,
-            offset: 4,
-            place: 0,
-            reason: Reason::Short,
-        }),
-    ),
-    (
-        &[(Side::Client, b"ruok")],
-        &[],
-        Ending::Refused(Fault {
-            side: Side::Client,
-            frame: 0,
-            offset: 4,
-            place: 0,
-            reason: Reason::LengthRange,
-        }),
-    ),
+    row!([C CONNECT, S CONNECTED] => ["C connect", "S connect"], whole unanswered=0),
+    row!([C OLD_CONNECT, S OLD_CONNECTED] => ["C connect", "S connect"], whole unanswered=0),
+    row!([] => [], whole unanswered=0),
+    row!([C CONNECT] => ["C connect"], whole unanswered=1),
+    row!([C b"\0\0\0"] => [], cut side=C frame=0 got=3),
+    row!([C b"\0\0\0\0"] => [], refused side=C frame=0 offset=4 place=0 reason=Short),
+    row!([C b"ruok"] => [], refused side=C frame=0 offset=4 place=0 reason=LengthRange),
 ];
 
 #[test]
@@ -208,79 +173,47 @@ fn connects(rt: HostRuntime) -> Result<(), Fail> {
     all_read(&rt, rt.alloc(), usual()?, &CONNECTS)
 }
 
+/// An exists request whose payload has 64 bytes.
+const EXISTS_OF_64_BYTES: &[u8] =
+    b"\0\0\0@\0\0\0\x01\0\0\0\x03\0\0\03/aaaaaaaaaaaaaaaaaaaaaaaaaaaaaaaaaaaaaaaaaaaaaaaaaa\x01";
+
+const GET_DATA: &[u8] = b"\0\0\0\x0f\0\0\0\x01\0\0\0\x04\0\0\0\x02/a\0";
+
 /// Frames at their limits: the limit of a payload, and a conversation.
 const FRAMES: [(u32, Row); 4] = [
     (
         64,
-        (
-            &[
-                (Side::Client, CONNECT),
-                (Side::Server, CONNECTED),
-                (
-                    Side::Client,
-                    b"\0\0\0@\0\0\0\x01\0\0\0\x03\0\0\03/aaaaaaaaaaaaaaaaaaaaaaaaaaaaaaaaaaaaaaaaaaaaaaaaaa\x01",
-                ),
-            ],
-            &["C connect", "S connect", "C 1 exists"],
-            Ending::Whole { unanswered: 1 },
+        row!(
+            [C CONNECT, S CONNECTED, C EXISTS_OF_64_BYTES]
+            => ["C connect", "S connect", "C 1 exists"],
+            whole unanswered=1
         ),
     ),
+    // A length of 65.
     (
         64,
-        (
-            &[
-                (Side::Client, CONNECT),
-                (Side::Server, CONNECTED),
-                (Side::Client, b"\0\0\0A"),
-            ],
-            &["C connect", "S connect"],
-            Ending::Refused(Fault {
-                side: Side::Client,
-                frame: 1,
-                offset: 53,
-                place: 0,
-                reason: Reason::LengthRange,
-            }),
+        row!(
+            [C CONNECT, S CONNECTED, C b"\0\0\0A"]
+            => ["C connect", "S connect"],
+            refused side=C frame=1 offset=53 place=0 reason=LengthRange
         ),
     ),
+    // A length of -1.
     (
         64,
-        (
-            &[
-                (Side::Client, CONNECT),
-                (Side::Server, CONNECTED),
-                (Side::Client, b"\xff\xff\xff\xff"),
-            ],
-            &["C connect", "S connect"],
-            Ending::Refused(Fault {
-                side: Side::Client,
-                frame: 1,
-                offset: 53,
-                place: 0,
-                reason: Reason::LengthRange,
-            }),
+        row!(
+            [C CONNECT, S CONNECTED, C b"\xff\xff\xff\xff"]
+            => ["C connect", "S connect"],
+            refused side=C frame=1 offset=53 place=0 reason=LengthRange
         ),
     ),
+    // A length of 4,194,305.
     (
         4_194_304,
-        (
-            &[
-                (Side::Client, CONNECT),
-                (Side::Server, CONNECTED),
-                (
-                    Side::Client,
-                    b"\0\0\0\x0f\0\0\0\x01\0\0\0\x04\0\0\0\x02/a\0",
-                ),
-                (Side::Server, b"\0@\0\x01"),
-            ],
-            &["C connect", "S connect", "C 1 getData"],
-            Ending::Refused(Fault {
-                side: Side::Server,
-                frame: 1,
-                offset: 45,
-                place: 0,
-                reason: Reason::LengthRange,
-            }),
+        row!(
+            [C CONNECT, S CONNECTED, C GET_DATA, S b"\0@\0\x01"]
+            => ["C connect", "S connect", "C 1 getData"],
+            refused side=S frame=1 offset=45 place=0 reason=LengthRange
         ),
     ),
 ];
@@ -297,79 +230,34 @@ fn limits_of_frames(rt: HostRuntime) -> Result<(), Fail> {
 const WAITING: [(u32, Row); 4] = [
     (
         1,
-        (
-            &[
-                (Side::Client, CONNECT),
-                (Side::Server, CONNECTED),
-                (Side::Client, EXISTS),
-                (Side::Client, EXISTS),
-            ],
-            &["C connect", "S connect", "C 1 exists"],
-            Ending::Refused(Fault {
-                side: Side::Client,
-                frame: 2,
-                offset: 87,
-                place: 0,
-                reason: Reason::QueueFull,
-            }),
+        row!(
+            [C CONNECT, S CONNECTED, C EXISTS, C EXISTS]
+            => ["C connect", "S connect", "C 1 exists"],
+            refused side=C frame=2 offset=87 place=0 reason=QueueFull
         ),
     ),
     (
         1,
-        (
-            &[
-                (Side::Client, CONNECT),
-                (Side::Server, CONNECTED),
-                (Side::Client, EXISTS),
-                (Side::Server, NO_NODE),
-                (Side::Client, EXISTS),
-                (Side::Server, NO_NODE),
-            ],
-            &[
-                "C connect",
-                "S connect",
-                "C 1 exists",
-                "S 1 exists",
-                "C 1 exists",
-                "S 1 exists",
-            ],
-            Ending::Whole { unanswered: 0 },
+        row!(
+            [C CONNECT, S CONNECTED, C EXISTS, S NO_NODE, C EXISTS, S NO_NODE]
+            => ["C connect", "S connect", "C 1 exists", "S 1 exists", "C 1 exists", "S 1 exists"],
+            whole unanswered=0
         ),
     ),
     (
         4,
-        (
-            &[
-                (Side::Client, CONNECT),
-                (Side::Server, CONNECTED),
-                (
-                    Side::Client,
-                    b"\0\0\0n\0\0\0\x01\0\0\0\x0e\0\0\0\x01\0\xff\xff\xff\xff\0\0\0\x02/a\0\0\0\0\0\0\0\x01\0\0\0\x1f\0\0\0\x05world\0\0\0\x06anyone\0\0\0\0\0\0\0\x0d\0\xff\xff\xff\xff\0\0\0\x02/a\0\0\0\x03\0\0\0\x05\0\xff\xff\xff\xff\0\0\0\x02/a\0\0\0\x01a\0\0\0\x03\xff\xff\xff\xff\x01\xff\xff\xff\xff",
-                ),
-            ],
-            &["C connect", "S connect", "C 1 multi"],
-            Ending::Whole { unanswered: 1 },
+        row!(
+            [C CONNECT, S CONNECTED, C MULTI]
+            => ["C connect", "S connect", "C 1 multi"],
+            whole unanswered=1
         ),
     ),
     (
         3,
-        (
-            &[
-                (Side::Client, CONNECT),
-                (Side::Server, CONNECTED),
-                (
-                    Side::Client,
-                    b"\0\0\0n\0\0\0\x01\0\0\0\x0e\0\0\0\x01\0\xff\xff\xff\xff\0\0\0\x02/a\0\0\0\0\0\0\0\x01\0\0\0\x1f\0\0\0\x05world\0\0\0\x06anyone\0\0\0\0\0\0\0\x0d\0\xff\xff\xff\xff\0\0\0\x02/a\0\0\0\x03\0\0\0\x05\0\xff\xff\xff\xff\0\0\0\x02/a\0\0\0\x01a\0\0\0\x03\xff\xff\xff\xff\x01\xff\xff\xff\xff",
-                ),
-            ],
-            &["C connect", "S connect"],
-            Ending::Refused(Fault {
-                side: Side::Client,
-                frame: 1,
-                offset: 163,
-                place: 0,
-                reason: Reason::QueueFull,
-            }),
+        row!(
+            [C CONNECT, S CONNECTED, C MULTI]
+            => ["C connect", "S connect"],
+            refused side=C frame=1 offset=163 place=0 reason=QueueFull
         ),
     ),
 ];
@@ -390,14 +278,14 @@ fn bytes_in_turn(rt: HostRuntime) -> Result<(), Fail> {
     answers.extend_from_slice(NO_NODE)?;
     let mut pieces: Vec<(Side, &[u8])> = Vec::new(rt.alloc());
     for byte in CONNECT.chunks(1) {
-        pieces.push((Side::Client, byte))?;
+        pieces.push((C, byte))?;
     }
     for (asked, answered) in EXISTS.chunks(1).zip(answers.chunks(1)) {
-        pieces.push((Side::Client, asked))?;
-        pieces.push((Side::Server, answered))?;
+        pieces.push((C, asked))?;
+        pieces.push((S, answered))?;
     }
     for byte in answers[EXISTS.len()..].chunks(1) {
-        pieces.push((Side::Server, byte))?;
+        pieces.push((S, byte))?;
     }
     let labels = ["C connect", "C 1 exists", "S connect", "S 1 exists"];
     let whole = Ending::Whole { unanswered: 0 };
@@ -414,23 +302,19 @@ fn takes(talk: &mut Talk, side: Side, piece: &[u8]) -> Option<(usize, bool)> {
 
 /// How much is held of each side, and what waits.
 fn holds(talk: &Talk) -> (u32, u32, u32) {
-    (
-        talk.held(Side::Client),
-        talk.held(Side::Server),
-        talk.waiting(),
-    )
+    (talk.held(C), talk.held(S), talk.waiting())
 }
 
 /// What is held, and what waits, within a request and behind it.
 #[test]
 fn held_and_waiting(rt: HostRuntime) -> Result<(), Fail> {
     let mut talk = Talk::new(rt.alloc(), usual()?)?;
-    let connected = takes(&mut talk, Side::Client, CONNECT);
+    let connected = takes(&mut talk, C, CONNECT);
     assert_eq!(&rt; connected, Some((CONNECT.len(), true)));
-    let within = takes(&mut talk, Side::Client, &EXISTS[..18]);
+    let within = takes(&mut talk, C, &EXISTS[..18]);
     assert_eq!(&rt; within, Some((18, false)));
     assert_eq!(&rt; holds(&talk), (18, 0, 0));
-    let whole = takes(&mut talk, Side::Client, &EXISTS[18..]);
+    let whole = takes(&mut talk, C, &EXISTS[18..]);
     assert_eq!(&rt; whole, Some((1, true)));
     assert_eq!(&rt; holds(&talk), (0, 0, 1));
     Ok(())
@@ -448,21 +332,21 @@ pub(crate) fn steps(talk: &mut Talk, side: Side, piece: &[u8]) -> Option<(usize,
 #[test]
 fn frame_is_kept(rt: HostRuntime) -> Result<(), Fail> {
     let mut talk = Talk::new(rt.alloc(), usual()?)?;
-    takes(&mut talk, Side::Client, CONNECT);
-    takes(&mut talk, Side::Server, CONNECTED);
-    let asked = steps(&mut talk, Side::Client, EXISTS);
+    takes(&mut talk, C, CONNECT);
+    takes(&mut talk, S, CONNECTED);
+    let asked = steps(&mut talk, C, EXISTS);
     assert_eq!(&rt; asked, Some((19, true)));
     assert_eq!(&rt; holds(&talk), (19, 0, 1));
-    let empty = steps(&mut talk, Side::Client, b"");
+    let empty = steps(&mut talk, C, b"");
     assert_eq!(&rt; empty, Some((0, false)));
     assert_eq!(&rt; holds(&talk), (0, 0, 1));
-    let answered = steps(&mut talk, Side::Server, NO_NODE);
+    let answered = steps(&mut talk, S, NO_NODE);
     assert_eq!(&rt; answered, Some((NO_NODE.len(), true)));
     assert_eq!(&rt; holds(&talk), (0, 20, 0));
-    let within = steps(&mut talk, Side::Client, &EXISTS[..18]);
+    let within = steps(&mut talk, C, &EXISTS[..18]);
     assert_eq!(&rt; within, Some((18, false)));
     assert_eq!(&rt; holds(&talk), (18, 20, 0));
-    let empty = takes(&mut talk, Side::Server, b"");
+    let empty = takes(&mut talk, S, b"");
     assert_eq!(&rt; empty, Some((0, false)));
     assert_eq!(&rt; holds(&talk), (18, 0, 0));
     Ok(())
@@ -479,9 +363,9 @@ pub(crate) fn fault_of(talk: &mut Talk, side: Side, piece: &[u8]) -> Option<Faul
 /// A talk that has read both connect messages and a request.
 pub(crate) fn asked(alloc: Global) -> Result<Talk, Fail> {
     let mut talk = Talk::new(alloc, usual()?)?;
-    takes(&mut talk, Side::Client, CONNECT);
-    takes(&mut talk, Side::Server, CONNECTED);
-    takes(&mut talk, Side::Client, EXISTS);
+    takes(&mut talk, C, CONNECT);
+    takes(&mut talk, S, CONNECTED);
+    takes(&mut talk, C, EXISTS);
     Ok(talk)
 }
 
@@ -489,21 +373,11 @@ pub(crate) fn asked(alloc: Global) -> Result<Talk, Fail> {
 #[test]
 fn fault_is_kept(rt: HostRuntime) -> Result<(), Fail> {
     let mut talk = asked(rt.alloc())?;
-    let early = b"\0\0\0\x10\0\0\0\x02\0\0\0\0\0\0\0\x05\xff\xff\xff\x9b";
-    let kept = Some(Fault {
-        side: Side::Server,
-        frame: 1,
-        offset: 61,
-        place: 0,
-        reason: Reason::XidOrder {
-            expected: 1,
-            got: 2,
-        },
-    });
-    assert_eq!(&rt; fault_of(&mut talk, Side::Server, early), kept);
-    assert_eq!(&rt; fault_of(&mut talk, Side::Client, b""), kept);
-    assert_eq!(&rt; fault_of(&mut talk, Side::Server, b""), kept);
-    assert_eq!(&rt; fault_of(&mut talk, Side::Client, b"\0"), kept);
-    assert_eq!(&rt; fault_of(&mut talk, Side::Server, b"\0"), kept);
+    let kept = Some(fault!(side=S frame=1 offset=61 place=0 reason=XidOrder expected=1 got=2));
+    assert_eq!(&rt; fault_of(&mut talk, S, NO_NODE_2), kept);
+    assert_eq!(&rt; fault_of(&mut talk, C, b""), kept);
+    assert_eq!(&rt; fault_of(&mut talk, S, b""), kept);
+    assert_eq!(&rt; fault_of(&mut talk, C, b"\0"), kept);
+    assert_eq!(&rt; fault_of(&mut talk, S, b"\0"), kept);
     Ok(())
 }

@@ -25,3 +25,5 @@ mod replies;
 mod samples;
 #[cfg(test)]
 mod speaker;
+#[cfg(test)]
+mod tables;

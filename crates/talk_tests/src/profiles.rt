@@ -14,7 +14,7 @@ const CREATED2: &[u8] =
     b"\0\0\0\x5a\0\0\0\x01\0\0\0\0\0\0\0\x06\0\0\0\0\0\0\0\x02/a\0\0\0\0\0\0\0\x04\0\0\0\0\0\0\0\x04\0\0\0\0\0\0\x03\xe8\0\0\0\0\0\0\x03\xe8\0\0\0\0\0\0\0\0\0\0\0\0\0\0\0\0\0\0\0\0\0\0\0\x03\0\0\0\0\0\0\0\0\0\0\0\x04";
 
 /// The reply to a create: the path alone.
-const CREATED: &[u8] = b"\0\0\0\x16\0\0\0\x01\0\0\0\0\0\0\0\x06\0\0\0\0\0\0\0\x02/a";
+pub(crate) const CREATED: &[u8] = b"\0\0\0\x16\0\0\0\x01\0\0\0\0\0\0\0\x06\0\0\0\0\0\0\0\x02/a";
 
 pub(crate) fn newer() -> Result<Limits, Fail> {
     Ok(usual()?.with_profile(Profile::V35))

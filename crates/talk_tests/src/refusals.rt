@@ -1,144 +1,60 @@
 //! Frames that may not come.
-use crate::conversations::{CONNECT, CONNECTED, EXISTS, NO_NODE, Row, all_read, usual};
+use crate::conversations::{
+    CONNECT, CONNECTED, EXISTS, EXISTS_2, NO_NODE, NO_NODE_2, all_read, usual,
+};
+use crate::tables::{C, Row, S, row};
 use std::test::Fail;
-use zk_jute::Reason;
-use zk_talk::{Ending, Fault, Side};
+
+/// An event with the error 1.
+const EVENT_WITH_ERROR: &[u8] =
+    b"\0\0\0\x1e\xff\xff\xff\xff\xff\xff\xff\xff\xff\xff\xff\xff\0\0\0\x01\0\0\0\x03\0\0\0\x03\0\0\0\x02/a";
+
+/// `EXISTS` without its last byte.
+const EXISTS_BEGUN: &[u8] = b"\0\0\0\x0f\0\0\0\x01\0\0\0\x03\0\0\0\x02/a";
+
+const GET_CHILDREN: &[u8] = b"\0\0\0\x0f\0\0\0\x01\0\0\0\x08\0\0\0\x02/a\0";
+
+/// A reply that claims 2,147,483,647 names and has one.
+const COUNT_ONLY_CLAIMED: &[u8] =
+    b"\0\0\0\x19\0\0\0\x01\0\0\0\0\0\0\0\x05\0\0\0\0\x7f\xff\xff\xff\0\0\0\x01a";
+
+/// A reply whose count of names is -2.
+const COUNT_BELOW_NULL: &[u8] = b"\0\0\0\x14\0\0\0\x01\0\0\0\0\0\0\0\x05\0\0\0\0\xff\xff\xff\xfe";
 
 /// Replies that may not come.
 const REPLIES: [Row; 6] = [
-    (
-        &[
-            (Side::Client, CONNECT),
-            (Side::Server, CONNECTED),
-            (Side::Client, EXISTS),
-            (
-                Side::Client,
-                b"\0\0\0\x0f\0\0\0\x02\0\0\0\x03\0\0\0\x02/a\x01",
-            ),
-            (
-                Side::Server,
-                b"\0\0\0\x10\0\0\0\x02\0\0\0\0\0\0\0\x05\xff\xff\xff\x9b",
-            ),
-        ],
-        &["C connect", "S connect", "C 1 exists", "C 2 exists"],
-        Ending::Refused(Fault {
-            side: Side::Server,
-            frame: 1,
-            offset: 61,
-            place: 0,
-            reason: Reason::XidOrder {
-                expected: 1,
-                got: 2,
-            },
-        }),
+    // The reply to the second request comes first.
+    row!(
+        [C CONNECT, S CONNECTED, C EXISTS, C EXISTS_2, S NO_NODE_2]
+        => ["C connect", "S connect", "C 1 exists", "C 2 exists"],
+        refused side=S frame=1 offset=61 place=0 reason=XidOrder expected=1 got=2
     ),
-    (
-        &[
-            (Side::Client, CONNECT),
-            (Side::Server, CONNECTED),
-            (Side::Client, EXISTS),
-            (
-                Side::Client,
-                b"\0\0\0\x0f\0\0\0\x02\0\0\0\x03\0\0\0\x02/a\x01",
-            ),
-            (
-                Side::Server,
-                b"\0\0\0\x10\0\0\0\x02\0\0\0\0\0\0\0\x05\xff\xff\xff\x9b",
-            ),
-            (Side::Server, NO_NODE),
-            (Side::Client, EXISTS),
-        ],
-        &["C connect", "S connect", "C 1 exists", "C 2 exists"],
-        Ending::Refused(Fault {
-            side: Side::Server,
-            frame: 1,
-            offset: 61,
-            place: 0,
-            reason: Reason::XidOrder {
-                expected: 1,
-                got: 2,
-            },
-        }),
+    // Nothing after a refusal is used.
+    row!(
+        [C CONNECT, S CONNECTED, C EXISTS, C EXISTS_2, S NO_NODE_2, S NO_NODE, C EXISTS]
+        => ["C connect", "S connect", "C 1 exists", "C 2 exists"],
+        refused side=S frame=1 offset=61 place=0 reason=XidOrder expected=1 got=2
     ),
-    (
-        &[
-            (Side::Client, CONNECT),
-            (Side::Server, CONNECTED),
-            (Side::Client, EXISTS),
-            (
-                Side::Server,
-                b"\0\0\0\x1e\xff\xff\xff\xff\xff\xff\xff\xff\xff\xff\xff\xff\0\0\0\x01\0\0\0\x03\0\0\0\x03\0\0\0\x02/a",
-            ),
-            (Side::Server, NO_NODE),
-        ],
-        &["C connect", "S connect", "C 1 exists"],
-        Ending::Refused(Fault {
-            side: Side::Server,
-            frame: 1,
-            offset: 75,
-            place: 12,
-            reason: Reason::EventErr,
-        }),
+    row!(
+        [C CONNECT, S CONNECTED, C EXISTS, S EVENT_WITH_ERROR, S NO_NODE]
+        => ["C connect", "S connect", "C 1 exists"],
+        refused side=S frame=1 offset=75 place=12 reason=EventErr
     ),
-    (
-        &[
-            (Side::Client, CONNECT),
-            (Side::Server, CONNECTED),
-            (Side::Client, b"\0\0\0\x0f\0\0\0\x01\0\0\0\x03\0\0\0\x02/a"),
-            (Side::Server, NO_NODE),
-        ],
-        &["C connect", "S connect"],
-        Ending::Refused(Fault {
-            side: Side::Server,
-            frame: 1,
-            offset: 61,
-            place: 0,
-            reason: Reason::Unasked,
-        }),
+    // A reply that ends before its request.
+    row!(
+        [C CONNECT, S CONNECTED, C EXISTS_BEGUN, S NO_NODE]
+        => ["C connect", "S connect"],
+        refused side=S frame=1 offset=61 place=0 reason=Unasked
     ),
-    (
-        &[
-            (Side::Client, CONNECT),
-            (Side::Server, CONNECTED),
-            (
-                Side::Client,
-                b"\0\0\0\x0f\0\0\0\x01\0\0\0\x08\0\0\0\x02/a\0",
-            ),
-            (
-                Side::Server,
-                b"\0\0\0\x19\0\0\0\x01\0\0\0\0\0\0\0\x05\0\0\0\0\x7f\xff\xff\xff\0\0\0\x01a",
-            ),
-        ],
-        &["C connect", "S connect", "C 1 getChildren"],
-        Ending::Refused(Fault {
-            side: Side::Server,
-            frame: 1,
-            offset: 70,
-            place: 25,
-            reason: Reason::Short,
-        }),
+    row!(
+        [C CONNECT, S CONNECTED, C GET_CHILDREN, S COUNT_ONLY_CLAIMED]
+        => ["C connect", "S connect", "C 1 getChildren"],
+        refused side=S frame=1 offset=70 place=25 reason=Short
     ),
-    (
-        &[
-            (Side::Client, CONNECT),
-            (Side::Server, CONNECTED),
-            (
-                Side::Client,
-                b"\0\0\0\x0f\0\0\0\x01\0\0\0\x08\0\0\0\x02/a\0",
-            ),
-            (
-                Side::Server,
-                b"\0\0\0\x14\0\0\0\x01\0\0\0\0\0\0\0\x05\0\0\0\0\xff\xff\xff\xfe",
-            ),
-        ],
-        &["C connect", "S connect", "C 1 getChildren"],
-        Ending::Refused(Fault {
-            side: Side::Server,
-            frame: 1,
-            offset: 65,
-            place: 16,
-            reason: Reason::BadLength,
-        }),
+    row!(
+        [C CONNECT, S CONNECTED, C GET_CHILDREN, S COUNT_BELOW_NULL]
+        => ["C connect", "S connect", "C 1 getChildren"],
+        refused side=S frame=1 offset=65 place=16 reason=BadLength
     ),
 ];
 
@@ -149,92 +65,35 @@ fn replies_that_may_not_come(rt: HostRuntime) -> Result<(), Fail> {
 
 /// Requests that have no form.
 const REQUESTS: [Row; 5] = [
-    (
-        &[
-            (Side::Client, CONNECT),
-            (Side::Server, CONNECTED),
-            (
-                Side::Client,
-                b"\0\0\0\x0f\0\0\0\x01\0\0\0\x03\0\0\0\x02/a\x02",
-            ),
-        ],
-        &["C connect", "S connect"],
-        Ending::Refused(Fault {
-            side: Side::Client,
-            frame: 1,
-            offset: 68,
-            place: 14,
-            reason: Reason::BadBool,
-        }),
+    // A watch of 2.
+    row!(
+        [C CONNECT, S CONNECTED, C b"\0\0\0\x0f\0\0\0\x01\0\0\0\x03\0\0\0\x02/a\x02"]
+        => ["C connect", "S connect"],
+        refused side=C frame=1 offset=68 place=14 reason=BadBool
     ),
-    (
-        &[
-            (Side::Client, CONNECT),
-            (Side::Server, CONNECTED),
-            (
-                Side::Client,
-                b"\0\0\0\x10\0\0\0\x01\0\0\0\x03\0\0\0\x02/a\x01\0",
-            ),
-        ],
-        &["C connect", "S connect"],
-        Ending::Refused(Fault {
-            side: Side::Client,
-            frame: 1,
-            offset: 69,
-            place: 15,
-            reason: Reason::Trailing,
-        }),
+    // A byte behind the watch.
+    row!(
+        [C CONNECT, S CONNECTED, C b"\0\0\0\x10\0\0\0\x01\0\0\0\x03\0\0\0\x02/a\x01\0"]
+        => ["C connect", "S connect"],
+        refused side=C frame=1 offset=69 place=15 reason=Trailing
     ),
-    (
-        &[
-            (Side::Client, CONNECT),
-            (Side::Server, CONNECTED),
-            (
-                Side::Client,
-                b"\0\0\0\x12\0\0\0\x01\0\0\0\x0d\0\0\0\x02/a\xff\xff\xff\xff",
-            ),
-        ],
-        &["C connect", "S connect"],
-        Ending::Refused(Fault {
-            side: Side::Client,
-            frame: 1,
-            offset: 71,
-            place: 4,
-            reason: Reason::UnknownOp,
-        }),
+    // A check outside a multi.
+    row!(
+        [C CONNECT, S CONNECTED, C b"\0\0\0\x12\0\0\0\x01\0\0\0\x0d\0\0\0\x02/a\xff\xff\xff\xff"]
+        => ["C connect", "S connect"],
+        refused side=C frame=1 offset=71 place=4 reason=UnknownOp
     ),
-    (
-        &[
-            (Side::Client, CONNECT),
-            (Side::Server, CONNECTED),
-            (Side::Client, b"\0\0\0\x08\0\0\0\x01\0\0\0\x0b"),
-        ],
-        &["C connect", "S connect"],
-        Ending::Refused(Fault {
-            side: Side::Client,
-            frame: 1,
-            offset: 61,
-            place: 4,
-            reason: Reason::XidOp,
-        }),
+    // A ping under xid 1.
+    row!(
+        [C CONNECT, S CONNECTED, C b"\0\0\0\x08\0\0\0\x01\0\0\0\x0b"]
+        => ["C connect", "S connect"],
+        refused side=C frame=1 offset=61 place=4 reason=XidOp
     ),
-    (
-        &[
-            (Side::Client, CONNECT),
-            (Side::Server, CONNECTED),
-            (
-                Side::Client,
-                b"\0\0\0\x0f\0\0\0\x01\0\0\0\x03\0\0\0\x02/\xc3\0",
-            ),
-        ],
-        &["C connect", "S connect"],
-        Ending::Refused(Fault {
-            side: Side::Client,
-            frame: 1,
-            offset: 68,
-            place: 13,
-            reason: Reason::BadText,
-        }),
+    // A path that is not UTF-8.
+    row!(
+        [C CONNECT, S CONNECTED, C b"\0\0\0\x0f\0\0\0\x01\0\0\0\x03\0\0\0\x02/\xc3\0"]
+        => ["C connect", "S connect"],
+        refused side=C frame=1 offset=68 place=13 reason=BadText
     ),
 ];
 
