@@ -5,18 +5,20 @@ use Rattle.std.proofs.Math.Seq.{drop-append_seam}
 use Rattle.std.proofs.lemmas.List.{length-append}
 use Rattle.std.proofs.lemmas.Option.{IfSome_then}
 use Rattle.zk_jute.specs.Item.{Item, bytes_of, HaveBytes}
+use Rattle.zk_jute.specs.Layout.{Layout, End, IsValueOf}
 use Rattle.zk_jute.specs.Told.{StandsAt}
 use Rattle.zk_jute.specs.Wired.{Wired}
 use Rattle.zk_records.specs.Records.{reply_header}
 use Rattle.zk_records.specs.declared.header.ReplyHeader.{ReplyHeader}
 use Rattle.zk_records.specs.declared.op.Op.{Op}
 use Rattle.zk_records.specs.declared.op.PartOp.{PartOp}
-use Rattle.zk_answers.specs.Held.{Body, Outcome}
+use Rattle.zk_answers.specs.Held.{Body, Outcome, PartDone}
 use Rattle.zk_answers.specs.declared.frame.OutcomeOf.TheVariants as outcome
+use Rattle.zk_answers.specs.Results.{Own, result_of, result_layout}
 use Rattle.zk_answers.specs.Rows.{op_of_body, body_items}
 use Rattle.zk_answers.specs.Frames.{BodyFits, OutcomeFits, IsOutcome, err_of, rest_items}
 use Rattle.zk_answers.specs.Faults.{IsHead}
-use Rattle.zk_answers.specs.Fronts.{IsBodyAlone, IsReplyUnder}
+use Rattle.zk_answers.specs.Fronts.{IsBodyAlone, IsReplyUnder, IsResultAt}
 use Rattle.zk_answers.proofs.Heads.{head_is}
 use Rattle.zk_answers.proofs.Refusals.{reply_found}
 
@@ -64,3 +66,24 @@ module _ (src : List ℕ) (header : ReplyHeader) (rest : List ℕ) (h : IsHead s
 
   pub done_there : (op : Op) (parts : List PartOp) (end : ℕ) → header.xid ≢ negsuc 0 → header.err ≡ pos 0 → IsBodyAlone op src 16 end → end ≡ length src → IsReplyUnder header.xid op parts src
   done_there op parts end x err b all = reply_there op parts (outcome.Done b.0) end x (b.1, b.2 parts) tt (sym err) b.3 b.4 all
+
+module _ (src : List ℕ) (place : ℕ) (part : PartOp) where
+  -- of a part's own result
+  pub of_result : {X : Type 0} (w : Wired X) (make : X → PartDone) → w.layout ≡ result_layout part → ((x : X) → Own part (make x)) → ((x : X) → result_of (make x) ≡ w.items x)
+      → (end : Option ℕ) → IfSome end (λ n. (x : X) × HaveBytes (w.items x) × StandsAt (w.items x) src place n) → IfSome end (λ n. IsResultAt part src place n)
+  of_result w make laid own same end h =
+      IfSome_then end h (λ n s. (
+        make s.0,
+        own s.0,
+        subst (λ (i : List Item). IsValueOf (result_layout part) i) (sym (same s.0)) (subst (λ (l : Layout). IsValueOf l (w.items s.0)) laid (w.unfolds s.0, s.1)),
+        subst (λ (i : List Item). StandsAt i src place n) (sym (same s.0)) s.2,
+      ))
+
+  -- of none
+  pub of_no_result : (d : PartDone) → End ≡ result_layout part → Own part d → result_of d ≡ [] → IsResultAt part src place place
+  of_no_result d laid own none = (
+    d,
+    own,
+    subst (λ (i : List Item). IsValueOf (result_layout part) i) (sym none) (subst (λ (l : Layout). IsValueOf l []) laid (refl, tt)),
+    subst (λ (i : List Item). StandsAt i src place place) (sym none) (refl, omega arith),
+  )

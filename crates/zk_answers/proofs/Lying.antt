@@ -24,9 +24,10 @@ use Rattle.zk_records.specs.declared.op.PartOp.TheVariants as parts
 use Rattle.zk_records.proofs.Numbers.{part_number_apart}
 use Rattle.zk_asks.specs.Parts.{marked, end_header}
 use Rattle.zk_asks.specs.Shown.{part_numbered}
+use Rattle.zk_answers.specs.Fronts.{IsResultAt, IsDoneAt}
 use Rattle.zk_answers.specs.Held.{PartDone}
 use Rattle.zk_answers.specs.declared.frame.PartDoneOf.TheVariants as done
-use Rattle.zk_answers.specs.Results.{result_header, done_items, mark_before, result_of, result_layout, multi_items, Answers, AnswerAll, Own, IsDoneFault}
+use Rattle.zk_answers.specs.Results.{error_header, result_header, done_items, mark_before, result_of, result_layout, multi_items, Answers, AnswerAll, Own, IsDoneFault}
 use Rattle.zk_answers.specs.Shown.{stat_of, counts_value, stat_value, result_value, done_value, dones_at}
 use Rattle.zk_answers.proofs.Dones.{mark_is, mark_same}
 use Rattle.zk_answers.proofs.Outcomes.{result_inside}
@@ -246,25 +247,39 @@ own_mark op (done.PartFailed e) own = absurd own
 
 module _ (op : PartOp) (src : List ℕ) (place after : ℕ) (header : MultiHeader) where
   pub own_found : HaveBytes (marked header) → StandsAt (marked header) src place after → header ≡ result_header op
-      → (r : Result (PartDone × ℕ) ItemFault) → IfOk r (λ x. Own op x.0 × IsValueOf (result_layout op) (result_of x.0) × StandsAt (result_of x.0) src after x.1)
-      → IfOk r (λ x. Answers op x.0 × HaveBytes (done_items x.0) × StandsAt (done_items x.0) src place x.1)
-  own_found have s is (Ok x) found =
-      let mark : header ≡ mark_before x.0 = is ∙ sym (own_mark op x.0 found.0) in
-      let m = marked (mark_before x.0) in
+      → (r : Result ℕ ItemFault) → IfOk r (IsResultAt op src after) → IfOk r (IsDoneAt op src place)
+  own_found have s is (Ok end) found =
+      let d = found.0 in
+      let mark : header ≡ mark_before d = is ∙ sym (own_mark op d found.1) in
+      let m = marked (mark_before d) in
       let has : HaveBytes m = subst (λ (h : MultiHeader). HaveBytes (marked h)) mark have in
       let t : StandsAt m src place after = subst (λ (h : MultiHeader). StandsAt (marked h) src place after) mark s in
-      let items = items_are x.0 in (
-        own_answers op x.0 found.0,
-        subst HaveBytes (sym items) (have_both m (result_of x.0) has found.1.1),
-        subst (λ (i : List Item). StandsAt i src place x.1) (sym items) (stands_then m (result_of x.0) src place after x.1 t found.2),
+      let items = items_are d in (
+        d,
+        own_answers op d found.1,
+        subst HaveBytes (sym items) (have_both m (result_of d) has found.2.1),
+        subst (λ (i : List Item). StandsAt i src place end) (sym items) (stands_then m (result_of d) src place after end t found.3),
       )
   own_found have s is (Err e) found = tt
 
   pub own_fault : StandsAt (marked header) src place after → header ≡ result_header op
-      → (r : Result (PartDone × ℕ) ItemFault) → IfErr r (λ e. HasToldFault (IsValueOf (result_layout op)) src after e × (e.reason ≢ NoMemory))
+      → (r : Result ℕ ItemFault) → IfErr r (λ e. HasToldFault (IsValueOf (result_layout op)) src after e × (e.reason ≢ NoMemory))
       → IfErr r (λ e. ((ops : List PartOp) → IsToldAt (IsDoneFault (op ∷ ops)) src place e) × (e.reason ≢ NoMemory))
   own_fault s is (Ok x) fault = tt
   own_fault s is (Err e) fault = (λ ops. result_inside op ops src place after header e s is (inr fault.0), fault.1)
+
+-- an error, with its header
+pub error_found : (op : PartOp) (src : List ℕ) (place after end : ℕ) (header : MultiHeader) (n : ℤ) → HaveBytes (marked header) → StandsAt (marked header) src place after → header ≡ error_header header.err
+    → HaveBytes (AnInt n ∷ []) → StandsAt (AnInt n ∷ []) src after end → n ≡ header.err → IsDoneAt op src place end
+error_found op src place after end header n have s is has t same =
+    let mark = marked (error_header header.err) in
+    let number = AnInt header.err ∷ [] in
+    (
+      done.PartFailed header.err,
+      tt,
+      have_both mark number (subst (λ (h : MultiHeader). HaveBytes (marked h)) is have) (subst (λ (k : ℤ). HaveBytes (AnInt k ∷ [])) same has),
+      stands_then mark number src place after end (subst (λ (h : MultiHeader). StandsAt (marked h) src place after) is s) (subst (λ (k : ℤ). StandsAt (AnInt k ∷ []) src after end) same t),
+    )
 
 -- what is told of the list, once its end is passed
 pub dones_passed : (src : List ℕ) (place at count after : ℕ) (header : MultiHeader) (ops : List PartOp) → place ≤ length src → (s : Stretch done_items src place at count) → AnswerAll ops s.values

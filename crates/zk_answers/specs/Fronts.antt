@@ -1,17 +1,27 @@
 -- Replies, judged where they lie.
 use Rattle.std.specs.Prelude.{◌≡◌, ℕ, ℤ, List}
 use Rattle.zk_jute.specs.Item.{HaveBytes}
+use Rattle.zk_jute.specs.Layout.{IsValueOf}
 use Rattle.zk_jute.specs.Told.{StandsAt}
 use Rattle.zk_records.specs.declared.op.Op.{Op}
 use Rattle.zk_records.specs.declared.op.PartOp.{PartOp}
-use Rattle.zk_answers.specs.Held.{Body, Reply}
+use Rattle.zk_answers.specs.Held.{Body, Reply, PartDone}
 use Rattle.zk_answers.specs.declared.frame.ServerFrameOf.TheVariants as frame
+use Rattle.zk_answers.specs.Results.{Own, Answers, result_of, result_layout, done_items}
 use Rattle.zk_answers.specs.Rows.{op_of_body, body_items}
 use Rattle.zk_answers.specs.Frames.{BodyFits, Fits, IsSent, payload}
 
 -- a body of this operation, which whatever parts the request has it fits, stands from the place on, and ends there
 abbrev pub IsBodyAlone : Op → List ℕ → ℕ → ℕ → Type 0
 IsBodyAlone op src place end = (b : Body) × (op_of_body b ≡ op) × ((parts : List PartOp) → BodyFits parts b) × HaveBytes (body_items b) × StandsAt (body_items b) src place end
+
+-- a part's own result stands there, and ends there
+abbrev pub IsResultAt : PartOp → List ℕ → ℕ → ℕ → Type 0
+IsResultAt op src place end = (d : PartDone) × Own op d × IsValueOf (result_layout op) (result_of d) × StandsAt (result_of d) src place end
+
+-- what became of a part stands there, with its header
+abbrev pub IsDoneAt : PartOp → List ℕ → ℕ → ℕ → Type 0
+IsDoneAt op src place end = (d : PartDone) × Answers op d × HaveBytes (done_items d) × StandsAt (done_items d) src place end
 
 -- the payload is that of a reply under this xid to a request of this operation and these parts
 abbrev pub IsReplyUnder : ℤ → Op → List PartOp → List ℕ → Type 0

@@ -9,14 +9,15 @@ ghost use Rattle.zk_jute.specs.Layout.{IsValueOf};
 ghost use Rattle.zk_jute.specs.Told.{StandsAt, IsToldAt, HasSureFault, IsSurelyToldAt};
 ghost use Rattle.zk_records.specs.declared.op.PartOp as codes;
 ghost use Rattle.zk_answers.specs.Held.{PartDone};
-ghost use Rattle.zk_answers.specs.Results.{done_items, multi_items, result_layout, result_of, Answers, AnswerAll, IsDoneFault, Own};
+ghost use Rattle.zk_answers.specs.Results.{done_items, multi_items, result_layout, result_of, AnswerAll, IsDoneFault, Own};
+ghost use Rattle.zk_answers.specs.Fronts.{IsResultAt, IsDoneAt};
 ghost use Rattle.zk_answers.specs.Shown.{dones_at};
 
 use crate::frame::{PartDoneOf, PartDoneRef};
 use crate::multi::{Mark, is_end, mark_of};
 use std::marker::Model;
 use zk_asks::Asked;
-use zk_jute::{ItemFault, Payload, Reason, TextRef, read_ref};
+use zk_jute::{ItemFault, Payload, Reason, TextRef, end_of, read_ref};
 use zk_records::{MultiHeader, PartOp, Stat, part_of};
 
 /// The results of a multi's parts where they lie.
@@ -152,16 +153,40 @@ fn result_ref<'a>(
     }
 }
 
-/// What became of one part, and the place behind it.
-fn done_ref<'a>(
-    src: &Payload<'a>,
-    place: usize,
-    op: PartOp,
-) -> Result<(PartDoneRef<'a>, usize), ItemFault>
+/// The place after a part's own result behind its header; None says no more. No result is made.
+fn result_end(payload: &[u8], place: usize, op: PartOp) -> Option<usize>
+    requires { place ≤ length payload.now }
+    ensures some { IfSome result (λ end. IsResultAt op payload.now place end) }
+    ensures within { IfSome result (λ end. end ≤ length payload.now) }
+{
+    match op {
+        PartOp::Create => end_of::<TextRef>(payload, place),
+        PartOp::SetData => end_of::<Stat>(payload, place),
+        PartOp::Delete | PartOp::Check => Some(place),
+    }
+}
+
+/// The place after a part's own result behind its header.
+#[inline(always)]
+fn own_end(src: &Payload<'_>, place: usize, op: PartOp) -> Result<usize, ItemFault>
     requires { place ≤ length src.now.bytes.now }
-    ensures found { IfOk result (λ x. Answers op x.0 × HaveBytes (done_items x.0) × StandsAt (done_items x.0) src.now.bytes.now place x.1) }
+    ensures found { IfOk result (λ end. IsResultAt op src.now.bytes.now place end) }
+    ensures fault { IfErr result (HasSureFault (IsValueOf (result_layout op)) src.now.bytes.now place) }
+    ensures within { IfOk result (λ end. end ≤ length src.now.bytes.now) }
+{
+    if let Some(end) = result_end(src.bytes, place, op) {
+        return Ok(end);
+    }
+    let (_, end) = result_ref(src, place, op)?;
+    Ok(end)
+}
+
+/// The place after what became of one part.
+fn done_end(src: &Payload<'_>, place: usize, op: PartOp) -> Result<usize, ItemFault>
+    requires { place ≤ length src.now.bytes.now }
+    ensures found { IfOk result (λ end. IsDoneAt op src.now.bytes.now place end) }
     ensures fault { IfErr result (λ e. ((ops : List codes.PartOp) → IsToldAt (IsDoneFault (op ∷ ops)) src.now.bytes.now place e) × (e.reason ≢ NoMemory)) }
-    ensures within { IfOk result (λ x. x.1 ≤ length src.now.bytes.now) }
+    ensures within { IfOk result (λ end. end ≤ length src.now.bytes.now) }
 {
     let (header, after) = read_ref::<MultiHeader>(src, place)?;
     match mark_of(&header, op) {
@@ -171,9 +196,9 @@ fn done_ref<'a>(
             if number != header.err {
                 return Err(ItemFault::at(place, Reason::BadPart));
             }
-            Ok((PartDoneOf::PartFailed(number), end))
+            Ok(end)
         }
-        Mark::Result => result_ref(src, after, op),
+        Mark::Result => own_end(src, after, op),
     }
 }
 
@@ -224,7 +249,7 @@ pub(crate) fn results_ref<'a, F: Asked>(
     let mut at = place;
     for j in 0..form.parts() {
         let op = form.part(j).unwrap();
-        let (_, next) = done_ref(src, at, op)?;
+        let next = done_end(src, at, op)?;
         at = next;
     }
     let (header, end) = read_ref::<MultiHeader>(src, at)?;

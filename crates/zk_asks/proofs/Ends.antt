@@ -3,13 +3,17 @@ use Rattle.std.proofs.Common.{◌≡◌, ℕ, List, [], refl, sym, subst, arith}
 use Rattle.std.specs.Prelude.{Option, IfSome}
 use Rattle.std.proofs.lemmas.Option.{IfSome_then}
 use Rattle.zk_jute.specs.Item.{Item, HaveBytes}
+use Rattle.zk_jute.specs.Layout.{Unfolds}
 use Rattle.zk_jute.specs.Told.{StandsAt}
 use Rattle.zk_jute.specs.Wired.{Wired}
 use Rattle.zk_records.specs.declared.op.Op.{Op}
-use Rattle.zk_asks.specs.Held.{Ask}
+use Rattle.zk_records.specs.declared.op.PartOp.{PartOp}
+use Rattle.zk_asks.specs.Held.{Ask, Part}
 use Rattle.zk_asks.specs.Rows.{op_of_ask, body_items}
 use Rattle.zk_asks.specs.Frames.{ops_of_ask}
-use Rattle.zk_asks.specs.Fronts.{IsBodyAlone}
+use Rattle.zk_asks.specs.Parts.{part_layout, op_of_part, record_of}
+use Rattle.zk_asks.specs.Fronts.{IsBodyAlone, IsRecordAt}
+use Rattle.zk_asks.proofs.Parts.{record_is}
 
 module _ (src : List ℕ) (place : ℕ) (op : Op) where
   -- of one record
@@ -33,3 +37,15 @@ module _ (src : List ℕ) (place : ℕ) (op : Op) where
     subst (λ (i : List Item). HaveBytes i) (sym same) tt,
     subst (λ (i : List Item). StandsAt i src place place) (sym same) (refl, omega arith),
   )
+
+-- and that of a part
+pub of_part : (src : List ℕ) (place : ℕ) (op : PartOp) {X : Type 0} (w : Wired X) (make : X → Part) → ((x : X) → op_of_part (make x) ≡ op) → ((x : X) → record_of (make x) ≡ w.items x)
+    → (end : Option ℕ) → IfSome end (λ n. (x : X) × HaveBytes (w.items x) × StandsAt (w.items x) src place n) → IfSome end (λ n. IsRecordAt op src place n)
+of_part src place op w make is same end h =
+    IfSome_then end h (λ n s.
+      let p = make s.0 in (
+        p,
+        is s.0,
+        (subst (λ (o : PartOp). Unfolds (part_layout o) (record_of p)) (is s.0) (record_is p), subst (λ (i : List Item). HaveBytes i) (sym (same s.0)) s.1),
+        subst (λ (i : List Item). StandsAt i src place n) (sym (same s.0)) s.2,
+      ))

@@ -166,6 +166,26 @@ part_read src p place end le have stands = part_there p src place end le have st
 pub parts_counted : (src : List ℕ) (count place : ℕ) → Begins part_items src count place → length (parts_at src count place) ≡ count
 parts_counted src = values_counted part_items src (part_value src) (part_read src)
 
+-- what reads a part's operation alone
+abbrev answered : {X : Type 0} → X → Result X ItemFault → X
+answered x (Ok y) = y
+answered x (Err e) = x
+
+pub op_told : (q p : Part) (m n : ℕ) (op : PartOp) → op_of_part q ≡ op → ◌≡◌ {A = Result (Part × ℕ) ItemFault} (Ok (q, m)) (Ok (p, n)) → ◌≡◌ {A = Result (PartOp × ℕ) ItemFault} (Ok (op, m)) (Ok (op_of_part p, n))
+op_told q p m n op is same =
+    let part : q ≡ p = ap (λ (r : Result (Part × ℕ) ItemFault). (answered (p, n) r).0) same in
+    let end : m ≡ n = ap (λ (r : Result (Part × ℕ) ItemFault). (answered (p, n) r).1) same in
+    ap (λ (o : PartOp). Ok (o, m)) (sym is ∙ ap op_of_part part) ∙ ap (λ (k : ℕ). Ok (op_of_part p, k)) end
+
+pub both_told : (op o : PartOp) (m n : ℕ) → ◌≡◌ {A = Result (PartOp × ℕ) ItemFault} (Ok (op, m)) (Ok (o, n)) → (op ≡ o) × (m ≡ n)
+both_told op o m n same = (ap (λ (r : Result (PartOp × ℕ) ItemFault). (answered (o, n) r).0) same, ap (λ (r : Result (PartOp × ℕ) ItemFault). (answered (o, n) r).1) same)
+
+pub not_told : (e : ItemFault) (p : Part) (n : ℕ) → ◌≡◌ {A = Result (Part × ℕ) ItemFault} (Err e) (Ok (p, n)) → ⊥
+not_told e p n same = cc
+
+pub none_told : (e : ItemFault) (o : PartOp) (n : ℕ) → ◌≡◌ {A = Result (PartOp × ℕ) ItemFault} (Err e) (Ok (o, n)) → ⊥
+none_told e o n same = cc
+
 -- ---- parts that were passed
 
 module _ (src : List ℕ) (place at count : ℕ) (so_far : Stretch part_items src place at count) (header : MultiHeader) (after : ℕ) (v : IsValueOf multi_header.layout (marked header)) (s : StandsAt (marked header) src at after) where

@@ -1,18 +1,25 @@
 -- Requests without parts, judged where they lie.
 use Rattle.std.specs.Prelude.{◌≡◌, ℕ, ℤ, List, []}
 use Rattle.zk_jute.specs.Item.{HaveBytes}
+use Rattle.zk_jute.specs.Layout.{IsValueOf}
 use Rattle.zk_jute.specs.Told.{StandsAt}
 use Rattle.zk_records.specs.declared.op.Op.{Op}
+use Rattle.zk_records.specs.declared.op.PartOp.{PartOp}
 use Rattle.zk_records.specs.declared.profile.Profile.{Profile}
 use Rattle.zk_records.specs.Codes.{HasOp}
-use Rattle.zk_asks.specs.Held.{Ask}
+use Rattle.zk_asks.specs.Held.{Ask, Part}
 use Rattle.zk_asks.specs.declared.frame.ClientFrameOf.TheVariants as frame
+use Rattle.zk_asks.specs.Parts.{part_layout, op_of_part, record_of}
 use Rattle.zk_asks.specs.Rows.{op_of_ask, body_items}
 use Rattle.zk_asks.specs.Frames.{ops_of_ask, IsSent, payload}
 
 -- the body of a request of this operation, and without parts, stands from the place on, and ends there
 abbrev pub IsBodyAlone : Op → List ℕ → ℕ → ℕ → Type 0
 IsBodyAlone op src place end = (a : Ask) × (op_of_ask a ≡ op) × (ops_of_ask a ≡ []) × HaveBytes (body_items a) × StandsAt (body_items a) src place end
+
+-- the record of a part of this operation stands there, and ends there
+abbrev pub IsRecordAt : PartOp → List ℕ → ℕ → ℕ → Type 0
+IsRecordAt op src place end = (p : Part) × (op_of_part p ≡ op) × IsValueOf (part_layout op) (record_of p) × StandsAt (record_of p) src place end
 
 -- the payload is that of a request of the profile under this xid, of this operation and without parts
 abbrev pub IsAlone : Profile → ℤ → Op → List ℕ → Type 0

@@ -1,5 +1,5 @@
 //! The parts of a multi where they lie in a payload.
-ghost use Rattle.std.specs.Prelude.{◌≡◌, ◌≤◌, ℕ, Ok, Some, length, IfOk, IfErr, IfSome};
+ghost use Rattle.std.specs.Prelude.{◌≡◌, ◌≤◌, ◌∷◌, ℕ, [], Ok, Some, length, IfOk, IfErr, IfSome, MatchOption};
 ghost use Rattle.std.specs.Iterator.{YieldsFirst, UpTo, item_count};
 ghost use Rattle.std.specs.Iterator.SizeHint.{IsWithinCount};
 ghost use Rattle.zk_jute.specs.Item.{HaveBytes};
@@ -8,13 +8,14 @@ ghost use Rattle.zk_jute.specs.Told.{StandsAt, HasSureFault, IsSurelyToldAt};
 ghost use Rattle.zk_asks.specs.Held.{Part};
 ghost use Rattle.zk_asks.specs.Parts.{part_layout, op_of_part, record_of, part_items, multi_items};
 ghost use Rattle.zk_asks.specs.Faults.{IsMultiFault};
+ghost use Rattle.zk_asks.specs.Fronts.{IsRecordAt};
 ghost use Rattle.zk_jute.specs.Shown.{Begins};
 ghost use Rattle.zk_asks.specs.Shown.{parts_at};
 
 use crate::frame::{PartOf, PartRef};
 use crate::multi::{Mark, mark_of};
 use std::marker::Model;
-use zk_jute::{ItemFault, Payload, Reason, read_ref};
+use zk_jute::{ItemFault, Payload, Reason, end_of, read_ref};
 use zk_records::{CheckAskRef, CreateAskRef, DeleteAskRef, MultiHeader, PartOp, SetDataAskRef};
 
 /// The parts of a multi where they lie.
@@ -151,6 +152,35 @@ fn record_ref<'a>(
     }
 }
 
+/// The place after the record of a part; None says no more. No record is made.
+fn part_end(payload: &[u8], place: usize, op: PartOp) -> Option<usize>
+    requires { place ≤ length payload.now }
+    ensures some { IfSome result (λ end. IsRecordAt op payload.now place end) }
+    ensures within { IfSome result (λ end. end ≤ length payload.now) }
+{
+    match op {
+        PartOp::Create => end_of::<CreateAskRef>(payload, place),
+        PartOp::Delete => end_of::<DeleteAskRef>(payload, place),
+        PartOp::SetData => end_of::<SetDataAskRef>(payload, place),
+        PartOp::Check => end_of::<CheckAskRef>(payload, place),
+    }
+}
+
+/// The place after the record of a part.
+#[inline(always)]
+fn record_end(src: &Payload<'_>, place: usize, op: PartOp) -> Result<usize, ItemFault>
+    requires { place ≤ length src.now.bytes.now }
+    ensures found { IfOk result (λ end. IsRecordAt op src.now.bytes.now place end) }
+    ensures fault { IfErr result (HasSureFault (IsValueOf (part_layout op)) src.now.bytes.now place) }
+    ensures within { IfOk result (λ end. end ≤ length src.now.bytes.now) }
+{
+    if let Some(end) = part_end(src.bytes, place, op) {
+        return Ok(end);
+    }
+    let (_, end) = record_ref(src, place, op)?;
+    Ok(end)
+}
+
 /// A part behind its header, and the place after it.
 fn part_in<'a>(src: &Payload<'a>, place: usize) -> Result<(PartRef<'a>, usize), ItemFault>
     requires { place ≤ length src.now.bytes.now }
@@ -162,6 +192,45 @@ fn part_in<'a>(src: &Payload<'a>, place: usize) -> Result<(PartRef<'a>, usize), 
         Mark::Part(op) => record_ref(src, after, op),
         Mark::End => Err(ItemFault::at(place, Reason::BadPart)),
         Mark::Bad => Err(ItemFault::at(place, Reason::BadPart)),
+    }
+}
+
+/// The operation of the part at a place, and the place after it. No part is made.
+fn op_in(src: &Payload<'_>, place: usize) -> Result<(PartOp, usize), ItemFault>
+    requires { place ≤ length src.now.bytes.now }
+    ensures { (p : Part) (end : ℕ) → HaveBytes (part_items p) → StandsAt (part_items p) src.now.bytes.now place end → result ≡ Ok (op_of_part p, end) }
+{
+    let (header, after) = read_ref::<MultiHeader>(src, place)?;
+    match mark_of(&header) {
+        Mark::Part(op) => {
+            let end = record_end(src, after, op)?;
+            Ok((op, end))
+        }
+        Mark::End => Err(ItemFault::at(place, Reason::BadPart)),
+        Mark::Bad => Err(ItemFault::at(place, Reason::BadPart)),
+    }
+}
+
+impl<'a> PartItems<'a> {
+    /// The operation of the next part, which is passed over; no part is made.
+    pub(crate) fn pass(&mut self) -> Option<PartOp>
+        ensures { MatchOption result ((self.old ≡ []) × (self.new ≡ [])) (λ op. (p : Part) × (op_of_part p ≡ op) × (self.old ≡ p ∷ self.new)) }
+    {
+        if self.left == 0 {
+            return None;
+        }
+        let src = Payload {
+            bytes: self.payload,
+        };
+        match op_in(&src, self.place) {
+            Ok((op, place)) => {
+                self.place = place;
+                self.left -= 1;
+                Some(op)
+            }
+            // All that are left stand there.
+            Err(_) => None,
+        }
     }
 }
 
@@ -195,7 +264,7 @@ pub(crate) fn multi_ref<'a>(
         let (header, after) = read_ref::<MultiHeader>(src, at)?;
         match mark_of(&header) {
             Mark::Part(op) => {
-                let (_, next) = record_ref(src, after, op)?;
+                let next = record_end(src, after, op)?;
                 at = next;
                 count += 1;
             }

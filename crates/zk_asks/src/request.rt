@@ -37,8 +37,8 @@ fn put_all<'a, R: Room>(parts: PartItems<'a>, room: &mut R)
     ensures room { R.room room.new ≡ R.room room.old }
 {
     let mut items = parts;
-    while let Some(part) = items.next() {
-        room.push(part.op());
+    while let Some(op) = items.pass() {
+        room.push(op);
     }
 }
 

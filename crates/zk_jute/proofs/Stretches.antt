@@ -52,7 +52,7 @@ module _ {X : Type 0} (items : X → List Item) (src : List ℕ) (value : ℕ �
   values_counted count place all = ap length (values_told place all.1 count all.0 all.2) ∙ sym all.2.count_is
 
   -- one, and the others
-  abbrev FirstStands : ℕ → ℕ → Type 0
+  abbrev pub FirstStands : ℕ → ℕ → Type 0
   FirstStands count place = (x : X) × (middle : ℕ) × HaveBytes (items x) × StandsAt (items x) src place middle × Begins items src (count - 1) middle × (values_at value count place ≡ x ∷ values_at value (count - 1) middle)
 
   first_of : (xs : List X) (count place at : ℕ) → 0 < count → place ≤ length src → count ≡ length xs → HaveBytes (flat_map items xs) → StandsAt (flat_map items xs) src place at → FirstStands count place
@@ -81,11 +81,15 @@ module _ {X : Type 0} (items : X → List Item) (src : List ℕ) (value : ℕ �
       (subst (Begins items src (count - 1)) (sym two) all, are ∙ ap (λ (z : X). z ∷ others middle) (sym one) ∙ ap (λ (n : ℕ). y ∷ others n) (sym two))
 
   module _ (count place : ℕ) (some : 0 < count) (all : Begins items src count place) where
+    -- the first
+    pub first_there : FirstStands count place
+    first_there = first_of all.2.values count place all.1 some all.0 all.2.count_is all.2.have all.2.stands
+
     -- what reads each that stands reads the first, and stands before the others
     pub first_read : (y : X) (end : ℕ) → ((x : X) (e : ℕ) → HaveBytes (items x) → StandsAt (items x) src place e → read_as y end ≡ read_as x e)
         → Begins items src (count - 1) end × (values_at value count place ≡ y ∷ values_at value (count - 1) end)
     first_read y end only =
-        let f = first_of all.2.values count place all.1 some all.0 all.2.count_is all.2.have all.2.stands in
+        let f = first_there in
         first_is count place y f.0 end f.1 (only f.0 f.1 f.2 f.3) f.4 f.5
 
     no_read : (fault : ItemFault) (x : X) (end : ℕ) → Err fault ≡ read_as x end → ⊥
@@ -93,7 +97,7 @@ module _ {X : Type 0} (items : X → List Item) (src : List ℕ) (value : ℕ �
 
     pub never_refused : (fault : ItemFault) → ((x : X) (e : ℕ) → HaveBytes (items x) → StandsAt (items x) src place e → Err fault ≡ read_as x e) → ⊥
     never_refused fault only =
-        let f = first_of all.2.values count place all.1 some all.0 all.2.count_is all.2.have all.2.stands in
+        let f = first_there in
         no_read fault f.0 f.1 (only f.0 f.1 f.2 f.3)
 
 -- ---- values that were passed

@@ -39,12 +39,12 @@ loop-j-preserved g c =
     let ops = g.F.Asked.part_ops c.args.form.now in
     let op = c.unwrap-op.result in
     let ds = i.passed.values in
-    let d = c.in_ok-next.field-0-0 in
+    let d = f.0 in
     let more = take_some ops n op (sym c.part.ensures ∙ c.unwrap-op.ensures) in
     record {
       within = c.in_ok-next.ensures.within;
-      passed = one_passed done_items c.args.src.now.bytes.now c.args.place c.loop-j.at c.in_ok-next.next n i.passed d f.1 f.2;
-      answers = subst (λ (o : List PartOp). AnswerAll o (ds ++ d ∷ [])) (sym more) (answers_push (take n ops) op ds d i.answers f.0);
+      passed = one_passed done_items c.args.src.now.bytes.now c.args.place c.loop-j.at c.in_ok-next.next n i.passed d f.2 f.3;
+      answers = subst (λ (o : List PartOp). AnswerAll o (ds ++ d ∷ [])) (sym more) (answers_push (take n ops) op ds d i.answers f.1);
     }
 
 pub returns-in_err-header-clause-fault : goal.returns-in_err-header-clause-fault

@@ -37,8 +37,8 @@ loop-header-preserved c =
     let mark : StandsAt (marked (part_header c.in-Part.op)) src c.loop-header.at c.in_ok-header.after = subst (λ (x : MultiHeader). StandsAt (marked x) src c.loop-header.at c.in_ok-header.after) c.in-Part.ensures h.1 in
     record {
       within = c.in_ok-next-in-Part.ensures.within;
-      few = omega (arith, i.few, mark.1, nine c.in-Part.op, f.2.1);
-      passed = part_passed src c.args.place c.loop-header.at c.loop-header.count i.passed c.in_ok-header.header c.in_ok-header.after h.0 h.1 c.in-Part.op c.in_ok-next-in-Part.field-0-0 c.in_ok-next-in-Part.next c.in-Part.ensures f.0 f.1 f.2;
+      few = omega (arith, i.few, mark.1, nine c.in-Part.op, f.3.1);
+      passed = part_passed src c.args.place c.loop-header.at c.loop-header.count i.passed c.in_ok-header.header c.in_ok-header.after h.0 h.1 c.in-Part.op f.0 c.in_ok-next-in-Part.next c.in-Part.ensures f.1 f.2 f.3;
     }
 
 pub returns-in-End-clause-found : goal.returns-in-End-clause-found

@@ -1,9 +1,10 @@
 use Rattle.std.specs.Int.{w32}
-use Rattle.std.proofs.Common.{of_z, ◌∷◌, inl, inr, ap}
+use Rattle.std.proofs.Common.{of_z, to_z, ◌∷◌, inl, inr, ap, sym, ◌∙◌}
+use Rattle.std.proofs.lemmas.Int.{to_z-of_z}
 use Rattle.std.proofs.lemmas.Result.{err_from_is_err_and}
 use Rattle.zk_answers.proofs.Outcomes.{result_mark, result_bad, error_inside, error_differs}
-use Rattle.zk_answers.proofs.Lying.{own_found, own_fault}
-use Rattle.zk_answers.proofs.done_list.done_ref.Goals as goal
+use Rattle.zk_answers.proofs.Lying.{own_found, own_fault, error_found}
+use Rattle.zk_answers.proofs.done_list.done_end.Goals as goal
 
 pub returns-in_err-header-clause-fault : goal.returns-in_err-header-clause-fault
 returns-in_err-header-clause-fault c =
@@ -41,10 +42,19 @@ pub returns-in-Result-clause-fault : goal.returns-in-Result-clause-fault
 returns-in-Result-clause-fault c =
     let f = c.in_ok-header.ensures.found in
     let h = c.in_ok-header.header in
-    own_fault c.args.op c.args.src.now.bytes.now c.args.place c.in_ok-header.after h f.1 c.in-Result.ensures c.result_ref.result c.result_ref.ensures.fault
+    own_fault c.args.op c.args.src.now.bytes.now c.args.place c.in_ok-header.after h f.1 c.in-Result.ensures c.own_end.result c.own_end.ensures.fault
 
 pub returns-in-Result-clause-found : goal.returns-in-Result-clause-found
 returns-in-Result-clause-found c =
     let f = c.in_ok-header.ensures.found in
     let h = c.in_ok-header.header in
-    own_found c.args.op c.args.src.now.bytes.now c.args.place c.in_ok-header.after h f.0.1 f.1 c.in-Result.ensures c.result_ref.result c.result_ref.ensures.found
+    own_found c.args.op c.args.src.now.bytes.now c.args.place c.in_ok-header.after h f.0.1 f.1 c.in-Result.ensures c.own_end.result c.own_end.ensures.found
+
+pub returns-else-number-header-clause-found : goal.returns-else-number-header-clause-found
+returns-else-number-header-clause-found c =
+    let f = c.in_ok-header.ensures.found in
+    let h = c.in_ok-header.header in
+    let n = c.in_ok-number-in-Error in
+    let g = n.ensures.found in
+    let same = sym (to_z-of_z w32 n.number g.0.1.0) ∙ ap (to_z w32) c.if-number-header.false ∙ to_z-of_z w32 h.err f.0.1.1.1.0 in
+    error_found c.args.op c.args.src.now.bytes.now c.args.place c.in_ok-header.after n.end h n.number f.0.1 f.1 c.in-Error.ensures g.0.1 g.1 same
