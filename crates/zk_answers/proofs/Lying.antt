@@ -273,8 +273,7 @@ pub error_found : (op : PartOp) (src : List ℕ) (place after end : ℕ) (header
     → HaveBytes (AnInt n ∷ []) → StandsAt (AnInt n ∷ []) src after end → n ≡ header.err → IsDoneAt op src place end
 error_found op src place after end header n have s is has t same =
     let mark = marked (error_header header.err) in
-    let number = AnInt header.err ∷ [] in
-    (
+    let number = AnInt header.err ∷ [] in (
       done.PartFailed header.err,
       tt,
       have_both mark number (subst (λ (h : MultiHeader). HaveBytes (marked h)) is have) (subst (λ (k : ℤ). HaveBytes (AnInt k ∷ [])) same has),

@@ -43,9 +43,9 @@ pub of_part : (src : List ℕ) (place : ℕ) (op : PartOp) {X : Type 0} (w : Wir
     → (end : Option ℕ) → IfSome end (λ n. (x : X) × HaveBytes (w.items x) × StandsAt (w.items x) src place n) → IfSome end (λ n. IsRecordAt op src place n)
 of_part src place op w make is same end h =
     IfSome_then end h (λ n s.
-      let p = make s.0 in (
-        p,
-        is s.0,
-        (subst (λ (o : PartOp). Unfolds (part_layout o) (record_of p)) (is s.0) (record_is p), subst (λ (i : List Item). HaveBytes i) (sym (same s.0)) s.1),
-        subst (λ (i : List Item). StandsAt i src place n) (sym (same s.0)) s.2,
-      ))
+    let p = make s.0 in (
+      p,
+      is s.0,
+      (subst (λ (o : PartOp). Unfolds (part_layout o) (record_of p)) (is s.0) (record_is p), subst (λ (i : List Item). HaveBytes i) (sym (same s.0)) s.1),
+      subst (λ (i : List Item). StandsAt i src place n) (sym (same s.0)) s.2,
+    ))

@@ -54,8 +54,7 @@ module _ (s : State) (block : List ℕ) (used : ℕ) (t : State) (p : PassesHead
       ∙ ap (λ n. take 1 block ++ (time ++ take 4 (drop n block))) k.0
       ∙ ap (λ l. take 1 block ++ (time ++ take 4 l)) (sym (drop-drop 8 1 block))
       ∙ ap (λ l. take 1 block ++ l) (sym (take-add 8 4 (drop 1 block)))
-      ∙ sym (take-add 1 12 block) in
-      (
+      ∙ sym (take-add 1 12 block) in (
         (side-good p.side, (subst (IsValue Time) (sym same) (record { wide = wide; good = k.1 }), (size-good, tt))),
         tt,
         bytes ∙ ap (λ n. take n block) (sym (p.behind_size ∙ ap (λ n. n + 4) k.0)),

@@ -50,6 +50,15 @@ pub fn size_in(block: &[u8], at: usize) -> Option<u32>
     if block.len() < at + 4 {
         return None;
     }
-    let size = [block[at], block[at + 1], block[at + 2], block[at + 3], 0, 0, 0, 0];
+    let size = [
+        block[at],
+        block[at + 1],
+        block[at + 2],
+        block[at + 3],
+        0,
+        0,
+        0,
+        0,
+    ];
     Part::Size.is_good(size).then_some(number(size))
 }
