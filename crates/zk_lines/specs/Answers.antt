@@ -15,7 +15,8 @@ use Rattle.zk_answers.specs.Frames.{op_of_outcome}
 use Rattle.zk_items.specs.Form.{Form, Read, ◌>>=◌, read_map, fields, ◌and◌, word_at}
 use Rattle.zk_items.specs.Leaf.{int, long, ro, text, blob}
 use Rattle.zk_items.specs.Codes.{error_code, failure_code, event_code}
-use Rattle.zk_items.specs.Words.{word_of, field}
+use Rattle.zk_items.specs.Words.{word_of, field, field_at}
+use Rattle.zk_items.specs.declared.word.Word.{Word}
 use Rattle.zk_items.specs.declared.word.Word.TheVariants as words
 use Rattle.zk_lines.specs.declared.done.DoneName.{DoneName}
 use Rattle.zk_lines.specs.declared.done.DoneName.TheVariants as names
@@ -35,6 +36,10 @@ connected = fields (field words.Version int and field words.Timeout int and fiel
 abbrev pub event : Form (ℤ × WatcherEvent)
 event = fields (field words.Zxid long and field words.Kind event_code and field words.State int and field words.Path text)
     (λ p. (p.0, (p.1.kind, (p.1.state, p.1.path)))) (λ q. (q.0, record { kind = q.1.0; state = q.1.1.0; path = q.1.1.1 }))
+
+-- a field, and what is known of a node behind it
+abbrev pub with_stat_at : {X : Type 0} → Word → (List ℕ → Read X) → List ℕ → Read (X × Stat)
+with_stat_at word at bytes = field_at word at bytes >>= λ p. (field words.Stat stat).at p.1 >>= λ q. Some ((p.0, q.0), q.1)
 
 abbrev pub content : Form (Blob × Stat)
 content = field words.Blob blob and field words.Stat stat

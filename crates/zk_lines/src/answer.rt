@@ -1,170 +1,26 @@
 //! What a server sends, as a line shows it.
-ghost use Rattle.std.specs.Prelude.{◌≡◌, ◌≢◌, ◌++◌, OnOk, pos};
+ghost use Rattle.std.specs.Prelude.{◌≡◌, ◌++◌, OnOk};
 ghost use Rattle.zk_items.specs.Form.{Gives, Keeps};
 ghost use Rattle.zk_items.specs.Codes.{failure_code};
 ghost use Rattle.zk_items.specs.Leaf.{int, long};
 ghost use Rattle.zk_items.specs.Words.{word_of};
 ghost use Rattle.zk_items.specs.declared.word.Word.TheVariants as words;
-ghost use Rattle.zk_lines.specs.Records as records;
 ghost use Rattle.zk_lines.specs.Answers as answers;
 ghost use Rattle.zk_lines.specs.Lines as lines;
 
-use crate::done::read_multi;
+use crate::body::read_body;
 use crate::item::read_field;
 use crate::name::op_named;
 use crate::put::{Put, put_field, put_fields};
 use std::alloc::AllocError;
 use zk_answers::{
-    Body, BodyOf, BodyRef, Failure, Outcome, OutcomeOf, OutcomeRef, Reply, ReplyRef, ServerFrame,
-    ServerFrameOf, ServerRef,
+    Failure, Outcome, OutcomeOf, OutcomeRef, Reply, ReplyRef, ServerFrame, ServerFrameOf, ServerRef,
 };
 use zk_items::{
     LineFault, LineReason, Reader, Word, put_error_code, put_event_code, put_int, put_word,
     read_event_code, read_failure_code, word_bytes,
 };
-use zk_jute::{Blob, List, Text};
-use zk_records::{
-    Acl, ConnectResponse, ConnectResponseRef, Op, Stat, WatcherEvent, WatcherEventRef, op_name,
-};
-
-fn read_content(line: &mut Reader<'_>) -> Result<(Blob, Stat), LineFault>
-    ensures { Gives result line.new (answers.content.at line.old) }
-{
-    let blob = read_field(line, Word::Blob)?;
-    let stat = read_field(line, Word::Stat)?;
-    Ok((blob, stat))
-}
-
-fn read_acls(line: &mut Reader<'_>) -> Result<(List<Acl>, Stat), LineFault>
-    ensures { Gives result line.new (answers.acls.at line.old) }
-{
-    let acl = read_field(line, Word::Acl)?;
-    let stat = read_field(line, Word::Stat)?;
-    Ok((acl, stat))
-}
-
-fn read_children(line: &mut Reader<'_>) -> Result<(List<Text>, Stat), LineFault>
-    ensures { Gives result line.new (answers.children.at line.old) }
-{
-    let names = read_field(line, Word::Names)?;
-    let stat = read_field(line, Word::Stat)?;
-    Ok((names, stat))
-}
-
-fn read_created(line: &mut Reader<'_>) -> Result<(Text, Stat), LineFault>
-    ensures { Gives result line.new (answers.created.at line.old) }
-{
-    let path = read_field(line, Word::Path)?;
-    let stat = read_field(line, Word::Stat)?;
-    Ok((path, stat))
-}
-
-/// What an operation gives, which is next.
-fn read_body(line: &mut Reader<'_>, op: Op) -> Result<Body, LineFault>
-    ensures { Gives result line.new (answers.body_at op line.old) }
-{
-    Ok(match op {
-        Op::Create => Body::Create {
-            path: read_field(line, Word::Path)?,
-        },
-        Op::Delete => Body::Delete,
-        Op::Exists => Body::Exists {
-            stat: read_field(line, Word::Stat)?,
-        },
-        Op::GetData => {
-            let (blob, stat) = read_content(line)?;
-            Body::GetData { blob, stat }
-        }
-        Op::SetData => Body::SetData {
-            stat: read_field(line, Word::Stat)?,
-        },
-        Op::GetAcl => {
-            let (acl, stat) = read_acls(line)?;
-            Body::GetAcl { acl, stat }
-        }
-        Op::SetAcl => Body::SetAcl {
-            stat: read_field(line, Word::Stat)?,
-        },
-        Op::GetChildren => Body::GetChildren {
-            names: read_field(line, Word::Names)?,
-        },
-        Op::Sync => Body::Sync {
-            path: read_field(line, Word::Path)?,
-        },
-        Op::Ping => Body::Ping,
-        Op::GetChildren2 => {
-            let (names, stat) = read_children(line)?;
-            Body::GetChildren2 { names, stat }
-        }
-        Op::Multi => Body::Multi(read_multi(line)?),
-        Op::Create2 => {
-            let (path, stat) = read_created(line)?;
-            Body::Create2 { path, stat }
-        }
-        Op::Auth => Body::Auth,
-        Op::SetWatches => Body::SetWatches,
-        Op::CloseSession => Body::CloseSession,
-    })
-}
-
-/// Appends a field, and what is known of a node behind it.
-fn put_with_stat<T: Put>(
-    out: &mut Vec<u8>,
-    word: Word,
-    value: &T,
-    stat: &Stat,
-) -> Result<(), AllocError>
-    ensures spelled { OnOk result (out.new.items ≡ out.old.items ++ ((word_of word ++ T.spell value.now) ++ (word_of words.Stat ++ records.stat.spell stat.now))) }
-    ensures fits { OnOk result (T.fits value.now × records.stat.fits stat.now) }
-    ensures keeps { Keeps out.old.items out.new.items }
-{
-    put_field(out, word, value)?;
-    put_field(out, Word::Stat, stat)
-}
-
-/// `body!(out, body)` appends what an operation gives.
-macro_rules! body {
-    ($out:ident, $body:ident) => {
-        match $body {
-            BodyOf::Create { path } => put_field($out, Word::Path, path),
-            BodyOf::Exists { stat } => put_field($out, Word::Stat, stat),
-            BodyOf::GetData { blob, stat } => put_with_stat($out, Word::Blob, blob, stat),
-            BodyOf::SetData { stat } => put_field($out, Word::Stat, stat),
-            BodyOf::GetAcl { acl, stat } => put_with_stat($out, Word::Acl, acl, stat),
-            BodyOf::SetAcl { stat } => put_field($out, Word::Stat, stat),
-            BodyOf::GetChildren { names } => put_field($out, Word::Names, names),
-            BodyOf::Sync { path } => put_field($out, Word::Path, path),
-            BodyOf::GetChildren2 { names, stat } => put_with_stat($out, Word::Names, names, stat),
-            BodyOf::Multi(results) => results.put($out),
-            BodyOf::Create2 { path, stat } => put_with_stat($out, Word::Path, path, stat),
-            BodyOf::Delete
-            | BodyOf::Ping
-            | BodyOf::Auth
-            | BodyOf::SetWatches
-            | BodyOf::CloseSession => Ok(()),
-        }
-    };
-}
-
-impl Put for Body {
-    ghost fits = { answers.body_fits };
-
-    ghost spell = { answers.body_spell };
-
-    fn put(&self, out: &mut Vec<u8>) -> Result<(), AllocError> {
-        body!(out, self)
-    }
-}
-
-impl<'a> Put for BodyRef<'a> {
-    ghost fits = { answers.body_fits };
-
-    ghost spell = { answers.body_spell };
-
-    fn put(&self, out: &mut Vec<u8>) -> Result<(), AllocError> {
-        body!(out, self)
-    }
-}
+use zk_records::{ConnectResponse, ConnectResponseRef, Op, WatcherEvent, WatcherEventRef, op_name};
 
 /// The error's number that is next, which isn't 0.
 fn read_failure(line: &mut Reader<'_>) -> Result<Failure, LineFault>

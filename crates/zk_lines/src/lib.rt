@@ -3,6 +3,7 @@
 
 mod answer;
 mod ask;
+mod body;
 mod done;
 mod ending;
 mod item;
