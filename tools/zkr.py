@@ -231,7 +231,8 @@ class Writer:
             self.flush()
 
     def piece(self, side, milliseconds, data):
-        """Writes bytes of a side, of any number, as pieces."""
+        """Writes bytes of a side, of any number, as pieces. Their time is to a microsecond the same in both files."""
+        milliseconds = round(milliseconds, 3)
         for at in range(0, len(data), LARGEST_PIECE):
             self.recording.waiting += self.head.piece(side, milliseconds, data[at:at + LARGEST_PIECE])
             if self.times:

@@ -73,6 +73,15 @@ class Writing(ToolCase):
                              [f"{1_700_000_000_000 + number}.250" for number in range(len(source))])
             self.assertEqual(stat.S_IMODE(path.stat().st_mode), 0o600)
 
+    def test_both_files_have_one_time(self):
+        for milliseconds, whole, spelled in ((7.9994, 7, "7.999"), (7.9996, 8, "8.000")):
+            path = self.folder / spelled
+            writer = zkr.Writer(path, zkr.Head("zkr2"), True)
+            writer.piece(b"C", milliseconds, b"a")
+            writer.close()
+            self.assertEqual([piece.milliseconds for piece in pieces(path.read_bytes())], [whole])
+            self.assertEqual(list(zkr.read_times(zkr.times_path(path))), [spelled])
+
     def test_what_is_no_file_of_times(self):
         path = self.folder / "times"
         for line in ("", "-1", "1e3", "nan", "1.", ".5", "1 "):
