@@ -1,53 +1,61 @@
--- A payload that is known to be a reply: what its header tells of it.
-use Rattle.std.proofs.Common.{◌≡◌, ℕ, ◌+◌, ◌≤◌, List, ◌++◌, length, drop, refl, sym, ap, subst, ◌∙◌, arith}
-use Rattle.std.specs.Prelude.{◌≢◌, ℤ, pos}
-use Rattle.std.proofs.lemmas.List.{append-nil, length-drop}
+-- A payload that is known to be a reply or an event: what stands behind its header, and that it is no other frame.
+use Rattle.std.proofs.Common.{◌≡◌, ℕ, ◌+◌, ◌≤◌, inl, inr, Bool, List, [], ◌++◌, length, drop, Result, Ok, Err, refl, sym, ap, subst, ◌∙◌, arith}
+use Rattle.std.specs.Prelude.{◌≢◌, ℤ, pos, IsOk, IfErr}
+use Rattle.std.proofs.lemmas.List.{append-nil, length-drop, drop_at}
 use Rattle.std.proofs.Math.ListN.{drop_of_length-le}
 use Rattle.zk_jute.specs.declared.fault.ItemFault.{ItemFault}
-use Rattle.zk_jute.specs.Item.{bytes_of, HaveBytes}
+use Rattle.zk_jute.specs.Item.{Item, bytes_of, HaveBytes}
 use Rattle.zk_jute.specs.Layout.{IsValueOf}
-use Rattle.zk_jute.specs.Told.{StandsAt, HasToldFault}
-use Rattle.zk_jute.proofs.Layouts.{have_parts}
+use Rattle.zk_jute.specs.Told.{StandsAt, IsToldAt, IsSurelyToldAt}
+use Rattle.zk_jute.specs.Standing.{Known, OneStands}
+use Rattle.zk_jute.proofs.Layouts.{bytes_only, bytes_both, have_parts}
 use Rattle.zk_records.specs.declared.header.ReplyHeader.{ReplyHeader}
+use Rattle.zk_records.specs.Held.{WatcherEvent}
 use Rattle.zk_records.specs.declared.op.Op.{Op}
 use Rattle.zk_records.specs.declared.op.Op.TheVariants as ops
 use Rattle.zk_records.specs.declared.op.PartOp.{PartOp}
-use Rattle.zk_records.specs.Records.{reply_header}
-use Rattle.zk_answers.specs.Held.{Outcome, PartDone, Reply, ServerFrame}
+use Rattle.zk_records.specs.Records.{reply_header, watcher_event}
+use Rattle.zk_answers.specs.Held.{Body, Outcome, PartDone, Reply, ServerFrame}
 use Rattle.zk_answers.specs.declared.frame.BodyOf.TheVariants as body
 use Rattle.zk_answers.specs.declared.frame.OutcomeOf.TheVariants as outcome
 use Rattle.zk_answers.specs.declared.frame.ServerFrameOf.TheVariants as frame
-use Rattle.zk_answers.specs.Faults.{IsHead}
-use Rattle.zk_answers.specs.Frames.{err_of, header_of, rest_items, IsOutcome, IsSent, IsReplyTo, OutcomeFits, payload}
+use Rattle.zk_answers.specs.Faults.{IsHead, IsOfShape, IsShapeFault, body_shape}
+use Rattle.zk_answers.specs.Frames.{err_of, header_of, event_header, rest_items, IsEvent, IsOutcome, IsSent, IsReplyTo, OutcomeFits, BodyFits, payload}
+use Rattle.zk_answers.specs.Rows.{row_of, items_in, op_of_body, body_items}
 use Rattle.zk_answers.specs.Results.{multi_items}
-use Rattle.zk_answers.proofs.Bodies.{IsMade, is_made}
-use Rattle.zk_answers.proofs.Heads.{head_unique, head_excludes}
+use Rattle.zk_answers.specs.Scanned.{IsBodyAt}
+use Rattle.zk_answers.specs.Known.{ABodyStands}
+use Rattle.zk_answers.proofs.Bodies.{IsMade, is_made, body_is, body_same}
+use Rattle.zk_answers.proofs.Heads.{head_unique}
+use Rattle.zk_answers.proofs.Rests.{shape_excludes, shape_only}
 use Rattle.zk_answers.proofs.Replies.{reply_heads, reply_same}
 use Rattle.zk_answers.proofs.Refusals.{head_of}
 
--- ---- a multi's
+-- ---- the body behind a header
 
 -- the reply with this header's xid and zxid
 abbrev pub reply_under : ReplyHeader → Outcome → ServerFrame
 reply_under h o = frame.Answered (record { xid = h.xid; zxid = h.zxid; outcome = o })
 
-failed_is : (parts : List PartOp) (o : Outcome) → OutcomeFits ops.Multi parts o → (e : ℤ) → e ≢ pos 0 → e ≡ err_of o → outcome.Failed ops.Multi e ≡ o
-failed_is parts (outcome.Done b) fits e n is = absurd (n is)
-failed_is parts (outcome.Failed o m) fits e n is = ap (λ (z : ℤ). outcome.Failed ops.Multi z) is ∙ ap (λ (z : Op). outcome.Failed z m) (sym fits)
+failed_is : (op : Op) (parts : List PartOp) (o : Outcome) → OutcomeFits op parts o → (e : ℤ) → e ≢ pos 0 → e ≡ err_of o → outcome.Failed op e ≡ o
+failed_is op parts (outcome.Done b) fits e n is = absurd (n is)
+failed_is op parts (outcome.Failed o m) fits e n is = ap (λ (z : ℤ). outcome.Failed op z) is ∙ ap (λ (z : Op). outcome.Failed z m) (sym fits)
 
-results_of : (parts : List PartOp) (o : Outcome) → OutcomeFits ops.Multi parts o → IsOutcome o → pos 0 ≡ err_of o → (ds : List PartDone) × (outcome.Done (body.Multi ds) ≡ o)
-unfolding IsMade
-results_of parts (outcome.Done b) fits is none =
-    let m = subst (λ (op : Op). IsMade op b) fits.0 (is_made b) in
-    (m.0, ap outcome.Done m.1)
-results_of parts (outcome.Failed o e) fits is none = absurd (is (sym none))
+done_is : (op : Op) (parts : List PartOp) (o : Outcome) → OutcomeFits op parts o → IsOutcome o → pos 0 ≡ err_of o → (b : Body) × (op_of_body b ≡ op) × (outcome.Done b ≡ o)
+done_is op parts (outcome.Done b) fits is none = (b, fits.0, refl)
+done_is op parts (outcome.Failed o e) fits is none = absurd (is (sym none))
 
-module _ (src : List ℕ) (parts : List PartOp) (r : Reply) (fits : IsReplyTo ops.Multi parts (frame.Answered r)) (sent : IsSent (frame.Answered r)) (is : src ≡ payload (frame.Answered r)) where
-  pub head_there : IsHead src (header_of r) (bytes_of (rest_items r.outcome))
+module _ (src : List ℕ) (op : Op) (parts : List PartOp) (r : Reply) (fits : IsReplyTo op parts (frame.Answered r)) (sent : IsSent (frame.Answered r)) (is : src ≡ payload (frame.Answered r)) where
+  head_there : IsHead src (header_of r) (bytes_of (rest_items r.outcome))
   head_there = let k = reply_heads r sent in (k.0, is ∙ k.1)
 
-  pub never_short : (e : ItemFault) → HasToldFault (IsValueOf reply_header.layout) src 0 e → ⊥
-  never_short e f = head_excludes src (header_of r) (bytes_of (rest_items r.outcome)) f.0 e.reason head_there f.1
+  pub header_there : OneStands reply_header.items src 0
+  header_there =
+      let head = bytes_of (reply_header.items (header_of r)) in
+      let rest = bytes_of (rest_items r.outcome) in
+      let n = length head in
+      let left : drop n src ≡ rest = ap (drop n) head_there.1 ∙ drop_at head rest n refl in
+      (header_of r, n, head_there.0, (head_there.1 ∙ ap (λ (b : List ℕ). head ++ b) (sym left), refl))
 
   module _ (h : ReplyHeader) (after : ℕ) (v : IsValueOf reply_header.layout (reply_header.items h)) (s : StandsAt (reply_header.items h) src 0 after) where
     same : (h ≡ header_of r) × (drop after src ≡ bytes_of (rest_items r.outcome))
@@ -56,60 +64,161 @@ module _ (src : List ℕ) (parts : List PartOp) (r : Reply) (fits : IsReplyTo op
     err_is : h.err ≡ err_of r.outcome
     err_is = ap (λ (z : ReplyHeader). z.err) same.0
 
-    pub made_of : (o : Outcome) → o ≡ r.outcome → reply_under h o ≡ frame.Answered r
+    made_of : (o : Outcome) → o ≡ r.outcome → reply_under h o ≡ frame.Answered r
     made_of o q = ap frame.Answered (reply_same (record { xid = h.xid; zxid = h.zxid; outcome = o }) r (ap (λ (z : ReplyHeader). z.xid) same.0) (ap (λ (z : ReplyHeader). z.zxid) same.0) q)
 
-    pub made_failed : (e : ℤ) → e ≢ pos 0 → e ≡ h.err → reply_under h (outcome.Failed ops.Multi e) ≡ frame.Answered r
-    made_failed e n q = made_of (outcome.Failed ops.Multi e) (failed_is parts r.outcome fits e n (q ∙ err_is))
+    pub made_failed : (e : ℤ) → e ≢ pos 0 → e ≡ h.err → reply_under h (outcome.Failed op e) ≡ frame.Answered r
+    made_failed e n q = made_of (outcome.Failed op e) (failed_is op parts r.outcome fits e n (q ∙ err_is))
 
     module _ (none : h.err ≡ pos 0) where
-      results : (ds : List PartDone) × (outcome.Done (body.Multi ds) ≡ r.outcome)
-      results = results_of parts r.outcome fits sent.1 (sym none ∙ err_is)
+      done : (b : Body) × (op_of_body b ≡ op) × (outcome.Done b ≡ r.outcome)
+      done = done_is op parts r.outcome fits sent.1 (sym none ∙ err_is)
 
-      pub results_stand : (ds : List PartDone) × (end : ℕ) × HaveBytes (multi_items ds) × StandsAt (multi_items ds) src after end
-      results_stand =
-          let ds = results.0 in
-          let items = multi_items ds in
-          let rest = ap rest_items results.1 in
+      pub body_there : ABodyStands op src after
+      body_there =
+          let items = body_items done.0 in
+          let rest = ap rest_items done.2 in
           let have = subst HaveBytes (sym rest) (have_parts (reply_header.items (header_of r)) (rest_items r.outcome) sent.2).1 in
           let bytes : drop after src ≡ bytes_of items = same.1 ∙ ap bytes_of (sym rest) in
           let end = after + length (bytes_of items) in
           let all : length src ≤ end = omega (arith, ap length bytes, length-drop after src) in
-          (ds, end, have, (bytes ∙ sym (append-nil (bytes_of items)) ∙ ap (λ (z : List ℕ). bytes_of items ++ z) (sym (drop_of_length-le src all)), refl))
+          (done.0, end, done.1, have, (bytes ∙ sym (append-nil (bytes_of items)) ∙ ap (λ (z : List ℕ). bytes_of items ++ z) (sym (drop_of_length-le src all)), refl))
 
-      pub made_done : (ds : List PartDone) → ((xs : List PartDone) (end : ℕ) → HaveBytes (multi_items xs) → StandsAt (multi_items xs) src after end → ds ≡ xs)
-          → reply_under h (outcome.Done (body.Multi ds)) ≡ frame.Answered r
-      unfolding results_stand results
-      made_done ds only =
-          let s = results_stand in
-          made_of (outcome.Done (body.Multi ds)) (ap (λ (xs : List PartDone). outcome.Done (body.Multi xs)) (only s.0 s.1 s.2 s.3) ∙ results.1)
+      pub made_done : (b : Body) → ((c : Body) (end : ℕ) → op_of_body c ≡ op → HaveBytes (body_items c) → StandsAt (body_items c) src after end → b ≡ c)
+          → reply_under h (outcome.Done b) ≡ frame.Answered r
+      unfolding body_there done
+      made_done b only =
+          let s = body_there in
+          made_of (outcome.Done b) (ap outcome.Done (only s.0 s.1 s.2 s.3 s.4) ∙ done.2)
 
 -- ---- the same, of whatever frame the payload is known to be
 
-abbrev AMultis : List ℕ → List PartOp → ServerFrame → Type 0
-AMultis src parts t = IsReplyTo ops.Multi parts t × IsSent t × (src ≡ payload t)
+abbrev AReply : List ℕ → Op → List PartOp → ServerFrame → Type 0
+AReply src op parts t = IsReplyTo op parts t × IsSent t × (src ≡ payload t)
 
 abbrev HeaderStands : List ℕ → ReplyHeader → ℕ → Type 0
 HeaderStands src h after = IsValueOf reply_header.layout (reply_header.items h) × StandsAt (reply_header.items h) src 0 after
 
-pub header_stands : (src : List ℕ) (parts : List PartOp) (t : ServerFrame) → AMultis src parts t → (e : ItemFault) → HasToldFault (IsValueOf reply_header.layout) src 0 e → ⊥
-header_stands src parts (frame.Answered r) k = never_short src parts r k.0 k.1 k.2
-header_stands src parts (frame.Connected hello flag) k = absurd k.0
-header_stands src parts (frame.Event zxid event) k = absurd k.0
+pub header_stands : (src : List ℕ) (op : Op) (parts : List PartOp) (t : ServerFrame) → AReply src op parts t → OneStands reply_header.items src 0
+header_stands src op parts (frame.Answered r) k = header_there src op parts r k.0 k.1 k.2
+header_stands src op parts (frame.Connected hello flag) k = absurd k.0
+header_stands src op parts (frame.Event zxid event) k = absurd k.0
 
-module _ (src : List ℕ) (h : ReplyHeader) (after : ℕ) (f : HeaderStands src h after) (parts : List PartOp) where
-  pub stand_behind : (t : ServerFrame) → AMultis src parts t → h.err ≡ pos 0 → (ds : List PartDone) × (end : ℕ) × HaveBytes (multi_items ds) × StandsAt (multi_items ds) src after end
-  stand_behind (frame.Answered r) k none = results_stand src parts r k.0 k.1 k.2 h after f.0 f.1 none
-  stand_behind (frame.Connected hello flag) k none = absurd k.0
-  stand_behind (frame.Event zxid event) k none = absurd k.0
+module _ (src : List ℕ) (h : ReplyHeader) (after : ℕ) (f : HeaderStands src h after) (op : Op) (parts : List PartOp) where
+  pub stands_behind : (t : ServerFrame) → AReply src op parts t → h.err ≡ pos 0 → ABodyStands op src after
+  stands_behind (frame.Answered r) k none = body_there src op parts r k.0 k.1 k.2 h after f.0 f.1 none
+  stands_behind (frame.Connected hello flag) k none = absurd k.0
+  stands_behind (frame.Event zxid event) k none = absurd k.0
 
-  pub is_failed : (e : ℤ) → e ≢ pos 0 → e ≡ h.err → (t : ServerFrame) → AMultis src parts t → reply_under h (outcome.Failed ops.Multi e) ≡ t
-  is_failed e n q (frame.Answered r) k = made_failed src parts r k.0 k.1 k.2 h after f.0 f.1 e n q
+  pub is_failed : (e : ℤ) → e ≢ pos 0 → e ≡ h.err → (t : ServerFrame) → AReply src op parts t → reply_under h (outcome.Failed op e) ≡ t
+  is_failed e n q (frame.Answered r) k = made_failed src op parts r k.0 k.1 k.2 h after f.0 f.1 e n q
   is_failed e n q (frame.Connected hello flag) k = absurd k.0
   is_failed e n q (frame.Event zxid event) k = absurd k.0
 
-  pub is_done : h.err ≡ pos 0 → (ds : List PartDone) → ((xs : List PartDone) (end : ℕ) → HaveBytes (multi_items xs) → StandsAt (multi_items xs) src after end → ds ≡ xs)
-      → (t : ServerFrame) → AMultis src parts t → reply_under h (outcome.Done (body.Multi ds)) ≡ t
-  is_done none ds only (frame.Answered r) k = made_done src parts r k.0 k.1 k.2 h after f.0 f.1 none ds only
-  is_done none ds only (frame.Connected hello flag) k = absurd k.0
-  is_done none ds only (frame.Event zxid event) k = absurd k.0
+  pub is_done : h.err ≡ pos 0 → (b : Body) → ((c : Body) (end : ℕ) → op_of_body c ≡ op → HaveBytes (body_items c) → StandsAt (body_items c) src after end → b ≡ c)
+      → (t : ServerFrame) → AReply src op parts t → reply_under h (outcome.Done b) ≡ t
+  is_done none b only (frame.Answered r) k = made_done src op parts r k.0 k.1 k.2 h after f.0 f.1 none b only
+  is_done none b only (frame.Connected hello flag) k = absurd k.0
+  is_done none b only (frame.Event zxid event) k = absurd k.0
+
+-- ---- a body that is known to stand there
+
+pub row_known : (k : Bool) (src : List ℕ) (place : ℕ) (a b : Op) → a ≡ b → Known k (OneStands (items_in (row_of a)) src place) → Known k (OneStands (items_in (row_of b)) src place)
+row_known k src place a b e h = subst (λ (op : Op). Known k (OneStands (items_in (row_of op)) src place)) e h
+
+others_fit : (b : Body) → op_of_body b ≢ ops.Multi → BodyFits [] b
+others_fit (body.Multi dones) n = absurd (n refl)
+others_fit b n = tt
+
+module _ (op : Op) (src : List ℕ) (place : ℕ) (b : Body) (end : ℕ) (of : op_of_body b ≡ op) (have : HaveBytes (body_items b)) (stands : StandsAt (body_items b) src place end) where
+  pub content_stands : OneStands (items_in (row_of op)) src place
+  unfolding IsMade
+  content_stands =
+      let m : IsMade op b = subst (λ (o : Op). IsMade o b) of (is_made b) in
+      (m.0, end, subst HaveBytes (sym m.2) have, subst (λ (i : List Item). StandsAt i src place end) (sym m.2) stands)
+
+  module _ (other : op ≢ ops.Multi) where
+    fits : BodyFits [] b
+    fits = others_fit b (λ e. other (sym of ∙ e))
+
+    shaped : IsOfShape (body_shape op []) (body_items b)
+    shaped = subst (λ (o : Op). IsOfShape (body_shape o []) (body_items b)) of (body_is b [] fits have)
+
+    pub body_read : (answer : Result (Body × ℕ) ItemFault) → IfErr answer (IsSurelyToldAt (IsShapeFault (body_shape op [])) src place) → IsOk answer
+    unfolding IsToldAt
+    body_read (Ok x) f = refl
+    body_read (Err e) f =
+        elim f.0 [
+          | inl m ↦ absurd (f.1 (ap (λ (y : ItemFault). y.reason) m))
+          | inr k ↦ absurd (shape_excludes (body_shape op []) (body_items b) (drop place src) (drop end src) k.0 e.reason shaped stands.0 k.1)
+        ]
+
+    pub body_is_it : (c : Body) (after : ℕ) → IsBodyAt op [] c src place after → c ≡ b
+    body_is_it c after found =
+        let is_shaped = subst (λ (o : Op). IsOfShape (body_shape o []) (body_items c)) found.0 (body_is c [] found.1 found.2) in
+        let same = shape_only (body_shape op []) (body_items c) (body_items b) (drop after src) (drop end src) is_shaped shaped (sym found.3.0 ∙ stands.0) in
+        body_same [] c b (found.0 ∙ sym of) found.1 fits found.2 have (ap bytes_of same.0)
+
+pub multi_is : (src : List ℕ) (place : ℕ) (ds : List PartDone) → ((xs : List PartDone) (end : ℕ) → HaveBytes (multi_items xs) → StandsAt (multi_items xs) src place end → ds ≡ xs)
+    → (b : Body) (end : ℕ) → op_of_body b ≡ ops.Multi → HaveBytes (body_items b) → StandsAt (body_items b) src place end → body.Multi ds ≡ b
+unfolding IsMade
+multi_is src place ds only b end of have stands =
+    let m : IsMade ops.Multi b = subst (λ (o : Op). IsMade o b) of (is_made b) in
+    ap body.Multi (only m.0 end (subst HaveBytes (sym m.2) have) (subst (λ (i : List Item). StandsAt i src place end) (sym m.2) stands)) ∙ m.1
+
+-- ---- an event
+
+module _ (src : List ℕ) (zxid : ℤ) (event : WatcherEvent) (sent : IsSent (frame.Event zxid event)) (is : src ≡ payload (frame.Event zxid event)) where
+  abbrev front : List Item
+  front = reply_header.items (event_header zxid)
+
+  abbrev fields : List Item
+  fields = watcher_event.items event
+
+  both : HaveBytes front × HaveBytes fields
+  both = have_parts front fields sent.2
+
+  split : src ≡ bytes_of front ++ bytes_of fields
+  split = is ∙ bytes_both front fields
+
+  event_header_there : OneStands reply_header.items src 0
+  event_header_there =
+      let n = length (bytes_of front) in
+      let left : drop n src ≡ bytes_of fields = ap (drop n) split ∙ drop_at (bytes_of front) (bytes_of fields) n refl in
+      (event_header zxid, n, both.0, (split ∙ ap (λ (b : List ℕ). bytes_of front ++ b) (sym left), refl))
+
+  module _ (h : ReplyHeader) (after : ℕ) (f : HeaderStands src h after) where
+    header_is : (front ≡ reply_header.items h) × (bytes_of fields ≡ drop after src)
+    header_is = bytes_only reply_header.layout front (reply_header.items h) (bytes_of fields) (drop after src) (reply_header.unfolds (event_header zxid), both.0) f.0 (sym split ∙ f.1.0)
+
+    event_there : OneStands watcher_event.items src after
+    event_there =
+        let bytes : drop after src ≡ bytes_of fields = sym header_is.1 in
+        let end = after + length (bytes_of fields) in
+        let all : length src ≤ end = omega (arith, ap length bytes, length-drop after src) in
+        (event, end, both.1, (bytes ∙ sym (append-nil (bytes_of fields)) ∙ ap (λ (z : List ℕ). bytes_of fields ++ z) (sym (drop_of_length-le src all)), refl))
+
+    event_is : (e : WatcherEvent) (end : ℕ) → IsValueOf watcher_event.layout (watcher_event.items e) → StandsAt (watcher_event.items e) src after end → ◌≡◌ {A = ServerFrame} (frame.Event h.zxid e) (frame.Event zxid event)
+    event_is e end v s =
+        let same = bytes_only watcher_event.layout (watcher_event.items e) fields (drop end src) [] v (watcher_event.unfolds event, both.1) (sym s.0 ∙ sym header_is.1 ∙ sym (append-nil (bytes_of fields))) in
+        let head : event_header zxid ≡ h = reply_header.tells_apart (event_header zxid) h header_is.0 in
+        ap {B = ServerFrame} (λ (z : ReplyHeader). frame.Event z.zxid e) (sym head) ∙ ap {B = ServerFrame} (λ (v : WatcherEvent). frame.Event zxid v) (watcher_event.tells_apart e event same.0)
+
+abbrev AnEvent : List ℕ → ServerFrame → Type 0
+AnEvent src t = IsEvent t × IsSent t × (src ≡ payload t)
+
+pub event_header_stands : (src : List ℕ) (t : ServerFrame) → AnEvent src t → OneStands reply_header.items src 0
+event_header_stands src (frame.Event zxid event) k = event_header_there src zxid event k.1 k.2
+event_header_stands src (frame.Answered r) k = absurd k.0
+event_header_stands src (frame.Connected hello flag) k = absurd k.0
+
+module _ (src : List ℕ) (h : ReplyHeader) (after : ℕ) (f : HeaderStands src h after) where
+  pub event_stands : (t : ServerFrame) → AnEvent src t → OneStands watcher_event.items src after
+  event_stands (frame.Event zxid event) k = event_there src zxid event k.1 k.2 h after f
+  event_stands (frame.Answered r) k = absurd k.0
+  event_stands (frame.Connected hello flag) k = absurd k.0
+
+  pub event_is_it : (e : WatcherEvent) (end : ℕ) → IsValueOf watcher_event.layout (watcher_event.items e) → StandsAt (watcher_event.items e) src after end → (t : ServerFrame) → AnEvent src t → ◌≡◌ {A = ServerFrame} (frame.Event h.zxid e) t
+  event_is_it e end v s (frame.Event zxid event) k = event_is src zxid event k.1 k.2 h after f e end v s
+  event_is_it e end v s (frame.Answered r) k = absurd k.0
+  event_is_it e end v s (frame.Connected hello flag) k = absurd k.0

@@ -1,6 +1,6 @@
 -- Results that lie in a payload: what stands there is their value, and what reads them.
 use Rattle.std.proofs.Common.{◌≡◌, ℕ, ◌+◌, ◌≤◌, List, [], ◌∷◌, ◌++◌, length, drop, Some, None, Ok, Err, inr, refl, sym, ap, subst, ◌∙◌, arith}
-use Rattle.std.specs.Prelude.{ℤ, negsuc, Result, IfOk, IfErr, ◌≢◌}
+use Rattle.std.specs.Prelude.{ℤ, negsuc, Bool, true, false, Result, IfOk, IfErr, ◌≢◌}
 use Rattle.std.specs.List.{flat_map}
 use Rattle.std.proofs.lemmas.List.{append-nil}
 use Rattle.zk_jute.specs.declared.fault.ItemFault.{ItemFault}
@@ -10,6 +10,8 @@ use Rattle.zk_jute.specs.Layout.{IsValueOf, Unfolds}
 use Rattle.zk_jute.specs.Reading.{Read, ◌>>=◌, read_map, int_at, long_at, items_at}
 use Rattle.zk_jute.specs.Told.{StandsAt, HasToldFault, IsToldAt}
 use Rattle.zk_jute.specs.Values.{text_items, text_unfolds}
+use Rattle.zk_jute.specs.Held.{Text}
+use Rattle.zk_jute.specs.Standing.{Known, OneStands}
 use Rattle.zk_jute.specs.Wired.{Wired, int, long, ustring, ◌and◌}
 use Rattle.zk_jute.specs.Shown.{text_value, both_at, text_is_value, Stretch, Begins}
 use Rattle.zk_jute.proofs.Layouts.{items_again, bytes_only, have_both, have_parts}
@@ -19,6 +21,7 @@ use Rattle.zk_jute.proofs.Valued.{IsValued, int_valued, long_valued, both_valued
 use Rattle.zk_records.specs.Records.{multi_header, stat}
 use Rattle.zk_records.specs.Codes.{part_number}
 use Rattle.zk_records.specs.declared.header.MultiHeader.{MultiHeader}
+use Rattle.zk_records.specs.declared.stat.Stat.{Stat}
 use Rattle.zk_records.specs.declared.op.PartOp.{PartOp}
 use Rattle.zk_records.specs.declared.op.PartOp.TheVariants as parts
 use Rattle.zk_records.proofs.Numbers.{part_number_apart}
@@ -128,6 +131,9 @@ module _ (src : List ℕ) (d : PartDone) (place end : ℕ) (le : place ≤ lengt
       let same = bytes_only multi_header.layout (marked header) mark (drop after src) (drop (place + 9) src) v (mark_is (mark_before d) t.0) (sym s.0 ∙ t.1.0) in
       (mark_same header (mark_before d) same.0, omega (arith, s.1, t.1.1, ap (λ (i : List Item). length (bytes_of i)) same.0))
 
+  pub mark_stands : OneStands multi_header.items src place
+  mark_stands = (mark_before d, place + 9, header_there.0, header_there.1)
+
   pub no_header_fault : (e : ItemFault) → HasToldFault (IsValueOf multi_header.layout) src place e → ⊥
   no_header_fault e f = excluded multi_header.layout mark (drop place src) (drop (place + 9) src) f.0 e.reason (mark_is (mark_before d) header_there.0) header_there.1.0 f.1
 
@@ -176,6 +182,35 @@ own_is op (done.DataSet s) own = subst (λ (o : PartOp). Unfolds (result_layout 
 own_is op done.Checked own = subst (λ (o : PartOp). Unfolds (result_layout o) []) (sym own) refl
 own_is op (done.PartFailed e) own = absurd own
 
+created_of : (d : PartDone) → Own parts.Create d → (x : Text) × (result_of d ≡ text_items x)
+created_of (done.Created path) own = (path, refl)
+created_of done.Deleted own = absurd cc
+created_of (done.DataSet s) own = absurd cc
+created_of done.Checked own = absurd cc
+created_of (done.PartFailed e) own = absurd own
+
+set_of : (d : PartDone) → Own parts.SetData d → (x : Stat) × (result_of d ≡ stat.items x)
+set_of (done.Created path) own = absurd cc
+set_of done.Deleted own = absurd cc
+set_of (done.DataSet s) own = (s, refl)
+set_of done.Checked own = absurd cc
+set_of (done.PartFailed e) own = absurd own
+
+module _ (src : List ℕ) (place : ℕ) (op : PartOp) where
+  pub created_known : (k : Bool) → op ≡ parts.Create → Known k ((e : ℕ) × IsResultAt op src place e) → Known k (OneStands ustring.items src place)
+  created_known false is h = tt
+  created_known true is h =
+      let r = h.1 in
+      let x = created_of r.0 (subst (λ (o : PartOp). Own o r.0) is r.1) in
+      (x.0, h.0, subst HaveBytes x.1 r.2.1, subst (λ (i : List Item). StandsAt i src place h.0) x.1 r.3)
+
+  pub set_known : (k : Bool) → op ≡ parts.SetData → Known k ((e : ℕ) × IsResultAt op src place e) → Known k (OneStands stat.items src place)
+  set_known false is h = tt
+  set_known true is h =
+      let r = h.1 in
+      let x = set_of r.0 (subst (λ (o : PartOp). Own o r.0) is r.1) in
+      (x.0, h.0, subst HaveBytes x.1 r.2.1, subst (λ (i : List Item). StandsAt i src place h.0) x.1 r.3)
+
 -- ---- one answer
 
 abbrev told : PartDone × ℕ → Read PartDone → PartDone × ℕ
@@ -209,6 +244,11 @@ module _ (src : List ℕ) (d : PartDone) (place end : ℕ) (le : place ≤ lengt
       → IfErr r (λ e. HasToldFault (IsValueOf (result_layout op)) src after e × (e.reason ≢ NoMemory)) → r ≡ Ok (d, end)
   own_only op kind = result_only src after b.2 op d end (own_of d op (sym (ap (λ (m : MultiHeader). m.kind) h.0) ∙ kind)) b.0 b.1
 
+  pub result_there : (op : PartOp) → header.kind ≡ part_number op → (e : ℕ) × IsResultAt op src after e
+  result_there op kind =
+      let own = own_of d op (sym (ap (λ (m : MultiHeader). m.kind) h.0) ∙ kind) in
+      (end, (d, own, (own_is op d own, b.0), b.1))
+
   -- an error
   module _ (not : (op : PartOp) → header.kind ≢ part_number op) where
     failed : (e : ℤ) × (d ≡ done.PartFailed e)
@@ -216,6 +256,9 @@ module _ (src : List ℕ) (d : PartDone) (place end : ℕ) (le : place ≤ lengt
 
     number : HaveBytes (AnInt failed.0 ∷ []) × StandsAt (AnInt failed.0 ∷ []) src after end
     number = subst (λ (x : PartDone). HaveBytes (result_of x) × StandsAt (result_of x) src after end) failed.1 (b.0, b.1)
+
+    pub number_known : OneStands int.items src after
+    number_known = (failed.0, end, number.0, number.1)
 
     pub number_only : (n : ℤ) (at : ℕ) → HaveBytes (AnInt n ∷ []) → StandsAt (AnInt n ∷ []) src after at → ◌≡◌ {A = Result (PartDone × ℕ) ItemFault} (Ok (done.PartFailed n, at)) (Ok (d, end))
     number_only n at has t =

@@ -19,7 +19,8 @@ use Rattle.zk_answers.specs.Results.{done_items, mark_before, multi_items}
 use Rattle.zk_answers.specs.Shown.{done_value, dones_at}
 use Rattle.zk_answers.specs.Known.{IsPassed, IsBehind}
 use Rattle.zk_answers.proofs.Dones.{mark_same, end_mark}
-use Rattle.zk_answers.proofs.Lying.{done_read, header_read, behind_there, no_header_fault}
+use Rattle.zk_jute.specs.Standing.{OneStands}
+use Rattle.zk_answers.proofs.Lying.{done_read, header_read, behind_there, mark_stands, no_header_fault}
 
 not_end : (d : PartDone) → mark_before d ≡ end_header → ⊥
 not_end (done.Created path) e = let k : false ≡ true = ap (λ (h : MultiHeader). h.done) e in absurd cc
@@ -48,6 +49,10 @@ module _ (src : List ℕ) (place : ℕ) (le : place ≤ length src) where
       let b = behind_there src d place (place + length (bytes_of (done_items d))) le h.0 s.0 in
       record { have = h.0; stands = s.0; others_have = h.1; others = s.1; far = omega (arith, b.1.1); within = s.2 }
 
+  pub front_stands : (ds : List PartDone) (end : ℕ) → HaveBytes (multi_items ds) → StandsAt (multi_items ds) src place end → OneStands multi_header.items src place
+  front_stands [] end have stands = (end_header, end, have, stands)
+  front_stands (d ∷ ds) end have stands = let p = first_of d ds end have stands in mark_stands src d place (place + length (bytes_of (done_items d))) le p.have p.stands
+
   pub no_header : (e : ItemFault) → HasToldFault (IsValueOf multi_header.layout) src place e → (ds : List PartDone) (end : ℕ) → HaveBytes (multi_items ds) → StandsAt (multi_items ds) src place end → IsBehind ds src place end None
   no_header e f [] end have stands = refl
   no_header e f (d ∷ ds) end have stands = let p = first_of d ds end have stands in absurd (no_header_fault src d place (place + length (bytes_of (done_items d))) le p.have p.stands e f)
@@ -64,6 +69,10 @@ module _ (src : List ℕ) (place : ℕ) (le : place ≤ length src) where
     at_end is (d ∷ ds) end have stands = absurd (not_end d (sym (mark_is d ds end have stands) ∙ is))
 
     module _ (not : header ≡ end_header → ⊥) where
+      pub first_stands : (ds : List PartDone) (end : ℕ) → HaveBytes (multi_items ds) → StandsAt (multi_items ds) src place end → OneStands done_items src place
+      first_stands [] end have stands = absurd (not (end_is end stands))
+      first_stands (d ∷ ds) end have stands = let p = first_of d ds end have stands in (d, place + length (bytes_of (done_items d)), p.have, p.stands)
+
       pub past_one : (x : PartDone) (n : ℕ) → ((d : PartDone) (e : ℕ) → HaveBytes (done_items d) → StandsAt (done_items d) src place e → answered x n ≡ Ok (d, e))
           → (ds : List PartDone) (end : ℕ) → HaveBytes (multi_items ds) → StandsAt (multi_items ds) src place end → IsBehind ds src place end (Some n)
       past_one x n only [] end have stands = absurd (not (end_is end stands))

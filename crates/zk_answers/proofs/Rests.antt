@@ -15,11 +15,11 @@ shape_unique : (shape : Shape) (bytes : List ℕ) (p q : ℕ) (r s : Reason) →
 shape_unique (Fields l) bytes p q r s f g = one_fault l bytes p q r s f g
 shape_unique (Results parts) bytes p q r s f g = done_unique parts bytes p q r s f g
 
-shape_excludes : (shape : Shape) (items : List Item) (bytes more : List ℕ) (p : ℕ) (r : Reason) → IsOfShape shape items → bytes ≡ bytes_of items ++ more → IsShapeFault shape bytes p r → ⊥
+pub shape_excludes : (shape : Shape) (items : List Item) (bytes more : List ℕ) (p : ℕ) (r : Reason) → IsOfShape shape items → bytes ≡ bytes_of items ++ more → IsShapeFault shape bytes p r → ⊥
 shape_excludes (Fields l) items bytes more p r v e f = excluded l items bytes more p r v e f
 shape_excludes (Results parts) items bytes more p r v e f = done_excludes parts v.0 v.1 v.2 bytes more p r (e ∙ ap (λ (i : List Item). bytes_of i ++ more) v.3) f
 
-shape_only : (shape : Shape) (a b : List Item) (x y : List ℕ) → IsOfShape shape a → IsOfShape shape b → bytes_of a ++ x ≡ bytes_of b ++ y → (a ≡ b) × (x ≡ y)
+pub shape_only : (shape : Shape) (a b : List Item) (x y : List ℕ) → IsOfShape shape a → IsOfShape shape b → bytes_of a ++ x ≡ bytes_of b ++ y → (a ≡ b) × (x ≡ y)
 shape_only (Fields l) a b x y v w e = bytes_only l a b x y v w e
 shape_only (Results parts) a b x y v w e =
     let same = multi_only parts v.0 w.0 v.1 w.1 v.2 w.2 x y (ap (λ (i : List Item). bytes_of i ++ x) (sym v.3) ∙ e ∙ ap (λ (i : List Item). bytes_of i ++ y) w.3) in

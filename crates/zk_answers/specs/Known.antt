@@ -1,9 +1,19 @@
--- What stands behind a result of a multi.
+-- What is known to stand in a reply: its body, and what stands behind a result of a multi.
 use Rattle.std.specs.Prelude.{◌≡◌, ℕ, ◌+◌, ◌≤◌, List, [], ◌∷◌, length, Option, Some, None}
 use Rattle.zk_jute.specs.Item.{HaveBytes}
 use Rattle.zk_jute.specs.Told.{StandsAt}
-use Rattle.zk_answers.specs.Held.{PartDone}
+use Rattle.zk_records.specs.declared.op.Op.{Op}
+use Rattle.zk_answers.specs.Held.{Body, PartDone}
+use Rattle.zk_answers.specs.Rows.{op_of_body, body_items}
 use Rattle.zk_answers.specs.Results.{done_items, multi_items}
+
+-- the body of a reply to a request of the operation stands there
+abbrev pub ABodyStands : Op → List ℕ → ℕ → Type 0
+ABodyStands op src place = (b : Body) × (end : ℕ) × (op_of_body b ≡ op) × HaveBytes (body_items b) × StandsAt (body_items b) src place end
+
+-- the results of a multi, and the end marker behind them, stand there
+abbrev pub ResultsStand : List ℕ → ℕ → Type 0
+ResultsStand src place = (ds : List PartDone) × (end : ℕ) × HaveBytes (multi_items ds) × StandsAt (multi_items ds) src place end
 
 -- one result is passed, and the others and the end marker stand behind it
 pub record IsPassed (d : PartDone) (ds : List PartDone) (src : List ℕ) (place end next : ℕ) : Type 0 where

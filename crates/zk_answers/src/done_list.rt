@@ -4,6 +4,7 @@ ghost use Rattle.std.specs.Iterator.{YieldsFirst, UpTo, item_count};
 ghost use Rattle.std.specs.Iterator.SizeHint.{IsWithinCount};
 ghost use Rattle.zk_jute.specs.declared.fault.Reason.TheVariants.{NoMemory};
 ghost use Rattle.zk_jute.specs.Item.{HaveBytes};
+ghost use Rattle.zk_jute.specs.Standing.{Known, OneStands};
 ghost use Rattle.zk_jute.specs.Shown.{Begins};
 ghost use Rattle.zk_jute.specs.Layout.{IsValueOf};
 ghost use Rattle.zk_jute.specs.Told.{StandsAt, IsToldAt, HasSureFault, IsSurelyToldAt};
@@ -17,7 +18,7 @@ use crate::frame::{PartDoneOf, PartDoneRef};
 use crate::multi::{Mark, is_end, mark_of};
 use std::marker::Model;
 use zk_asks::Asked;
-use zk_jute::{ItemFault, Payload, Reason, TextRef, end_of, read_ref};
+use zk_jute::{ItemFault, KnownPayload, Payload, PayloadOf, Reason, TextRef, end_of, read_ref};
 use zk_records::{MultiHeader, PartOp, Stat, part_of};
 
 /// The results of a multi's parts where they lie.
@@ -96,7 +97,7 @@ impl<'a> Iterator for DoneItems<'a> {
         if self.left == 0 {
             return None;
         }
-        let src = Payload {
+        let src = KnownPayload {
             bytes: self.payload,
         };
         match done_in(&src, self.place) {
@@ -128,25 +129,26 @@ impl<'a> ExactSizeIterator for DoneItems<'a> {
     }
 }
 
-/// A part's own result behind its header, and the place behind it.
-fn result_ref<'a>(
-    src: &Payload<'a>,
+/// A part's own result behind its header, judged or known to stand there, and the place behind it.
+fn result_ref<'a, const KNOWN: bool>(
+    src: &PayloadOf<'a, KNOWN>,
     place: usize,
     op: PartOp,
 ) -> Result<(PartDoneRef<'a>, usize), ItemFault>
-    requires { place ≤ length src.now.bytes.now }
+    requires place { place ≤ length src.now.bytes.now }
+    requires known { Known KNOWN ((end : ℕ) × IsResultAt op src.now.bytes.now place end) }
     ensures found { IfOk result (λ x. Own op x.0 × IsValueOf (result_layout op) (result_of x.0) × StandsAt (result_of x.0) src.now.bytes.now place x.1) }
     ensures fault { IfErr result (HasSureFault (IsValueOf (result_layout op)) src.now.bytes.now place) }
     ensures within { IfOk result (λ x. x.1 ≤ length src.now.bytes.now) }
 {
     match op {
         PartOp::Create => {
-            let (path, end) = read_ref::<TextRef>(src, place)?;
+            let (path, end) = read_ref::<_, TextRef>(src, place)?;
             Ok((PartDoneOf::Created(path), end))
         }
         PartOp::Delete => Ok((PartDoneOf::Deleted, place)),
         PartOp::SetData => {
-            let (stat, end) = read_ref::<Stat>(src, place)?;
+            let (stat, end) = read_ref::<_, Stat>(src, place)?;
             Ok((PartDoneOf::DataSet(stat), end))
         }
         PartOp::Check => Ok((PartDoneOf::Checked, place)),
@@ -188,11 +190,11 @@ fn done_end(src: &Payload<'_>, place: usize, op: PartOp) -> Result<usize, ItemFa
     ensures fault { IfErr result (λ e. ((ops : List codes.PartOp) → IsToldAt (IsDoneFault (op ∷ ops)) src.now.bytes.now place e) × (e.reason ≢ NoMemory)) }
     ensures within { IfOk result (λ end. end ≤ length src.now.bytes.now) }
 {
-    let (header, after) = read_ref::<MultiHeader>(src, place)?;
+    let (header, after) = read_ref::<_, MultiHeader>(src, place)?;
     match mark_of(&header, op) {
         Mark::Bad => Err(ItemFault::at(place, Reason::BadPart)),
         Mark::Error => {
-            let (number, end) = read_ref::<i32>(src, after)?;
+            let (number, end) = read_ref::<_, i32>(src, after)?;
             if number != header.err {
                 return Err(ItemFault::at(place, Reason::BadPart));
             }
@@ -202,20 +204,21 @@ fn done_end(src: &Payload<'_>, place: usize, op: PartOp) -> Result<usize, ItemFa
     }
 }
 
-/// The result that stands at a place, told by its own header, and the place behind it.
+/// The result that is known to stand at a place, told by its own header, and the place behind it.
 pub(crate) fn done_in<'a>(
-    src: &Payload<'a>,
+    src: &KnownPayload<'a>,
     place: usize,
 ) -> Result<(PartDoneRef<'a>, usize), ItemFault>
-    requires { place ≤ length src.now.bytes.now }
+    requires place { place ≤ length src.now.bytes.now }
+    requires known { OneStands done_items src.now.bytes.now place }
     ensures only { (d : PartDone) (end : ℕ) → HaveBytes (done_items d) → StandsAt (done_items d) src.now.bytes.now place end → result ≡ Ok (d, end) }
     ensures within { IfOk result (λ x. x.1 ≤ length src.now.bytes.now) }
 {
-    let (header, after) = read_ref::<MultiHeader>(src, place)?;
+    let (header, after) = read_ref::<_, MultiHeader>(src, place)?;
     match part_of(header.kind) {
         Some(op) => result_ref(src, after, op),
         None => {
-            let (number, end) = read_ref::<i32>(src, after)?;
+            let (number, end) = read_ref::<_, i32>(src, after)?;
             Ok((PartDoneOf::PartFailed(number), end))
         }
     }
@@ -252,7 +255,7 @@ pub(crate) fn results_ref<'a, F: Asked>(
         let next = done_end(src, at, op)?;
         at = next;
     }
-    let (header, end) = read_ref::<MultiHeader>(src, at)?;
+    let (header, end) = read_ref::<_, MultiHeader>(src, at)?;
     if !is_end(&header) {
         return Err(ItemFault::at(at, Reason::BadPart));
     }

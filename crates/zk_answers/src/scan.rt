@@ -3,6 +3,8 @@ ghost use Rattle.std.specs.Prelude.{◌≡◌, ◌≢◌, ◌≤◌, ℕ, List, 
 ghost use Rattle.zk_jute.specs.declared.fault.Reason.TheVariants.{NoMemory};
 ghost use Rattle.zk_jute.specs.Told.{IsToldAt, IsSurelyTold, IsSurelyToldAt};
 ghost use Rattle.zk_records.specs.declared.header.ReplyHeader as records;
+ghost use Rattle.zk_jute.specs.Standing.{Known, OneStands};
+ghost use Rattle.zk_answers.specs.Rows.{row_of, items_in};
 ghost use Rattle.zk_answers.specs.Held as held;
 ghost use Rattle.zk_answers.specs.Frames.{IsConnected, IsEvent, IsReplyTo, IsSent};
 ghost use Rattle.zk_answers.specs.Frames as sent;
@@ -14,29 +16,30 @@ use crate::frame::{
     BodyOf, BodyRef, Failure, OutcomeOf, OutcomeRef, ReplyOf, ServerFrameOf, ServerRef,
 };
 use zk_asks::Asked;
-use zk_jute::{ItemFault, Payload, Reason, TextList, TextRef, read_ref, scan_flagged};
+use zk_jute::{ItemFault, Payload, PayloadOf, Reason, TextList, TextRef, read_ref, scan_flagged};
 use zk_records::{
     AclBodyOf, AclBodyRef, ChildrenBodyOf, ChildrenBodyRef, ConnectResponseRef, CreateBodyOf,
     CreateBodyRef, DataBodyOf, DataBodyRef, Op, ReplyHeader, Stat, WatcherEventRef,
 };
 
-/// The body of a reply to what was asked, and the place behind it.
+/// The body of a reply to what was asked, and the place behind it; it is judged, or known to stand there.
 #[tactic(auto, unfolding(zk_jute::specs::Told::IsToldAt))]
 // As in scan.rt of zk_asks.
 #[inline(always)]
-fn body_ref<'a, F: Asked>(
-    src: &Payload<'a>,
+pub(crate) fn body_ref<'a, F: Asked, const KNOWN: bool>(
+    src: &PayloadOf<'a, KNOWN>,
     place: usize,
     form: &F,
 ) -> Result<(BodyRef<'a>, usize), ItemFault>
-    requires { place ≤ length src.now.bytes.now }
+    requires place { place ≤ length src.now.bytes.now }
+    requires known { Known KNOWN (OneStands (items_in (row_of (F.operation form.now))) src.now.bytes.now place) }
     ensures found { IfOk result (λ x. IsBodyAt (F.operation form.now) (F.part_ops form.now) x.0 src.now.bytes.now place x.1) }
     ensures fault { IfErr result (IsSurelyToldAt (IsShapeFault (body_shape (F.operation form.now) (F.part_ops form.now))) src.now.bytes.now place) }
     ensures within { IfOk result (λ x. x.1 ≤ length src.now.bytes.now) }
 {
     macro_rules! body {
         ($read:ty, $value:pat => $body:expr) => {{
-            let ($value, end) = read_ref::<$read>(src, place)?;
+            let ($value, end) = read_ref::<_, $read>(src, place)?;
             Ok(($body, end))
         }};
     }
@@ -57,7 +60,7 @@ fn body_ref<'a, F: Asked>(
             body!(ChildrenBodyRef, ChildrenBodyOf { names, stat } => BodyOf::GetChildren2 { names, stat })
         }
         Op::Multi => {
-            let (dones, end) = results_ref(src, place, form)?;
+            let (dones, end) = results_ref(&Payload { bytes: src.bytes }, place, form)?;
             Ok((BodyOf::Multi(dones), end))
         }
         Op::Create2 => {
@@ -118,7 +121,7 @@ fn reply_in<'a, F: Asked>(form: &F, src: &Payload<'a>) -> Result<ServerRef<'a>, 
     ensures found { IfOk result (λ s. IsReplyTo (F.operation form.now) (F.part_ops form.now) s × IsSent s × (src.now.bytes.now ≡ sent.payload s)) }
     ensures fault { IfErr result (IsSurelyTold (IsReplyFault (F.operation form.now) (F.part_ops form.now) src.now.bytes.now)) }
 {
-    let (header, place) = read_ref::<ReplyHeader>(src, 0)?;
+    let (header, place) = read_ref::<_, ReplyHeader>(src, 0)?;
     let (outcome, place) = outcome_ref(src, place, form, header.err)?;
     if place < src.bytes.len() {
         return Err(ItemFault::at(place, Reason::Trailing));
@@ -150,11 +153,11 @@ fn event_in<'a>(src: &Payload<'a>) -> Result<ServerRef<'a>, ItemFault>
     ensures found { IfOk result (λ s. IsEvent s × IsSent s × (src.now.bytes.now ≡ sent.payload s)) }
     ensures fault { IfErr result (IsSurelyTold (IsEventFault src.now.bytes.now)) }
 {
-    let (header, place) = read_ref::<ReplyHeader>(src, 0)?;
+    let (header, place) = read_ref::<_, ReplyHeader>(src, 0)?;
     if header.err != 0 {
         return Err(ItemFault::at(12, Reason::EventErr));
     }
-    let (event, place) = read_ref::<WatcherEventRef>(src, place)?;
+    let (event, place) = read_ref::<_, WatcherEventRef>(src, place)?;
     if place < src.bytes.len() {
         return Err(ItemFault::at(place, Reason::Trailing));
     }

@@ -46,10 +46,10 @@ of_only Parts c d x y v w e = multi_only v w x y e
 body_unique : (op : Op) (bytes : List ℕ) (p q : ℕ) (r s : Reason) → IsBodyFault op bytes p r → IsBodyFault op bytes q s → Same p r q s
 body_unique op bytes p q r s f g = of_unique (body_of op) bytes p q r s f g
 
-body_excludes : (op : Op) (items : List Item) (bytes more : List ℕ) (p : ℕ) (r : Reason) → IsBody op items → bytes ≡ bytes_of items ++ more → IsBodyFault op bytes p r → ⊥
+pub body_excludes : (op : Op) (items : List Item) (bytes more : List ℕ) (p : ℕ) (r : Reason) → IsBody op items → bytes ≡ bytes_of items ++ more → IsBodyFault op bytes p r → ⊥
 body_excludes op items bytes more p r v e f = of_excludes (body_of op) items bytes more p r v e f
 
-body_only : (op : Op) (a b : List Item) (x y : List ℕ) → IsBody op a → IsBody op b → bytes_of a ++ x ≡ bytes_of b ++ y → (a ≡ b) × (x ≡ y)
+pub body_only : (op : Op) (a b : List Item) (x y : List ℕ) → IsBody op a → IsBody op b → bytes_of a ++ x ≡ bytes_of b ++ y → (a ≡ b) × (x ≡ y)
 body_only op a b x y v w e = of_only (body_of op) a b x y v w e
 
 -- ---- a fault by its header
@@ -67,10 +67,10 @@ AfterKind profile xid kind rest p r = (IsNoOp profile kind × (p ≡ 4) × (r �
 abbrev AfterHeader : Profile → List Item → List ℕ → ℕ → Reason → Type 0
 AfterHeader profile header rest p r = (xid : ℤ) × (kind : ℤ) × (header ≡ header_items xid kind) × AfterKind profile xid kind rest p r
 
-header_is : (xid kind : ℤ) → HaveBytes (header_items xid kind) → IsValueOf request_header.layout (header_items xid kind)
+pub header_is : (xid kind : ℤ) → HaveBytes (header_items xid kind) → IsValueOf request_header.layout (header_items xid kind)
 header_is xid kind have = (request_header.unfolds (record { xid = xid; kind = kind }), have)
 
-header_same : (xid kind id number : ℤ) → header_items xid kind ≡ header_items id number → (xid ≡ id) × (kind ≡ number)
+pub header_same : (xid kind id number : ℤ) → header_items xid kind ≡ header_items id number → (xid ≡ id) × (kind ≡ number)
 header_same xid kind id number e =
     let same : ◌≡◌ {A = RequestHeader} (record { xid = xid; kind = kind }) (record { xid = id; kind = number }) = request_header.tells_apart (record { xid = xid; kind = kind }) (record { xid = id; kind = number }) e in
     (ap (λ (h : RequestHeader). h.xid) same, ap (λ (h : RequestHeader). h.kind) same)
@@ -186,7 +186,7 @@ row_apart (holds make w) x y e = w.tells_apart x y e
 row_apart (bare a) x y e = refl
 row_apart (multi make) x y e = multi_apart x y e
 
-body_apart : (a b : Ask) → op_of_ask b ≡ op_of_ask a → body_items a ≡ body_items b → a ≡ b
+pub body_apart : (a b : Ask) → op_of_ask b ≡ op_of_ask a → body_items a ≡ body_items b → a ≡ b
 unfolding IsMade
 body_apart a b same e =
     let r = row_of (op_of_ask a) in

@@ -1,6 +1,6 @@
 -- Parts that lie in a payload: what stands there is their value, and where they are passed.
 use Rattle.std.proofs.Common.{◌≡◌, ℕ, ◌+◌, ◌≤◌, ◌<◌, inl, inr, List, [], ◌∷◌, ◌++◌, length, drop, Some, Ok, Err, refl, sym, ap, subst, ◌∙◌, arith}
-use Rattle.std.specs.Prelude.{ℤ, negsuc, false, Result, IfOk, IfErr, Option, None, map, slice_get, get_or, ◌≢◌}
+use Rattle.std.specs.Prelude.{ℤ, negsuc, Bool, false, Result, IfOk, IfErr, Option, None, map, slice_get, get_or, ◌≢◌}
 use Rattle.std.specs.List.{flat_map}
 use Rattle.std.proofs.lemmas.List.{append-nil, length-drop, length-map, drop-drop, get_or-drop}
 use Rattle.std.proofs.lemmas.Option.{slice_get_past, slice_get-map, slice_get-get_or}
@@ -13,6 +13,7 @@ use Rattle.zk_jute.specs.Reading.{Read, ◌>>=◌, read_map, int_at, items_at}
 use Rattle.zk_jute.specs.Faults.{IsFault}
 use Rattle.zk_jute.specs.Told.{StandsAt, HasToldFault, IsToldAt}
 use Rattle.zk_jute.specs.Wired.{int, ustring, buffer, vector, ◌and◌}
+use Rattle.zk_jute.specs.Standing.{Known, OneStands}
 use Rattle.zk_jute.specs.Shown.{text_value, blob_value, list_value, both_at, text_is_value, Stretch, Begins}
 use Rattle.zk_jute.proofs.Layouts.{items_again, bytes_only, have_both, have_parts}
 use Rattle.zk_jute.proofs.Sequels.{excluded, stands_then, none_left}
@@ -31,7 +32,7 @@ use Rattle.zk_asks.specs.Forms.{header_items}
 use Rattle.zk_asks.specs.Rows.{op_of_ask, body_items}
 use Rattle.zk_asks.specs.Frames.{IsSent, payload}
 use Rattle.zk_asks.specs.declared.frame.PartOf.TheVariants as part
-use Rattle.zk_asks.specs.Parts.{part_layout, part_header, end_header, marked, MayStand, op_of_part, record_of, part_items, multi_items}
+use Rattle.zk_asks.specs.Parts.{part_row, part_layout, part_header, end_header, marked, MayStand, op_of_part, record_of, part_items, multi_items}
 use Rattle.zk_asks.specs.Shown.{create_of, delete_of, set_data_of, check_of, create_value, delete_value, set_data_value, check_value, part_numbered, record_value, part_value, parts_at}
 use Rattle.zk_asks.proofs.Parts.{record_is}
 use Rattle.zk_asks.proofs.Parted.{record_same, op_same, mark_same, not_end}
@@ -83,6 +84,15 @@ module _ (src : List ℕ) (place : ℕ) (op : PartOp) (p : Part) (end : ℕ) (is
   record_only (Err e) found fault = absurd (excluded (part_layout op) (record_of p) (drop place src) (drop end src) fault.0.0 e.reason value stands.0 fault.0.1)
 
 -- ---- a part
+
+pub part_known : (k : Bool) (src : List ℕ) (place : ℕ) (a b : PartOp) → a ≡ b → Known k (OneStands (part_row a).wired.items src place) → Known k (OneStands (part_row b).wired.items src place)
+part_known k src place a b e h = subst (λ (op : PartOp). Known k (OneStands (part_row op).wired.items src place)) e h
+
+part_made : (p : Part) → (x : (part_row (op_of_part p)).Content) × ((part_row (op_of_part p)).wired.items x ≡ record_of p)
+part_made (part.Create a) = (a, refl)
+part_made (part.Delete a) = (a, refl)
+part_made (part.SetData a) = (a, refl)
+part_made (part.Check a) = (a, refl)
 
 pub nine : (op : PartOp) → length (bytes_of (marked (part_header op))) ≡ 9
 nine parts.Create = refl
@@ -137,6 +147,19 @@ module _ (p : Part) (src : List ℕ) (place end : ℕ) (le : place ≤ length sr
 
   pub not_bad : (header : MultiHeader) (after : ℕ) → IsValueOf multi_header.layout (marked header) → StandsAt (marked header) src place after → (MayStand header → ⊥) → ⊥
   not_bad header after v s not = not (inl (op, (header_read header after v s).0))
+
+  pub mark_stands : OneStands multi_header.items src place
+  mark_stands = (part_header op, place + 9, (have_parts (marked (part_header op)) (record_of p) have).0, header_there)
+
+  pub record_stands : (header : MultiHeader) (after : ℕ) (other : PartOp) → IsValueOf multi_header.layout (marked header) → StandsAt (marked header) src place after → header ≡ part_header other
+      → OneStands (part_row other).wired.items src after
+  record_stands header after other v s is =
+      let h = header_read header after v s in
+      let same : op ≡ other = op_same op other (sym h.0 ∙ is) in
+      let there : StandsAt (record_of p) src after end = subst (λ (n : ℕ). StandsAt (record_of p) src n end) (sym h.1) behind_header in
+      let m = part_made p in
+      let have_record = subst HaveBytes (sym m.1) (have_parts (marked (part_header op)) (record_of p) have).1 in
+      subst (λ (o : PartOp). OneStands (part_row o).wired.items src after) same (m.0, end, have_record, subst (λ (i : List Item). StandsAt i src after end) (sym m.1) there)
 
   -- the record behind it is the part's
   pub part_only : (header : MultiHeader) (after : ℕ) (other : PartOp) → IsValueOf multi_header.layout (marked header) → StandsAt (marked header) src place after → header ≡ part_header other

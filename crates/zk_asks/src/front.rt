@@ -39,7 +39,7 @@ fn body_end(payload: &[u8], place: usize, op: Op) -> Option<usize>
 pub fn front_ask(profile: Profile, payload: &[u8]) -> Option<(i32, Alone)>
     ensures some { IfSome result (λ r. IsAlone profile r.0 r.1.op payload.now) }
 {
-    let Ok((header, place)) = read_ref::<RequestHeader>(&Payload { bytes: payload }, 0) else {
+    let Ok((header, place)) = read_ref::<_, RequestHeader>(&Payload { bytes: payload }, 0) else {
         return None;
     };
     let op = op_of(profile, header.kind)?;

@@ -6,7 +6,8 @@ ghost use Rattle.zk_jute.specs.Item.{HaveBytes};
 ghost use Rattle.zk_jute.specs.Layout.{IsValueOf};
 ghost use Rattle.zk_jute.specs.Told.{StandsAt, HasSureFault, IsSurelyToldAt};
 ghost use Rattle.zk_asks.specs.Held.{Part};
-ghost use Rattle.zk_asks.specs.Parts.{part_layout, op_of_part, record_of, part_items, multi_items};
+ghost use Rattle.zk_jute.specs.Standing.{Known, OneStands};
+ghost use Rattle.zk_asks.specs.Parts.{part_row, part_layout, op_of_part, record_of, part_items, multi_items};
 ghost use Rattle.zk_asks.specs.Faults.{IsMultiFault};
 ghost use Rattle.zk_asks.specs.Fronts.{IsRecordAt};
 ghost use Rattle.zk_jute.specs.Shown.{Begins};
@@ -15,8 +16,10 @@ ghost use Rattle.zk_asks.specs.Shown.{parts_at};
 use crate::frame::{PartOf, PartRef};
 use crate::multi::{Mark, mark_of};
 use std::marker::Model;
-use zk_jute::{ItemFault, Payload, Reason, end_of, read_ref};
-use zk_records::{CheckAskRef, CreateAskRef, DeleteAskRef, MultiHeader, PartOp, SetDataAskRef};
+use zk_jute::{ItemFault, KnownPayload, Payload, PayloadOf, Reason, end_of, read_ref};
+use zk_records::{
+    CheckAskRef, CreateAskRef, DeleteAskRef, MultiHeader, PartOp, SetDataAskRef, part_of,
+};
 
 /// The parts of a multi where they lie.
 #[derive(Drop)]
@@ -95,18 +98,14 @@ impl<'a> Iterator for PartItems<'a> {
         if self.left == 0 {
             return None;
         }
-        let src = Payload {
+        // All that are left stand there.
+        let src = KnownPayload {
             bytes: self.payload,
         };
-        match part_in(&src, self.place) {
-            Ok((part, place)) => {
-                self.place = place;
-                self.left -= 1;
-                Some(part)
-            }
-            // All that are left stand there.
-            Err(_) => None,
-        }
+        let (part, place) = part_in(&src, self.place);
+        self.place = place;
+        self.left -= 1;
+        Some(part)
     }
 
     fn size_hint(&self) -> (usize, Option<usize>)
@@ -127,20 +126,21 @@ impl<'a> ExactSizeIterator for PartItems<'a> {
     }
 }
 
-/// The record of a part.
-fn record_ref<'a>(
-    src: &Payload<'a>,
+/// The record of a part, judged or known to stand there.
+fn record_ref<'a, const KNOWN: bool>(
+    src: &PayloadOf<'a, KNOWN>,
     place: usize,
     op: PartOp,
 ) -> Result<(PartRef<'a>, usize), ItemFault>
-    requires { place ≤ length src.now.bytes.now }
+    requires place { place ≤ length src.now.bytes.now }
+    requires known { Known KNOWN (OneStands (part_row op).wired.items src.now.bytes.now place) }
     ensures found { IfOk result (λ x. (op_of_part x.0 ≡ op) × IsValueOf (part_layout op) (record_of x.0) × StandsAt (record_of x.0) src.now.bytes.now place x.1) }
     ensures fault { IfErr result (HasSureFault (IsValueOf (part_layout op)) src.now.bytes.now place) }
     ensures within { IfOk result (λ x. x.1 ≤ length src.now.bytes.now) }
 {
     macro_rules! read {
         ($record:ty, $part:path) => {{
-            let (body, end) = read_ref::<$record>(src, place)?;
+            let (body, end) = read_ref::<_, $record>(src, place)?;
             Ok(($part(body), end))
         }};
     }
@@ -166,33 +166,38 @@ fn part_end(payload: &[u8], place: usize, op: PartOp) -> Option<usize>
     }
 }
 
-/// The place after the record of a part.
+/// The place after the record of a part, judged or known to stand there.
 #[inline(always)]
-fn record_end(src: &Payload<'_>, place: usize, op: PartOp) -> Result<usize, ItemFault>
-    requires { place ≤ length src.now.bytes.now }
+fn record_end<const KNOWN: bool>(
+    src: &PayloadOf<'_, KNOWN>,
+    place: usize,
+    op: PartOp,
+) -> Result<usize, ItemFault>
+    requires place { place ≤ length src.now.bytes.now }
+    requires known { Known KNOWN (OneStands (part_row op).wired.items src.now.bytes.now place) }
     ensures found { IfOk result (λ end. IsRecordAt op src.now.bytes.now place end) }
     ensures fault { IfErr result (HasSureFault (IsValueOf (part_layout op)) src.now.bytes.now place) }
     ensures within { IfOk result (λ end. end ≤ length src.now.bytes.now) }
 {
-    if let Some(end) = part_end(src.bytes, place, op) {
-        return Ok(end);
+    if !KNOWN {
+        if let Some(end) = part_end(src.bytes, place, op) {
+            return Ok(end);
+        }
     }
     let (_, end) = record_ref(src, place, op)?;
     Ok(end)
 }
 
-/// A part behind its header, and the place after it.
-fn part_in<'a>(src: &Payload<'a>, place: usize) -> Result<(PartRef<'a>, usize), ItemFault>
-    requires { place ≤ length src.now.bytes.now }
-    ensures only { (p : Part) (end : ℕ) → HaveBytes (part_items p) → StandsAt (part_items p) src.now.bytes.now place end → result ≡ Ok (p, end) }
-    ensures within { IfOk result (λ x. x.1 ≤ length src.now.bytes.now) }
+/// The part that is known to stand at a place, and the place after it.
+fn part_in<'a>(src: &KnownPayload<'a>, place: usize) -> (PartRef<'a>, usize)
+    requires place { place ≤ length src.now.bytes.now }
+    requires known { OneStands part_items src.now.bytes.now place }
+    ensures only { (p : Part) (end : ℕ) → HaveBytes (part_items p) → StandsAt (part_items p) src.now.bytes.now place end → result ≡ (p, end) }
+    ensures within { result.1 ≤ length src.now.bytes.now }
 {
-    let (header, after) = read_ref::<MultiHeader>(src, place)?;
-    match mark_of(&header) {
-        Mark::Part(op) => record_ref(src, after, op),
-        Mark::End => Err(ItemFault::at(place, Reason::BadPart)),
-        Mark::Bad => Err(ItemFault::at(place, Reason::BadPart)),
-    }
+    let (header, after) = read_ref::<_, MultiHeader>(src, place).unwrap();
+    let op = part_of(header.kind).unwrap();
+    record_ref(src, after, op).unwrap()
 }
 
 /// The operation of the part at a place, and the place after it. No part is made.
@@ -200,7 +205,7 @@ fn op_in(src: &Payload<'_>, place: usize) -> Result<(PartOp, usize), ItemFault>
     requires { place ≤ length src.now.bytes.now }
     ensures { (p : Part) (end : ℕ) → HaveBytes (part_items p) → StandsAt (part_items p) src.now.bytes.now place end → result ≡ Ok (op_of_part p, end) }
 {
-    let (header, after) = read_ref::<MultiHeader>(src, place)?;
+    let (header, after) = read_ref::<_, MultiHeader>(src, place)?;
     match mark_of(&header) {
         Mark::Part(op) => {
             let end = record_end(src, after, op)?;
@@ -246,14 +251,15 @@ fn lying<'a>(payload: &'a [u8], count: usize, place: usize) -> PartList<'a>
     }
 }
 
-/// The parts from a place on, and the place behind the end marker.
+/// The parts from a place on, judged or known to stand there, and the place behind the end marker.
 // A loop of its own keeps its registers.
 #[inline(never)]
-pub(crate) fn multi_ref<'a>(
-    src: &Payload<'a>,
+pub(crate) fn multi_ref<'a, const KNOWN: bool>(
+    src: &PayloadOf<'a, KNOWN>,
     place: usize,
 ) -> Result<(PartList<'a>, usize), ItemFault>
-    requires { place ≤ length src.now.bytes.now }
+    requires place { place ≤ length src.now.bytes.now }
+    requires known { Known KNOWN (OneStands multi_items src.now.bytes.now place) }
     ensures found { IfOk result (λ x. HaveBytes (multi_items x.0) × StandsAt (multi_items x.0) src.now.bytes.now place x.1) }
     ensures fault { IfErr result (IsSurelyToldAt IsMultiFault src.now.bytes.now place) }
     ensures within { IfOk result (λ x. x.1 ≤ length src.now.bytes.now) }
@@ -261,7 +267,7 @@ pub(crate) fn multi_ref<'a>(
     let mut count = 0;
     let mut at = place;
     loop {
-        let (header, after) = read_ref::<MultiHeader>(src, at)?;
+        let (header, after) = read_ref::<_, MultiHeader>(src, at)?;
         match mark_of(&header) {
             Mark::Part(op) => {
                 let next = record_end(src, after, op)?;

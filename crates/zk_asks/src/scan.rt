@@ -4,7 +4,8 @@ ghost use Rattle.zk_jute.specs.declared.fault.Reason.TheVariants.{NoMemory};
 ghost use Rattle.zk_jute.specs.Item.{HaveBytes};
 ghost use Rattle.zk_jute.specs.Told.{StandsAt, IsSurelyTold, IsSurelyToldAt};
 ghost use Rattle.zk_asks.specs.Held.{ClientFrame};
-ghost use Rattle.zk_asks.specs.Rows.{op_of_ask, body_items};
+ghost use Rattle.zk_jute.specs.Standing.{Known, OneStands};
+ghost use Rattle.zk_asks.specs.Rows.{row_of, items_in, op_of_ask, body_items};
 ghost use Rattle.zk_asks.specs.Frames.{IsSent, IsFirst, IsLater, IsOfProfile};
 ghost use Rattle.zk_asks.specs.Frames as frames;
 ghost use Rattle.zk_asks.specs.Faults.{IsAskFault, IsBodyFault, IsFirstFault};
@@ -12,26 +13,31 @@ ghost use Rattle.zk_asks.specs.Faults.{IsAskFault, IsBodyFault, IsFirstFault};
 use crate::codes::allowed;
 use crate::frame::{AskOf, AskRef, ClientFrameOf, ClientRef};
 use crate::part_list::multi_ref;
-use zk_jute::{ItemFault, Payload, Reason, read_ref, scan_flagged};
+use zk_jute::{ItemFault, Payload, PayloadOf, Reason, read_ref, scan_flagged};
 use zk_records::{
     AuthAskRef, ConnectRequestRef, CreateAskRef, DeleteAskRef, Op, PathAskRef, Profile,
     RequestHeader, SetAclAskRef, SetDataAskRef, SetWatchesAskRef, WatchAskRef, op_of,
 };
 
-/// The record of an operation.
+/// The record of an operation, judged or known to stand there.
 #[tactic(auto, using(crate::proofs::Lying::fields_lying))]
 // As in number.rt of zk_jute; but a build passes over the hint on `body_ref`, for its size. A step asks front.rt first, which
 // makes no record.
 #[inline(always)]
-fn body_ref<'a>(src: &Payload<'a>, place: usize, op: Op) -> Result<(AskRef<'a>, usize), ItemFault>
-    requires { place ≤ length src.now.bytes.now }
+pub(crate) fn body_ref<'a, const KNOWN: bool>(
+    src: &PayloadOf<'a, KNOWN>,
+    place: usize,
+    op: Op,
+) -> Result<(AskRef<'a>, usize), ItemFault>
+    requires place { place ≤ length src.now.bytes.now }
+    requires known { Known KNOWN (OneStands (items_in (row_of op)) src.now.bytes.now place) }
     ensures found { IfOk result (λ x. (op_of_ask x.0 ≡ op) × HaveBytes (body_items x.0) × StandsAt (body_items x.0) src.now.bytes.now place x.1) }
     ensures fault { IfErr result (IsSurelyToldAt (IsBodyFault op) src.now.bytes.now place) }
     ensures within { IfOk result (λ x. x.1 ≤ length src.now.bytes.now) }
 {
     macro_rules! read {
         ($record:ty, $ask:path) => {{
-            let (body, end) = read_ref::<$record>(src, place)?;
+            let (body, end) = read_ref::<_, $record>(src, place)?;
             Ok(($ask(body), end))
         }};
     }
@@ -63,7 +69,7 @@ fn ask_ref<'a>(profile: Profile, src: &Payload<'a>) -> Result<ClientRef<'a>, Ite
     ensures found { IfOk result (λ f. IsLater f × IsOfProfile profile f × IsSent f × (src.now.bytes.now ≡ frames.payload f)) }
     ensures fault { IfErr result (IsSurelyTold (IsAskFault profile src.now.bytes.now)) }
 {
-    let (header, place) = read_ref::<RequestHeader>(src, 0)?;
+    let (header, place) = read_ref::<_, RequestHeader>(src, 0)?;
     let Some(op) = op_of(profile, header.kind) else {
         return Err(ItemFault::at(4, Reason::UnknownOp));
     };

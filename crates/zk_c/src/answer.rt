@@ -1,5 +1,5 @@
 //! What calls answer.
-ghost use Rattle.std.specs.Prelude.{◌≡◌, pos};
+ghost use Rattle.std.specs.Prelude.{◌≡◌, ◌≢◌, pos};
 ghost use Rattle.zk_c.specs.Handle.{TellsText};
 ghost use Rattle.zk_c.specs.Numbers.{expected_of, got_of};
 ghost use Rattle.zk_c.specs.Answer.{no_fault, fault_numbers, no_step, step_answer, no_ending, ending_answer, no_message, message_answer, no_line};
@@ -272,7 +272,8 @@ impl LineAnswer {
 
     /// Writes the text first in the room, where it is long enough.
     pub fn put(text: &[u8], out: &mut [u8]) -> LineAnswer
-        ensures { TellsText text.now out.old out.new result }
+        ensures told { TellsText text.now out.old out.new result }
+        ensures ample { result.status ≢ 5 }
     {
         let length = text.len();
         if length > out.len() {

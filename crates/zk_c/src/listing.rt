@@ -1,6 +1,7 @@
 //! The listing of a conversation that lies there whole.
 ghost use Rattle.std.specs.Prelude.{◌≡◌, ◌++◌, OnOk, IfOk, MatchOption};
 ghost use Rattle.zk_talk.specs.History.{History};
+ghost use Rattle.zk_c.specs.Answer.{no_line};
 ghost use Rattle.zk_c.specs.Handle.{AreNoLimits};
 ghost use Rattle.zk_c.specs.Cut.{AreCut, AreNotCut};
 ghost use Rattle.zk_c.specs.Listing.{message_line, listing, IsListed, ListsUnder, ListsNothing};
@@ -64,8 +65,8 @@ pub extern "C" fn zk_listing(
     profile: u32,
     out: &mut [u8],
 ) -> LineAnswer
-    // Limits out of their ranges are refused.
-    ensures limits { AreNoLimits client server waiting profile → ListsNothing out.old out.new result }
+    // Limits out of their ranges are told.
+    ensures limits { AreNoLimits client server waiting profile → (result ≡ no_line 67) × (out.new ≡ out.old) }
     // So are pieces that aren't just the bytes.
     ensures pieces { AreNotCut pieces.now bytes.now → ListsNothing out.old out.new result }
     // Else the listing is that of the pieces.

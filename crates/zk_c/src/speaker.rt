@@ -78,7 +78,8 @@ pub extern "C" fn zk_speaker_new(
 ) -> u32
     // A handle that holds a speaker keeps it.
     ensures in_use { IsSome handle.old.held.value → result ≡ 66 }
-    // Limits in their ranges are refused for want of memory alone.
+    // Limits out of their ranges are told, and those in them are refused for want of memory alone.
+    ensures limits { handle.old.held.value ≡ None → AreNoLimits client server waiting profile → result ≡ 67 }
     ensures range { result ≡ 67 → AreNoLimits client server waiting profile }
     ensures status { handle.old.held.value ≡ None → (result ≡ 0) ⊎ (result ≡ 5) ⊎ (result ≡ 67) }
     // What is made has said nothing.
@@ -133,6 +134,8 @@ pub extern "C" fn zk_speaker_frame(
     ensures empty { handle.old.held.value ≡ None → (result ≡ no_line 65) × (out.new ≡ out.old) }
     // The frame is the speaker's.
     ensures frame { (v : VoiceState) → handle.old.held.value ≡ Some v → TellsText v.frame out.old out.new result }
+    // No memory is wanted.
+    ensures ample { result.status ≢ 5 }
     // The speaker stays as it is.
     ensures same { handle.new.held.value ≡ handle.old.held.value }
 {

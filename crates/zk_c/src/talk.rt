@@ -90,7 +90,8 @@ pub extern "C" fn zk_talk_new(
 ) -> u32
     // A handle that holds a talk keeps it.
     ensures in_use { IsSome handle.old.held.value → result ≡ 66 }
-    // Limits in their ranges are refused for want of memory alone.
+    // Limits out of their ranges are told, and those in them are refused for want of memory alone.
+    ensures limits { handle.old.held.value ≡ None → AreNoLimits client server waiting profile → result ≡ 67 }
     ensures range { result ≡ 67 → AreNoLimits client server waiting profile }
     ensures status { handle.old.held.value ≡ None → (result ≡ 0) ⊎ (result ≡ 5) ⊎ (result ≡ 67) }
     // What is made stands for the empty history.

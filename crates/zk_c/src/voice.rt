@@ -1,5 +1,5 @@
 //! A speaker, and the frame that it said last.
-ghost use Rattle.std.specs.Prelude.{◌≡◌, [], IfOk};
+ghost use Rattle.std.specs.Prelude.{◌≡◌, ◌≢◌, [], IfOk};
 ghost use Rattle.zk_talk.specs.Said.{Says};
 ghost use Rattle.zk_c.specs.Handle.{TellsText};
 ghost use Rattle.zk_c.specs.Saying.{TellsSay};
@@ -55,7 +55,8 @@ impl Voice {
 
     /// Writes the frame that was said last, where there is room for it.
     pub fn frame(&self, out: &mut [u8]) -> LineAnswer
-        ensures { TellsText self.now.frame out.old out.new result }
+        ensures told { TellsText self.now.frame out.old out.new result }
+        ensures ample { result.status ≢ 5 }
     {
         LineAnswer::put(&self.frame, out)
     }

@@ -1,7 +1,7 @@
 -- Plain bytes, looked at many at a time.
 use Rattle.std.proofs.Common.{◌≡◌, ℕ, zero, suc, ◌+◌, ◌/◌, ◌%◌, ◌^◌, ◌<◌, ◌≤◌, Bool, true, false, not, cond, eqb, List, [], ◌∷◌, ◌++◌, map, length, take, drop, Fits, w8, refl, sym, ap, ap₂, ◌∙◌, take_all, arith}
 use Rattle.std.proofs.lemmas.Bool.{agree_below, agree_below_at, eq-eqb, ne_eqb, cond-true, cond-false}
-use Rattle.std.proofs.lemmas.List.{length-map, length-drop}
+use Rattle.std.proofs.lemmas.List.{append-nil, drop_all, length-map, length-drop}
 use Rattle.std.proofs.lemmas.List.Folds.{prefix_len-append}
 use Rattle.std.proofs.lemmas.List.Sums.{prefix_len-le-length}
 use Rattle.std.proofs.lemmas.Simd.{chunk-drop, length-chunk, map-map, mask_l-mod, leading_from_mask_l, trailing_mask_l}
@@ -84,3 +84,9 @@ plain_front (b ∷ d) = pick (is_plain b) refl (plain_front d) where
       let one : 1 + prefix_len is_plain d ≡ suc (prefix_len is_plain d) = omega arith in
       ap (λ (n : ℕ). take n (b ∷ d) ++ flat_map symbol_spell (drop n (b ∷ d))) one ∙ ap (λ (l : List ℕ). b ∷ l) e
   pick false is e = ap (λ (t : Bool). cond t (b ∷ []) (92 ∷ hex_digit (b / 16) ∷ hex_digit (b % 16) ∷ []) ++ flat_map symbol_spell d) is
+
+-- plain bytes stand for themselves
+pub all_plain : (d : List ℕ) → prefix_len is_plain d ≡ length d → flat_map symbol_spell d ≡ d
+all_plain d e =
+    sym (plain_front d) ∙ ap (λ (n : ℕ). take n d ++ flat_map symbol_spell (drop n d)) e
+    ∙ ap₂ (λ (front rest : List ℕ). front ++ flat_map symbol_spell rest) (take_all (length d) d (omega arith)) (drop_all (length d) d (omega arith)) ∙ append-nil d

@@ -1,5 +1,5 @@
 //! The items of a line, written.
-ghost use Rattle.std.specs.Prelude.{◌≡◌, ◌++◌, OnOk, false};
+ghost use Rattle.std.specs.Prelude.{◌≡◌, ◌∷◌, ◌++◌, [], IfSome, OnOk, false};
 ghost use Rattle.std.specs.Fmt.{signed_decimal};
 ghost use Rattle.std.specs.List.{flat_map};
 ghost use Rattle.zk_jute.specs.declared.value.Nullable.TheVariants as nullable;
@@ -24,22 +24,52 @@ pub fn put_word(out: &mut Vec<u8>, word: Word) -> Result<(), AllocError>
     out.extend_from_slice(word_bytes(word))
 }
 
-/// Appends an int.
-pub fn put_int(out: &mut Vec<u8>, n: i32) -> Result<(), AllocError>
+/// The digit of a number that has one and no sign.
+#[inline(always)]
+fn one_digit(n: i64) -> Option<u8>
+    ensures { IfSome result (λ digit. signed_decimal n ≡ digit ∷ []) }
+{
+    if n >= 0 && n < 10 {
+        Some(b'0' + n as u8)
+    } else {
+        None
+    }
+}
+
+/// Appends a number of many digits.
+#[inline(never)]
+fn put_digits_of(out: &mut Vec<u8>, n: i64) -> Result<(), AllocError>
     ensures spelled { OnOk result (out.new.items ≡ out.old.items ++ signed_decimal n) }
-    ensures fits { OnOk result (int.fits n) }
     ensures keeps { Keeps out.old.items out.new.items }
 {
     out.extend_from_slice(Buffer::new().format(n).as_bytes())
 }
 
+/// Appends an int.
+#[inline(always)]
+pub fn put_int(out: &mut Vec<u8>, n: i32) -> Result<(), AllocError>
+    ensures spelled { OnOk result (out.new.items ≡ out.old.items ++ signed_decimal n) }
+    ensures fits { OnOk result (int.fits n) }
+    ensures keeps { Keeps out.old.items out.new.items }
+{
+    put_long(out, i64::from(n))
+}
+
 /// Appends a long.
+// Of the numbers of small messages a third have one digit: written at once it takes 4% of the instructions off `show`.
+#[inline(always)]
 pub fn put_long(out: &mut Vec<u8>, n: i64) -> Result<(), AllocError>
     ensures spelled { OnOk result (out.new.items ≡ out.old.items ++ signed_decimal n) }
     ensures fits { OnOk result (long.fits n) }
     ensures keeps { Keeps out.old.items out.new.items }
 {
-    out.extend_from_slice(Buffer::new().format(n).as_bytes())
+    match one_digit(n) {
+        Some(digit) => {
+            out.push(digit)?;
+            Ok(())
+        }
+        None => put_digits_of(out, n),
+    }
 }
 
 /// Appends a bit: `0` or `1`.
@@ -136,6 +166,7 @@ pub fn put_text(out: &mut Vec<u8>, text: &Text) -> Result<(), AllocError>
 }
 
 /// Appends a text where it lies: `~`, or its bytes between quotation marks.
+#[inline(always)]
 pub fn put_text_ref(out: &mut Vec<u8>, text: &TextRef<'_>) -> Result<(), AllocError>
     ensures spelled { OnOk result (out.new.items ≡ out.old.items ++ text_spell text.now) }
     ensures fits { OnOk result (text_fits text.now) }
@@ -147,13 +178,43 @@ pub fn put_text_ref(out: &mut Vec<u8>, text: &TextRef<'_>) -> Result<(), AllocEr
     }
 }
 
+/// Appends bytes that stand for themselves between quotation marks, in room that is made once.
+#[inline(always)]
+fn put_plain(out: &mut Vec<u8>, bytes: &[u8]) -> Result<(), AllocError>
+    ensures spelled { OnOk result (out.new.items ≡ out.old.items ++ (34 ∷ (bytes.now ++ (34 ∷ [])))) }
+    ensures keeps { Keeps out.old.items out.new.items }
+{
+    out.reserve(bytes.len() + 2)?;
+    out.push_reserved(b'"');
+    out.extend_from_slice(bytes)?;
+    out.push_reserved(b'"');
+    Ok(())
+}
+
+/// Appends bytes between quotation marks, some of which don't stand for themselves.
+#[inline(never)]
+fn put_quoted(out: &mut Vec<u8>, bytes: &[u8]) -> Result<(), AllocError>
+    ensures spelled { OnOk result (out.new.items ≡ out.old.items ++ (34 ∷ (flat_map symbol_spell bytes.now ++ (34 ∷ [])))) }
+    ensures keeps { Keeps out.old.items out.new.items }
+{
+    out.extend_from_slice(b"\"")?;
+    put_symbols(out, bytes)?;
+    out.extend_from_slice(b"\"")
+}
+
 /// Appends the bytes of a text between quotation marks.
+// Most texts have no escapes: written whole they take 6% of the instructions off `show` on names. As much again is
+// taken off by the hints here, at `put_text_ref` and at what calls that, by which a list's names are written in its loop.
+#[inline(always)]
 fn put_chars(out: &mut Vec<u8>, text: &str) -> Result<(), AllocError>
     ensures spelled { OnOk result (out.new.items ≡ out.old.items ++ text_spell (nullable.Full text.now)) }
     ensures fits { OnOk result (text_fits (nullable.Full text.now)) }
     ensures keeps { Keeps out.old.items out.new.items }
 {
-    out.extend_from_slice(b"\"")?;
-    put_symbols(out, text.as_bytes())?;
-    out.extend_from_slice(b"\"")
+    let bytes = text.as_bytes();
+    if plain_len(bytes) == bytes.len() {
+        put_plain(out, bytes)
+    } else {
+        put_quoted(out, bytes)
+    }
 }

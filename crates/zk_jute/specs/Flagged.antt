@@ -2,7 +2,7 @@
 use Rattle.std.specs.Prelude.{◌≡◌, ◌≢◌, ℕ, ◌+◌, Bool, List, [], ◌∷◌, ◌++◌, length, Option, Some, None}
 use Rattle.zk_jute.specs.declared.fault.Reason.{Reason}
 use Rattle.zk_jute.specs.declared.fault.Reason.TheVariants.{Trailing}
-use Rattle.zk_jute.specs.Item.{Boolean, Item, ABoolean, bytes_of}
+use Rattle.zk_jute.specs.Item.{Boolean, Item, ABoolean, bytes_of, HaveBytes}
 use Rattle.zk_jute.specs.Layout.{Layout, End, One, IsValueOf}
 use Rattle.zk_jute.specs.Faults.{IsFault, Opens}
 use Rattle.zk_jute.specs.Wired.{Wired}
@@ -18,6 +18,10 @@ flag_layout = One Boolean End
 -- a value's items, and those of the boolean behind it
 abbrev pub flagged : {X : Type 0} → Wired X → X → Option Bool → List Item
 flagged wired value flag = wired.items value ++ flag_items flag
+
+-- the payload is a value, and a boolean where one is there
+abbrev pub OneIsFlagged : {X : Type 0} → Wired X → List ℕ → Type 0
+OneIsFlagged {X} wired payload = (x : X) × (flag : Option Bool) × HaveBytes (flagged wired x flag) × (payload ≡ bytes_of (flagged wired x flag))
 
 -- the items are those of a value of the layout, and of a boolean where it is there
 abbrev pub IsFlagged : Layout → List Item → Type 0

@@ -2,14 +2,14 @@
 //! old peers leave the boolean out (`ClientCnxnSocket.readConnectResult` of ZooKeeper 3.4).
 ghost use Rattle.std.specs.Prelude.{◌≡◌, ◌≢◌, Option, Bool, Ok, IfOk, IfErr};
 ghost use Rattle.zk_jute.specs.declared.fault.Reason.TheVariants.{NoMemory};
-ghost use Rattle.zk_jute.specs.Standing.{IsPlain};
+ghost use Rattle.zk_jute.specs.Standing.{IsPlain, Known};
 ghost use Rattle.zk_jute.specs.Item.{bytes_of, HaveBytes};
 ghost use Rattle.zk_jute.specs.Told.{IsReadAs, IsTold, IsSurelyTold};
-ghost use Rattle.zk_jute.specs.Flagged.{flag_items, flagged, IsFlaggedFault};
+ghost use Rattle.zk_jute.specs.Flagged.{flag_items, flagged, IsFlaggedFault, OneIsFlagged};
 
 use crate::fault::{ItemFault, Reason};
 use crate::output::Output;
-use crate::source::{Kept, Payload, Source};
+use crate::source::{Kept, KnownPayload, Payload, Source};
 use crate::stands::{Form, Stands};
 use crate::wire::Spell;
 use std::alloc::Global;
@@ -27,6 +27,7 @@ impl Spell for Option<bool> {
 
 #[tactic(auto, using(crate::proofs::Flagged::refusals))]
 fn flagged_of<P: Source, T: Stands<P>>(src: &P) -> Result<(T, Option<bool>), ItemFault>
+    requires { Known P.knows (OneIsFlagged T.wired (P.payload src.now)) }
     ensures found { IfOk result (λ x. HaveBytes (flagged T.wired x.0 x.1) × (P.payload src.now ≡ bytes_of (flagged T.wired x.0 x.1))) }
     ensures fault { IfErr result (λ e. IsTold (IsFlaggedFault T.wired.layout (P.payload src.now)) e) }
     ensures plain { IsPlain P.grows T.wired.layout → IfErr result (λ e. e.reason ≢ NoMemory) }
@@ -74,4 +75,12 @@ pub fn scan_flagged<'a, T: Stands<Payload<'a>>>(
     ensures fault { IfErr result (IsSurelyTold (IsFlaggedFault T.wired.layout payload.now)) }
 {
     flagged_of(&Payload { bytes: payload })
+}
+
+/// The value that the payload is known to be, and the boolean behind it, where they lie.
+pub fn known_flagged<'a, T: Stands<KnownPayload<'a>>>(payload: &'a [u8]) -> (T, Option<bool>)
+    requires { OneIsFlagged T.wired payload.now }
+    ensures { (x : T) (flag : Option Bool) → HaveBytes (flagged T.wired x flag) → payload.now ≡ bytes_of (flagged T.wired x flag) → result ≡ (x, flag) }
+{
+    flagged_of(&KnownPayload { bytes: payload }).unwrap()
 }

@@ -1,15 +1,15 @@
 //! Lists where they lie in a payload: they take no memory.
-ghost use Rattle.std.specs.Prelude.{◌≡◌, ◌≤◌, ◌↔◌, ℕ, List, length, Some, IsTrue, IfOk, IfSome};
+ghost use Rattle.std.specs.Prelude.{◌≡◌, ◌≤◌, ◌↔◌, ℕ, List, length, Some, IsTrue, IsOk, IfOk, IfSome};
 ghost use Rattle.std.specs.Iterator.{YieldsFirst, UpTo, item_count};
 ghost use Rattle.std.specs.Iterator.SizeHint.{IsWithinCount};
 ghost use Rattle.zk_jute.specs.Reading.{Read, Scans, items_at, read_map, times_at};
 ghost use Rattle.zk_jute.specs.Wired.{vector};
-ghost use Rattle.zk_jute.specs.Standing.{IsPlain};
+ghost use Rattle.zk_jute.specs.Standing.{IsPlain, Known};
 ghost use Rattle.zk_jute.specs.Shown.{AllStand, IsNull, count_of, elements_of, list_at, text_value, text_is_value};
 
 use crate::fault::ItemFault;
 use crate::run::size_at;
-use crate::source::{Payload, Source};
+use crate::source::{KnownPayload, PayloadOf, Source};
 use crate::stands::{Form, Stands};
 use crate::value::TextRef;
 use std::marker::{Model, PhantomData};
@@ -100,7 +100,7 @@ impl<'a, R: Element> Model for Elements<'a, R> {
     ghost invariant = { λ l. (l.place ≤ length l.payload.now) × (length (values_at (R.value l.payload.now) l.left l.place) ≡ l.left) };
 }
 
-impl<'a, R: Element + Stands<Payload<'a>>> Iterator for Elements<'a, R> {
+impl<'a, R: Element + Stands<KnownPayload<'a>>> Iterator for Elements<'a, R> {
     type Item = R;
 
     ghost next_gives = { YieldsFirst (λ s. s) };
@@ -111,18 +111,14 @@ impl<'a, R: Element + Stands<Payload<'a>>> Iterator for Elements<'a, R> {
         if self.left == 0 {
             return None;
         }
-        let src = Payload {
+        // All that are left stand there.
+        let src = KnownPayload {
             bytes: self.payload,
         };
-        match R::decode(&src, self.place) {
-            Ok((item, place)) => {
-                self.place = place;
-                self.left -= 1;
-                Some(item)
-            }
-            // All that are left stand there.
-            Err(_) => None,
-        }
+        let (item, place) = R::decode(&src, self.place).unwrap();
+        self.place = place;
+        self.left -= 1;
+        Some(item)
     }
 
     fn size_hint(&self) -> (usize, Option<usize>)
@@ -135,7 +131,7 @@ impl<'a, R: Element + Stands<Payload<'a>>> Iterator for Elements<'a, R> {
     }
 }
 
-impl<'a, R: Element + Stands<Payload<'a>>> ExactSizeIterator for Elements<'a, R> {
+impl<'a, R: Element + Stands<KnownPayload<'a>>> ExactSizeIterator for Elements<'a, R> {
     fn len(&self) -> usize {
         let Elements { left, .. } = self;
         *left
@@ -168,6 +164,7 @@ fn elements_end<P: Source, R: Stands<P>>(
 ) -> Result<usize, ItemFault>
     requires place { place ≤ length (P.payload src.now) }
     requires plain { IsPlain P.grows R.wired.layout }
+    requires known { Known P.knows (IsOk (times_at (items_at R.wired.layout (P.payload src.now)) count place)) }
     ensures exact { Scans result (times_at (items_at R.wired.layout (P.payload src.now)) count place) }
     ensures within { IfOk result (λ after. after ≤ length (P.payload src.now)) }
 {
@@ -183,16 +180,17 @@ impl<'a, R: Element> Form for Series<'a, R> {
     ghost wired = { vector R.wired };
 }
 
-impl<'a, R: Element + Stands<Payload<'a>>> Stands<Payload<'a>> for Series<'a, R> {
+impl<'a, const KNOWN: bool, R: Element + Stands<PayloadOf<'a, KNOWN>>> Stands<PayloadOf<'a, KNOWN>>
+    for Series<'a, R> {
     #[tactic(auto, using(crate::proofs::Fields::list_none, crate::proofs::Fields::list_fails, crate::proofs::Fields::list_refused, crate::proofs::Fields::elements_fail, crate::proofs::Lists::elements_refuse))]
     // As in number.rt.
     #[inline(always)]
-    fn decode(src: &Payload<'a>, place: usize) -> Result<(Self, usize), ItemFault> {
-        let (count, start) = size_at(src.bytes, place)?;
+    fn decode(src: &PayloadOf<'a, KNOWN>, place: usize) -> Result<(Self, usize), ItemFault> {
+        let (count, start) = PayloadOf::<KNOWN>::given(size_at(src.bytes, place))?;
         match count {
             None => Ok((lying(src.bytes, None, start), start)),
             Some(count) => {
-                let end = elements_end::<Payload<'a>, R>(src, count, start)?;
+                let end = elements_end::<PayloadOf<'a, KNOWN>, R>(src, count, start)?;
                 Ok((lying(src.bytes, Some(count), start), end))
             }
         }

@@ -3,7 +3,7 @@ ghost use Rattle.zk_jute.specs.Wired.{ustring, buffer};
 
 use crate::fault::ItemFault;
 use crate::run::{run_at, text_at};
-use crate::source::Payload;
+use crate::source::{PayloadOf, Source};
 use crate::stands::{Form, Stands};
 use crate::value::{BlobRef, BytesRef, CharsRef, TextRef};
 
@@ -11,12 +11,12 @@ impl<'a> Form for TextRef<'a> {
     ghost wired = { ustring };
 }
 
-impl<'a> Stands<Payload<'a>> for TextRef<'a> {
+impl<'a, const KNOWN: bool> Stands<PayloadOf<'a, KNOWN>> for TextRef<'a> {
     #[tactic(auto, using(crate::proofs::Fields::text_is, crate::proofs::Fields::refuses_told, crate::proofs::Fields::fails_told))]
     // As in number.rt.
     #[inline(always)]
-    fn decode(src: &Payload<'a>, place: usize) -> Result<(Self, usize), ItemFault> {
-        let (text, after) = text_at(src.bytes, place)?;
+    fn decode(src: &PayloadOf<'a, KNOWN>, place: usize) -> Result<(Self, usize), ItemFault> {
+        let (text, after) = text_at::<KNOWN>(src.bytes, place)?;
         match text {
             None => Ok((TextRef::Null, after)),
             Some(text) => Ok((TextRef::Full(CharsRef::new(text)), after)),
@@ -28,11 +28,11 @@ impl<'a> Form for BlobRef<'a> {
     ghost wired = { buffer };
 }
 
-impl<'a> Stands<Payload<'a>> for BlobRef<'a> {
+impl<'a, const KNOWN: bool> Stands<PayloadOf<'a, KNOWN>> for BlobRef<'a> {
     #[tactic(auto, using(crate::proofs::Fields::run_is, crate::proofs::Fields::refuses_told, crate::proofs::Fields::fails_told))]
     #[inline(always)]
-    fn decode(src: &Payload<'a>, place: usize) -> Result<(Self, usize), ItemFault> {
-        let (bytes, after) = run_at(src.bytes, place)?;
+    fn decode(src: &PayloadOf<'a, KNOWN>, place: usize) -> Result<(Self, usize), ItemFault> {
+        let (bytes, after) = run_at::<KNOWN>(src.bytes, place)?;
         match bytes {
             None => Ok((BlobRef::Null, after)),
             Some(bytes) => Ok((BlobRef::Full(BytesRef::new(bytes)), after)),

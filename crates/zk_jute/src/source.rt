@@ -1,6 +1,8 @@
 //! What is read from: a payload, and where it goes that what is read keeps of it.
-ghost use Rattle.std.specs.Prelude.{◌≡◌, ℕ, Bool, true, false, List};
+ghost use Rattle.std.specs.Prelude.{◌≡◌, ℕ, Bool, true, false, List, IsOk};
+ghost use Rattle.zk_jute.specs.Standing.{Known};
 
+use crate::fault::ItemFault;
 use std::alloc::Global;
 
 /// A payload, as values are read from it.
@@ -11,26 +13,52 @@ pub trait Source: Sized {
     /// Whether reading from it may want memory.
     ghost grows: { Bool };
 
+    /// Whether what is read from it is known to stand there.
+    ghost knows: { Bool };
+
     /// The bytes of the payload.
     fn payload(&self) -> &[u8]
         ensures { result.now ≡ payload self.now };
+
+    /// What reading answered. Where a value is known to stand there, no way is left for a fault, and
+    /// the build drops the tests that would lead to one.
+    fn given<T>(answer: Result<T, ItemFault>) -> Result<T, ItemFault>
+        requires { Known knows (IsOk answer) }
+        ensures { result ≡ answer };
 }
 
-/// A payload that values are borrowed from: there is no memory to be had.
+/// A payload that values are borrowed from: there is no memory to be had. What is read from it is
+/// judged, or is known to stand there, and then it is not judged again.
 #[derive(Drop)]
-pub struct Payload<'a> {
+pub struct PayloadOf<'a, const KNOWN: bool> {
     pub bytes: &'a [u8],
 }
 
-impl<'a> Source for Payload<'a> {
+/// A payload that is judged.
+pub type Payload<'a> = PayloadOf<'a, false>;
+
+/// A payload of which it is known what stands there.
+pub type KnownPayload<'a> = PayloadOf<'a, true>;
+
+impl<'a, const KNOWN: bool> Source for PayloadOf<'a, KNOWN> {
     ghost payload = { λ p. p.bytes.now };
 
     ghost grows = { false };
+
+    ghost knows = { KNOWN };
 
     // As in number.rt.
     #[inline(always)]
     fn payload(&self) -> &[u8] {
         self.bytes
+    }
+
+    #[inline(always)]
+    fn given<T>(answer: Result<T, ItemFault>) -> Result<T, ItemFault>
+        requires { Known KNOWN (IsOk answer) }
+        ensures { result ≡ answer }
+    {
+        if KNOWN { Ok(answer.unwrap()) } else { answer }
     }
 }
 
@@ -46,9 +74,19 @@ impl<'a> Source for Kept<'a> {
 
     ghost grows = { true };
 
+    ghost knows = { false };
+
     #[inline(always)]
     fn payload(&self) -> &[u8] {
         let Kept { bytes, .. } = self;
         bytes
+    }
+
+    #[inline(always)]
+    fn given<T>(answer: Result<T, ItemFault>) -> Result<T, ItemFault>
+        requires { Known false (IsOk answer) }
+        ensures { result ≡ answer }
+    {
+        answer
     }
 }

@@ -1,12 +1,12 @@
 //! Values that are read from a payload, copied out of it or borrowed from it.
-ghost use Rattle.std.specs.Prelude.{◌≡◌, ℕ, ◌≤◌, ◌<◌, List, length, get_or, IfOk, IfErr, IfSome};
+ghost use Rattle.std.specs.Prelude.{◌≡◌, false, ℕ, ◌≤◌, ◌<◌, List, length, get_or, IsOk, IfOk, IfErr, IfSome};
 ghost use Rattle.std.specs.List.{flat_map};
 ghost use Rattle.zk_jute.specs.Item.{HaveBytes};
 ghost use Rattle.zk_jute.specs.Layout.{IsValueOf};
 ghost use Rattle.zk_jute.specs.Told.{StandsAt, IsReadAs, IsToldFault, HasSureFault};
 ghost use Rattle.zk_jute.specs.Reading.{Fails, Gives, items_at, times_at};
 ghost use Rattle.zk_jute.specs.Wired.{Wired, int, long, boolean, ustring, buffer, vector, ◌and◌};
-ghost use Rattle.zk_jute.specs.Standing.{IsPlain};
+ghost use Rattle.zk_jute.specs.Standing.{IsPlain, Known, OneStands};
 
 use crate::fault::ItemFault;
 use crate::number::{bool_at, int_at, long_at};
@@ -28,7 +28,8 @@ pub trait Stands<P: Source>: Form {
     // As in number.rt.
     #[inline(always)]
     fn decode(src: &P, place: usize) -> Result<(Self, usize), ItemFault>
-        requires { place ≤ length (P.payload src.now) }
+        requires place { place ≤ length (P.payload src.now) }
+        requires known { Known P.knows (IsOk (items_at Self.wired.layout (P.payload src.now) place)) }
         ensures exact { Gives (λ x. (Self.wired.items x.0, x.1)) result (items_at Self.wired.layout (P.payload src.now) place) }
         ensures plain { IsPlain P.grows Self.wired.layout → IfErr result (λ e. Fails e (items_at Self.wired.layout (P.payload src.now) place)) }
         ensures within { IfOk result (λ x. x.1 ≤ length (P.payload src.now)) };
@@ -38,7 +39,8 @@ pub trait Stands<P: Source>: Form {
     // As in number.rt.
     #[inline(always)]
     final fn read_in(src: &P, place: usize) -> Result<(Self, usize), ItemFault>
-        requires { place ≤ length (P.payload src.now) }
+        requires place { place ≤ length (P.payload src.now) }
+        requires known { Known P.knows (OneStands Self.wired.items (P.payload src.now) place) }
         // What is read stands there, each byte of it.
         ensures found { IfOk result (λ x. IsValueOf Self.wired.layout (Self.wired.items x.0) × StandsAt (Self.wired.items x.0) (P.payload src.now) place x.1) }
         // What stands there is read, unless memory is wanted.
@@ -57,14 +59,13 @@ pub trait Stands<P: Source>: Form {
 /// What lies at a place of a payload, and the place after it; it takes no memory.
 // As in number.rt.
 #[inline(always)]
-pub fn read_ref<'a, T: Stands<Payload<'a>>>(
-    src: &Payload<'a>,
-    place: usize,
-) -> Result<(T, usize), ItemFault>
-    requires { place ≤ length src.now.bytes.now }
-    ensures found { IfOk result (λ x. IsValueOf T.wired.layout (T.wired.items x.0) × StandsAt (T.wired.items x.0) src.now.bytes.now place x.1) }
-    ensures fault { IfErr result (HasSureFault (IsValueOf T.wired.layout) src.now.bytes.now place) }
-    ensures within { IfOk result (λ x. x.1 ≤ length src.now.bytes.now) }
+pub fn read_ref<P: Source, T: Stands<P>>(src: &P, place: usize) -> Result<(T, usize), ItemFault>
+    requires place { place ≤ length (P.payload src.now) }
+    requires borrowed { P.grows ≡ false }
+    requires known { Known P.knows (OneStands T.wired.items (P.payload src.now) place) }
+    ensures found { IfOk result (λ x. IsValueOf T.wired.layout (T.wired.items x.0) × StandsAt (T.wired.items x.0) (P.payload src.now) place x.1) }
+    ensures fault { IfErr result (HasSureFault (IsValueOf T.wired.layout) (P.payload src.now) place) }
+    ensures within { IfOk result (λ x. x.1 ≤ length (P.payload src.now)) }
 {
     T::read_in(src, place)
 }
@@ -98,7 +99,7 @@ impl Form for i32 {
 impl<P: Source> Stands<P> for i32 {
     #[inline(always)]
     fn decode(src: &P, place: usize) -> Result<(Self, usize), ItemFault> {
-        int_at(src.payload(), place)
+        P::given(int_at(src.payload(), place))
     }
 }
 
@@ -109,7 +110,7 @@ impl Form for i64 {
 impl<P: Source> Stands<P> for i64 {
     #[inline(always)]
     fn decode(src: &P, place: usize) -> Result<(Self, usize), ItemFault> {
-        long_at(src.payload(), place)
+        P::given(long_at(src.payload(), place))
     }
 }
 
@@ -120,7 +121,7 @@ impl Form for bool {
 impl<P: Source> Stands<P> for bool {
     #[inline(always)]
     fn decode(src: &P, place: usize) -> Result<(Self, usize), ItemFault> {
-        bool_at(src.payload(), place)
+        P::given(bool_at(src.payload(), place))
     }
 }
 
@@ -164,18 +165,17 @@ impl<T: Form> Form for List<T> {
 
 #[tactic(auto, using(crate::proofs::Loops::reading_ends, crate::proofs::Fields::refuses_memory))]
 /// So many elements from a place on, and the place after them.
-fn elements_in<P: Source, T: Stands<P>>(
-    alloc: Global,
-    src: &P,
+fn elements_in<'a, T: Stands<Kept<'a>>>(
+    src: &Kept<'a>,
     count: usize,
     place: usize,
 ) -> Result<(Vec<T>, usize), ItemFault>
-    requires { place ≤ length (P.payload src.now) }
-    ensures exact { Gives (λ x. (flat_map T.wired.items x.0.items, x.1)) result (times_at (items_at T.wired.layout (P.payload src.now)) count place) }
+    requires { place ≤ length src.now.bytes.now }
+    ensures exact { Gives (λ x. (flat_map T.wired.items x.0.items, x.1)) result (times_at (items_at T.wired.layout src.now.bytes.now) count place) }
     ensures count { IfOk result (λ x. length x.0.items ≡ count) }
-    ensures within { IfOk result (λ x. x.1 ≤ length (P.payload src.now)) }
+    ensures within { IfOk result (λ x. x.1 ≤ length src.now.bytes.now) }
 {
-    let mut items = Vec::new(alloc);
+    let mut items = Vec::new(src.alloc);
     let mut after = place;
     for _ in 0..count {
         let (item, next) = T::decode(src, after)?;
@@ -192,7 +192,7 @@ impl<'a, T: Stands<Kept<'a>>> Stands<Kept<'a>> for List<T> {
         match count {
             None => Ok((List::Null, after)),
             Some(count) => {
-                let (items, after) = elements_in(src.alloc, src, count, after)?;
+                let (items, after) = elements_in(src, count, after)?;
                 Ok((List::Full(Items::new(items)), after))
             }
         }

@@ -1,6 +1,6 @@
 -- Printed bytes: ASCII characters from the blank to `~`. Numbers, texts, blobs, words and names are spelled by such.
 use Rattle.std.proofs.Common.{◌≡◌, ℕ, zero, suc, ◌/◌, ◌%◌, ◌<◌, ◌≤◌, List, [], ◌∷◌, ◌++◌, Some, Bool, true, false, ◌==◌, ◌&&◌, refl, ap, sym, ◌∙◌, cond, arith, le-leb, leb-true}
-use Rattle.std.specs.Prelude.{ℤ, pos, negsuc, ◌≢◌, codes, nat_le, slice_index}
+use Rattle.std.specs.Prelude.{ℤ, pos, negsuc, ◌≢◌, nat_le, slice_index}
 use Rattle.std.specs.List.{flat_map, AllByRecursion}
 use Rattle.std.specs.Map.{lookup}
 use Rattle.std.specs.Ordering.{int_eq}
@@ -9,19 +9,12 @@ use Rattle.std.proofs.lemmas.Bool.{and_parts, agree_below_at}
 use Rattle.hex.specs.Hex.{encode_lower, encode_with, lower_digits}
 use Rattle.zk_jute.specs.Held.{Text, Blob}
 use Rattle.zk_jute.specs.declared.value.Nullable.TheVariants as nullable
-use Rattle.zk_records.specs.Names.{op_name, part_name, errors, events}
-use Rattle.zk_records.specs.declared.op.Op.{Op}
-use Rattle.zk_records.specs.declared.op.Op.TheVariants as ops
-use Rattle.zk_records.specs.declared.op.PartOp.{PartOp}
-use Rattle.zk_records.specs.declared.op.PartOp.TheVariants as parts
+use Rattle.zk_records.specs.Names.{errors, events}
 use Rattle.zk_items.specs.declared.word.Word.{Word}
 use Rattle.zk_items.specs.declared.word.Word.TheVariants as words
-use Rattle.zk_items.specs.Leaf.{is_plain, hex_digit, symbol_spell, text_spell, text_fits, blob_spell, blob_fits}
+use Rattle.zk_items.specs.Leaf.{in_name, is_plain, hex_digit, symbol_spell, text_spell, text_fits, blob_spell, blob_fits}
 use Rattle.zk_items.specs.Codes.{name_spell, error_name, type_name}
 use Rattle.zk_items.specs.Words.{word_of}
-use Rattle.zk_lines.specs.declared.done.DoneName.{DoneName}
-use Rattle.zk_lines.specs.declared.done.DoneName.TheVariants as names
-use Rattle.zk_lines.specs.Answers as answers
 
 -- ---- bytes
 
@@ -108,66 +101,20 @@ blob_printed (nullable.Full b) fit = (refl, digits_printed b fit)
 
 -- ---- words and names
 
-pub word_printed : (w : Word) → Printed (word_of w)
+each_printed : (w : Word) → are_printed (word_of w) ≡ true
 unfolding word_of
-word_printed words.Acl = checked (codes " acl=") refl
-word_printed words.Auth = checked (codes " auth=") refl
-word_printed words.Blank = checked (codes " ") refl
-word_printed words.Blob = checked (codes " blob=") refl
-word_printed words.ChildWatches = checked (codes " childWatches=") refl
-word_printed words.Close = checked (codes ")") refl
-word_printed words.Colon = checked (codes ":") refl
-word_printed words.Comma = checked (codes ",") refl
-word_printed words.DataWatches = checked (codes " dataWatches=") refl
-word_printed words.Err = checked (codes " err=") refl
-word_printed words.ExistWatches = checked (codes " existWatches=") refl
-word_printed words.Flags = checked (codes " flags=") refl
-word_printed words.Kind = checked (codes " kind=") refl
-word_printed words.Names = checked (codes " names=") refl
-word_printed words.Open = checked (codes "(") refl
-word_printed words.Parts = checked (codes " {") refl
-word_printed words.Passwd = checked (codes " passwd=") refl
-word_printed words.Path = checked (codes " path=") refl
-word_printed words.ReadOnly = checked (codes " ro=") refl
-word_printed words.Scheme = checked (codes " scheme=") refl
-word_printed words.Session = checked (codes " session=") refl
-word_printed words.Stat = checked (codes " stat=") refl
-word_printed words.State = checked (codes " state=") refl
-word_printed words.Timeout = checked (codes " timeout=") refl
-word_printed words.Version = checked (codes " version=") refl
-word_printed words.Watch = checked (codes " watch=") refl
-word_printed words.Zxid = checked (codes " zxid=") refl
+each_printed words.Acl = refl
+each_printed _ = refl
 
-pub op_printed : (k : Op) → Printed (op_name k)
-op_printed ops.Create = checked (codes "create") refl
-op_printed ops.Delete = checked (codes "delete") refl
-op_printed ops.Exists = checked (codes "exists") refl
-op_printed ops.GetData = checked (codes "getData") refl
-op_printed ops.SetData = checked (codes "setData") refl
-op_printed ops.GetAcl = checked (codes "getACL") refl
-op_printed ops.SetAcl = checked (codes "setACL") refl
-op_printed ops.GetChildren = checked (codes "getChildren") refl
-op_printed ops.Sync = checked (codes "sync") refl
-op_printed ops.Ping = checked (codes "ping") refl
-op_printed ops.GetChildren2 = checked (codes "getChildren2") refl
-op_printed ops.Multi = checked (codes "multi") refl
-op_printed ops.Create2 = checked (codes "create2") refl
-op_printed ops.Auth = checked (codes "auth") refl
-op_printed ops.SetWatches = checked (codes "setWatches") refl
-op_printed ops.CloseSession = checked (codes "closeSession") refl
+pub word_printed : (w : Word) → Printed (word_of w)
+word_printed w = checked (word_of w) (each_printed w)
 
-pub part_name_printed : (k : PartOp) → Printed (part_name k)
-part_name_printed parts.Create = checked (codes "create") refl
-part_name_printed parts.Delete = checked (codes "delete") refl
-part_name_printed parts.SetData = checked (codes "setData") refl
-part_name_printed parts.Check = checked (codes "check") refl
+letter_printed : (b : ℕ) → in_name b ≡ true → is_printed b ≡ true
+letter_printed b e = grind (arith, e)
 
-pub done_name_printed : (k : DoneName) → Printed (answers.done_name k)
-done_name_printed names.Create = checked (codes "create") refl
-done_name_printed names.Delete = checked (codes "delete") refl
-done_name_printed names.SetData = checked (codes "setData") refl
-done_name_printed names.Check = checked (codes "check") refl
-done_name_printed names.Fail = checked (codes "fail") refl
+pub letters_printed : (bytes : List ℕ) → AllByRecursion (λ c. in_name c ≡ true) bytes → Printed bytes
+letters_printed [] h = tt
+letters_printed (b ∷ bytes) h = (letter_printed b h.0, letters_printed bytes h.1)
 
 -- the names of a table
 abbrev rows_printed : List (ℤ × List ℕ) → Bool

@@ -2,10 +2,14 @@ pub mod Series
 pub mod Records
 pub mod Lists
 pub mod Named
+pub mod LawsPrinted
+pub mod Held
+pub mod Shown
+pub mod Rows
+pub mod Items
 pub mod Asks
 pub mod Answers
 pub mod Lines
 pub mod LawsHeld
-pub mod LawsPrinted
 pub mod LawsShown
 pub mod LawsEndings

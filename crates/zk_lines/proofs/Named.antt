@@ -1,6 +1,7 @@
 -- Values that begin with a name are read as they are spelled.
-use Rattle.std.proofs.Common.{◌≡◌, ℕ, List, [], ◌∷◌, ◌++◌, take, drop, Option, Some, Bool, true, false, length, refl, ap, sym, ◌∙◌, append_assoc, cond, arith, bytes_eq}
+use Rattle.std.proofs.Common.{◌≡◌, ℕ, List, [], ◌∷◌, ◌++◌, take, drop, Option, Some, Bool, true, false, length, ◌&&◌, refl, ap, sym, ◌∙◌, append_assoc, cond, arith, bytes_eq}
 use Rattle.std.specs.List.{prefix_len, AllByRecursion}
+use Rattle.std.proofs.lemmas.Bool.{and_parts}
 use Rattle.std.proofs.lemmas.List.{take-append-drop}
 use Rattle.std.proofs.lemmas.Slice.Eq.{bytes_eq-Decides}
 use Rattle.std.proofs.Math.Seq.{take-append_seam, drop-append_seam}
@@ -24,6 +25,21 @@ first_sound {K} name (x ∷ keys) bytes k e = pick (bytes_eq bytes (name x)) ref
   pick : (t : Bool) → bytes_eq bytes (name x) ≡ t → cond t (Some x) (first_named name keys bytes) ≡ Some k → (first_named name keys bytes ≡ Some k → bytes ≡ name k) → bytes ≡ name k
   pick true is e others = let h : x ≡ k = cc in same bytes (name x) is ∙ ap name h
   pick false is e others = others e
+
+-- each key has its name, of letters and digits, and no other key has it
+pub record IsNames {K : Type 0} (name : K → List ℕ) (key_at : List ℕ → Option K) : Type 0 where
+  pub found : (k : K) → key_at (name k) ≡ Some k
+  pub tells : (bytes : List ℕ) (k : K) → key_at bytes ≡ Some k → bytes ≡ name k
+  pub letters : (k : K) → AllByRecursion (λ c. in_name c ≡ true) (name k)
+
+abbrev pub are_letters : List ℕ → Bool
+are_letters [] = true
+are_letters (b ∷ bytes) = in_name b && are_letters bytes
+
+-- names that are written out
+pub lettered : (bytes : List ℕ) → are_letters bytes ≡ true → AllByRecursion (λ c. in_name c ≡ true) bytes
+lettered [] e = tt
+lettered (b ∷ bytes) e = let p = and_parts (in_name b) (are_letters bytes) e in (p.0, lettered bytes p.1)
 
 pub record IsNamed {K X : Type 0} (behind : List ℕ → Bool) (b : Bodies K X) : Type 0 where
   -- names

@@ -23,6 +23,7 @@ use Rattle.zk_lines.specs.declared.done.DoneName.TheVariants as names
 use Rattle.zk_lines.specs.Series.{list_of, series, if_passed}
 use Rattle.zk_lines.specs.Records.{acl, stat}
 use Rattle.zk_lines.specs.Named.{Bodies, first_named, named}
+use Rattle.zk_lines.specs.Rows.{Row, holds, bare, Content, row_at, Told, told, tabled}
 use Rattle.zk_lines.specs.Asks.{op_named}
 
 -- ---- records
@@ -75,29 +76,27 @@ name_of_done (done.DataSet s) = names.SetData
 name_of_done done.Checked = names.Check
 name_of_done (done.PartFailed e) = names.Fail
 
-abbrev pub done_spell : PartDone → List ℕ
-done_spell (done.Created p) = (field words.Path text).spell p
-done_spell done.Deleted = []
-done_spell (done.DataSet s) = (field words.Stat stat).spell s
-done_spell done.Checked = []
-done_spell (done.PartFailed e) = (field words.Err error_code).spell e
+-- what each result is made of
+abbrev pub done_line_of : DoneName → Row PartDone
+done_line_of names.Create = holds done.Created (field words.Path text)
+done_line_of names.Delete = bare done.Deleted
+done_line_of names.SetData = holds done.DataSet (field words.Stat stat)
+done_line_of names.Check = bare done.Checked
+done_line_of names.Fail = holds done.PartFailed (field words.Err error_code)
 
-abbrev pub done_fits : PartDone → Type 0
-done_fits (done.Created p) = text.fits p
-done_fits done.Deleted = Unit {0}
-done_fits (done.DataSet s) = stat.fits s
-done_fits done.Checked = Unit {0}
-done_fits (done.PartFailed e) = error_code.fits e
+-- a result by its name and what it holds
+abbrev pub by_done : {R : Type 1} → ((name : DoneName) → Content (done_line_of name) → R) → PartDone → R
+by_done f (done.Created p) = f names.Create p
+by_done f done.Deleted = f names.Delete tt
+by_done f (done.DataSet s) = f names.SetData s
+by_done f done.Checked = f names.Check tt
+by_done f (done.PartFailed e) = f names.Fail e
 
-abbrev pub done_at : DoneName → List ℕ → Read PartDone
-done_at names.Create bytes = read_map done.Created ((field words.Path text).at bytes)
-done_at names.Delete bytes = Some (done.Deleted, bytes)
-done_at names.SetData bytes = read_map done.DataSet ((field words.Stat stat).at bytes)
-done_at names.Check bytes = Some (done.Checked, bytes)
-done_at names.Fail bytes = read_map done.PartFailed ((field words.Err error_code).at bytes)
+abbrev pub done_told : PartDone → Told PartDone
+done_told d = by_done (told done_line_of) d
 
 abbrev pub done_bodies : Bodies DoneName PartDone
-done_bodies = record { name = done_name; key_at = done_named; key = name_of_done; fits = done_fits; spell = done_spell; at = done_at }
+done_bodies = tabled done_name done_named name_of_done done_line_of done_told
 
 abbrev pub done_form : Form PartDone
 done_form = named done_bodies
@@ -107,71 +106,58 @@ multi = field words.Parts (series 59 125 done_form)
 
 -- ---- replies
 
-abbrev pub body_spell : Body → List ℕ
-body_spell (body.Create p) = (field words.Path text).spell p
-body_spell body.Delete = []
-body_spell (body.Exists s) = (field words.Stat stat).spell s
-body_spell (body.GetData b s) = content.spell (b, s)
-body_spell (body.SetData s) = (field words.Stat stat).spell s
-body_spell (body.GetAcl a s) = acls.spell (a, s)
-body_spell (body.SetAcl s) = (field words.Stat stat).spell s
-body_spell (body.GetChildren n) = (field words.Names (list_of text)).spell n
-body_spell (body.Sync p) = (field words.Path text).spell p
-body_spell body.Ping = []
-body_spell (body.GetChildren2 n s) = children.spell (n, s)
-body_spell (body.Multi ds) = multi.spell ds
-body_spell (body.Create2 p s) = created.spell (p, s)
-body_spell body.Auth = []
-body_spell body.SetWatches = []
-body_spell body.CloseSession = []
+-- what each operation's reply is made of: its form, and the body that holds it
+abbrev pub line_of : Op → Row Body
+line_of ops.Create = holds body.Create (field words.Path text)
+line_of ops.Delete = bare body.Delete
+line_of ops.Exists = holds body.Exists (field words.Stat stat)
+line_of ops.GetData = holds (λ p. body.GetData p.0 p.1) content
+line_of ops.SetData = holds body.SetData (field words.Stat stat)
+line_of ops.GetAcl = holds (λ p. body.GetAcl p.0 p.1) acls
+line_of ops.SetAcl = holds body.SetAcl (field words.Stat stat)
+line_of ops.GetChildren = holds body.GetChildren (field words.Names (list_of text))
+line_of ops.Sync = holds body.Sync (field words.Path text)
+line_of ops.Ping = bare body.Ping
+line_of ops.GetChildren2 = holds (λ p. body.GetChildren2 p.0 p.1) children
+line_of ops.Multi = holds body.Multi multi
+line_of ops.Create2 = holds (λ p. body.Create2 p.0 p.1) created
+line_of ops.Auth = bare body.Auth
+line_of ops.SetWatches = bare body.SetWatches
+line_of ops.CloseSession = bare body.CloseSession
 
-abbrev pub body_fits : Body → Type 0
-body_fits (body.Create p) = text.fits p
-body_fits body.Delete = Unit {0}
-body_fits (body.Exists s) = stat.fits s
-body_fits (body.GetData b s) = content.fits (b, s)
-body_fits (body.SetData s) = stat.fits s
-body_fits (body.GetAcl a s) = acls.fits (a, s)
-body_fits (body.SetAcl s) = stat.fits s
-body_fits (body.GetChildren n) = (list_of text).fits n
-body_fits (body.Sync p) = text.fits p
-body_fits body.Ping = Unit {0}
-body_fits (body.GetChildren2 n s) = children.fits (n, s)
-body_fits (body.Multi ds) = multi.fits ds
-body_fits (body.Create2 p s) = created.fits (p, s)
-body_fits body.Auth = Unit {0}
-body_fits body.SetWatches = Unit {0}
-body_fits body.CloseSession = Unit {0}
+-- a body by its operation and what it holds
+abbrev pub by_op : {R : Type 1} → ((op : Op) → Content (line_of op) → R) → Body → R
+by_op f (body.Create p) = f ops.Create p
+by_op f body.Delete = f ops.Delete tt
+by_op f (body.Exists s) = f ops.Exists s
+by_op f (body.GetData b s) = f ops.GetData (b, s)
+by_op f (body.SetData s) = f ops.SetData s
+by_op f (body.GetAcl a s) = f ops.GetAcl (a, s)
+by_op f (body.SetAcl s) = f ops.SetAcl s
+by_op f (body.GetChildren n) = f ops.GetChildren n
+by_op f (body.Sync p) = f ops.Sync p
+by_op f body.Ping = f ops.Ping tt
+by_op f (body.GetChildren2 n s) = f ops.GetChildren2 (n, s)
+by_op f (body.Multi ds) = f ops.Multi ds
+by_op f (body.Create2 p s) = f ops.Create2 (p, s)
+by_op f body.Auth = f ops.Auth tt
+by_op f body.SetWatches = f ops.SetWatches tt
+by_op f body.CloseSession = f ops.CloseSession tt
 
-abbrev pub body_at : Op → List ℕ → Read Body
-body_at ops.Create bytes = read_map body.Create ((field words.Path text).at bytes)
-body_at ops.Delete bytes = Some (body.Delete, bytes)
-body_at ops.Exists bytes = read_map body.Exists ((field words.Stat stat).at bytes)
-body_at ops.GetData bytes = read_map (λ p. body.GetData p.0 p.1) (content.at bytes)
-body_at ops.SetData bytes = read_map body.SetData ((field words.Stat stat).at bytes)
-body_at ops.GetAcl bytes = read_map (λ p. body.GetAcl p.0 p.1) (acls.at bytes)
-body_at ops.SetAcl bytes = read_map body.SetAcl ((field words.Stat stat).at bytes)
-body_at ops.GetChildren bytes = read_map body.GetChildren ((field words.Names (list_of text)).at bytes)
-body_at ops.Sync bytes = read_map body.Sync ((field words.Path text).at bytes)
-body_at ops.Ping bytes = Some (body.Ping, bytes)
-body_at ops.GetChildren2 bytes = read_map (λ p. body.GetChildren2 p.0 p.1) (children.at bytes)
-body_at ops.Multi bytes = read_map body.Multi (multi.at bytes)
-body_at ops.Create2 bytes = read_map (λ p. body.Create2 p.0 p.1) (created.at bytes)
-body_at ops.Auth bytes = Some (body.Auth, bytes)
-body_at ops.SetWatches bytes = Some (body.SetWatches, bytes)
-body_at ops.CloseSession bytes = Some (body.CloseSession, bytes)
+abbrev pub body_told : Body → Told Body
+body_told b = by_op (told line_of) b
 
 -- the error that stands first, or what is done
 abbrev pub outcome_spell : Outcome → List ℕ
-outcome_spell (outcome.Done b) = body_spell b
+outcome_spell (outcome.Done b) = (body_told b).spell
 outcome_spell (outcome.Failed op e) = (field words.Err failure_code).spell e
 
 abbrev pub outcome_fits : Outcome → Type 0
-outcome_fits (outcome.Done b) = body_fits b
+outcome_fits (outcome.Done b) = (body_told b).fits
 outcome_fits (outcome.Failed op e) = failure_code.fits e
 
 abbrev pub outcome_at : Op → List ℕ → Read Outcome
-outcome_at op bytes = if_passed (word_at (word_of words.Err) bytes) (λ rest. read_map (outcome.Failed op) (failure_code.at rest)) (read_map outcome.Done (body_at op bytes))
+outcome_at op bytes = if_passed (word_at (word_of words.Err) bytes) (λ rest. read_map (outcome.Failed op) (failure_code.at rest)) (read_map outcome.Done (row_at (line_of op) bytes))
 
 -- behind the name the zxid, and then the outcome
 abbrev pub outcome_bodies : Bodies Op (ℤ × Outcome)

@@ -1,5 +1,5 @@
 -- The lines of what a client sends.
-use Rattle.std.specs.Prelude.{ℕ, ℤ, List, [], ◌∷◌, Option, Some, Bool}
+use Rattle.std.specs.Prelude.{ℕ, ℤ, List, [], ◌∷◌, Option, Bool}
 use Rattle.zk_records.specs.Held.{ConnectRequest, CreateAsk, DeleteAsk, SetDataAsk, SetAclAsk, CheckAsk, WatchAsk, PathAsk, AuthAsk, SetWatchesAsk}
 use Rattle.zk_records.specs.declared.op.Op.{Op}
 use Rattle.zk_records.specs.declared.op.Op.TheVariants as ops
@@ -12,13 +12,14 @@ use Rattle.zk_asks.specs.Held.{Ask}
 use Rattle.zk_asks.specs.declared.frame.AskOf.TheVariants as ask
 use Rattle.zk_asks.specs.Parts.{op_of_part}
 use Rattle.zk_asks.specs.Rows.{op_of_ask}
-use Rattle.zk_items.specs.Form.{Form, Read, read_map, fields, ◌and◌}
+use Rattle.zk_items.specs.Form.{Form, fields, ◌and◌}
 use Rattle.zk_items.specs.Leaf.{int, long, bit, ro, text, blob}
 use Rattle.zk_items.specs.Words.{field}
 use Rattle.zk_items.specs.declared.word.Word.TheVariants as words
 use Rattle.zk_lines.specs.Series.{list_of, series}
 use Rattle.zk_lines.specs.Records.{acl}
 use Rattle.zk_lines.specs.Named.{Bodies, first_named, named}
+use Rattle.zk_lines.specs.Rows.{Row, holds, bare, Content, Told, told, tabled}
 
 -- ---- records
 
@@ -68,27 +69,26 @@ all_parts = parts.Create ∷ parts.Delete ∷ parts.SetData ∷ parts.Check ∷ 
 unfoldable pub part_named : List ℕ → Option PartOp
 part_named bytes = first_named part_name all_parts bytes
 
-abbrev pub part_spell : Part → List ℕ
-part_spell (part.Create a) = create.spell a
-part_spell (part.Delete a) = delete.spell a
-part_spell (part.SetData a) = set_data.spell a
-part_spell (part.Check a) = check.spell a
+-- what each part is made of
+abbrev pub part_line_of : PartOp → Row Part
+part_line_of parts.Create = holds part.Create create
+part_line_of parts.Delete = holds part.Delete delete
+part_line_of parts.SetData = holds part.SetData set_data
+part_line_of parts.Check = holds part.Check check
 
-abbrev pub part_fits : Part → Type 0
-part_fits (part.Create a) = create.fits a
-part_fits (part.Delete a) = delete.fits a
-part_fits (part.SetData a) = set_data.fits a
-part_fits (part.Check a) = check.fits a
+-- a part by its operation and what it holds
+abbrev pub by_part : {R : Type 1} → ((op : PartOp) → Content (part_line_of op) → R) → Part → R
+by_part f (part.Create a) = f parts.Create a
+by_part f (part.Delete a) = f parts.Delete a
+by_part f (part.SetData a) = f parts.SetData a
+by_part f (part.Check a) = f parts.Check a
 
-abbrev pub part_at : PartOp → List ℕ → Read Part
-part_at parts.Create bytes = read_map part.Create (create.at bytes)
-part_at parts.Delete bytes = read_map part.Delete (delete.at bytes)
-part_at parts.SetData bytes = read_map part.SetData (set_data.at bytes)
-part_at parts.Check bytes = read_map part.Check (check.at bytes)
+abbrev pub part_told : Part → Told Part
+part_told p = by_part (told part_line_of) p
 
 -- its name and its record
 abbrev pub part_bodies : Bodies PartOp Part
-part_bodies = record { name = part_name; key_at = part_named; key = op_of_part; fits = part_fits; spell = part_spell; at = part_at }
+part_bodies = tabled part_name part_named op_of_part part_line_of part_told
 
 abbrev pub part_form : Form Part
 part_form = named part_bodies
@@ -107,62 +107,49 @@ all_ops =
 unfoldable pub op_named : List ℕ → Option Op
 op_named bytes = first_named op_name all_ops bytes
 
-abbrev pub ask_spell : Ask → List ℕ
-ask_spell (ask.Create a) = create.spell a
-ask_spell (ask.Delete a) = delete.spell a
-ask_spell (ask.Exists a) = watch.spell a
-ask_spell (ask.GetData a) = watch.spell a
-ask_spell (ask.SetData a) = set_data.spell a
-ask_spell (ask.GetAcl a) = path.spell a
-ask_spell (ask.SetAcl a) = set_acl.spell a
-ask_spell (ask.GetChildren a) = watch.spell a
-ask_spell (ask.Sync a) = path.spell a
-ask_spell ask.Ping = []
-ask_spell (ask.GetChildren2 a) = watch.spell a
-ask_spell (ask.Multi ps) = multi.spell ps
-ask_spell (ask.Create2 a) = create.spell a
-ask_spell (ask.Auth a) = auth.spell a
-ask_spell (ask.SetWatches a) = set_watches.spell a
-ask_spell ask.CloseSession = []
+-- what each operation's request is made of: its record's form, and the ask that holds it
+abbrev pub line_of : Op → Row Ask
+line_of ops.Create = holds ask.Create create
+line_of ops.Delete = holds ask.Delete delete
+line_of ops.Exists = holds ask.Exists watch
+line_of ops.GetData = holds ask.GetData watch
+line_of ops.SetData = holds ask.SetData set_data
+line_of ops.GetAcl = holds ask.GetAcl path
+line_of ops.SetAcl = holds ask.SetAcl set_acl
+line_of ops.GetChildren = holds ask.GetChildren watch
+line_of ops.Sync = holds ask.Sync path
+line_of ops.Ping = bare ask.Ping
+line_of ops.GetChildren2 = holds ask.GetChildren2 watch
+line_of ops.Multi = holds ask.Multi multi
+line_of ops.Create2 = holds ask.Create2 create
+line_of ops.Auth = holds ask.Auth auth
+line_of ops.SetWatches = holds ask.SetWatches set_watches
+line_of ops.CloseSession = bare ask.CloseSession
 
-abbrev pub ask_fits : Ask → Type 0
-ask_fits (ask.Create a) = create.fits a
-ask_fits (ask.Delete a) = delete.fits a
-ask_fits (ask.Exists a) = watch.fits a
-ask_fits (ask.GetData a) = watch.fits a
-ask_fits (ask.SetData a) = set_data.fits a
-ask_fits (ask.GetAcl a) = path.fits a
-ask_fits (ask.SetAcl a) = set_acl.fits a
-ask_fits (ask.GetChildren a) = watch.fits a
-ask_fits (ask.Sync a) = path.fits a
-ask_fits ask.Ping = Unit {0}
-ask_fits (ask.GetChildren2 a) = watch.fits a
-ask_fits (ask.Multi ps) = multi.fits ps
-ask_fits (ask.Create2 a) = create.fits a
-ask_fits (ask.Auth a) = auth.fits a
-ask_fits (ask.SetWatches a) = set_watches.fits a
-ask_fits ask.CloseSession = Unit {0}
+-- an ask by its operation and what it holds
+abbrev pub by_op : {R : Type 1} → ((op : Op) → Content (line_of op) → R) → Ask → R
+by_op f (ask.Create a) = f ops.Create a
+by_op f (ask.Delete a) = f ops.Delete a
+by_op f (ask.Exists a) = f ops.Exists a
+by_op f (ask.GetData a) = f ops.GetData a
+by_op f (ask.SetData a) = f ops.SetData a
+by_op f (ask.GetAcl a) = f ops.GetAcl a
+by_op f (ask.SetAcl a) = f ops.SetAcl a
+by_op f (ask.GetChildren a) = f ops.GetChildren a
+by_op f (ask.Sync a) = f ops.Sync a
+by_op f ask.Ping = f ops.Ping tt
+by_op f (ask.GetChildren2 a) = f ops.GetChildren2 a
+by_op f (ask.Multi ps) = f ops.Multi ps
+by_op f (ask.Create2 a) = f ops.Create2 a
+by_op f (ask.Auth a) = f ops.Auth a
+by_op f (ask.SetWatches a) = f ops.SetWatches a
+by_op f ask.CloseSession = f ops.CloseSession tt
 
-abbrev pub ask_at : Op → List ℕ → Read Ask
-ask_at ops.Create bytes = read_map ask.Create (create.at bytes)
-ask_at ops.Delete bytes = read_map ask.Delete (delete.at bytes)
-ask_at ops.Exists bytes = read_map ask.Exists (watch.at bytes)
-ask_at ops.GetData bytes = read_map ask.GetData (watch.at bytes)
-ask_at ops.SetData bytes = read_map ask.SetData (set_data.at bytes)
-ask_at ops.GetAcl bytes = read_map ask.GetAcl (path.at bytes)
-ask_at ops.SetAcl bytes = read_map ask.SetAcl (set_acl.at bytes)
-ask_at ops.GetChildren bytes = read_map ask.GetChildren (watch.at bytes)
-ask_at ops.Sync bytes = read_map ask.Sync (path.at bytes)
-ask_at ops.Ping bytes = Some (ask.Ping, bytes)
-ask_at ops.GetChildren2 bytes = read_map ask.GetChildren2 (watch.at bytes)
-ask_at ops.Multi bytes = read_map ask.Multi (multi.at bytes)
-ask_at ops.Create2 bytes = read_map ask.Create2 (create.at bytes)
-ask_at ops.Auth bytes = read_map ask.Auth (auth.at bytes)
-ask_at ops.SetWatches bytes = read_map ask.SetWatches (set_watches.at bytes)
-ask_at ops.CloseSession bytes = Some (ask.CloseSession, bytes)
+abbrev pub ask_told : Ask → Told Ask
+ask_told a = by_op (told line_of) a
 
 abbrev pub ask_bodies : Bodies Op Ask
-ask_bodies = record { name = op_name; key_at = op_named; key = op_of_ask; fits = ask_fits; spell = ask_spell; at = ask_at }
+ask_bodies = tabled op_name op_named op_of_ask line_of ask_told
 
 -- its name and its record's fields
 abbrev pub ask_form : Form Ask

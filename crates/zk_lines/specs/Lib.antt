@@ -1,6 +1,7 @@
 pub mod Series
 pub mod Records
 pub mod Named
+pub mod Rows
 pub mod Asks
 pub mod Answers
 pub mod Lines

@@ -9,7 +9,7 @@ ghost use Rattle.zk_lines.specs.Answers as answers;
 ghost use Rattle.zk_lines.specs.Lines as lines;
 
 use crate::body::read_body;
-use crate::item::read_field;
+use crate::item::{read_field, read_fields};
 use crate::name::op_named;
 use crate::put::{Put, put_field, put_fields};
 use std::alloc::AllocError;
@@ -144,27 +144,26 @@ impl<'a> Put for ReplyRef<'a> {
     }
 }
 
+/// `connected_fields!(then, with)` is `then!(with: ..)` with the fields of the connect response in
+/// order, each behind its word.
+macro_rules! connected_fields {
+    ($then:ident, $($with:tt)+) => {
+        $then!($($with)+: Version protocol_version, Timeout time_out, Session session_id, Passwd passwd)
+    };
+}
+
 fn read_connected(line: &mut Reader<'_>) -> Result<(ConnectResponse, Option<bool>), LineFault>
     ensures { Gives result line.new (answers.connected.at line.old) }
 {
-    let protocol_version = read_field(line, Word::Version)?;
-    let time_out = read_field(line, Word::Timeout)?;
-    let session_id = read_field(line, Word::Session)?;
-    let passwd = read_field(line, Word::Passwd)?;
+    let hello = connected_fields!(read_fields, line, ConnectResponse);
     let read_only = read_field(line, Word::ReadOnly)?;
-    let hello = ConnectResponse {
-        protocol_version,
-        time_out,
-        session_id,
-        passwd,
-    };
     Ok((hello, read_only))
 }
 
 /// `connected!(out, hello, read_only)` appends the connect response's fields in order.
 macro_rules! connected {
     ($out:ident, $hello:ident, $read_only:ident) => {{
-        put_fields!($out, $hello: Version protocol_version, Timeout time_out, Session session_id, Passwd passwd)?;
+        connected_fields!(put_fields, $out, $hello)?;
         put_field($out, Word::ReadOnly, $read_only)
     }};
 }

@@ -7,8 +7,9 @@ ghost use Rattle.zk_items.specs.Words.{word_of};
 ghost use Rattle.zk_items.specs.declared.word.Word.TheVariants.{Blank};
 ghost use Rattle.zk_lines.specs.Asks as asks;
 ghost use Rattle.zk_lines.specs.Lines as lines;
+ghost use Rattle.zk_lines.specs.Rows.{row_at};
 
-use crate::item::{Item, read_field};
+use crate::item::{Item, read_field, read_fields};
 use crate::list::{Left, Signs, put_series, read_series};
 use crate::name::{op_named, part_named};
 use crate::put::{Put, put_field, put_fields};
@@ -27,29 +28,37 @@ pub const PARTS: Signs = Signs {
     behind: b'}',
 };
 
-/// The record of a part that is next.
-fn read_part(line: &mut Reader<'_>, op: PartOp) -> Result<Part, LineFault>
-    ensures { Gives result line.new (asks.part_at op line.old) }
-{
-    Ok(match op {
-        PartOp::Create => Part::Create(Item::read(line)?),
-        PartOp::Delete => Part::Delete(Item::read(line)?),
-        PartOp::SetData => Part::SetData(Item::read(line)?),
-        PartOp::Check => Part::Check(Item::read(line)?),
-    })
+/// `part_rows!(then, with)` is `then!(with: ..)` with the operations that a part may have.
+macro_rules! part_rows {
+    ($then:ident, $($with:tt)+) => {
+        $then!($($with)+: Create, Delete, SetData, Check)
+    };
 }
 
-/// `part!(out, part)` appends a part's name and its record.
-macro_rules! part {
-    ($out:ident, $part:ident) => {{
+/// `read_part_of!(line, op: Create, Delete)` is the part of one of these operations that is next.
+macro_rules! read_part_of {
+    ($line:ident, $op:ident: $($part:ident),+) => {
+        Ok(match $op {
+            $(PartOp::$part => Part::$part(Item::read($line)?),)+
+        })
+    };
+}
+
+/// `put_part_of!(out, part: Create, Delete)` appends a part's name and its record.
+macro_rules! put_part_of {
+    ($out:ident, $part:ident: $($row:ident),+) => {{
         $out.extend_from_slice(part_name($part.op()).as_bytes())?;
         match $part {
-            PartOf::Create(ask) => ask.put($out),
-            PartOf::Delete(ask) => ask.put($out),
-            PartOf::SetData(ask) => ask.put($out),
-            PartOf::Check(ask) => ask.put($out),
+            $(PartOf::$row(ask) => ask.put($out),)+
         }
     }};
+}
+
+/// The record of a part that is next.
+fn read_part(line: &mut Reader<'_>, op: PartOp) -> Result<Part, LineFault>
+    ensures { Gives result line.new (row_at (asks.part_line_of op) line.old) }
+{
+    part_rows!(read_part_of, line, op)
 }
 
 impl Put for Part {
@@ -58,7 +67,7 @@ impl Put for Part {
     ghost spell = { asks.part_form.spell };
 
     fn put(&self, out: &mut Vec<u8>) -> Result<(), AllocError> {
-        part!(out, self)
+        part_rows!(put_part_of, out, self)
     }
 }
 
@@ -68,7 +77,7 @@ impl<'a> Put for PartRef<'a> {
     ghost spell = { asks.part_form.spell };
 
     fn put(&self, out: &mut Vec<u8>) -> Result<(), AllocError> {
-        part!(out, self)
+        part_rows!(put_part_of, out, self)
     }
 }
 
@@ -84,13 +93,6 @@ impl Item for Part {
     }
 }
 
-fn read_multi(line: &mut Reader<'_>) -> Result<Items<Part>, LineFault>
-    ensures { Gives result line.new (asks.multi.at line.old) }
-{
-    line.word(Word::Parts)?;
-    read_series(line, PARTS)
-}
-
 impl Put for Items<Part> {
     ghost fits = { asks.multi.fits };
 
@@ -99,6 +101,15 @@ impl Put for Items<Part> {
     fn put(&self, out: &mut Vec<u8>) -> Result<(), AllocError> {
         put_word(out, Word::Parts)?;
         put_series(out, self.as_slice().iter(), PARTS)
+    }
+}
+
+impl Item for Items<Part> {
+    ghost at = { asks.multi.at };
+
+    fn read(line: &mut Reader<'_>) -> Result<Self, LineFault> {
+        line.word(Word::Parts)?;
+        read_series(line, PARTS)
     }
 }
 
@@ -123,52 +134,45 @@ impl<'a> Put for PartList<'a> {
     }
 }
 
-/// The record of a request that is next.
-fn read_body(line: &mut Reader<'_>, op: Op) -> Result<Ask, LineFault>
-    ensures { Gives result line.new (asks.ask_at op line.old) }
-{
-    Ok(match op {
-        Op::Create => Ask::Create(Item::read(line)?),
-        Op::Delete => Ask::Delete(Item::read(line)?),
-        Op::Exists => Ask::Exists(Item::read(line)?),
-        Op::GetData => Ask::GetData(Item::read(line)?),
-        Op::SetData => Ask::SetData(Item::read(line)?),
-        Op::GetAcl => Ask::GetAcl(Item::read(line)?),
-        Op::SetAcl => Ask::SetAcl(Item::read(line)?),
-        Op::GetChildren => Ask::GetChildren(Item::read(line)?),
-        Op::Sync => Ask::Sync(Item::read(line)?),
-        Op::Ping => Ask::Ping,
-        Op::GetChildren2 => Ask::GetChildren2(Item::read(line)?),
-        Op::Multi => Ask::Multi(read_multi(line)?),
-        Op::Create2 => Ask::Create2(Item::read(line)?),
-        Op::Auth => Ask::Auth(Item::read(line)?),
-        Op::SetWatches => Ask::SetWatches(Item::read(line)?),
-        Op::CloseSession => Ask::CloseSession,
-    })
+/// `ask_rows!(then, with)` is `then!(with: .. | ..)` with the operations whose requests hold a
+/// record or parts, and those whose requests hold nothing.
+macro_rules! ask_rows {
+    ($then:ident, $($with:tt)+) => {
+        $then!(
+            $($with)+:
+            Create, Delete, Exists, GetData, SetData, GetAcl, SetAcl, GetChildren, Sync,
+            GetChildren2, Multi, Create2, Auth, SetWatches | Ping, CloseSession
+        )
+    };
 }
 
-/// `ask!(out, ask)` appends a request's name and what stands behind it.
-macro_rules! ask {
-    ($out:ident, $ask:ident) => {{
+/// `read_ask_of!(line, op: Create, Delete | Ping)` is the request of one of these operations that is
+/// next.
+macro_rules! read_ask_of {
+    ($line:ident, $op:ident: $($held:ident),+ | $($bare:ident),+) => {
+        Ok(match $op {
+            $(Op::$held => Ask::$held(Item::read($line)?),)+
+            $(Op::$bare => Ask::$bare,)+
+        })
+    };
+}
+
+/// `put_ask_of!(out, ask: Create, Delete | Ping)` appends a request's name and what stands behind it.
+macro_rules! put_ask_of {
+    ($out:ident, $ask:ident: $($held:ident),+ | $($bare:ident),+) => {{
         $out.extend_from_slice(op_name($ask.op()).as_bytes())?;
         match $ask {
-            AskOf::Create(ask) => ask.put($out),
-            AskOf::Delete(ask) => ask.put($out),
-            AskOf::Exists(ask) => ask.put($out),
-            AskOf::GetData(ask) => ask.put($out),
-            AskOf::SetData(ask) => ask.put($out),
-            AskOf::GetAcl(ask) => ask.put($out),
-            AskOf::SetAcl(ask) => ask.put($out),
-            AskOf::GetChildren(ask) => ask.put($out),
-            AskOf::Sync(ask) => ask.put($out),
-            AskOf::GetChildren2(ask) => ask.put($out),
-            AskOf::Multi(parts) => parts.put($out),
-            AskOf::Create2(ask) => ask.put($out),
-            AskOf::Auth(ask) => ask.put($out),
-            AskOf::SetWatches(ask) => ask.put($out),
-            AskOf::Ping | AskOf::CloseSession => Ok(()),
+            $(AskOf::$held(ask) => ask.put($out),)+
+            $(AskOf::$bare => Ok(()),)+
         }
     }};
+}
+
+/// The record of a request that is next.
+fn read_body(line: &mut Reader<'_>, op: Op) -> Result<Ask, LineFault>
+    ensures { Gives result line.new (row_at (asks.line_of op) line.old) }
+{
+    ask_rows!(read_ask_of, line, op)
 }
 
 impl Put for Ask {
@@ -177,7 +181,7 @@ impl Put for Ask {
     ghost spell = { asks.ask_form.spell };
 
     fn put(&self, out: &mut Vec<u8>) -> Result<(), AllocError> {
-        ask!(out, self)
+        ask_rows!(put_ask_of, out, self)
     }
 }
 
@@ -187,7 +191,7 @@ impl<'a> Put for AskRef<'a> {
     ghost spell = { asks.ask_form.spell };
 
     fn put(&self, out: &mut Vec<u8>) -> Result<(), AllocError> {
-        ask!(out, self)
+        ask_rows!(put_ask_of, out, self)
     }
 }
 
@@ -203,30 +207,27 @@ impl Item for Ask {
     }
 }
 
+/// `connect_fields!(then, with)` is `then!(with: ..)` with the fields of the connect request in
+/// order, each behind its word.
+macro_rules! connect_fields {
+    ($then:ident, $($with:tt)+) => {
+        $then!($($with)+: Version protocol_version, Zxid last_zxid_seen, Timeout time_out, Session session_id, Passwd passwd)
+    };
+}
+
 /// The connect request that is next.
 fn read_connect(line: &mut Reader<'_>) -> Result<(ConnectRequest, Option<bool>), LineFault>
     ensures { Gives result line.new (asks.connect.at line.old) }
 {
-    let protocol_version = read_field(line, Word::Version)?;
-    let last_zxid_seen = read_field(line, Word::Zxid)?;
-    let time_out = read_field(line, Word::Timeout)?;
-    let session_id = read_field(line, Word::Session)?;
-    let passwd = read_field(line, Word::Passwd)?;
+    let hello = connect_fields!(read_fields, line, ConnectRequest);
     let read_only = read_field(line, Word::ReadOnly)?;
-    let hello = ConnectRequest {
-        protocol_version,
-        last_zxid_seen,
-        time_out,
-        session_id,
-        passwd,
-    };
     Ok((hello, read_only))
 }
 
 /// `connect!(out, hello, read_only)` appends the connect request's fields in order.
 macro_rules! connect {
     ($out:ident, $hello:ident, $read_only:ident) => {{
-        put_fields!($out, $hello: Version protocol_version, Zxid last_zxid_seen, Timeout time_out, Session session_id, Passwd passwd)?;
+        connect_fields!(put_fields, $out, $hello)?;
         put_field($out, Word::ReadOnly, $read_only)
     }};
 }

@@ -5,6 +5,7 @@ ghost use Rattle.zk_items.specs.Words.{word_of};
 ghost use Rattle.zk_items.specs.declared.word.Word.TheVariants as words;
 ghost use Rattle.zk_lines.specs.Records as records;
 ghost use Rattle.zk_lines.specs.Answers as answers;
+ghost use Rattle.zk_lines.specs.Rows.{row_at};
 
 use crate::done::read_multi;
 use crate::item::{Item, read_field};
@@ -23,39 +24,55 @@ fn read_with_stat<T: Item>(line: &mut Reader<'_>, word: Word) -> Result<(T, Stat
     Ok((value, stat))
 }
 
+/// `body_rows!(then, with)` is `then!(with: .. | .. | ..)` with the operations that give one field,
+/// those that give one and what is known of a node, each with the field and its word, and those
+/// that give nothing. A multi gives its results.
+macro_rules! body_rows {
+    ($then:ident, $($with:tt)+) => {
+        $then!(
+            $($with)+:
+            Create path Path, Exists stat Stat, SetData stat Stat, SetAcl stat Stat,
+            GetChildren names Names, Sync path Path
+            | GetData blob Blob, GetAcl acl Acl, GetChildren2 names Names, Create2 path Path
+            | Delete, Ping, Auth, SetWatches, CloseSession
+        )
+    };
+}
+
+/// `read_body_of!(line, op: Create path Path | GetData blob Blob | Ping)` is what one of these
+/// operations gives, or a multi, which is next.
+macro_rules! read_body_of {
+    ($line:ident, $op:ident: $($one:ident $only:ident $word:ident),+ | $($both:ident $first:ident $behind:ident),+ | $($bare:ident),+) => {
+        Ok(match $op {
+            $(Op::$one => Body::$one { $only: read_field($line, Word::$word)? },)+
+            $(Op::$both => {
+                let ($first, stat) = read_with_stat($line, Word::$behind)?;
+                Body::$both { $first, stat }
+            })+
+            $(Op::$bare => Body::$bare,)+
+            Op::Multi => Body::Multi(read_multi($line)?),
+        })
+    };
+}
+
+/// `put_body_of!(out, body: Create path Path | GetData blob Blob | Ping)` appends what one of these
+/// operations gives, or a multi.
+macro_rules! put_body_of {
+    ($out:ident, $body:ident: $($one:ident $only:ident $word:ident),+ | $($both:ident $first:ident $behind:ident),+ | $($bare:ident),+) => {
+        match $body {
+            $(BodyOf::$one { $only } => put_field($out, Word::$word, $only),)+
+            $(BodyOf::$both { $first, stat } => put_with_stat($out, Word::$behind, $first, stat),)+
+            $(BodyOf::$bare => Ok(()),)+
+            BodyOf::Multi(results) => results.put($out),
+        }
+    };
+}
+
 /// What an operation gives, which is next.
 pub fn read_body(line: &mut Reader<'_>, op: Op) -> Result<Body, LineFault>
-    ensures { Gives result line.new (answers.body_at op line.old) }
+    ensures { Gives result line.new (row_at (answers.line_of op) line.old) }
 {
-    macro_rules! read {
-        ($body:ident: $word:ident $field:ident) => {
-            Body::$body {
-                $field: read_field(line, Word::$word)?,
-            }
-        };
-        ($body:ident: $word:ident $field:ident, Stat stat) => {{
-            let ($field, stat) = read_with_stat(line, Word::$word)?;
-            Body::$body { $field, stat }
-        }};
-    }
-    Ok(match op {
-        Op::Create => read!(Create: Path path),
-        Op::Delete => Body::Delete,
-        Op::Exists => read!(Exists: Stat stat),
-        Op::GetData => read!(GetData: Blob blob, Stat stat),
-        Op::SetData => read!(SetData: Stat stat),
-        Op::GetAcl => read!(GetAcl: Acl acl, Stat stat),
-        Op::SetAcl => read!(SetAcl: Stat stat),
-        Op::GetChildren => read!(GetChildren: Names names),
-        Op::Sync => read!(Sync: Path path),
-        Op::Ping => Body::Ping,
-        Op::GetChildren2 => read!(GetChildren2: Names names, Stat stat),
-        Op::Multi => Body::Multi(read_multi(line)?),
-        Op::Create2 => read!(Create2: Path path, Stat stat),
-        Op::Auth => Body::Auth,
-        Op::SetWatches => Body::SetWatches,
-        Op::CloseSession => Body::CloseSession,
-    })
+    body_rows!(read_body_of, line, op)
 }
 
 /// Appends a field, and what is known of a node behind it.
@@ -73,46 +90,22 @@ fn put_with_stat<T: Put>(
     put_field(out, Word::Stat, stat)
 }
 
-/// `body!(out, body)` appends what an operation gives.
-macro_rules! body {
-    ($out:ident, $body:ident) => {
-        match $body {
-            BodyOf::Create { path } => put_field($out, Word::Path, path),
-            BodyOf::Exists { stat } => put_field($out, Word::Stat, stat),
-            BodyOf::GetData { blob, stat } => put_with_stat($out, Word::Blob, blob, stat),
-            BodyOf::SetData { stat } => put_field($out, Word::Stat, stat),
-            BodyOf::GetAcl { acl, stat } => put_with_stat($out, Word::Acl, acl, stat),
-            BodyOf::SetAcl { stat } => put_field($out, Word::Stat, stat),
-            BodyOf::GetChildren { names } => put_field($out, Word::Names, names),
-            BodyOf::Sync { path } => put_field($out, Word::Path, path),
-            BodyOf::GetChildren2 { names, stat } => put_with_stat($out, Word::Names, names, stat),
-            BodyOf::Multi(results) => results.put($out),
-            BodyOf::Create2 { path, stat } => put_with_stat($out, Word::Path, path, stat),
-            BodyOf::Delete
-            | BodyOf::Ping
-            | BodyOf::Auth
-            | BodyOf::SetWatches
-            | BodyOf::CloseSession => Ok(()),
-        }
-    };
-}
-
 impl Put for Body {
-    ghost fits = { answers.body_fits };
+    ghost fits = { λ b. (answers.body_told b).fits };
 
-    ghost spell = { answers.body_spell };
+    ghost spell = { λ b. (answers.body_told b).spell };
 
     fn put(&self, out: &mut Vec<u8>) -> Result<(), AllocError> {
-        body!(out, self)
+        body_rows!(put_body_of, out, self)
     }
 }
 
 impl<'a> Put for BodyRef<'a> {
-    ghost fits = { answers.body_fits };
+    ghost fits = { λ b. (answers.body_told b).fits };
 
-    ghost spell = { answers.body_spell };
+    ghost spell = { λ b. (answers.body_told b).spell };
 
     fn put(&self, out: &mut Vec<u8>) -> Result<(), AllocError> {
-        body!(out, self)
+        body_rows!(put_body_of, out, self)
     }
 }

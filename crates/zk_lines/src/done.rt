@@ -5,6 +5,7 @@ ghost use Rattle.zk_items.specs.Codes.{error_code};
 ghost use Rattle.zk_items.specs.Words.{word_of};
 ghost use Rattle.zk_items.specs.declared.word.Word.TheVariants.{Err};
 ghost use Rattle.zk_lines.specs.Answers as answers;
+ghost use Rattle.zk_lines.specs.Rows.{row_at};
 
 use crate::ask::PARTS;
 use crate::item::{Item, read_field};
@@ -65,7 +66,7 @@ fn done_name(name: DoneName) -> &'static [u8]
 
 /// The result that is next.
 fn read_done(line: &mut Reader<'_>, name: DoneName) -> Result<PartDone, LineFault>
-    ensures { Gives result line.new (answers.done_at name line.old) }
+    ensures { Gives result line.new (row_at (answers.done_line_of name) line.old) }
 {
     Ok(match name {
         DoneName::Create => PartDone::Created(read_field(line, Word::Path)?),
@@ -101,16 +102,16 @@ macro_rules! done_body {
 }
 
 fn put_done(out: &mut Vec<u8>, done: &PartDone) -> Result<(), AllocError>
-    ensures spelled { OnOk result (out.new.items ≡ out.old.items ++ answers.done_spell done.now) }
-    ensures fits { OnOk result (answers.done_fits done.now) }
+    ensures spelled { OnOk result (out.new.items ≡ out.old.items ++ (answers.done_told done.now).spell) }
+    ensures fits { OnOk result ((answers.done_told done.now).fits) }
     ensures keeps { Keeps out.old.items out.new.items }
 {
     done_body!(out, done)
 }
 
 fn put_done_ref(out: &mut Vec<u8>, done: &PartDoneRef<'_>) -> Result<(), AllocError>
-    ensures spelled { OnOk result (out.new.items ≡ out.old.items ++ answers.done_spell done.now) }
-    ensures fits { OnOk result (answers.done_fits done.now) }
+    ensures spelled { OnOk result (out.new.items ≡ out.old.items ++ (answers.done_told done.now).spell) }
+    ensures fits { OnOk result ((answers.done_told done.now).fits) }
     ensures keeps { Keeps out.old.items out.new.items }
 {
     done_body!(out, done)

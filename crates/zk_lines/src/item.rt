@@ -24,6 +24,17 @@ pub fn read_field<T: Item>(line: &mut Reader<'_>, word: Word) -> Result<T, LineF
     T::read(line)
 }
 
+/// `read_fields!(line, Record: Path path, Version version)` is the record whose fields are next, in
+/// order, each behind its word.
+macro_rules! read_fields {
+    ($line:ident, $record:ident: $($word:ident $field:ident),+) => {{
+        $(let $field = read_field($line, Word::$word)?;)+
+        $record { $($field),+ }
+    }};
+}
+
+pub(crate) use read_fields;
+
 impl Item for i32 {
     ghost use Rattle.zk_items.specs.Leaf.{int};
 

@@ -13,7 +13,7 @@ use std::alloc::{AllocError, Global};
 use std::marker::Model;
 use std::slice::Iter;
 use zk_items::{LineFault, LineReason, Reader};
-use zk_jute::{Element, Elements, Items, List, Payload, Series, Stands};
+use zk_jute::{Element, Elements, Items, KnownPayload, List, Series, Stands};
 
 /// The sign that parts the items, and the sign behind the last.
 #[derive(Clone, Copy, Debug, PartialEq, Eq)]
@@ -108,7 +108,7 @@ impl<'a, T: Put> Left for Iter<'a, T> {
     }
 }
 
-impl<'a, R: Element + Stands<Payload<'a>> + Put> Left for Elements<'a, R> {
+impl<'a, R: Element + Stands<KnownPayload<'a>> + Put> Left for Elements<'a, R> {
     type One = R;
 
     ghost left = { λ items. items };
@@ -192,7 +192,7 @@ impl<T: Item> Item for List<T> {
     }
 }
 
-impl<'a, R: Element + Stands<Payload<'a>> + Put> Put for Series<'a, R> {
+impl<'a, R: Element + Stands<KnownPayload<'a>> + Put> Put for Series<'a, R> {
     ghost fits = { list_fits R.fits };
 
     ghost spell = { list_spell R.spell };

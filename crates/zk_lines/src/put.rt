@@ -116,6 +116,7 @@ impl<'a> Put for TextRef<'a> {
 
     ghost spell = { text.spell };
 
+    #[inline(always)]
     fn put(&self, out: &mut Vec<u8>) -> Result<(), AllocError> {
         put_text_ref(out, self)
     }

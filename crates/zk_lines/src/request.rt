@@ -1,6 +1,7 @@
 //! The records of requests, field by field.
+ghost use Rattle.zk_lines.specs.Asks as asks;
 
-use crate::item::{Item, read_field};
+use crate::item::{Item, read_field, read_fields};
 use crate::put::{Put, put_field, put_fields};
 use std::alloc::AllocError;
 use zk_items::{LineFault, Reader, Word};
@@ -10,377 +11,286 @@ use zk_records::{
     SetWatchesAskRef, WatchAsk, WatchAskRef,
 };
 
-/// `put_record!(out, delete: ask)` appends the fields of `DeleteAsk` or `DeleteAskRef`, in order.
-macro_rules! put_record {
-    ($out:ident, create: $ask:ident) => {
-        put_fields!($out, $ask: Path path, Blob blob, Acl acl, Flags flags)
+/// `fields_of!(create, then, with)` is `then!(with: ..)` with the fields of `CreateAsk` and of
+/// `CreateAskRef` in order, each behind its word.
+macro_rules! fields_of {
+    (create, $then:ident, $($with:tt)+) => {
+        $then!($($with)+: Path path, Blob blob, Acl acl, Flags flags)
     };
-    ($out:ident, delete: $ask:ident) => {
-        put_fields!($out, $ask: Path path, Version version)
+    (delete, $then:ident, $($with:tt)+) => {
+        $then!($($with)+: Path path, Version version)
     };
-    ($out:ident, watch: $ask:ident) => {
-        put_fields!($out, $ask: Path path, Watch watch)
+    (watch, $then:ident, $($with:tt)+) => {
+        $then!($($with)+: Path path, Watch watch)
     };
-    ($out:ident, set_data: $ask:ident) => {
-        put_fields!($out, $ask: Path path, Blob blob, Version version)
+    (set_data, $then:ident, $($with:tt)+) => {
+        $then!($($with)+: Path path, Blob blob, Version version)
     };
-    ($out:ident, path: $ask:ident) => {
-        put_fields!($out, $ask: Path path)
+    (path, $then:ident, $($with:tt)+) => {
+        $then!($($with)+: Path path)
     };
-    ($out:ident, set_acl: $ask:ident) => {
-        put_fields!($out, $ask: Path path, Acl acl, Version version)
+    (set_acl, $then:ident, $($with:tt)+) => {
+        $then!($($with)+: Path path, Acl acl, Version version)
     };
-    ($out:ident, auth: $ask:ident) => {
-        put_fields!($out, $ask: Kind kind, Scheme scheme, Auth auth)
+    (auth, $then:ident, $($with:tt)+) => {
+        $then!($($with)+: Kind kind, Scheme scheme, Auth auth)
     };
-    ($out:ident, set_watches: $ask:ident) => {
-        put_fields!($out, $ask: Zxid zxid, DataWatches data_watches, ExistWatches exist_watches, ChildWatches child_watches)
+    (set_watches, $then:ident, $($with:tt)+) => {
+        $then!($($with)+: Zxid zxid, DataWatches data_watches, ExistWatches exist_watches, ChildWatches child_watches)
     };
-    ($out:ident, check: $ask:ident) => {
-        put_fields!($out, $ask: Path path, Version version)
+    (check, $then:ident, $($with:tt)+) => {
+        $then!($($with)+: Path path, Version version)
     };
 }
 
 impl Put for CreateAsk {
-    ghost use Rattle.zk_lines.specs.Asks.{create};
+    ghost fits = { asks.create.fits };
 
-    ghost fits = { create.fits };
-
-    ghost spell = { create.spell };
+    ghost spell = { asks.create.spell };
 
     fn put(&self, out: &mut Vec<u8>) -> Result<(), AllocError> {
-        put_record!(out, create: self)
+        fields_of!(create, put_fields, out, self)
     }
 }
 
 impl<'a> Put for CreateAskRef<'a> {
-    ghost use Rattle.zk_lines.specs.Asks.{create};
+    ghost fits = { asks.create.fits };
 
-    ghost fits = { create.fits };
-
-    ghost spell = { create.spell };
+    ghost spell = { asks.create.spell };
 
     fn put(&self, out: &mut Vec<u8>) -> Result<(), AllocError> {
-        put_record!(out, create: self)
+        fields_of!(create, put_fields, out, self)
     }
 }
 
 impl Item for CreateAsk {
-    ghost use Rattle.zk_lines.specs.Asks.{create};
-
-    ghost at = { create.at };
+    ghost at = { asks.create.at };
 
     fn read(line: &mut Reader<'_>) -> Result<Self, LineFault> {
-        let path = read_field(line, Word::Path)?;
-        let blob = read_field(line, Word::Blob)?;
-        let acl = read_field(line, Word::Acl)?;
-        let flags = read_field(line, Word::Flags)?;
-        Ok(CreateAsk {
-            path,
-            blob,
-            acl,
-            flags,
-        })
+        Ok(fields_of!(create, read_fields, line, CreateAsk))
     }
 }
 
 impl Put for DeleteAsk {
-    ghost use Rattle.zk_lines.specs.Asks.{delete};
+    ghost fits = { asks.delete.fits };
 
-    ghost fits = { delete.fits };
-
-    ghost spell = { delete.spell };
+    ghost spell = { asks.delete.spell };
 
     fn put(&self, out: &mut Vec<u8>) -> Result<(), AllocError> {
-        put_record!(out, delete: self)
+        fields_of!(delete, put_fields, out, self)
     }
 }
 
 impl<'a> Put for DeleteAskRef<'a> {
-    ghost use Rattle.zk_lines.specs.Asks.{delete};
+    ghost fits = { asks.delete.fits };
 
-    ghost fits = { delete.fits };
-
-    ghost spell = { delete.spell };
+    ghost spell = { asks.delete.spell };
 
     fn put(&self, out: &mut Vec<u8>) -> Result<(), AllocError> {
-        put_record!(out, delete: self)
+        fields_of!(delete, put_fields, out, self)
     }
 }
 
 impl Item for DeleteAsk {
-    ghost use Rattle.zk_lines.specs.Asks.{delete};
-
-    ghost at = { delete.at };
+    ghost at = { asks.delete.at };
 
     fn read(line: &mut Reader<'_>) -> Result<Self, LineFault> {
-        let path = read_field(line, Word::Path)?;
-        let version = read_field(line, Word::Version)?;
-        Ok(DeleteAsk { path, version })
+        Ok(fields_of!(delete, read_fields, line, DeleteAsk))
     }
 }
 
 impl Put for WatchAsk {
-    ghost use Rattle.zk_lines.specs.Asks.{watch};
+    ghost fits = { asks.watch.fits };
 
-    ghost fits = { watch.fits };
-
-    ghost spell = { watch.spell };
+    ghost spell = { asks.watch.spell };
 
     fn put(&self, out: &mut Vec<u8>) -> Result<(), AllocError> {
-        put_record!(out, watch: self)
+        fields_of!(watch, put_fields, out, self)
     }
 }
 
 impl<'a> Put for WatchAskRef<'a> {
-    ghost use Rattle.zk_lines.specs.Asks.{watch};
+    ghost fits = { asks.watch.fits };
 
-    ghost fits = { watch.fits };
-
-    ghost spell = { watch.spell };
+    ghost spell = { asks.watch.spell };
 
     fn put(&self, out: &mut Vec<u8>) -> Result<(), AllocError> {
-        put_record!(out, watch: self)
+        fields_of!(watch, put_fields, out, self)
     }
 }
 
 impl Item for WatchAsk {
-    ghost use Rattle.zk_lines.specs.Asks.{watch};
-
-    ghost at = { watch.at };
+    ghost at = { asks.watch.at };
 
     fn read(line: &mut Reader<'_>) -> Result<Self, LineFault> {
-        let path = read_field(line, Word::Path)?;
-        let watch = read_field(line, Word::Watch)?;
-        Ok(WatchAsk { path, watch })
+        Ok(fields_of!(watch, read_fields, line, WatchAsk))
     }
 }
 
 impl Put for SetDataAsk {
-    ghost use Rattle.zk_lines.specs.Asks.{set_data};
+    ghost fits = { asks.set_data.fits };
 
-    ghost fits = { set_data.fits };
-
-    ghost spell = { set_data.spell };
+    ghost spell = { asks.set_data.spell };
 
     fn put(&self, out: &mut Vec<u8>) -> Result<(), AllocError> {
-        put_record!(out, set_data: self)
+        fields_of!(set_data, put_fields, out, self)
     }
 }
 
 impl<'a> Put for SetDataAskRef<'a> {
-    ghost use Rattle.zk_lines.specs.Asks.{set_data};
+    ghost fits = { asks.set_data.fits };
 
-    ghost fits = { set_data.fits };
-
-    ghost spell = { set_data.spell };
+    ghost spell = { asks.set_data.spell };
 
     fn put(&self, out: &mut Vec<u8>) -> Result<(), AllocError> {
-        put_record!(out, set_data: self)
+        fields_of!(set_data, put_fields, out, self)
     }
 }
 
 impl Item for SetDataAsk {
-    ghost use Rattle.zk_lines.specs.Asks.{set_data};
-
-    ghost at = { set_data.at };
+    ghost at = { asks.set_data.at };
 
     fn read(line: &mut Reader<'_>) -> Result<Self, LineFault> {
-        let path = read_field(line, Word::Path)?;
-        let blob = read_field(line, Word::Blob)?;
-        let version = read_field(line, Word::Version)?;
-        Ok(SetDataAsk {
-            path,
-            blob,
-            version,
-        })
+        Ok(fields_of!(set_data, read_fields, line, SetDataAsk))
     }
 }
 
 impl Put for PathAsk {
-    ghost use Rattle.zk_lines.specs.Asks.{path};
+    ghost fits = { asks.path.fits };
 
-    ghost fits = { path.fits };
-
-    ghost spell = { path.spell };
+    ghost spell = { asks.path.spell };
 
     fn put(&self, out: &mut Vec<u8>) -> Result<(), AllocError> {
-        put_record!(out, path: self)
+        fields_of!(path, put_fields, out, self)
     }
 }
 
 impl<'a> Put for PathAskRef<'a> {
-    ghost use Rattle.zk_lines.specs.Asks.{path};
+    ghost fits = { asks.path.fits };
 
-    ghost fits = { path.fits };
-
-    ghost spell = { path.spell };
+    ghost spell = { asks.path.spell };
 
     fn put(&self, out: &mut Vec<u8>) -> Result<(), AllocError> {
-        put_record!(out, path: self)
+        fields_of!(path, put_fields, out, self)
     }
 }
 
 impl Item for PathAsk {
-    ghost use Rattle.zk_lines.specs.Asks.{path};
-
-    ghost at = { path.at };
+    ghost at = { asks.path.at };
 
     fn read(line: &mut Reader<'_>) -> Result<Self, LineFault> {
-        let path = read_field(line, Word::Path)?;
-        Ok(PathAsk { path })
+        Ok(fields_of!(path, read_fields, line, PathAsk))
     }
 }
 
 impl Put for SetAclAsk {
-    ghost use Rattle.zk_lines.specs.Asks.{set_acl};
+    ghost fits = { asks.set_acl.fits };
 
-    ghost fits = { set_acl.fits };
-
-    ghost spell = { set_acl.spell };
+    ghost spell = { asks.set_acl.spell };
 
     fn put(&self, out: &mut Vec<u8>) -> Result<(), AllocError> {
-        put_record!(out, set_acl: self)
+        fields_of!(set_acl, put_fields, out, self)
     }
 }
 
 impl<'a> Put for SetAclAskRef<'a> {
-    ghost use Rattle.zk_lines.specs.Asks.{set_acl};
+    ghost fits = { asks.set_acl.fits };
 
-    ghost fits = { set_acl.fits };
-
-    ghost spell = { set_acl.spell };
+    ghost spell = { asks.set_acl.spell };
 
     fn put(&self, out: &mut Vec<u8>) -> Result<(), AllocError> {
-        put_record!(out, set_acl: self)
+        fields_of!(set_acl, put_fields, out, self)
     }
 }
 
 impl Item for SetAclAsk {
-    ghost use Rattle.zk_lines.specs.Asks.{set_acl};
-
-    ghost at = { set_acl.at };
+    ghost at = { asks.set_acl.at };
 
     fn read(line: &mut Reader<'_>) -> Result<Self, LineFault> {
-        let path = read_field(line, Word::Path)?;
-        let acl = read_field(line, Word::Acl)?;
-        let version = read_field(line, Word::Version)?;
-        Ok(SetAclAsk { path, acl, version })
+        Ok(fields_of!(set_acl, read_fields, line, SetAclAsk))
     }
 }
 
 impl Put for AuthAsk {
-    ghost use Rattle.zk_lines.specs.Asks.{auth};
+    ghost fits = { asks.auth.fits };
 
-    ghost fits = { auth.fits };
-
-    ghost spell = { auth.spell };
+    ghost spell = { asks.auth.spell };
 
     fn put(&self, out: &mut Vec<u8>) -> Result<(), AllocError> {
-        put_record!(out, auth: self)
+        fields_of!(auth, put_fields, out, self)
     }
 }
 
 impl<'a> Put for AuthAskRef<'a> {
-    ghost use Rattle.zk_lines.specs.Asks.{auth};
+    ghost fits = { asks.auth.fits };
 
-    ghost fits = { auth.fits };
-
-    ghost spell = { auth.spell };
+    ghost spell = { asks.auth.spell };
 
     fn put(&self, out: &mut Vec<u8>) -> Result<(), AllocError> {
-        put_record!(out, auth: self)
+        fields_of!(auth, put_fields, out, self)
     }
 }
 
 impl Item for AuthAsk {
-    ghost use Rattle.zk_lines.specs.Asks.{auth};
-
-    ghost at = { auth.at };
+    ghost at = { asks.auth.at };
 
     fn read(line: &mut Reader<'_>) -> Result<Self, LineFault> {
-        let kind = read_field(line, Word::Kind)?;
-        let scheme = read_field(line, Word::Scheme)?;
-        let auth = read_field(line, Word::Auth)?;
-        Ok(AuthAsk { kind, scheme, auth })
+        Ok(fields_of!(auth, read_fields, line, AuthAsk))
     }
 }
 
 impl Put for SetWatchesAsk {
-    ghost use Rattle.zk_lines.specs.Asks.{set_watches};
+    ghost fits = { asks.set_watches.fits };
 
-    ghost fits = { set_watches.fits };
-
-    ghost spell = { set_watches.spell };
+    ghost spell = { asks.set_watches.spell };
 
     fn put(&self, out: &mut Vec<u8>) -> Result<(), AllocError> {
-        put_record!(out, set_watches: self)
+        fields_of!(set_watches, put_fields, out, self)
     }
 }
 
 impl<'a> Put for SetWatchesAskRef<'a> {
-    ghost use Rattle.zk_lines.specs.Asks.{set_watches};
+    ghost fits = { asks.set_watches.fits };
 
-    ghost fits = { set_watches.fits };
-
-    ghost spell = { set_watches.spell };
+    ghost spell = { asks.set_watches.spell };
 
     fn put(&self, out: &mut Vec<u8>) -> Result<(), AllocError> {
-        put_record!(out, set_watches: self)
+        fields_of!(set_watches, put_fields, out, self)
     }
 }
 
 impl Item for SetWatchesAsk {
-    ghost use Rattle.zk_lines.specs.Asks.{set_watches};
-
-    ghost at = { set_watches.at };
+    ghost at = { asks.set_watches.at };
 
     fn read(line: &mut Reader<'_>) -> Result<Self, LineFault> {
-        let zxid = read_field(line, Word::Zxid)?;
-        let data_watches = read_field(line, Word::DataWatches)?;
-        let exist_watches = read_field(line, Word::ExistWatches)?;
-        let child_watches = read_field(line, Word::ChildWatches)?;
-        Ok(SetWatchesAsk {
-            zxid,
-            data_watches,
-            exist_watches,
-            child_watches,
-        })
+        Ok(fields_of!(set_watches, read_fields, line, SetWatchesAsk))
     }
 }
 
 impl Put for CheckAsk {
-    ghost use Rattle.zk_lines.specs.Asks.{check};
+    ghost fits = { asks.check.fits };
 
-    ghost fits = { check.fits };
-
-    ghost spell = { check.spell };
+    ghost spell = { asks.check.spell };
 
     fn put(&self, out: &mut Vec<u8>) -> Result<(), AllocError> {
-        put_record!(out, check: self)
+        fields_of!(check, put_fields, out, self)
     }
 }
 
 impl<'a> Put for CheckAskRef<'a> {
-    ghost use Rattle.zk_lines.specs.Asks.{check};
+    ghost fits = { asks.check.fits };
 
-    ghost fits = { check.fits };
-
-    ghost spell = { check.spell };
+    ghost spell = { asks.check.spell };
 
     fn put(&self, out: &mut Vec<u8>) -> Result<(), AllocError> {
-        put_record!(out, check: self)
+        fields_of!(check, put_fields, out, self)
     }
 }
 
 impl Item for CheckAsk {
-    ghost use Rattle.zk_lines.specs.Asks.{check};
-
-    ghost at = { check.at };
+    ghost at = { asks.check.at };
 
     fn read(line: &mut Reader<'_>) -> Result<Self, LineFault> {
-        let path = read_field(line, Word::Path)?;
-        let version = read_field(line, Word::Version)?;
-        Ok(CheckAsk { path, version })
+        Ok(fields_of!(check, read_fields, line, CheckAsk))
     }
 }

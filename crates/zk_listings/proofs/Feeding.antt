@@ -68,6 +68,13 @@ pub takes-none : (listing : Listing) (t : TalkState) (lines : List ℕ) (side : 
 takes-none listing t lines side h messages i =
     ([], subst (λ k. Stands t k (messages ++ [])) (sym (append-nil h)) (subst (Stands t h) (sym (append-nil messages)) i), listed-none listing lines)
 
+-- a talk that stands as before has taken the same bytes
+pub takes-still : (listing : Listing) (old mid new : TalkState) (before during : List ℕ) (bytes : History) → Takes listing old before bytes None mid during →
+    ((h : History) (messages : List Message) → Stands mid h messages → Stands new h messages) → Takes listing old before bytes None new during
+takes-still listing old mid new before during bytes taken still h messages i =
+    let r = taken h messages i in
+    (r.0, still (h ++ bytes) (messages ++ r.0) r.1, r.2)
+
 -- a step goes on with the history, by a message or by none
 pub stepped-goes : (old : TalkState) (side : Side) (used : List ℕ) (whole : Bool) (new : TalkState) → Steps old side used whole new → (messages : List Message) × GoesOn old side used messages new
 stepped-goes old side used true new s = (s.0 ∷ [], s.1)

@@ -44,9 +44,14 @@ fn judge(talk: &mut Talk, side: Side, bytes: &[u8]) -> Option<Fault>
 {
     let mut at = 0;
     while at < bytes.len() {
-        match talk.step(side, rest(bytes, at)) {
-            Ok(stepped) => at += stepped.used,
-            Err(fault) => return Some(fault),
+        let piece = rest(bytes, at);
+        if let Some(used) = talk.step_front(side, piece) {
+            at += used;
+        } else {
+            match talk.step(side, piece) {
+                Ok(stepped) => at += stepped.used,
+                Err(fault) => return Some(fault),
+            }
         }
     }
     None

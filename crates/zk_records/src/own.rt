@@ -26,8 +26,8 @@ use crate::session::{
 use crate::stat::Stat;
 use std::alloc::{AllocError, Global};
 use zk_jute::{
-    Blob, BlobRef, Bytes, Chars, Element, Items, List, Payload, Series, Stands, Text, TextList,
-    TextRef,
+    Blob, BlobRef, Bytes, Chars, Element, Items, KnownPayload, List, Series, Stands, Text,
+    TextList, TextRef,
 };
 
 /// What lies in a payload, and can be copied out of it.
@@ -132,7 +132,7 @@ impl<'a> Own for BlobRef<'a> {
 }
 
 /// A list's copy: null, or a copy of each element.
-fn own_list<'a, R: Element + Stands<Payload<'a>> + Own>(
+fn own_list<'a, R: Element + Stands<KnownPayload<'a>> + Own>(
     list: &Series<'a, R>,
     alloc: Global,
 ) -> Result<List<R::Owned>, AllocError>

@@ -1,5 +1,5 @@
 -- Each front of a good history is good.
-use Rattle.std.proofs.Common.{◌≡◌, ℕ, ◌≤◌, List, [], ◌∷◌, ◌++◌, length, refl, sym, ap, ◌∙◌, subst, arith, append_assoc, length-append}
+use Rattle.std.proofs.Common.{◌≡◌, ℕ, List, [], ◌∷◌, ◌++◌, length, refl, sym, ap, ◌∙◌, subst, arith, append_assoc}
 use Rattle.std.proofs.lemmas.List.{append-nil, length_push}
 use Rattle.zk_records.specs.declared.profile.Profile.{Profile}
 use Rattle.zk_asks.specs.Held.{ClientFrame}
@@ -15,20 +15,15 @@ use Rattle.zk_talk.specs.History.{History, side_bytes}
 use Rattle.zk_frames.specs.Framing.{IsCut}
 use Rattle.zk_waiting.specs.Lane.{lane_of}
 use Rattle.zk_talk.specs.Conversation.{asks_on, ClientMay, ServerMay, IsAnswered, Answers, Conversation}
-use Rattle.zk_talk.specs.Good.{client_payloads, server_payloads, client_bytes, server_bytes, Good, IsGood}
+use Rattle.zk_talk.specs.Good.{client_payloads, server_payloads, client_bytes, Good, IsGood}
 use Rattle.zk_talk.proofs.Lists.{EachAfter-left, EachAfter-at, map_pushed}
 use Rattle.zk_talk.proofs.Cuts.{cut_front, Shorter}
 use Rattle.zk_talk.proofs.Cuts.Shorter.{within_frame, frame_end}
-use Rattle.zk_talk.proofs.Histories.{side_bytes-same, server-bytes-client, client-bytes-server}
+use Rattle.zk_talk.proofs.Histories.{side_bytes-same, other-bytes}
 use Rattle.zk_talk.proofs.Steps.{client_within, server_within}
 use Rattle.zk_talk.proofs.Lists.{InPushed, in_pushed}
 use Rattle.zk_talk.proofs.Lists.InPushed.{at_end, inside}
-use Rattle.zk_talk.proofs.Steps.{server_bytes-append}
-
-server_front : (S a : List ServerFrame) (s : ServerFrame) (b : List ServerFrame) → S ≡ a ++ s ∷ b → length (server_bytes (a ++ s ∷ [])) ≤ length (server_bytes S)
-server_front S a s b e =
-    let same : S ≡ (a ++ s ∷ []) ++ b = e ∙ sym (append_assoc a (s ∷ []) b) in
-    omega (arith, ap (λ z. length (server_bytes z)) same, ap length (server_bytes-append (a ++ s ∷ []) b), length-append (server_bytes (a ++ s ∷ [])) (server_bytes b))
+use Rattle.zk_talk.proofs.Steps.{bytes_front}
 
 -- What the server may send where the client's last frame is not answered, it may send without it.
 may_without : (profile : Profile) (C : List ClientFrame) (f : ClientFrame) (before : List ServerFrame) (s : ServerFrame) → ClientMay profile C f → (Answers before s C f → ⊥) → ServerMay (C ++ f ∷ []) before s → ServerMay C before s
@@ -50,11 +45,11 @@ module _ (limits : Limits) (h : History) (b : ℕ) (v : Conversation) (cb sb : L
     client_shorter : (c' : List ℕ) → IsCut limits.client (side_bytes Client h) (client_payloads v.client) c' → Good limits h v c' sb
     client_shorter c' cut = record {
       conversation = g.conversation;
-      whole = record { client_cut = cut; server_cut = subst (λ z. IsCut limits.server z (server_payloads v.server) sb) (server-bytes-client h b) g.whole.server_cut };
+      whole = record { client_cut = cut; server_cut = subst (λ z. IsCut limits.server z (server_payloads v.server) sb) (other-bytes Client h b) g.whole.server_cut };
       causal = λ front rest e. g.causal front (rest ++ (Client, b) ∷ []) (ap (λ z. z ++ (Client, b) ∷ []) e ∙ append_assoc front rest ((Client, b) ∷ []));
       bounded = λ front rest e. g.bounded front (rest ++ (Client, b) ∷ []) (ap (λ z. z ++ (Client, b) ∷ []) e ∙ append_assoc front rest ((Client, b) ∷ []));
       client_size = omega (arith, g.client_size, ap length (side_bytes-same Client h b), length_push (side_bytes Client h) b);
-      server_size = omega (arith, g.server_size, ap length (server-bytes-client h b));
+      server_size = omega (arith, g.server_size, ap length (other-bytes Client h b));
     }
 
     client_fewer : (C : List ClientFrame) (f : ClientFrame) (c' : List ℕ) → v.client ≡ C ++ f ∷ [] → cb ≡ [] → IsCut limits.client (side_bytes Client h) (client_payloads C) c' → Good limits h (record { client = C; server = v.server }) c' sb
@@ -66,19 +61,19 @@ module _ (limits : Limits) (h : History) (b : ℕ) (v : Conversation) (cb sb : L
             client = EachAfter-left (ClientMay limits.profile) C (f ∷ []) each;
             server = λ before s after es. may_without limits.profile C f before s may (alone before s after es) (subst (λ z. ServerMay z before s) e (g.conversation.server before s after es));
           };
-          whole = record { client_cut = cut; server_cut = subst (λ z. IsCut limits.server z (server_payloads v.server) sb) (server-bytes-client h b) g.whole.server_cut };
+          whole = record { client_cut = cut; server_cut = subst (λ z. IsCut limits.server z (server_payloads v.server) sb) (other-bytes Client h b) g.whole.server_cut };
           causal = λ front rest eh sent s later es asked c further ec. g.causal front (rest ++ (Client, b) ∷ []) (ap (λ z. z ++ (Client, b) ∷ []) eh ∙ append_assoc front rest ((Client, b) ∷ [])) sent s later es asked c (further ++ f ∷ [])
               (e ∙ ap (λ z. z ++ f ∷ []) ec ∙ append_assoc asked (c ∷ further) (f ∷ []));
           bounded = λ front rest eh client further ec. g.bounded front (rest ++ (Client, b) ∷ []) (ap (λ z. z ++ (Client, b) ∷ []) eh ∙ append_assoc front rest ((Client, b) ∷ [])) client (further ++ f ∷ [])
               (e ∙ ap (λ z. z ++ f ∷ []) ec ∙ append_assoc client further (f ∷ []));
           client_size = omega (arith, g.client_size, ap length (side_bytes-same Client h b), length_push (side_bytes Client h) b);
-          server_size = omega (arith, g.server_size, ap length (server-bytes-client h b));
+          server_size = omega (arith, g.server_size, ap length (other-bytes Client h b));
         }
       where
         alone : (before : List ServerFrame) (s : ServerFrame) (after : List ServerFrame) → v.server ≡ before ++ s ∷ after → Answers before s C f → ⊥
         alone before s after es answers =
             let r = g.causal h ((Client, b) ∷ []) refl before s after es C f [] e answers
-            (omega (arith, server_front v.server before s after es, server_within limits (h ++ (Client, b) ∷ []) v.client v.server cb sb g.whole, ap length (server-bytes-client h b))) in
+            (omega (arith, bytes_front server_payload v.server before s after es, server_within limits (h ++ (Client, b) ∷ []) v.client v.server cb sb g.whole, ap length (other-bytes Client h b))) in
             omega (arith, r, client_within limits (h ++ (Client, b) ∷ []) v.client v.server cb sb g.whole, ap length (side_bytes-same Client h b), length_push (side_bytes Client h) b, ap (λ z. length (client_bytes z)) e, ap length n)
 
     pub front_client : IsGood limits h
@@ -94,22 +89,22 @@ module _ (limits : Limits) (h : History) (b : ℕ) (v : Conversation) (cb sb : L
     server_shorter : (c' : List ℕ) → IsCut limits.server (side_bytes Server h) (server_payloads v.server) c' → Good limits h v cb c'
     server_shorter c' cut = record {
       conversation = g.conversation;
-      whole = record { client_cut = subst (λ z. IsCut limits.client z (client_payloads v.client) cb) (client-bytes-server h b) g.whole.client_cut; server_cut = cut };
+      whole = record { client_cut = subst (λ z. IsCut limits.client z (client_payloads v.client) cb) (other-bytes Server h b) g.whole.client_cut; server_cut = cut };
       causal = λ front rest e. g.causal front (rest ++ (Server, b) ∷ []) (ap (λ z. z ++ (Server, b) ∷ []) e ∙ append_assoc front rest ((Server, b) ∷ []));
       bounded = λ front rest e. g.bounded front (rest ++ (Server, b) ∷ []) (ap (λ z. z ++ (Server, b) ∷ []) e ∙ append_assoc front rest ((Server, b) ∷ []));
-      client_size = omega (arith, g.client_size, ap length (client-bytes-server h b));
+      client_size = omega (arith, g.client_size, ap length (other-bytes Server h b));
       server_size = omega (arith, g.server_size, ap length (side_bytes-same Server h b), length_push (side_bytes Server h) b);
     }
 
     server_fewer : (S : List ServerFrame) (s : ServerFrame) (c' : List ℕ) → v.server ≡ S ++ s ∷ [] → IsCut limits.server (side_bytes Server h) (server_payloads S) c' → Good limits h (record { client = v.client; server = S }) cb c'
     server_fewer S s c' e cut = record {
       conversation = record { client = g.conversation.client; server = EachAfter-left (ServerMay v.client) S (s ∷ []) (subst (EachAfter (ServerMay v.client)) e g.conversation.server) };
-      whole = record { client_cut = subst (λ z. IsCut limits.client z (client_payloads v.client) cb) (client-bytes-server h b) g.whole.client_cut; server_cut = cut };
+      whole = record { client_cut = subst (λ z. IsCut limits.client z (client_payloads v.client) cb) (other-bytes Server h b) g.whole.client_cut; server_cut = cut };
       causal = λ front rest eh sent t later es. g.causal front (rest ++ (Server, b) ∷ []) (ap (λ z. z ++ (Server, b) ∷ []) eh ∙ append_assoc front rest ((Server, b) ∷ [])) sent t (later ++ s ∷ [])
           (e ∙ ap (λ z. z ++ s ∷ []) es ∙ append_assoc sent (t ∷ later) (s ∷ []));
       bounded = λ front rest eh client further ec server later es. g.bounded front (rest ++ (Server, b) ∷ []) (ap (λ z. z ++ (Server, b) ∷ []) eh ∙ append_assoc front rest ((Server, b) ∷ [])) client further ec server (later ++ s ∷ [])
           (e ∙ ap (λ z. z ++ s ∷ []) es ∙ append_assoc server later (s ∷ []));
-      client_size = omega (arith, g.client_size, ap length (client-bytes-server h b));
+      client_size = omega (arith, g.client_size, ap length (other-bytes Server h b));
       server_size = omega (arith, g.server_size, ap length (side_bytes-same Server h b), length_push (side_bytes Server h) b);
     }
 

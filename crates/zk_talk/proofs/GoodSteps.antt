@@ -4,7 +4,9 @@ use Rattle.std.proofs.lemmas.List.{append-nil, map-append, length_push}
 use Rattle.zk_asks.specs.Held.{ClientFrame}
 use Rattle.zk_answers.specs.Held.{ServerFrame}
 use Rattle.zk_talk.specs.Payloads.{client_payload, server_payload}
+use Rattle.zk_talk.specs.declared.message.Side.{Side}
 use Rattle.zk_talk.specs.declared.message.Side.TheVariants.{Client, Server}
+use Rattle.zk_talk.specs.Fault.{side_limit, rest_on}
 use Rattle.zk_talk.specs.declared.limits.Limits.{Limits}
 use Rattle.zk_talk.specs.Splits.{EachAfter}
 use Rattle.zk_talk.specs.History.{History, side_bytes}
@@ -16,7 +18,7 @@ use Rattle.zk_talk.proofs.Lists.{EachAfter-left, EachAfter-at, map_pushed}
 use Rattle.zk_frames.proofs.Cuts.{same_cut}
 use Rattle.zk_talk.proofs.Cuts.{cut_more, cut_whole, cut_bad, cut_only}
 use Rattle.zk_talk.proofs.Turns.{same_clients, same_servers}
-use Rattle.zk_talk.proofs.Histories.{side_bytes-same, server-bytes-client, client-bytes-server}
+use Rattle.zk_talk.proofs.Histories.{side_bytes-same, other-bytes}
 use Rattle.zk_talk.proofs.Steps.{causal_lift, bounded_lift, each_still, conversation_client, conversation_server, causal_client, bounded_client, causal_server, bounded_server, load_reply}
 
 module _ (limits : Limits) (h : History) (b : ℕ) where
@@ -24,12 +26,12 @@ module _ (limits : Limits) (h : History) (b : ℕ) where
   pub whole_client : (C C' : List ClientFrame) (S : List ServerFrame) (cb sb c : List ℕ) → IsWhole limits h C S cb sb → IsCut limits.client (side_bytes Client h ++ b ∷ []) (client_payloads C') c → IsWhole limits (h ++ (Client, b) ∷ []) C' S c sb
   whole_client C C' S cb sb c w cut = record {
     client_cut = subst (λ z. IsCut limits.client z (client_payloads C') c) (sym (side_bytes-same Client h b)) cut;
-    server_cut = subst (λ z. IsCut limits.server z (server_payloads S) sb) (sym (server-bytes-client h b)) w.server_cut;
+    server_cut = subst (λ z. IsCut limits.server z (server_payloads S) sb) (sym (other-bytes Client h b)) w.server_cut;
   }
 
   pub whole_server : (C : List ClientFrame) (S S' : List ServerFrame) (cb sb c : List ℕ) → IsWhole limits h C S cb sb → IsCut limits.server (side_bytes Server h ++ b ∷ []) (server_payloads S') c → IsWhole limits (h ++ (Server, b) ∷ []) C S' cb c
   whole_server C S S' cb sb c w cut = record {
-    client_cut = subst (λ z. IsCut limits.client z (client_payloads C) cb) (sym (client-bytes-server h b)) w.client_cut;
+    client_cut = subst (λ z. IsCut limits.client z (client_payloads C) cb) (sym (other-bytes Server h b)) w.client_cut;
     server_cut = subst (λ z. IsCut limits.server z (server_payloads S') c) (sym (side_bytes-same Server h b)) cut;
   }
 
@@ -47,7 +49,7 @@ module _ (limits : Limits) (small : AreSmall limits) (h : History) (b : ℕ) (v 
         causal = causal_lift limits small h (Client, b) v (cb ++ b ∷ []) sb w g.causal;
         bounded = bounded_lift limits small h (Client, b) v (cb ++ b ∷ []) sb w (load_here limits h v cb sb g) g.bounded;
         client_size = omega (arith, fits, ap length (side_bytes-same Client h b), length_push (side_bytes Client h) b);
-        server_size = omega (arith, g.server_size, ap length (server-bytes-client h b));
+        server_size = omega (arith, g.server_size, ap length (other-bytes Client h b));
       }
 
   pub good_more_server : IsBeginning limits.server (sb ++ b ∷ []) → length (side_bytes Server h) + 1 < 2 ^ 62 → Good limits (h ++ (Server, b) ∷ []) v cb (sb ++ b ∷ [])
@@ -58,7 +60,7 @@ module _ (limits : Limits) (small : AreSmall limits) (h : History) (b : ℕ) (v 
         whole = w;
         causal = causal_lift limits small h (Server, b) v cb (sb ++ b ∷ []) w g.causal;
         bounded = bounded_lift limits small h (Server, b) v cb (sb ++ b ∷ []) w (load_here limits h v cb sb g) g.bounded;
-        client_size = omega (arith, g.client_size, ap length (client-bytes-server h b));
+        client_size = omega (arith, g.client_size, ap length (other-bytes Server h b));
         server_size = omega (arith, fits, ap length (side_bytes-same Server h b), length_push (side_bytes Server h) b);
       }
 
@@ -76,7 +78,7 @@ module _ (limits : Limits) (small : AreSmall limits) (h : History) (b : ℕ) (v 
         causal = causal_lift limits small h (Client, b) (with_client v f) [] sb w (causal_client limits h v cb sb g.whole f g.conversation may g.causal);
         bounded = bounded_lift limits small h (Client, b) (with_client v f) [] sb w fits (bounded_client limits h v cb sb g.whole f shorter g.bounded);
         client_size = omega (arith, size, ap length (side_bytes-same Client h b), length_push (side_bytes Client h) b);
-        server_size = omega (arith, g.server_size, ap length (server-bytes-client h b));
+        server_size = omega (arith, g.server_size, ap length (other-bytes Client h b));
       }
 
   pub good_server : (s : ServerFrame) → sb ++ b ∷ [] ≡ frame (server_payload s) → length (server_payload s) ≤ limits.server → ServerMay v.client v.server s → length (side_bytes Server h) + 1 < 2 ^ 62 →
@@ -91,26 +93,22 @@ module _ (limits : Limits) (small : AreSmall limits) (h : History) (b : ℕ) (v 
         whole = w;
         causal = causal_lift limits small h (Server, b) (with_server v s) cb [] w (causal_server limits h v cb sb g.whole s shorter g.causal);
         bounded = bounded_lift limits small h (Server, b) (with_server v s) cb [] w (omega (arith, load_reply v.client v.server s, load_here limits h v cb sb g)) (bounded_server limits h v cb sb g.whole s shorter g.bounded);
-        client_size = omega (arith, g.client_size, ap length (client-bytes-server h b));
+        client_size = omega (arith, g.client_size, ap length (other-bytes Server h b));
         server_size = omega (arith, size, ap length (side_bytes-same Server h b), length_push (side_bytes Server h) b);
       }
 
   -- ---- A byte that nothing good goes on with
-  pub bad_client_length : IsBadLength limits.client (cb ++ b ∷ []) → IsGood limits (h ++ (Client, b) ∷ []) → ⊥
-  bad_client_length bad n =
+  pub bad_length : (side : Side) → IsBadLength (side_limit limits side) (rest_on side cb sb ++ b ∷ []) → IsGood limits (h ++ (side, b) ∷ []) → ⊥
+  bad_length Client bad n =
       let cut = subst (λ z. IsCut limits.client z (client_payloads n.0.client) n.1) (side_bytes-same Client h b) n.3.whole.client_cut in
       cut_bad limits.client _ b _ _ cb n.1 small.0 g.whole.client_cut bad cut
-
-  pub bad_server_length : IsBadLength limits.server (sb ++ b ∷ []) → IsGood limits (h ++ (Server, b) ∷ []) → ⊥
-  bad_server_length bad n =
+  bad_length Server bad n =
       let cut = subst (λ z. IsCut limits.server z (server_payloads n.0.server) n.2) (side_bytes-same Server h b) n.3.whole.server_cut in
       cut_bad limits.server _ b _ _ sb n.2 small.1 g.whole.server_cut bad cut
 
-  pub client_full : 2 ^ 62 ≤ length (side_bytes Client h) + 1 → IsGood limits (h ++ (Client, b) ∷ []) → ⊥
-  client_full full n = omega (arith, full, n.3.client_size, ap length (side_bytes-same Client h b), length_push (side_bytes Client h) b)
-
-  pub server_full : 2 ^ 62 ≤ length (side_bytes Server h) + 1 → IsGood limits (h ++ (Server, b) ∷ []) → ⊥
-  server_full full n = omega (arith, full, n.3.server_size, ap length (side_bytes-same Server h b), length_push (side_bytes Server h) b)
+  pub side_full : (side : Side) → 2 ^ 62 ≤ length (side_bytes side h) + 1 → IsGood limits (h ++ (side, b) ∷ []) → ⊥
+  side_full Client full n = omega (arith, full, n.3.client_size, ap length (side_bytes-same Client h b), length_push (side_bytes Client h) b)
+  side_full Server full n = omega (arith, full, n.3.server_size, ap length (side_bytes-same Server h b), length_push (side_bytes Server h) b)
 
   -- Where a whole payload of the client leaves the history good, it is that of a frame that may stand there.
   pub record FoundClient (p : List ℕ) : Type 0 where
@@ -130,7 +128,7 @@ module _ (limits : Limits) (small : AreSmall limits) (h : History) (b : ℕ) (v 
       let same = same_clients limits.profile split.0 v.client before g.conversation.client split.3 in
       let clients : w.client ≡ v.client ++ split.1 ∷ [] = split.2 ∙ ap (λ z. z ++ split.1 ∷ []) same in
       let may = subst (λ z. ClientMay limits.profile z split.1) same (EachAfter-at (ClientMay limits.profile) split.0 split.1 [] each) in
-      let server_cut = subst (λ z. IsCut limits.server z (server_payloads w.server) n.2) (server-bytes-client h b) n.3.whole.server_cut in
+      let server_cut = subst (λ z. IsCut limits.server z (server_payloads w.server) n.2) (other-bytes Client h b) n.3.whole.server_cut in
       let servers = same_servers (v.client ++ split.1 ∷ []) w.server v.server
       (subst (λ z. EachAfter (ServerMay z) w.server) clients n.3.conversation.server)
       (each_still v.client split.1 v.server g.conversation.server)
@@ -154,7 +152,7 @@ module _ (limits : Limits) (small : AreSmall limits) (h : History) (b : ℕ) (v 
       let cut = subst (λ z. IsCut limits.server z (server_payloads w.server) n.2) (side_bytes-same Server h b) n.3.whole.server_cut in
       let only = cut_only limits.server _ b _ _ sb p n.2 small.1 g.whole.server_cut e l cut in
       let split = map_pushed server_payload w.server (server_payloads v.server) p only.0 in
-      let client_cut = subst (λ z. IsCut limits.client z (client_payloads w.client) n.1) (client-bytes-server h b) n.3.whole.client_cut in
+      let client_cut = subst (λ z. IsCut limits.client z (client_payloads w.client) n.1) (other-bytes Server h b) n.3.whole.client_cut in
       let clients = same_clients limits.profile w.client v.client n.3.conversation.client g.conversation.client (same_cut limits.client _ _ _ _ _ small.0 client_cut g.whole.client_cut).0 in
       let each = subst (EachAfter (ServerMay v.client)) split.2 (subst (λ z. EachAfter (ServerMay z) w.server) clients n.3.conversation.server) in
       let before = EachAfter-left (ServerMay v.client) split.0 (split.1 ∷ []) each in

@@ -15,7 +15,7 @@ use Rattle.zk_talk.proofs.Small.{AreSmall}
 use Rattle.zk_frames.proofs.Cuts.{length-frame, same_cut}
 use Rattle.zk_talk.proofs.Cuts.{cut_front, Shorter}
 use Rattle.zk_talk.proofs.Cuts.Shorter.{within_frame, frame_end}
-use Rattle.zk_talk.proofs.Histories.{side_bytes-same, server-bytes-client, client-bytes-server}
+use Rattle.zk_talk.proofs.Histories.{no_bytes, side_bytes-same, other-bytes}
 use Rattle.zk_talk.proofs.Steps.{same_whole}
 use Rattle.zk_talk.specs.Held.{Message}
 use Rattle.zk_talk.specs.declared.message.MessageOf.TheVariants.{Client as FromClient, Server as FromServer}
@@ -44,10 +44,6 @@ no_frames : (P : List (List ℕ)) (r : List ℕ) → [] ≡ frames P ++ r → P 
 no_frames [] r e = refl
 no_frames (p ∷ P) r e = absurd (omega (arith, ap length e, length-append (frame p ++ frames P) r, length-append (frame p) (frames P), length-frame p))
 
-no_bytes : (side : Side) → side_bytes side [] ≡ []
-unfolding side_bytes
-no_bytes side = refl
-
 same_message : (m n : Message) → clients (m ∷ []) ≡ clients (n ∷ []) → servers (m ∷ []) ≡ servers (n ∷ []) → m ≡ n
 same_message (FromClient f) (FromClient g) c s = ap FromClient (cc)
 same_message (FromServer f) (FromServer g) c s = ap FromServer (cc)
@@ -66,7 +62,7 @@ grows limits small g Client b C S C₀ S₀ w w₀ =
   where
     servers_same : length S ≡ length S₀
     servers_same =
-        let p = same_cut limits.server _ _ _ _ _ small.1 (subst (λ z. IsCut limits.server z (server_payloads S) w.1) (server-bytes-client g b) w.2.server_cut) w₀.2.server_cut in
+        let p = same_cut limits.server _ _ _ _ _ small.1 (subst (λ z. IsCut limits.server z (server_payloads S) w.1) (other-bytes Client g b) w.2.server_cut) w₀.2.server_cut in
         sym (length-map S server_payload) ∙ ap length p.0 ∙ length-map S₀ server_payload
 
     go : Shorter limits.client (side_bytes Client g) b (client_payloads C) w.0 → Grows limits g (Client, b) C S C₀ S₀
@@ -81,7 +77,7 @@ grows limits small g Server b C S C₀ S₀ w w₀ =
   where
     clients_same : length C ≡ length C₀
     clients_same =
-        let p = same_cut limits.client _ _ _ _ _ small.0 (subst (λ z. IsCut limits.client z (client_payloads C) w.0) (client-bytes-server g b) w.2.client_cut) w₀.2.client_cut in
+        let p = same_cut limits.client _ _ _ _ _ small.0 (subst (λ z. IsCut limits.client z (client_payloads C) w.0) (other-bytes Server g b) w.2.client_cut) w₀.2.client_cut in
         sym (length-map C client_payload) ∙ ap length p.0 ∙ length-map C₀ client_payload
 
     go : Shorter limits.server (side_bytes Server g) b (server_payloads S) w.1 → Grows limits g (Server, b) C S C₀ S₀

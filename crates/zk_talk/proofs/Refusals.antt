@@ -5,6 +5,7 @@ use Rattle.zk_asks.specs.declared.frame.ClientFrameOf.TheVariants.{Ask}
 use Rattle.zk_answers.specs.Held.{ServerFrame, Reply}
 use Rattle.zk_answers.specs.declared.frame.ServerFrameOf.TheVariants.{Connected, Answered, Event}
 use Rattle.zk_talk.specs.Payloads.{client_payload, server_payload}
+use Rattle.zk_talk.specs.declared.message.Side.{Side}
 use Rattle.zk_talk.specs.declared.message.Side.TheVariants.{Client, Server}
 use Rattle.zk_talk.specs.declared.limits.Limits.{Limits}
 use Rattle.zk_talk.specs.Splits.{EachAfter}
@@ -29,7 +30,7 @@ use Rattle.zk_answers.specs.Faults.{IsHead}
 use Rattle.zk_talk.proofs.Payloads.{HasHead, first_excluded, connected_excluded, ask_excluded, ask_inj, head_excluded, reply_excluded, event_excluded, same_head, reply_head_is, reply_no_event, event_head_is}
 use Rattle.zk_waiting.specs.Lane.{same_lane}
 use Rattle.zk_talk.specs.Conversation.{is_ask_on}
-use Rattle.zk_talk.specs.Fault.{IsNext, IsClientFault, IsServerFault}
+use Rattle.zk_talk.specs.Fault.{IsNext, IsClientFault, IsServerFault, IsPayloadFault, side_limit, rest_on}
 use Rattle.zk_talk.specs.Fault.IsClientFault.{connect_fault, ask_fault, queue_full}
 use Rattle.zk_talk.specs.Fault.IsServerFault.{no_connect, connected_fault, head_fault, event_fault, unasked, wrong_xid, reply_fault}
 use Rattle.zk_talk.proofs.Turns.{count_split, nth_passing, same_lane-itself}
@@ -131,12 +132,10 @@ server_alone v p place reason (reply_fault n header rest h m ask nx bad) s may e
 
 module _ (limits : Limits) (small : AreSmall limits) (h : History) (b : ℕ) (v : Conversation) (cb sb : List ℕ) (g : Good limits h v cb sb) (p : List ℕ) (place : ℕ) (reason : Reason) where
   -- A payload with a fault leaves no good history.
-  pub client_refused : cb ++ b ∷ [] ≡ frame p → length p ≤ limits.client → IsClientFault limits v p place reason → IsGood limits (h ++ (Client, b) ∷ []) → ⊥
-  client_refused e l fault n =
+  pub refused : (side : Side) → rest_on side cb sb ++ b ∷ [] ≡ frame p → length p ≤ side_limit limits side → IsPayloadFault limits v side p place reason → IsGood limits (h ++ (side, b) ∷ []) → ⊥
+  refused Client e l fault n =
       let f = found_client limits small h b v cb sb g p e l n in
       client_alone limits v p place reason g.conversation.server fault f.found f.may f.payload f.fits
-
-  pub server_refused : sb ++ b ∷ [] ≡ frame p → length p ≤ limits.server → IsServerFault v p place reason → IsGood limits (h ++ (Server, b) ∷ []) → ⊥
-  server_refused e l fault n =
+  refused Server e l fault n =
       let f = found_server limits small h b v cb sb g p e l n in
       server_alone v p place reason fault f.found f.may f.payload

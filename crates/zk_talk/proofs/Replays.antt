@@ -17,10 +17,10 @@ use Rattle.zk_talk.proofs.Small.{small_limits}
 use Rattle.zk_talk.proofs.Lists.{EachAfter-push, EachAfter-nil}
 use Rattle.zk_talk.proofs.Cuts.{cut_front, Shorter}
 use Rattle.zk_talk.proofs.Cuts.Shorter.{within_frame, frame_end}
-use Rattle.zk_talk.proofs.Histories.{side_bytes-append, side_bytes-same}
+use Rattle.zk_talk.proofs.Histories.{no_bytes, side_bytes-append, side_bytes-same}
 use Rattle.zk_talk.proofs.GoodSteps.{good_more_client, good_more_server, good_client, good_server, found_client, found_server}
 use Rattle.zk_talk.proofs.GoodFronts.{good_front}
-use Rattle.zk_talk.proofs.Standing.{Runs, clients-append, servers-append, order_more, order_same, client-on-server, server-on-client}
+use Rattle.zk_talk.proofs.Standing.{Runs, clients-append, servers-append, order_more, order_same, other-on}
 use Rattle.zk_talk.proofs.Headline.{same_good}
 use Rattle.zk_talk.proofs.OrderOnce.{order_once}
 use Rattle.zk_talk.proofs.Speaking.{one_client, one_server}
@@ -122,10 +122,6 @@ replay : (limits : Limits) (h : History) → IsGood limits h → Replay limits h
 replay limits h n = replay_from limits [] h (record { messages = []; client_rest = []; server_rest = []; runs = none_spoken limits; are = EachAfter-nil (MaySay limits) }) n
 
 -- ---- Each side's bytes
-no_bytes : (side : Side) → side_bytes side [] ≡ []
-unfolding side_bytes
-no_bytes side = refl
-
 own_bytes : (side : Side) (bs : List ℕ) → side_bytes side (on side bs) ≡ bs
 unfolding side_bytes
 own_bytes Client [] = refl
@@ -140,13 +136,13 @@ client_said (FromClient f ∷ M) =
     side_bytes-append Client (on Client p) (said M) ∙ ap (λ z. z ++ side_bytes Client (said M)) (own_bytes Client p) ∙ ap (λ z. p ++ z) (client_said M)
 client_said (FromServer s ∷ M) =
     let p = frame (server_payload s) in
-    side_bytes-append Client (on Server p) (said M) ∙ ap (λ z. z ++ side_bytes Client (said M)) (client-on-server p [] ∙ no_bytes Client) ∙ client_said M
+    side_bytes-append Client (on Server p) (said M) ∙ ap (λ z. z ++ side_bytes Client (said M)) (other-on Server p [] ∙ no_bytes Client) ∙ client_said M
 
 server_said : (M : List Message) → side_bytes Server (said M) ≡ server_bytes (servers M)
 server_said [] = no_bytes Server
 server_said (FromClient f ∷ M) =
     let p = frame (client_payload f) in
-    side_bytes-append Server (on Client p) (said M) ∙ ap (λ z. z ++ side_bytes Server (said M)) (server-on-client p [] ∙ no_bytes Server) ∙ server_said M
+    side_bytes-append Server (on Client p) (said M) ∙ ap (λ z. z ++ side_bytes Server (said M)) (other-on Client p [] ∙ no_bytes Server) ∙ server_said M
 server_said (FromServer s ∷ M) =
     let p = frame (server_payload s) in
     side_bytes-append Server (on Server p) (said M) ∙ ap (λ z. z ++ side_bytes Server (said M)) (own_bytes Server p) ∙ ap (λ z. p ++ z) (server_said M)

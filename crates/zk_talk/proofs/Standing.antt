@@ -10,7 +10,7 @@ use Rattle.zk_talk.specs.Conversation.{Conversation}
 use Rattle.zk_talk.specs.Good.{IsWhole, AreWholeIn, Good, IsGood}
 use Rattle.zk_talk.proofs.Small.{AreSmall}
 use Rattle.zk_frames.proofs.Cuts.{length-frame}
-use Rattle.zk_talk.proofs.Histories.{side_bytes-same, server-bytes-client, client-bytes-server}
+use Rattle.zk_talk.proofs.Histories.{side_bytes-same, other-bytes}
 use Rattle.std.proofs.Common.{take}
 use Rattle.std.proofs.lemmas.List.{map_push, take-append-le}
 use Rattle.std.proofs.lemmas.Bool.{cases_lt}
@@ -19,13 +19,14 @@ use Rattle.zk_talk.specs.Held.{Message}
 use Rattle.zk_talk.specs.declared.message.MessageOf.TheVariants.{Client as FromClient, Server as FromServer}
 use Rattle.zk_talk.specs.History.{on}
 use Rattle.zk_talk.specs.Good.{clients, servers, IsOrder}
-use Rattle.zk_talk.specs.Fault.{IsCause}
+use Rattle.zk_talk.specs.Fault.{IsCause, rest_on}
+use Rattle.zk_talk.specs.Viewed.{other_side}
 use Rattle.zk_talk.specs.Fault.IsCause.{stream_end, length_range, payload_fault}
 use Rattle.zk_talk.proofs.Lists.{FrontOfPushed, front_of_pushed}
 use Rattle.zk_talk.proofs.Lists.FrontOfPushed.{all_of_it, front_of}
 use Rattle.zk_frames.proofs.Cuts.{take-frame}
-use Rattle.zk_talk.proofs.GoodSteps.{good_more_client, good_more_server, bad_client_length, bad_server_length, client_full, server_full}
-use Rattle.zk_talk.proofs.Refusals.{client_refused, server_refused}
+use Rattle.zk_talk.proofs.GoodSteps.{good_more_client, good_more_server, bad_length, side_full}
+use Rattle.zk_talk.proofs.Refusals.{refused}
 
 -- ---- Beginnings
 pub beginning_left : (limit : ℕ) (c d : List ℕ) → IsBeginning limit (c ++ d) → IsBeginning limit c
@@ -113,26 +114,16 @@ pub bytes-on : (side : Side) (bs : List ℕ) (h : History) → length (side_byte
 bytes-on side [] h = ap (λ z. length (side_bytes side z)) (append-nil h) ∙ omega arith
 bytes-on side (b ∷ bs) h = ap (λ z. length (side_bytes side z)) (sym (append_assoc h ((side, b) ∷ []) (on side bs))) ∙ bytes-on side bs (h ++ (side, b) ∷ []) ∙ omega (arith, ap length (side_bytes-same side h b), length_push (side_bytes side h) b)
 
-pub server-on-client : (bs : List ℕ) (h : History) → side_bytes Server (h ++ on Client bs) ≡ side_bytes Server h
-server-on-client [] h = ap (side_bytes Server) (append-nil h)
-server-on-client (b ∷ bs) h = ap (side_bytes Server) (sym (append_assoc h ((Client, b) ∷ []) (on Client bs))) ∙ server-on-client bs (h ++ (Client, b) ∷ []) ∙ server-bytes-client h b
-
-pub client-on-server : (bs : List ℕ) (h : History) → side_bytes Client (h ++ on Server bs) ≡ side_bytes Client h
-client-on-server [] h = ap (side_bytes Client) (append-nil h)
-client-on-server (b ∷ bs) h = ap (side_bytes Client) (sym (append_assoc h ((Server, b) ∷ []) (on Server bs))) ∙ client-on-server bs (h ++ (Server, b) ∷ []) ∙ client-bytes-server h b
+pub other-on : (side : Side) (bs : List ℕ) (h : History) → side_bytes (other_side side) (h ++ on side bs) ≡ side_bytes (other_side side) h
+other-on side [] h = ap (side_bytes (other_side side)) (append-nil h)
+other-on side (b ∷ bs) h = ap (side_bytes (other_side side)) (sym (append_assoc h ((side, b) ∷ []) (on side bs))) ∙ other-on side bs (h ++ (side, b) ∷ []) ∙ other-bytes side h b
 
 pub on-push : (side : Side) (bs : List ℕ) (b : ℕ) → on side (bs ++ b ∷ []) ≡ on side bs ++ (side, b) ∷ []
 on-push side bs b = map_push (λ (z : ℕ). (side, z)) bs b
 
 -- ---- A byte that nothing good goes on with
-pub cause_client : (limits : Limits) → AreSmall limits → (h : History) (b : ℕ) (v : Conversation) (cb sb : List ℕ) → Good limits h v cb sb → (place : ℕ) (reason : Reason) →
-    IsCause limits v Client (length (side_bytes Client h)) cb b place reason → IsGood limits (h ++ (Client, b) ∷ []) → ⊥
-cause_client limits small h b v cb sb g place reason (stream_end e a r) = client_full limits small h b v cb sb g (omega arith)
-cause_client limits small h b v cb sb g place reason (length_range e bad a r) = bad_client_length limits small h b v cb sb g bad
-cause_client limits small h b v cb sb g place reason (payload_fault e p w l f) = client_refused limits small h b v cb sb g p place reason w l f
-
-pub cause_server : (limits : Limits) → AreSmall limits → (h : History) (b : ℕ) (v : Conversation) (cb sb : List ℕ) → Good limits h v cb sb → (place : ℕ) (reason : Reason) →
-    IsCause limits v Server (length (side_bytes Server h)) sb b place reason → IsGood limits (h ++ (Server, b) ∷ []) → ⊥
-cause_server limits small h b v cb sb g place reason (stream_end e a r) = server_full limits small h b v cb sb g (omega arith)
-cause_server limits small h b v cb sb g place reason (length_range e bad a r) = bad_server_length limits small h b v cb sb g bad
-cause_server limits small h b v cb sb g place reason (payload_fault e p w l f) = server_refused limits small h b v cb sb g p place reason w l f
+module _ (limits : Limits) (small : AreSmall limits) (h : History) (b : ℕ) (v : Conversation) (cb sb : List ℕ) (g : Good limits h v cb sb) (side : Side) (place : ℕ) (reason : Reason) where
+  pub cause_bad : IsCause limits v side (length (side_bytes side h)) (rest_on side cb sb) b place reason → IsGood limits (h ++ (side, b) ∷ []) → ⊥
+  cause_bad (stream_end e a r) = side_full limits small h b v cb sb g side (omega (arith, e))
+  cause_bad (length_range e bad a r) = bad_length limits small h b v cb sb g side bad
+  cause_bad (payload_fault e p w l f) = refused limits small h b v cb sb g p place reason side w l f

@@ -1,11 +1,10 @@
 -- The empty history.
 use Rattle.std.proofs.Common.{◌≡◌, ℕ, ◌≤◌, inl, List, [], ◌++◌, length, refl, sym, ap, subst, arith}
-use Rattle.zk_talk.specs.declared.message.Side.{Side}
 use Rattle.zk_talk.specs.declared.message.Side.TheVariants.{Client, Server}
 use Rattle.zk_talk.specs.declared.limits.Limits.{Limits}
-use Rattle.zk_talk.specs.History.{side_bytes}
 use Rattle.zk_talk.specs.Conversation.{ClientMay, ServerMay, Conversation, load}
 use Rattle.zk_talk.specs.Good.{IsWhole}
+use Rattle.zk_talk.proofs.Histories.{no_bytes}
 use Rattle.zk_talk.proofs.Lists.{not_empty}
 use Rattle.std.proofs.Common.{None}
 use Rattle.zk_waiting.specs.declared.lane.Lane.{Lane}
@@ -23,10 +22,6 @@ start_state limits = record { limits = limits; client_held = []; server_held = [
 
 abbrev pub no_conversation : Conversation
 no_conversation = record { client = []; server = [] }
-
-no_bytes : (side : Side) → side_bytes side [] ≡ []
-unfolding side_bytes
-no_bytes side = refl
 
 empty_whole : (limits : Limits) → IsWhole limits [] [] [] [] []
 empty_whole limits = record {

@@ -27,11 +27,18 @@ use Rattle.zk_frames.proofs.Cuts.{same_cut}
 use Rattle.zk_talk.proofs.Turns.{count_split, same_lane-itself}
 use Rattle.zk_talk.proofs.Histories.{front-length}
 
-pub client_bytes-append : (A B : List ClientFrame) → client_bytes (A ++ B) ≡ client_bytes A ++ client_bytes B
-client_bytes-append A B = ap frames (map-append client_payload A B) ∙ flat_map-append frame (client_payloads A) (client_payloads B)
+module _ {X : Type 0} (payload : X → List ℕ) where
+  bytes-append : (A B : List X) → frames (map payload (A ++ B)) ≡ frames (map payload A) ++ frames (map payload B)
+  bytes-append A B = ap frames (map-append payload A B) ∙ flat_map-append frame (map payload A) (map payload B)
 
-pub server_bytes-append : (A B : List ServerFrame) → server_bytes (A ++ B) ≡ server_bytes A ++ server_bytes B
-server_bytes-append A B = ap frames (map-append server_payload A B) ∙ flat_map-append frame (server_payloads A) (server_payloads B)
+  -- the bytes of some frames, and of the first of them
+  pub bytes_front : (C a : List X) (c : X) (b : List X) → C ≡ a ++ c ∷ b → length (frames (map payload (a ++ c ∷ []))) ≤ length (frames (map payload C))
+  bytes_front C a c b e =
+      let same : C ≡ (a ++ c ∷ []) ++ b = e ∙ sym (append_assoc a (c ∷ []) b) in
+      omega (arith, ap (λ z. length (frames (map payload z))) same, ap length (bytes-append (a ++ c ∷ []) b), length-append (frames (map payload (a ++ c ∷ []))) (frames (map payload b)))
+
+  length-bytes_push : (C : List X) (f : X) → length (frames (map payload (C ++ f ∷ []))) ≡ length (frames (map payload C)) + length (frame (payload f))
+  length-bytes_push C f = ap length (bytes-append C (f ∷ [])) ∙ length-append (frames (map payload C)) (frames (map payload (f ∷ []))) ∙ ap (λ z. length (frames (map payload C)) + length z) (append-nil (frame (payload f)))
 
 -- a front with as many elements as the whole is the whole
 pub front_is_all : {X Y : Type 0} (f : X → Y) (xs as' bs : List X) → xs ≡ as' ++ bs → map f as' ≡ map f xs → as' ≡ xs
@@ -53,18 +60,13 @@ client_within limits h C S cb sb w = ap length w.client_cut.whole ∙ length-app
 pub server_within : (limits : Limits) (h : History) (C : List ClientFrame) (S : List ServerFrame) (cb sb : List ℕ) → IsWhole limits h C S cb sb → length (side_bytes Server h) ≡ length (server_bytes S) + length sb
 server_within limits h C S cb sb w = ap length w.server_cut.whole ∙ length-append (server_bytes S) sb
 
-client_front : (C a : List ClientFrame) (c : ClientFrame) (b : List ClientFrame) → C ≡ a ++ c ∷ b → length (client_bytes (a ++ c ∷ [])) ≤ length (client_bytes C)
-client_front C a c b e =
-    let same : C ≡ (a ++ c ∷ []) ++ b = e ∙ sym (append_assoc a (c ∷ []) b) in
-    omega (arith, ap (λ z. length (client_bytes z)) same, ap length (client_bytes-append (a ++ c ∷ []) b), length-append (client_bytes (a ++ c ∷ [])) (client_bytes b))
-
 module _ (limits : Limits) (small : AreSmall limits) (h : History) (x : Side × ℕ) (v : Conversation) (cb sb : List ℕ) (whole : IsWhole limits (h ++ x ∷ []) v.client v.server cb sb) where
   -- In the longer history all frames have come, so only its fronts are left to see.
   pub causal_lift : IsCausal v h → IsCausal v (h ++ x ∷ [])
   causal_lift before front rest e sent s later es asked c further ec answers = go (front_of_pushed h x front rest e)
     where
       go : FrontOfPushed h x front rest → length (server_bytes (sent ++ s ∷ [])) ≤ length (side_bytes Server front) → length (client_bytes (asked ++ c ∷ [])) ≤ length (side_bytes Client front)
-      go (all_of_it f r) _ = omega (arith, ap (λ z. length (side_bytes Client z)) f, client_within limits (h ++ x ∷ []) v.client v.server cb sb whole, client_front v.client asked c further ec)
+      go (all_of_it f r) _ = omega (arith, ap (λ z. length (side_bytes Client z)) f, client_within limits (h ++ x ∷ []) v.client v.server cb sb whole, bytes_front client_payload v.client asked c further ec)
       go (front_of r' f r) short = before front r' f sent s later es asked c further ec answers short
 
   pub bounded_lift : load v.client v.server ≤ limits.waiting → IsBounded limits v h → IsBounded limits v (h ++ x ∷ [])
@@ -123,12 +125,6 @@ conversation_server profile v s conv may = record {
   server = EachAfter-push (ServerMay v.client) v.server s conv.server may;
 }
 
-length-client_push : (C : List ClientFrame) (f : ClientFrame) → length (client_bytes (C ++ f ∷ [])) ≡ length (client_bytes C) + length (frame (client_payload f))
-length-client_push C f = ap length (client_bytes-append C (f ∷ [])) ∙ length-append (client_bytes C) (client_bytes (f ∷ [])) ∙ ap (λ z. length (client_bytes C) + length z) (append-nil (frame (client_payload f)))
-
-length-server_push : (S : List ServerFrame) (s : ServerFrame) → length (server_bytes (S ++ s ∷ [])) ≡ length (server_bytes S) + length (frame (server_payload s))
-length-server_push S s = ap length (server_bytes-append S (s ∷ [])) ∙ length-append (server_bytes S) (server_bytes (s ∷ [])) ∙ ap (λ z. length (server_bytes S) + length z) (append-nil (frame (server_payload s)))
-
 module _ (limits : Limits) (h : History) (v : Conversation) (cb sb : List ℕ) (whole : IsWhole limits h v.client v.server cb sb) where
   pub causal_client : (f : ClientFrame) → IsConversation limits.profile v → ClientMay limits.profile v.client f → IsCausal v h → IsCausal (with_client v f) h
   causal_client f conv may causal front rest e sent s later es asked c further ec answers short = go (in_pushed v.client f asked c further ec)
@@ -141,7 +137,7 @@ module _ (limits : Limits) (h : History) (v : Conversation) (cb sb : List ℕ) (
   bounded_client f more bounded front rest e client further ec server later es w = go (front_of_pushed v.client f client further ec)
     where
       go : FrontOfPushed v.client f client further → load client server ≤ limits.waiting
-      go (all_of_it a n) = absurd (omega (arith, more, front-length Client front rest h e, client_within limits h v.client v.server cb sb whole, client_within limits front client server w.0 w.1 w.2, ap (λ z. length (client_bytes z)) a, length-client_push v.client f))
+      go (all_of_it a n) = absurd (omega (arith, more, front-length Client front rest h e, client_within limits h v.client v.server cb sb whole, client_within limits front client server w.0 w.1 w.2, ap (λ z. length (client_bytes z)) a, length-bytes_push client_payload v.client f))
       go (front_of r' a n) = bounded front rest e client r' a server later es w
 
   pub causal_server : (s : ServerFrame) → length sb < length (frame (server_payload s)) → IsCausal v h → IsCausal (with_server v s) h
@@ -149,14 +145,14 @@ module _ (limits : Limits) (h : History) (v : Conversation) (cb sb : List ℕ) (
     where
       go : InPushed v.server s sent t later → length (client_bytes (asked ++ c ∷ [])) ≤ length (side_bytes Client front)
       go (at_end a b n) =
-          absurd (omega (arith, more, short, front-length Server front rest h e, server_within limits h v.client v.server cb sb whole, ap (λ z. length (server_bytes (z ++ t ∷ []))) a, ap (λ z. length (server_bytes (v.server ++ z ∷ []))) b, length-server_push v.server s))
+          absurd (omega (arith, more, short, front-length Server front rest h e, server_within limits h v.client v.server cb sb whole, ap (λ z. length (server_bytes (z ++ t ∷ []))) a, ap (λ z. length (server_bytes (v.server ++ z ∷ []))) b, length-bytes_push server_payload v.server s))
       go (inside b' a n) = causal front rest e sent t b' a asked c further ec answers short
 
   pub bounded_server : (s : ServerFrame) → length sb < length (frame (server_payload s)) → IsBounded limits v h → IsBounded limits (with_server v s) h
   bounded_server s more bounded front rest e client further ec server later es w = go (front_of_pushed v.server s server later es)
     where
       go : FrontOfPushed v.server s server later → load client server ≤ limits.waiting
-      go (all_of_it a n) = absurd (omega (arith, more, front-length Server front rest h e, server_within limits h v.client v.server cb sb whole, server_within limits front client server w.0 w.1 w.2, ap (λ z. length (server_bytes z)) a, length-server_push v.server s))
+      go (all_of_it a n) = absurd (omega (arith, more, front-length Server front rest h e, server_within limits h v.client v.server cb sb whole, server_within limits front client server w.0 w.1 w.2, ap (λ z. length (server_bytes z)) a, length-bytes_push server_payload v.server s))
       go (front_of r' a n) = bounded front rest e client further ec server r' a w
 
 -- A reply takes nothing onto the load.

@@ -17,6 +17,7 @@ pub mod Sound
 pub mod Judged
 pub mod Settled
 pub mod Advance
+pub mod Receiving
 pub mod Taking
 pub mod Answer
 pub mod Said

@@ -8,6 +8,7 @@ mod laws;
 mod limits;
 mod message;
 mod read;
+mod receive;
 mod refused;
 mod round;
 mod say;

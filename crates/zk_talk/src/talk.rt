@@ -1,17 +1,14 @@
 //! The conversation, as it comes.
-ghost use Rattle.std.specs.Prelude.{false, true, ◌≡◌, ◌≢◌, ◌≤◌, ◌<◌, ◌+◌, ◌^◌, List, [], length, take, Some, None, Err, IsOk, IfOk, IfErr, OnErr, IfSome, IfNone, MatchOption};
+ghost use Rattle.std.specs.Prelude.{false, true, ◌≡◌, ◌≢◌, ◌≤◌, ◌+◌, List, [], length, take, Some, None, Err, IsOk, IfOk, IfErr, OnErr, IfSome, IfNone, MatchOption};
 ghost use Rattle.std.specs.Option.{option_to_list};
 ghost use Rattle.zk_jute.specs.declared.fault.Reason.TheVariants.{NoMemory};
-ghost use Rattle.zk_jute.specs.Reading.{no_memory};
-ghost use Rattle.zk_talk.specs.declared.message.Side.TheVariants.{Client, Server};
 ghost use Rattle.zk_talk.specs.declared.message.Fault.{Fault};
 ghost use Rattle.zk_talk.specs.Held.{Message};
 ghost use Rattle.zk_talk.specs.declared.message.Ending.TheVariants.{Refused};
 ghost use Rattle.zk_talk.specs.History.{History};
 ghost use Rattle.zk_talk.specs.Conversation.{load};
-ghost use Rattle.zk_talk.specs.Fault.{fault_of, side_limit, rest_on};
+ghost use Rattle.zk_talk.specs.Fault.{side_limit, rest_on};
 ghost use Rattle.zk_talk.specs.Ending.{IsEnding};
-ghost use Rattle.zk_talk.specs.Sound.{IsKnown};
 ghost use Rattle.zk_talk.specs.Stands.{held_on, kept_on, Stands, Refuses, WhereItStands};
 ghost use Rattle.zk_talk.specs.Refused.{TellsRefusedBody};
 ghost use Rattle.zk_records.specs.declared.op.Op.TheVariants as ops;
@@ -20,17 +17,17 @@ ghost use Rattle.zk_talk.specs.Viewed.{Shows, Leaves, other_side};
 ghost use Rattle.zk_talk.specs.Taking.{TakesOn, StepsOn, IsRefused, Fails, given_up};
 
 use crate::frame::{
-    client_frame, client_step, is_no_memory, keep_client, keep_server, server_frame, server_step,
+    client_frame, client_step, keep_client, keep_server, server_frame, server_step,
 };
 use crate::limits::Limits;
 use crate::message::{Ending, Fault, Message, MessageOf, MessageRef, Side};
+use crate::receive::{Received, receive, refuse};
 use crate::refused::{answered_body, asked_body, is_in_body};
-use crate::stream::{Advance, Stream};
+use crate::stream::Stream;
 use crate::view::{shown_client, shown_server};
 use std::alloc::{AllocError, Global};
 use std::marker::Model;
 use zk_answers::Layout;
-use zk_jute::{ItemFault, Reason};
 use zk_records::Op;
 use zk_waiting::Waiting;
 
@@ -79,52 +76,6 @@ impl Model for Talk {
     ghost invariant = { λ t. IsSide t.limits.client t.fault t.client × IsSide t.limits.server t.fault t.server × (t.waiting.max ≡ t.limits.waiting) × IsKnown t.fault × ClientKeeps t.client × ServerKeeps t.server t.answered };
 }
 
-/// The fault of an item of this side's frame, behind so many bytes of the side.
-fn fault_at(side: Side, frame: u64, offset: u64, item: ItemFault) -> Fault
-    ensures { result ≡ fault_of side frame offset item.place item.reason }
-{
-    Fault {
-        side,
-        frame,
-        offset,
-        place: item.place,
-        reason: item.reason,
-    }
-}
-
-/// Memory is wanted.
-fn wanting() -> ItemFault
-    ensures { result ≡ no_memory }
-{
-    ItemFault {
-        place: 0,
-        reason: Reason::NoMemory,
-    }
-}
-
-/// The fault of the frame that so many more bytes have brought; it is kept, but for want of
-/// memory.
-#[inline(never)]
-fn refuse(
-    kept: &mut Option<Fault>,
-    side: Side,
-    stream: &Stream,
-    used: usize,
-    item: ItemFault,
-) -> Fault
-    requires { stream.now.size + used < 2 ^ 64 }
-    ensures wanting { item.reason ≡ NoMemory → (result ≡ fault_of side stream.now.count stream.now.size 0 NoMemory) × (kept.new ≡ kept.old) }
-    ensures told { item.reason ≢ NoMemory → (result ≡ fault_of side stream.now.count (stream.now.size + used) item.place item.reason) × (kept.new ≡ Some result) }
-    ensures known { IsKnown kept.old → IsKnown kept.new }
-{
-    if is_no_memory(item) {
-        return fault_at(side, stream.count(), stream.size(), wanting());
-    }
-    let fault = fault_at(side, stream.count(), stream.size() + used as u64, item);
-    *kept = Some(fault);
-    fault
-}
-
 impl Talk {
     /// A conversation of which nothing has come.
     pub fn new(alloc: Global, limits: Limits) -> Result<Self, AllocError>
@@ -146,214 +97,83 @@ impl Talk {
         })
     }
 
-    fn client_piece(&mut self, piece: &[u8]) -> Result<Taken, Fault>
+    fn piece(&mut self, side: Side, piece: &[u8]) -> Result<Taken, Fault>
         requires good { self.old.fault ≡ None }
-        requires given_up { self.old.client_kept ≡ [] }
+        requires given_up { kept_on side self.old ≡ [] }
         ensures limits { self.new.limits ≡ self.old.limits }
-        ensures ok { IfOk result (λ t. TakesOn self.old Client piece.now t.used (option_to_list t.message) self.new) }
-        ensures exact { IfOk result (λ t. MatchOption t.message (t.used ≡ length piece.now) (λ m. self.new.client_held ≡ [])) }
-        ensures other { Leaves Server self.old self.new }
-        ensures err { IfErr result (λ e. Fails self.old Client piece.now e self.new) }
-        ensures given_up { self.new.client_kept ≡ [] }
+        ensures ok { IfOk result (λ t. TakesOn self.old side piece.now t.used (option_to_list t.message) self.new) }
+        ensures exact { IfOk result (λ t. MatchOption t.message (t.used ≡ length piece.now) (λ m. held_on side self.new ≡ [])) }
+        ensures other { Leaves (other_side side) self.old self.new }
+        ensures err { IfErr result (λ e. Fails self.old side piece.now e self.new) }
+        ensures given_up { kept_on side self.new ≡ [] }
         ensures empty { length piece.now ≡ 0 → IsOk result }
     {
-        match self.client.take(piece) {
-            Advance::Within => {
-                self.client.go_on(piece.len());
-                Ok(Taken {
+        match side {
+            Side::Client => match receive(&mut self.fault, Side::Client, &mut self.client, piece) {
+                Received::Within => Ok(Taken {
                     used: piece.len(),
                     message: None,
-                })
-            }
-            Advance::Whole(used) => {
-                let profile = self.limits.profile();
-                match client_frame(
-                    self.alloc,
-                    profile,
-                    &mut self.client,
-                    &mut self.waiting,
-                    used,
-                ) {
-                    Ok(frame) => Ok(Taken {
+                }),
+                Received::Whole(used) => {
+                    let profile = self.limits.profile();
+                    match client_frame(
+                        self.alloc,
+                        profile,
+                        &mut self.client,
+                        &mut self.waiting,
                         used,
-                        message: Some(Message::Client(frame)),
-                    }),
-                    Err(item) => {
-                        let stream = &self.client;
-                        Err(refuse(&mut self.fault, Side::Client, stream, used, item))
+                    ) {
+                        Ok(frame) => Ok(Taken {
+                            used,
+                            message: Some(Message::Client(frame)),
+                        }),
+                        Err(item) => Err(refuse(
+                            &mut self.fault,
+                            Side::Client,
+                            &self.client,
+                            used,
+                            item,
+                        )),
                     }
                 }
-            }
-            Advance::Refused(used, reason) => {
-                let item = ItemFault { place: 0, reason };
-                Err(refuse(&mut self.fault, Side::Client, &self.client, used, item))
-            }
+                Received::Refused(fault) => Err(fault),
+            },
+            Side::Server => match receive(&mut self.fault, Side::Server, &mut self.server, piece) {
+                Received::Within => Ok(Taken {
+                    used: piece.len(),
+                    message: None,
+                }),
+                Received::Whole(used) => {
+                    let asked = self.client.count();
+                    match server_frame(
+                        self.alloc,
+                        asked,
+                        &mut self.server,
+                        &mut self.waiting,
+                        used,
+                    ) {
+                        Ok(frame) => Ok(Taken {
+                            used,
+                            message: Some(Message::Server(frame)),
+                        }),
+                        Err(item) => Err(refuse(
+                            &mut self.fault,
+                            Side::Server,
+                            &self.server,
+                            used,
+                            item,
+                        )),
+                    }
+                }
+                Received::Refused(fault) => Err(fault),
+            },
         }
     }
 
-    fn server_piece(&mut self, piece: &[u8]) -> Result<Taken, Fault>
-        requires good { self.old.fault ≡ None }
-        requires given_up { self.old.server_kept ≡ [] }
-        ensures limits { self.new.limits ≡ self.old.limits }
-        ensures ok { IfOk result (λ t. TakesOn self.old Server piece.now t.used (option_to_list t.message) self.new) }
-        ensures exact { IfOk result (λ t. MatchOption t.message (t.used ≡ length piece.now) (λ m. self.new.server_held ≡ [])) }
-        ensures other { Leaves Client self.old self.new }
-        ensures err { IfErr result (λ e. Fails self.old Server piece.now e self.new) }
-        ensures given_up { self.new.server_kept ≡ [] }
-        ensures empty { length piece.now ≡ 0 → IsOk result }
-    {
-        match self.server.take(piece) {
-            Advance::Within => {
-                self.server.go_on(piece.len());
-                Ok(Taken {
-                    used: piece.len(),
-                    message: None,
-                })
-            }
-            Advance::Whole(used) => {
-                let asked = self.client.count();
-                match server_frame(self.alloc, asked, &mut self.server, &mut self.waiting, used) {
-                    Ok(frame) => Ok(Taken {
-                        used,
-                        message: Some(Message::Server(frame)),
-                    }),
-                    Err(item) => {
-                        let stream = &self.server;
-                        Err(refuse(&mut self.fault, Side::Server, stream, used, item))
-                    }
-                }
-            }
-            Advance::Refused(used, reason) => {
-                let item = ItemFault { place: 0, reason };
-                Err(refuse(&mut self.fault, Side::Server, &self.server, used, item))
-            }
-        }
-    }
-
-    /// Keeps the whole frame of the client that the piece begins with, where none is begun and it may come; else all is as
-    /// before, and None says no more.
+    /// Keeps the side's whole frame that the piece begins with, where none is begun and it may come; else all is as before,
+    /// and None says no more.
     // Most frames come so, and no fault, and no frame as a value, is made on the way: this and the hints on what it calls
     // take a quarter of the instructions off `check` on small messages.
-    #[inline(always)]
-    fn front_client(&mut self, piece: &[u8]) -> Option<usize>
-        requires good { self.old.fault ≡ None }
-        requires given_up { self.old.client_kept ≡ [] }
-        ensures limits { self.new.limits ≡ self.old.limits }
-        ensures some { IfSome result (λ used. StepsOn self.old Client piece.now used true self.new) }
-        ensures other { Leaves Server self.old self.new }
-        ensures none { IfNone result (self.new ≡ self.old) }
-    {
-        let used = self.client.take_front(piece)?;
-        let profile = self.limits.profile();
-        if keep_client(profile, &mut self.client, &mut self.waiting, used) {
-            Some(used)
-        } else {
-            self.client.take_back(used);
-            None
-        }
-    }
-
-    #[inline(never)]
-    fn exact_client(&mut self, piece: &[u8]) -> Result<Stepped, Fault>
-        requires good { self.old.fault ≡ None }
-        requires given_up { self.old.client_kept ≡ [] }
-        ensures limits { self.new.limits ≡ self.old.limits }
-        ensures ok { IfOk result (λ s. StepsOn self.old Client piece.now s.used s.whole self.new) }
-        ensures exact { IfOk result (λ s. s.whole ≡ false → s.used ≡ length piece.now) }
-        ensures other { Leaves Server self.old self.new }
-        ensures err { IfErr result (λ e. (e.reason ≢ NoMemory) × IsRefused self.old Client piece.now e self.new) }
-        ensures none { OnErr result (self.new.client_kept ≡ []) }
-    {
-        match self.client.take(piece) {
-            Advance::Within => {
-                self.client.go_on(piece.len());
-                Ok(Stepped {
-                    used: piece.len(),
-                    whole: false,
-                })
-            }
-            Advance::Whole(used) => {
-                let profile = self.limits.profile();
-                match client_step(profile, &mut self.client, &mut self.waiting, used) {
-                    Ok(()) => Ok(Stepped { used, whole: true }),
-                    Err(item) => {
-                        let stream = &self.client;
-                        Err(refuse(&mut self.fault, Side::Client, stream, used, item))
-                    }
-                }
-            }
-            Advance::Refused(used, reason) => {
-                let item = ItemFault { place: 0, reason };
-                Err(refuse(&mut self.fault, Side::Client, &self.client, used, item))
-            }
-        }
-    }
-
-    /// Keeps the whole frame of the server that the piece begins with, where none is begun and it may come; else all is as
-    /// before, and None says no more.
-    #[inline(always)]
-    fn front_server(&mut self, piece: &[u8]) -> Option<usize>
-        requires good { self.old.fault ≡ None }
-        requires given_up { self.old.server_kept ≡ [] }
-        ensures limits { self.new.limits ≡ self.old.limits }
-        ensures some { IfSome result (λ used. StepsOn self.old Server piece.now used true self.new) }
-        ensures other { Leaves Client self.old self.new }
-        ensures none { IfNone result (self.new ≡ self.old) }
-    {
-        let used = self.server.take_front(piece)?;
-        match keep_server(&mut self.server, &mut self.waiting, used) {
-            Some(op) => {
-                self.answered = Some(op);
-                Some(used)
-            }
-            None => {
-                self.server.take_back(used);
-                None
-            }
-        }
-    }
-
-    #[inline(never)]
-    fn exact_server(&mut self, piece: &[u8]) -> Result<Stepped, Fault>
-        requires good { self.old.fault ≡ None }
-        requires given_up { self.old.server_kept ≡ [] }
-        ensures limits { self.new.limits ≡ self.old.limits }
-        ensures ok { IfOk result (λ s. StepsOn self.old Server piece.now s.used s.whole self.new) }
-        ensures exact { IfOk result (λ s. s.whole ≡ false → s.used ≡ length piece.now) }
-        ensures other { Leaves Client self.old self.new }
-        ensures err { IfErr result (λ e. (e.reason ≢ NoMemory) × IsRefused self.old Server piece.now e self.new) }
-        ensures none { OnErr result (self.new.server_kept ≡ []) }
-    {
-        match self.server.take(piece) {
-            Advance::Within => {
-                self.server.go_on(piece.len());
-                Ok(Stepped {
-                    used: piece.len(),
-                    whole: false,
-                })
-            }
-            Advance::Whole(used) => {
-                let asked = self.client.count();
-                match server_step(asked, &mut self.server, &mut self.waiting, used) {
-                    Ok(answered) => {
-                        self.answered = answered;
-                        Ok(Stepped { used, whole: true })
-                    }
-                    Err(item) => {
-                        let stream = &self.server;
-                        Err(refuse(&mut self.fault, Side::Server, stream, used, item))
-                    }
-                }
-            }
-            Advance::Refused(used, reason) => {
-                let item = ItemFault { place: 0, reason };
-                Err(refuse(&mut self.fault, Side::Server, &self.server, used, item))
-            }
-        }
-    }
-
-    /// Keeps the whole frame that the piece begins with, where none is begun and it may come; else all is as before, and
-    /// None says no more.
     #[inline(always)]
     fn front(&mut self, side: Side, piece: &[u8]) -> Option<usize>
         requires good { self.old.fault ≡ None }
@@ -364,8 +184,87 @@ impl Talk {
         ensures none { IfNone result (self.new ≡ self.old) }
     {
         match side {
-            Side::Client => self.front_client(piece),
-            Side::Server => self.front_server(piece),
+            Side::Client => {
+                let used = self.client.take_front(piece)?;
+                let profile = self.limits.profile();
+                if keep_client(profile, &mut self.client, &mut self.waiting, used) {
+                    Some(used)
+                } else {
+                    self.client.take_back(used);
+                    None
+                }
+            }
+            Side::Server => {
+                let used = self.server.take_front(piece)?;
+                match keep_server(&mut self.server, &mut self.waiting, used) {
+                    Some(op) => {
+                        self.answered = Some(op);
+                        Some(used)
+                    }
+                    None => {
+                        self.server.take_back(used);
+                        None
+                    }
+                }
+            }
+        }
+    }
+
+    #[inline(never)]
+    fn exact(&mut self, side: Side, piece: &[u8]) -> Result<Stepped, Fault>
+        requires good { self.old.fault ≡ None }
+        requires given_up { kept_on side self.old ≡ [] }
+        ensures limits { self.new.limits ≡ self.old.limits }
+        ensures ok { IfOk result (λ s. StepsOn self.old side piece.now s.used s.whole self.new) }
+        ensures exact { IfOk result (λ s. s.whole ≡ false → s.used ≡ length piece.now) }
+        ensures other { Leaves (other_side side) self.old self.new }
+        ensures err { IfErr result (λ e. (e.reason ≢ NoMemory) × IsRefused self.old side piece.now e self.new) }
+        ensures none { OnErr result (kept_on side self.new ≡ []) }
+    {
+        match side {
+            Side::Client => match receive(&mut self.fault, Side::Client, &mut self.client, piece) {
+                Received::Within => Ok(Stepped {
+                    used: piece.len(),
+                    whole: false,
+                }),
+                Received::Whole(used) => {
+                    let profile = self.limits.profile();
+                    match client_step(profile, &mut self.client, &mut self.waiting, used) {
+                        Ok(()) => Ok(Stepped { used, whole: true }),
+                        Err(item) => Err(refuse(
+                            &mut self.fault,
+                            Side::Client,
+                            &self.client,
+                            used,
+                            item,
+                        )),
+                    }
+                }
+                Received::Refused(fault) => Err(fault),
+            },
+            Side::Server => match receive(&mut self.fault, Side::Server, &mut self.server, piece) {
+                Received::Within => Ok(Stepped {
+                    used: piece.len(),
+                    whole: false,
+                }),
+                Received::Whole(used) => {
+                    let asked = self.client.count();
+                    match server_step(asked, &mut self.server, &mut self.waiting, used) {
+                        Ok(answered) => {
+                            self.answered = answered;
+                            Ok(Stepped { used, whole: true })
+                        }
+                        Err(item) => Err(refuse(
+                            &mut self.fault,
+                            Side::Server,
+                            &self.server,
+                            used,
+                            item,
+                        )),
+                    }
+                }
+                Received::Refused(fault) => Err(fault),
+            },
         }
     }
 
@@ -378,6 +277,27 @@ impl Talk {
             Side::Client => self.client.give_up(),
             Side::Server => self.server.give_up(),
         }
+    }
+
+    /// Steps over the whole frame that the piece begins with, where none is begun and it is seen at once that it may come:
+    /// the answer is how many of the piece's bytes were used. None says no more, and `step` decides what comes.
+    // It answers in registers: with it, before `step`, `check` of small messages takes 5% fewer instructions.
+    #[inline(always)]
+    pub fn step_front(&mut self, side: Side, piece: &[u8]) -> Option<usize>
+        ensures limits { self.new.limits ≡ self.old.limits }
+        // What is used goes on with the history; the frame that it makes whole is the newest message's.
+        ensures some { IfSome result (λ used. StepsOn self.old side piece.now used true self.new) }
+        // The other side's frame stays as it is, and shows what it shows.
+        ensures other { Leaves (other_side side) self.old self.new }
+        // Otherwise no byte is used.
+        ensures none { IfNone result ((h : History) (M : List Message) → Stands self.old h M → Stands self.new h M) }
+    {
+        self.give_up(side);
+        if self.fault.is_some() {
+            return None;
+        }
+        let used = self.front(side, piece)?;
+        Some(used)
     }
 
     /// Takes the piece up to the end of the first frame that becomes whole, or all of it. What is
@@ -409,10 +329,7 @@ impl Talk {
         if let Some(used) = self.front(side, piece) {
             return Ok(Stepped { used, whole: true });
         }
-        match side {
-            Side::Client => self.exact_client(piece),
-            Side::Server => self.exact_server(piece),
-        }
+        self.exact(side, piece)
     }
 
     /// Takes the piece up to the end of the first frame that becomes whole, or all of it.
@@ -442,10 +359,7 @@ impl Talk {
         if let Some(fault) = self.fault {
             return Err(fault);
         }
-        match side {
-            Side::Client => self.client_piece(piece),
-            Side::Server => self.server_piece(piece),
-        }
+        self.piece(side, piece)
     }
 
     /// The message whose frame the side keeps, where it lies: its texts and blobs are borrowed from

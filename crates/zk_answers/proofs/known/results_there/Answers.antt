@@ -5,6 +5,12 @@ use Rattle.zk_answers.proofs.known.results_there.Goals as goal
 pub loop-next-init : goal.loop-next-init
 loop-next-init c = record { within = c.requires.within; few = omega arith; left = left_first c.args.src.now.bytes.now c.args.place c.requires.within }
 
+pub behind_result-requires-clause-stands : goal.behind_result-requires-clause-stands
+behind_result-requires-clause-stands c =
+    let s = c.requires.stands in
+    let l = c.loop-next.invariant.left s.0 s.1 s.2 s.3 in
+    (l.rest, s.1, l.have, l.stands)
+
 pub loop-next-preserved : goal.loop-next-preserved
 loop-next-preserved c =
     let src = c.args.src.now.bytes.now in

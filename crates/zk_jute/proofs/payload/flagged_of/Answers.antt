@@ -1,8 +1,18 @@
 use Rattle.std.proofs.Common.{◌<◌, ℕ, List, [], ◌∷◌, length, sym, ap, subst, ◌∙◌}
 use Rattle.std.proofs.lemmas.Result.{err_from_is_err_and}
 use Rattle.zk_jute.specs.Item.{ABoolean}
+use Rattle.zk_jute.proofs.Known.{flagged_value, flagged_flag}
 use Rattle.zk_jute.proofs.Flagged.{refused_flag, refused_rest}
 use Rattle.zk_jute.proofs.payload.flagged_of.Goals as goal
+
+pub read_in-requires-clause-known : goal.read_in-requires-clause-known
+read_in-requires-clause-known g c = flagged_value g.P.Source.knows g.T.Form.wired (g.P.Source.payload c.args.src.now) c.requires
+
+pub read_in-requires-2-clause-known : goal.read_in-requires-2-clause-known
+read_in-requires-2-clause-known g c =
+    let value = c.in_ok-value in
+    let found = value.ensures.found in
+    flagged_flag g.P.Source.knows g.T.Form.wired (g.P.Source.payload c.args.src.now) c.requires (g.T.Form.wired.items value.value) value.place found.0 found.1 value.ensures.within (λ e. c.if-place-end.false (e ∙ sym (ap length c.payload-end.ensures)))
 
 pub returns-in_err-flag-clause-fault : goal.returns-in_err-flag-clause-fault
 returns-in_err-flag-clause-fault g c =

@@ -8,7 +8,7 @@ use Rattle.zk_jute.proofs.stands.elements_in.Goals as goal
 pub loop-preserved : goal.loop-preserved
 loop-preserved g c =
     let items = g.T.Form.wired.items in
-    let at = items_at g.T.Form.wired.layout (g.P.Source.payload c.args.src.now) in
+    let at = items_at g.T.Form.wired.layout (c.args.src.now.bytes.now) in
     let so_far = c.loop.invariant.so_far in
     let count = c.loop.invariant.count in
     record {

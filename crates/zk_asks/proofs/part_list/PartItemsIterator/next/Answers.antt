@@ -1,9 +1,16 @@
 use Rattle.std.proofs.Common.{◌<◌, sym, ap, ◌∙◌, length, arith}
-use Rattle.zk_jute.proofs.Stretches.{first_read, never_refused}
+use Rattle.zk_jute.proofs.Stretches.{first_there, first_read, never_refused}
 use Rattle.zk_asks.specs.Parts.{part_items}
 use Rattle.zk_asks.specs.Shown.{part_value}
 use Rattle.zk_asks.proofs.Lying.{part_read}
 use Rattle.zk_asks.proofs.part_list.PartItemsIterator.next.Goals as goal
+
+pub part_in-requires-clause-known : goal.part_in-requires-clause-known
+part_in-requires-clause-known c =
+    let l = c.self.inside in
+    let some : 0 < l.left = omega (arith, c.if-self-eq0.false) in
+    let f = first_there part_items l.payload.now (part_value l.payload.now) (part_read l.payload.now) l.left l.place some c.self.invariant in
+    (f.0, f.1, f.2, f.3)
 
 pub invariant_of-self : goal.invariant_of-self
 invariant_of-self c =

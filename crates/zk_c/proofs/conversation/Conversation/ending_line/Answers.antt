@@ -9,5 +9,5 @@ pub returns : goal.returns
 returns c = record {
   ending = c.finish-ending.result;
   is = c.finish-ending.ensures;
-  text = subst (λ (text : List ℕ). TellsText text c.args.out.now c.put.new.out c.put.result) (c.deref.ensures.value ∙ c.in-Ok.ensures) c.put.ensures;
+  text = subst (λ (text : List ℕ). TellsText text c.args.out.now c.put.new.out c.put.result) (c.deref.ensures.value ∙ c.in-Ok.ensures) c.put.ensures.told;
 }

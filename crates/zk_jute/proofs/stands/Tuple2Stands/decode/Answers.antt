@@ -2,7 +2,16 @@ use Rattle.std.proofs.Common.{ap}
 use Rattle.std.proofs.lemmas.Result.{err_from_is_err_and}
 use Rattle.zk_jute.specs.Reading.{end_of}
 use Rattle.zk_jute.proofs.Chains.{are_plain, then_fails, then_fails_later}
+use Rattle.zk_jute.proofs.Known.{then_known, then_known_later}
 use Rattle.zk_jute.proofs.stands.Tuple2Stands.decode.Goals as goal
+
+pub decode-requires-clause-known : goal.decode-requires-clause-known
+decode-requires-clause-known g c = then_known g.P.Source.knows g.A.Form.wired.layout g.B.Form.wired.layout (g.P.Source.payload c.args.src.now) c.args.place c.requires.known
+
+pub decode-requires-2-clause-known : goal.decode-requires-2-clause-known
+decode-requires-2-clause-known g c =
+    let first = c.in_ok-first in
+    then_known_later g.P.Source.knows g.A.Form.wired.layout g.B.Form.wired.layout (g.P.Source.payload c.args.src.now) c.args.place c.requires.known (g.A.Form.wired.items first.first) first.place first.ensures.exact
 
 pub returns-in_err-first-clause-plain : goal.returns-in_err-first-clause-plain
 returns-in_err-first-clause-plain g c = λ plain.

@@ -14,31 +14,17 @@ returns-in-Some-clause-err c =
     let kept : old.fault ≡ Some f = fault_stays c.args.side old ∙ ap (λ (t : TalkState). t.fault) (sym c.give_up.ensures ∙ sym c.self.view_is) ∙ c.in-Some.is in
     (known, known_fault old f c.args.side kept c.give_up.new.self c.args.piece.now)
 
-pub returns-in-Client-clause-ok : goal.returns-in-Client-clause-ok
-returns-in-Client-clause-ok c =
+pub returns-clause-ok : goal.returns-clause-ok
+returns-clause-ok c =
     let old = c.args.self.now in
-    let new = c.exact_client.new.self in
-    IfOk-weaker c.exact_client.result _ _
-    (λ s x. (x.0, x.1, steps_first c.args.side old new (take s.used c.args.piece.now) s.whole (rw (← c.give_up.ensures, ← c.in_default-front.ensures.none, c.in-Client.is) x.2))) c.exact_client.ensures.ok
+    let new = c.exact.new.self in
+    IfOk-weaker c.exact.result _ _ (λ s x. (x.0, x.1, steps_first c.args.side old new (take s.used c.args.piece.now) s.whole (rw (← c.give_up.ensures, ← c.in_default-front.ensures.none) x.2))) c.exact.ensures.ok
 
-pub returns-in-Client-clause-err : goal.returns-in-Client-clause-err
-returns-in-Client-clause-err c =
+pub returns-clause-err : goal.returns-clause-err
+returns-clause-err c =
     let old = c.args.self.now in
-    let new = c.exact_client.new.self in
-    IfErr-weaker c.exact_client.result _ _ (λ e x. (x.0, refused_first c.args.side old new c.args.piece.now e (rw (← c.give_up.ensures, ← c.in_default-front.ensures.none, c.in-Client.is) x.1))) c.exact_client.ensures.err
-
-pub returns-in-Server-clause-ok : goal.returns-in-Server-clause-ok
-returns-in-Server-clause-ok c =
-    let old = c.args.self.now in
-    let new = c.exact_server.new.self in
-    IfOk-weaker c.exact_server.result _ _
-    (λ s x. (x.0, x.1, steps_first c.args.side old new (take s.used c.args.piece.now) s.whole (rw (← c.give_up.ensures, ← c.in_default-front.ensures.none, c.in-Server.is) x.2))) c.exact_server.ensures.ok
-
-pub returns-in-Server-clause-err : goal.returns-in-Server-clause-err
-returns-in-Server-clause-err c =
-    let old = c.args.self.now in
-    let new = c.exact_server.new.self in
-    IfErr-weaker c.exact_server.result _ _ (λ e x. (x.0, refused_first c.args.side old new c.args.piece.now e (rw (← c.give_up.ensures, ← c.in_default-front.ensures.none, c.in-Server.is) x.1))) c.exact_server.ensures.err
+    let new = c.exact.new.self in
+    IfErr-weaker c.exact.result _ _ (λ e x. (x.0, refused_first c.args.side old new c.args.piece.now e (rw (← c.give_up.ensures, ← c.in_default-front.ensures.none) x.1))) c.exact.ensures.err
 
 pub returns-in-Some-front-clause-ok : goal.returns-in-Some-front-clause-ok
 returns-in-Some-front-clause-ok c =

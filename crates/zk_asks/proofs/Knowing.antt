@@ -1,0 +1,124 @@
+-- A payload that is known to be a request: its header stands in front, and its body behind that.
+use Rattle.std.proofs.Common.{◌≡◌, ℕ, ◌+◌, ◌≤◌, inl, inr, List, [], ◌++◌, length, drop, Option, Some, Result, Ok, Err, refl, sym, ap, subst, ◌∙◌, arith}
+use Rattle.std.specs.Prelude.{ℤ, IsOk, IfOk, IfErr, MatchOption}
+use Rattle.std.proofs.lemmas.List.{append-nil, length-drop, drop_at}
+use Rattle.zk_jute.specs.declared.fault.ItemFault.{ItemFault}
+use Rattle.zk_jute.specs.Item.{bytes_of, Item, HaveBytes}
+use Rattle.zk_jute.specs.Layout.{IsValueOf}
+use Rattle.zk_jute.specs.Told.{StandsAt, HasSureFault, IsToldAt, IsSurelyToldAt}
+use Rattle.zk_jute.specs.Wired.{Wired}
+use Rattle.zk_jute.specs.Standing.{OneStands}
+use Rattle.zk_jute.proofs.Layouts.{bytes_only, bytes_both, have_parts}
+use Rattle.zk_jute.proofs.Sequels.{excluded, none_left}
+use Rattle.zk_records.specs.Records.{request_header}
+use Rattle.zk_records.specs.declared.op.Op.{Op}
+use Rattle.zk_records.specs.declared.header.RequestHeader.{RequestHeader}
+use Rattle.zk_records.specs.Codes.{op_number}
+use Rattle.zk_records.proofs.Numbers.{op_number_apart}
+use Rattle.zk_asks.specs.Held.{Ask, ClientFrame}
+use Rattle.zk_asks.specs.declared.frame.ClientFrameOf.TheVariants as frame
+use Rattle.zk_asks.specs.Faults.{IsBodyFault}
+use Rattle.zk_asks.specs.Forms.{header_items, IsBody}
+use Rattle.zk_asks.specs.Rows.{row_of, items_in, op_of_ask, body_items}
+use Rattle.zk_asks.specs.Frames.{IsSent, IsLater, payload}
+use Rattle.zk_asks.proofs.Made.{IsMade, is_made}
+use Rattle.zk_asks.proofs.Asks.{body_is}
+use Rattle.zk_asks.proofs.Later.{header_is, header_same, body_only, body_excludes, body_apart}
+
+-- what stands somewhere is read there
+pub surely_read : {X : Type 0} (w : Wired X) (src : List ℕ) (place : ℕ) (answer : Result (X × ℕ) ItemFault) → IfErr answer (HasSureFault (IsValueOf w.layout) src place) → OneStands w.items src place → IsOk answer
+surely_read w src place (Ok x) f o = refl
+surely_read w src place (Err e) f o = absurd (excluded w.layout (w.items o.0) (drop place src) (drop o.1 src) f.0.0 e.reason (w.unfolds o.0, o.2) o.3.0 f.0.1)
+
+made_stands : (op : Op) (a : Ask) (src : List ℕ) (place end : ℕ) → IsMade op a → HaveBytes (body_items a) → StandsAt (body_items a) src place end → OneStands (items_in (row_of op)) src place
+unfolding IsMade
+made_stands op a src place end m have stands = (m.0, end, subst HaveBytes (sym m.2) have, subst (λ (i : List Item). StandsAt i src place end) (sym m.2) stands)
+
+module _ (xid : ℤ) (a : Ask) (src : List ℕ) (sent : IsSent (frame.Ask xid a)) (is : src ≡ payload (frame.Ask xid a)) where
+  abbrev head : List Item
+  head = header_items xid (op_number (op_of_ask a))
+
+  have : HaveBytes head × HaveBytes (body_items a)
+  have = have_parts head (body_items a) sent.1
+
+  split : src ≡ bytes_of head ++ bytes_of (body_items a)
+  split = is ∙ bytes_both head (body_items a)
+
+  pub header_stands : OneStands request_header.items src 0
+  header_stands =
+      let n = length (bytes_of head) in
+      let rest : drop n src ≡ bytes_of (body_items a) = ap (drop n) split ∙ drop_at (bytes_of head) (bytes_of (body_items a)) n refl in
+      (record { xid = xid; kind = op_number (op_of_ask a) }, n, have.0, (split ∙ ap (λ (b : List ℕ). bytes_of head ++ b) (sym rest), refl))
+
+  pub behind_header : (h : RequestHeader) (place : ℕ) → IsValueOf request_header.layout (request_header.items h) → StandsAt (request_header.items h) src 0 place
+      → (h.xid ≡ xid) × (h.kind ≡ op_number (op_of_ask a)) × (drop place src ≡ bytes_of (body_items a))
+  behind_header h place v s =
+      let same = bytes_only request_header.layout (request_header.items h) head (drop place src) (bytes_of (body_items a)) v (header_is xid (op_number (op_of_ask a)) have.0) (sym s.0 ∙ split) in
+      let both = header_same h.xid h.kind xid (op_number (op_of_ask a)) same.0 in
+      (both.0, both.1, same.1)
+
+  module _ (place : ℕ) (rest : drop place src ≡ bytes_of (body_items a)) where
+    pub body_stands : place ≤ length src → OneStands (items_in (row_of (op_of_ask a))) src place
+    body_stands le =
+        let body = bytes_of (body_items a) in
+        let end = place + length body in
+        let none : drop end src ≡ [] = none_left src end (omega (arith, ap length rest, length-drop place src)) in
+        made_stands (op_of_ask a) a src place end (is_made a) have.1 (rest ∙ sym (ap (λ (b : List ℕ). body ++ b) none ∙ append-nil body), refl)
+
+    pub body_read : (answer : Result (Ask × ℕ) ItemFault) → IfErr answer (IsSurelyToldAt (IsBodyFault (op_of_ask a)) src place) → IsOk answer
+    unfolding IsToldAt
+    body_read (Ok x) f = refl
+    body_read (Err e) f =
+        elim f.0 [
+          | inl m ↦ absurd (f.1 (ap (λ (y : ItemFault). y.reason) m))
+          | inr k ↦ absurd (body_excludes (op_of_ask a) (body_items a) (drop place src) [] k.0 e.reason (body_is a have.1) (rest ∙ sym (append-nil (bytes_of (body_items a)))) k.1)
+        ]
+
+    pub body_is_it : (b : Ask) (end : ℕ) → op_of_ask b ≡ op_of_ask a → HaveBytes (body_items b) → StandsAt (body_items b) src place end → b ≡ a
+    body_is_it b end op has stands =
+        let v : IsBody (op_of_ask a) (body_items b) = subst (λ (o : Op). IsBody o (body_items b)) op (body_is b has) in
+        let same = body_only (op_of_ask a) (body_items a) (body_items b) [] (drop end src) (body_is a have.1) v (append-nil (bytes_of (body_items a)) ∙ sym rest ∙ stands.0) in
+        sym (body_apart a b op same.0)
+
+-- ---- the same, of whatever frame the payload is known to be
+
+abbrev pub AnAsk : List ℕ → ClientFrame → Type 0
+AnAsk src f = IsLater f × IsSent f × (src ≡ payload f)
+
+pub ask_header : (src : List ℕ) (f : ClientFrame) → AnAsk src f → OneStands request_header.items src 0
+ask_header src (frame.Ask xid a) k = header_stands xid a src k.1 k.2
+ask_header src (frame.Connect hello flag) k = absurd k.0
+
+module _ (src : List ℕ) (h : RequestHeader) (place : ℕ) (v : IsValueOf request_header.layout (request_header.items h)) (s : StandsAt (request_header.items h) src 0 place) where
+  pub ask_op : (f : ClientFrame) → AnAsk src f → (op : Op) × (h.kind ≡ op_number op)
+  ask_op (frame.Ask xid a) k = (op_of_ask a, (behind_header xid a src k.1 k.2 h place v s).1)
+  ask_op (frame.Connect hello flag) k = absurd k.0
+
+  module _ (op : Op) (is : h.kind ≡ op_number op) where
+    pub ask_body : (f : ClientFrame) → AnAsk src f → place ≤ length src → OneStands (items_in (row_of op)) src place
+    ask_body (frame.Ask xid a) k le =
+        let b = behind_header xid a src k.1 k.2 h place v s in
+        let same : op_of_ask a ≡ op = op_number_apart (op_of_ask a) op (sym b.1 ∙ is) in
+        subst (λ (o : Op). OneStands (items_in (row_of o)) src place) same (body_stands xid a src k.1 k.2 place b.2 le)
+    ask_body (frame.Connect hello flag) k le = absurd k.0
+
+    pub ask_read : (f : ClientFrame) → AnAsk src f → (answer : Result (Ask × ℕ) ItemFault) → IfErr answer (IsSurelyToldAt (IsBodyFault op) src place) → IsOk answer
+    ask_read (frame.Ask xid a) k answer fault =
+        let b = behind_header xid a src k.1 k.2 h place v s in
+        let same : op ≡ op_of_ask a = op_number_apart op (op_of_ask a) (sym is ∙ b.1) in
+        body_read xid a src k.1 k.2 place b.2 answer (subst (λ (o : Op). IfErr answer (IsSurelyToldAt (IsBodyFault o) src place)) same fault)
+    ask_read (frame.Connect hello flag) k answer fault = absurd k.0
+
+    pub ask_is : (f : ClientFrame) → AnAsk src f → (b : Ask) (end : ℕ) → op_of_ask b ≡ op → HaveBytes (body_items b) → StandsAt (body_items b) src place end → frame.Ask h.xid b ≡ f
+    ask_is (frame.Ask xid a) k b end of has stands =
+        let d = behind_header xid a src k.1 k.2 h place v s in
+        let same : op ≡ op_of_ask a = op_number_apart op (op_of_ask a) (sym is ∙ d.1) in
+        ap (λ (z : ℤ). frame.Ask z b) d.0 ∙ ap (frame.Ask xid) (body_is_it xid a src k.1 k.2 place d.2 b end (of ∙ same) has stands)
+    ask_is (frame.Connect hello flag) k b end of has stands = absurd k.0
+
+-- what holds of any value that is answered holds of this one
+pub of_answer : {X E : Type 0} (P : X → Type 0) (answer : Result X E) (x : X) → answer ≡ Ok x → IfOk answer P → P x
+of_answer {X} {E} P answer x e h = subst (λ (r : Result X E). IfOk r P) e h
+
+pub of_some : {X : Type 0} (N : Type 0) (P : X → Type 0) (answer : Option X) (x : X) → answer ≡ Some x → MatchOption answer N P → P x
+of_some {X} N P answer x e h = subst (λ (o : Option X). MatchOption o N P) e h

@@ -1,0 +1,72 @@
+-- Parts that are left of a multi that is known to stand in a payload.
+use Rattle.std.proofs.Common.{◌≡◌, ℕ, ◌+◌, ◌≤◌, Bool, true, false, List, [], ◌∷◌, ◌++◌, length, drop, Ok, Err, refl, sym, ap, subst, ◌∙◌, append_assoc, arith}
+use Rattle.std.specs.Prelude.{Result}
+use Rattle.std.specs.List.{flat_map}
+use Rattle.zk_jute.specs.declared.fault.ItemFault.{ItemFault}
+use Rattle.zk_jute.specs.Item.{Item, bytes_of, HaveBytes}
+use Rattle.zk_jute.specs.Layout.{IsValueOf}
+use Rattle.zk_jute.specs.Told.{StandsAt}
+use Rattle.zk_jute.specs.Standing.{Known, OneStands}
+use Rattle.zk_jute.proofs.Layouts.{bytes_only, have_parts}
+use Rattle.zk_jute.proofs.Stretches.{stands_split}
+use Rattle.zk_records.specs.Records.{multi_header}
+use Rattle.zk_records.specs.declared.header.MultiHeader.{MultiHeader}
+use Rattle.zk_records.specs.declared.op.PartOp.{PartOp}
+use Rattle.zk_asks.specs.Held.{Part}
+use Rattle.zk_asks.specs.Parts.{part_row, part_header, end_header, marked, part_items, multi_items}
+use Rattle.zk_asks.specs.Fronts.{IsRecordAt}
+use Rattle.zk_asks.proofs.Parted.{mark_same, not_end, end_mark}
+use Rattle.zk_asks.proofs.Lying.{mark_stands, record_stands, part_only}
+
+abbrev place_of : ℕ → Result (Part × ℕ) ItemFault → ℕ
+place_of other (Ok x) = x.1
+place_of other (Err e) = other
+
+module _ (src : List ℕ) (place : ℕ) (le : place ≤ length src) where
+  -- the place behind this part
+  abbrev behind : Part → ℕ
+  behind p = place + length (bytes_of (part_items p))
+
+  first_of : (p : Part) (ps : List Part) (end : ℕ) → HaveBytes (multi_items (p ∷ ps)) → StandsAt (multi_items (p ∷ ps)) src place end
+      → (HaveBytes (part_items p) × StandsAt (part_items p) src place (behind p)) × (HaveBytes (multi_items ps) × StandsAt (multi_items ps) src (behind p) end)
+  first_of p ps end have stands =
+      let items = append_assoc (part_items p) (flat_map part_items ps) (marked end_header) in
+      let h = have_parts (part_items p) (multi_items ps) (subst HaveBytes items have) in
+      let s = stands_split (part_items p) (multi_items ps) src place end le (subst (λ (i : List Item). StandsAt i src place end) items stands) in
+      ((h.0, s.0), (h.1, s.1))
+
+  -- what reads the header in front
+  mark_there : (ps : List Part) (end : ℕ) → HaveBytes (multi_items ps) → StandsAt (multi_items ps) src place end → OneStands multi_header.items src place
+  mark_there [] end have stands = (end_header, end, have, stands)
+  mark_there (p ∷ ps) end have stands = let f = first_of p ps end have stands in mark_stands p src place (behind p) le f.0.0 f.0.1
+
+  pub mark_left : (k : Bool) → Known k (OneStands multi_items src place) → Known k (OneStands multi_header.items src place)
+  mark_left false h = tt
+  mark_left true h = mark_there h.0 h.1 h.2 h.3
+
+  module _ (header : MultiHeader) (after : ℕ) (v : IsValueOf multi_header.layout (marked header)) (s : StandsAt (marked header) src place after) (op : PartOp) (is : header ≡ part_header op) where
+    none_left : (end : ℕ) → StandsAt (multi_items []) src place end → ⊥
+    none_left end stands =
+        let same = bytes_only multi_header.layout (marked header) (marked end_header) (drop after src) (drop end src) v end_mark (sym s.0 ∙ stands.0) in
+        not_end op (sym is ∙ mark_same header end_header same.0)
+
+    record_there : (ps : List Part) (end : ℕ) → HaveBytes (multi_items ps) → StandsAt (multi_items ps) src place end → OneStands (part_row op).wired.items src after
+    record_there [] end have stands = absurd (none_left end stands)
+    record_there (p ∷ ps) end have stands = let f = first_of p ps end have stands in record_stands p src place (behind p) le f.0.0 f.0.1 header after op v s is
+
+    pub record_left : (k : Bool) → Known k (OneStands multi_items src place) → Known k (OneStands (part_row op).wired.items src after)
+    record_left false h = tt
+    record_left true h = record_there h.0 h.1 h.2 h.3
+
+    module _ (next : ℕ) (r : IsRecordAt op src after next) where
+      others_there : (ps : List Part) (end : ℕ) → HaveBytes (multi_items ps) → StandsAt (multi_items ps) src place end → OneStands multi_items src next
+      others_there [] end have stands = absurd (none_left end stands)
+      others_there (p ∷ ps) end have stands =
+          let f = first_of p ps end have stands in
+          let one = part_only p src place (behind p) le f.0.0 f.0.1 header after op v s is (Ok (r.0, next)) (r.1, r.2, r.3) tt in
+          let same : next ≡ behind p = ap (place_of (behind p)) one in
+          (ps, end, f.1.0, subst (λ (n : ℕ). StandsAt (multi_items ps) src n end) (sym same) f.1.1)
+
+      pub others_left : (k : Bool) → Known k (OneStands multi_items src place) → Known k (OneStands multi_items src next)
+      others_left false h = tt
+      others_left true h = others_there h.0 h.1 h.2 h.3

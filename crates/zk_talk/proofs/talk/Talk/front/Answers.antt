@@ -1,0 +1,48 @@
+use Rattle.std.proofs.Common.{◌∙◌, Some, ap, arith, drop, inl, subst, sym}
+use Rattle.zk_talk.specs.contracts.talk.Talk.{the_view}
+use Rattle.zk_talk.specs.declared.message.Side.TheVariants.{Client, Server}
+use Rattle.zk_talk.specs.declared.message.MessageOf.TheVariants.{Client as FromClient, Server as FromServer}
+use Rattle.zk_talk.specs.Sound.{IsSide}
+use Rattle.zk_talk.specs.Streams.{StreamState}
+use Rattle.zk_talk.specs.Judged.{IsNextClient}
+use Rattle.zk_talk.proofs.Answering.{keeps}
+use Rattle.zk_talk.proofs.talk.Talk.front.Goals as goal
+
+pub returns-then-keep_client-clause-some : goal.returns-then-keep_client-clause-some
+returns-then-keep_client-clause-some c =
+    let T = the_view c.self.inside in
+    let s = c.take_front.new.self in
+    let k = c.keep_client.ensures in
+    let f = k.found c.if-keep_client.true in
+    let t = c.in_ok-used-in-Client.ensures in
+    let a = t.some.1 in
+    let next = subst (λ z. IsNextClient z s.count T.waiting (drop 4 s.held) f.0) c.profile-profile.ensures f.1.0 in
+    rw (c.in-Client.is, ← c.self.view_is) (a.1, (λ l. a.0), keeps Client T c.args.piece.now s c.keep_client.new.stream c.self.invariant.0.same t.stays c.in_ok-used-in-Client.used a c.self.invariant.2 T.answered (FromClient f.0) c.keep_client.new.waiting (next, f.1.1) f.1.2 (k.kept c.if-keep_client.true))
+
+pub invariant_of-self-in-Some : goal.invariant_of-self-in-Some
+invariant_of-self-in-Some c =
+    let x = c.self.inside in
+    let i = c.self.invariant in
+    let k = c.in-Some.ensures in
+    let f = k.found 0 in
+    let t = c.in_ok-used-in-Server.ensures in
+    let a = t.some.1 in
+    let sizes = ap (λ (z : StreamState). z.size) t.stays in
+    let counts = ap (λ (z : StreamState). z.count) t.stays in
+    let side = subst (IsSide x.limits.server x.fault) (sym k.kept) (record {
+      begins = λ e. inl (omega arith);
+      same = ap (λ (z : StreamState). z.limit) t.stays ∙ i.1.same;
+      size = omega (arith, sizes, a.2);
+      count = omega (arith, sizes, counts, i.1.count, a.0);
+    }) in
+    (i.0, side, k.max ∙ i.2, i.3, i.4, λ held. (f.0, f.1.2))
+
+pub returns-in-Some-clause-some : goal.returns-in-Some-clause-some
+returns-in-Some-clause-some c =
+    let T = the_view c.self.inside in
+    let s = c.take_front-in-Server.new.self in
+    let k = c.in-Some.ensures in
+    let f = k.found T.client_frames in
+    let t = c.in_ok-used-in-Server.ensures in
+    let a = t.some.1 in
+    rw (c.in-Server.is, ← c.self.view_is) (a.1, (λ l. a.0), keeps Server T c.args.piece.now s c.keep_server.new.stream c.self.invariant.1.same t.stays c.in_ok-used-in-Server.used a c.self.invariant.2 (Some c.in-Some.op) (FromServer f.0) c.keep_server.new.waiting (f.1.0, f.1.1) f.1.2 k.kept)

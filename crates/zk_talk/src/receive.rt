@@ -1,0 +1,90 @@
+//! What a piece brings to a side, whichever it is, and the fault that is kept.
+ghost use Rattle.std.specs.Prelude.{◌≡◌, ◌≢◌, ◌<◌, ◌+◌, ◌^◌, [], Some};
+ghost use Rattle.zk_jute.specs.declared.fault.Reason.TheVariants.{NoMemory};
+ghost use Rattle.zk_jute.specs.Reading.{no_memory};
+ghost use Rattle.zk_frames.specs.Framing.{IsBeginning};
+ghost use Rattle.zk_talk.specs.Fault.{fault_of};
+ghost use Rattle.zk_talk.specs.Sound.{IsKnown};
+ghost use Rattle.zk_talk.specs.Receiving.{IsReceived};
+
+use crate::frame::is_no_memory;
+use crate::message::{Fault, Side};
+use crate::stream::{Advance, Stream};
+use zk_jute::{ItemFault, Reason};
+
+/// What a piece brings to a side.
+pub enum Received {
+    /// All of it was taken, and the frame isn't whole.
+    Within,
+    /// So many of its bytes were taken, and the frame is whole.
+    Whole(usize),
+    /// The side is refused.
+    Refused(Fault),
+}
+
+/// The fault of an item of this side's frame, behind so many bytes of the side.
+fn fault_at(side: Side, frame: u64, offset: u64, item: ItemFault) -> Fault
+    ensures { result ≡ fault_of side frame offset item.place item.reason }
+{
+    Fault {
+        side,
+        frame,
+        offset,
+        place: item.place,
+        reason: item.reason,
+    }
+}
+
+/// Memory is wanted.
+fn wanting() -> ItemFault
+    ensures { result ≡ no_memory }
+{
+    ItemFault {
+        place: 0,
+        reason: Reason::NoMemory,
+    }
+}
+
+/// The fault of the frame that so many more bytes have brought; it is kept, but for want of
+/// memory.
+#[inline(never)]
+pub fn refuse(
+    kept: &mut Option<Fault>,
+    side: Side,
+    stream: &Stream,
+    used: usize,
+    item: ItemFault,
+) -> Fault
+    requires { stream.now.size + used < 2 ^ 64 }
+    ensures wanting { item.reason ≡ NoMemory → (result ≡ fault_of side stream.now.count stream.now.size 0 NoMemory) × (kept.new ≡ kept.old) }
+    ensures told { item.reason ≢ NoMemory → (result ≡ fault_of side stream.now.count (stream.now.size + used) item.place item.reason) × (kept.new ≡ Some result) }
+    ensures known { IsKnown kept.old → IsKnown kept.new }
+{
+    if is_no_memory(item) {
+        return fault_at(side, stream.count(), stream.size(), wanting());
+    }
+    let fault = fault_at(side, stream.count(), stream.size() + used as u64, item);
+    *kept = Some(fault);
+    fault
+}
+
+/// The side takes the piece up to the end of the first frame that becomes whole, or all of it. A refusal is kept.
+pub fn receive(kept: &mut Option<Fault>, side: Side, stream: &mut Stream, piece: &[u8]) -> Received
+    requires begins { IsBeginning stream.old.limit stream.old.held }
+    requires given_up { stream.old.kept ≡ [] }
+    requires size { stream.old.size < 2 ^ 62 }
+    ensures received { IsReceived side stream.old piece.now kept.old result stream.new kept.new }
+    ensures known { IsKnown kept.old → IsKnown kept.new }
+{
+    match stream.take(piece) {
+        Advance::Within => {
+            stream.go_on(piece.len());
+            Received::Within
+        }
+        Advance::Whole(used) => Received::Whole(used),
+        Advance::Refused(used, reason) => {
+            let item = ItemFault { place: 0, reason };
+            Received::Refused(refuse(kept, side, stream, used, item))
+        }
+    }
+}
