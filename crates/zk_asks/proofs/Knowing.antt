@@ -1,7 +1,7 @@
 -- A payload that is known to be a request: its header stands in front, and its body behind that.
 use Rattle.std.proofs.Common.{◌≡◌, ℕ, ◌+◌, ◌≤◌, inl, inr, List, [], ◌++◌, length, drop, Option, Some, Result, Ok, Err, refl, sym, ap, subst, ◌∙◌, arith}
 use Rattle.std.specs.Prelude.{ℤ, IsOk, IfOk, IfErr, MatchOption}
-use Rattle.std.proofs.lemmas.List.{append-nil, length-drop, drop_at}
+use Rattle.std.proofs.lemmas.List.{append-nil}
 use Rattle.zk_jute.specs.declared.fault.ItemFault.{ItemFault}
 use Rattle.zk_jute.specs.Item.{bytes_of, Item, HaveBytes}
 use Rattle.zk_jute.specs.Layout.{IsValueOf}
@@ -9,7 +9,8 @@ use Rattle.zk_jute.specs.Told.{StandsAt, HasSureFault, IsToldAt, IsSurelyToldAt}
 use Rattle.zk_jute.specs.Wired.{Wired}
 use Rattle.zk_jute.specs.Standing.{OneStands}
 use Rattle.zk_jute.proofs.Layouts.{bytes_only, bytes_both, have_parts}
-use Rattle.zk_jute.proofs.Sequels.{excluded, none_left}
+use Rattle.zk_jute.proofs.Sequels.{excluded}
+use Rattle.zk_jute.proofs.Known.{stands_first, stands_last}
 use Rattle.zk_records.specs.Records.{request_header}
 use Rattle.zk_records.specs.declared.op.Op.{Op}
 use Rattle.zk_records.specs.declared.header.RequestHeader.{RequestHeader}
@@ -45,10 +46,7 @@ module _ (xid : ℤ) (a : Ask) (src : List ℕ) (sent : IsSent (frame.Ask xid a)
   split = is ∙ bytes_both head (body_items a)
 
   pub header_stands : OneStands request_header.items src 0
-  header_stands =
-      let n = length (bytes_of head) in
-      let rest : drop n src ≡ bytes_of (body_items a) = ap (drop n) split ∙ drop_at (bytes_of head) (bytes_of (body_items a)) n refl in
-      (record { xid = xid; kind = op_number (op_of_ask a) }, n, have.0, (split ∙ ap (λ (b : List ℕ). bytes_of head ++ b) (sym rest), refl))
+  header_stands = stands_first request_header.items (record { xid = xid; kind = op_number (op_of_ask a) }) src (bytes_of (body_items a)) have.0 split
 
   pub behind_header : (h : RequestHeader) (place : ℕ) → IsValueOf request_header.layout (request_header.items h) → StandsAt (request_header.items h) src 0 place
       → (h.xid ≡ xid) × (h.kind ≡ op_number (op_of_ask a)) × (drop place src ≡ bytes_of (body_items a))
@@ -59,11 +57,7 @@ module _ (xid : ℤ) (a : Ask) (src : List ℕ) (sent : IsSent (frame.Ask xid a)
 
   module _ (place : ℕ) (rest : drop place src ≡ bytes_of (body_items a)) where
     pub body_stands : place ≤ length src → OneStands (items_in (row_of (op_of_ask a))) src place
-    body_stands le =
-        let body = bytes_of (body_items a) in
-        let end = place + length body in
-        let none : drop end src ≡ [] = none_left src end (omega (arith, ap length rest, length-drop place src)) in
-        made_stands (op_of_ask a) a src place end (is_made a) have.1 (rest ∙ sym (ap (λ (b : List ℕ). body ++ b) none ∙ append-nil body), refl)
+    body_stands le = made_stands (op_of_ask a) a src place (place + length (bytes_of (body_items a))) (is_made a) have.1 (stands_last (body_items a) src place le rest)
 
     pub body_read : (answer : Result (Ask × ℕ) ItemFault) → IfErr answer (IsSurelyToldAt (IsBodyFault (op_of_ask a)) src place) → IsOk answer
     unfolding IsToldAt

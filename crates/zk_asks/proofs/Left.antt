@@ -18,6 +18,11 @@ use Rattle.zk_asks.specs.Fronts.{IsRecordAt}
 use Rattle.zk_asks.proofs.Parted.{mark_same, not_end, end_mark}
 use Rattle.zk_asks.proofs.Lying.{mark_stands, record_stands, part_only}
 
+-- what follows from what is known is known
+pub known_from : {P Q : Type 0} (k : Bool) → (P → Q) → Known k P → Known k Q
+known_from false f p = tt
+known_from true f p = f p
+
 abbrev place_of : ℕ → Result (Part × ℕ) ItemFault → ℕ
 place_of other (Ok x) = x.1
 place_of other (Err e) = other
@@ -35,14 +40,12 @@ module _ (src : List ℕ) (place : ℕ) (le : place ≤ length src) where
       let s = stands_split (part_items p) (multi_items ps) src place end le (subst (λ (i : List Item). StandsAt i src place end) items stands) in
       ((h.0, s.0), (h.1, s.1))
 
-  -- what reads the header in front
   mark_there : (ps : List Part) (end : ℕ) → HaveBytes (multi_items ps) → StandsAt (multi_items ps) src place end → OneStands multi_header.items src place
   mark_there [] end have stands = (end_header, end, have, stands)
   mark_there (p ∷ ps) end have stands = let f = first_of p ps end have stands in mark_stands p src place (behind p) le f.0.0 f.0.1
 
-  pub mark_left : (k : Bool) → Known k (OneStands multi_items src place) → Known k (OneStands multi_header.items src place)
-  mark_left false h = tt
-  mark_left true h = mark_there h.0 h.1 h.2 h.3
+  pub mark_left : OneStands multi_items src place → OneStands multi_header.items src place
+  mark_left h = mark_there h.0 h.1 h.2 h.3
 
   module _ (header : MultiHeader) (after : ℕ) (v : IsValueOf multi_header.layout (marked header)) (s : StandsAt (marked header) src place after) (op : PartOp) (is : header ≡ part_header op) where
     none_left : (end : ℕ) → StandsAt (multi_items []) src place end → ⊥
@@ -54,9 +57,8 @@ module _ (src : List ℕ) (place : ℕ) (le : place ≤ length src) where
     record_there [] end have stands = absurd (none_left end stands)
     record_there (p ∷ ps) end have stands = let f = first_of p ps end have stands in record_stands p src place (behind p) le f.0.0 f.0.1 header after op v s is
 
-    pub record_left : (k : Bool) → Known k (OneStands multi_items src place) → Known k (OneStands (part_row op).wired.items src after)
-    record_left false h = tt
-    record_left true h = record_there h.0 h.1 h.2 h.3
+    pub record_left : OneStands multi_items src place → OneStands (part_row op).wired.items src after
+    record_left h = record_there h.0 h.1 h.2 h.3
 
     module _ (next : ℕ) (r : IsRecordAt op src after next) where
       others_there : (ps : List Part) (end : ℕ) → HaveBytes (multi_items ps) → StandsAt (multi_items ps) src place end → OneStands multi_items src next
@@ -67,6 +69,5 @@ module _ (src : List ℕ) (place : ℕ) (le : place ≤ length src) where
           let same : next ≡ behind p = ap (place_of (behind p)) one in
           (ps, end, f.1.0, subst (λ (n : ℕ). StandsAt (multi_items ps) src n end) (sym same) f.1.1)
 
-      pub others_left : (k : Bool) → Known k (OneStands multi_items src place) → Known k (OneStands multi_items src next)
-      others_left false h = tt
-      others_left true h = others_there h.0 h.1 h.2 h.3
+      pub others_left : OneStands multi_items src place → OneStands multi_items src next
+      others_left h = others_there h.0 h.1 h.2 h.3

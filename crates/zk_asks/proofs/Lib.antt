@@ -6,6 +6,7 @@ pub mod Lying
 pub mod Counted
 pub mod Asks
 pub mod Later
+pub mod Left
 pub mod Knowing
 pub mod Openings
 pub mod Opened

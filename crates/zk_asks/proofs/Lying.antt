@@ -22,6 +22,7 @@ use Rattle.zk_jute.proofs.Valued.{IsValued, int_valued, blob_valued, both_valued
 use Rattle.zk_records.specs.Records.{multi_header, acl, create_ask, delete_ask, set_data_ask, check_ask}
 use Rattle.zk_records.specs.Shown.{acl_value, acl_is_value}
 use Rattle.zk_records.specs.Codes.{op_number, part_number}
+use Rattle.zk_records.proofs.Numbers.{part_number_apart}
 use Rattle.zk_records.specs.declared.header.MultiHeader.{MultiHeader}
 use Rattle.zk_records.specs.declared.op.PartOp.{PartOp}
 use Rattle.zk_records.specs.declared.op.PartOp.TheVariants as parts
@@ -139,6 +140,12 @@ module _ (p : Part) (src : List ℕ) (place end : ℕ) (le : place ≤ length sr
       let same = bytes_only multi_header.layout (marked header) (marked (part_header op)) (drop after src) (drop (place + 9) src) v head_value (sym s.0 ∙ t.0) in
       (mark_same header (part_header op) same.0, omega (arith, s.1, t.1, ap (λ (i : List Item). length (bytes_of i)) same.0))
 
+  -- whose number fixes the part's operation
+  pub numbered_as : (header : MultiHeader) (after : ℕ) → IsValueOf multi_header.layout (marked header) → StandsAt (marked header) src place after → (other : PartOp) → header.kind ≡ part_number other → header ≡ part_header other
+  numbered_as header after v s other is =
+      let h = header_read header after v s in
+      h.0 ∙ ap part_header (part_number_apart op other (sym (ap (λ (x : MultiHeader). x.kind) h.0) ∙ is))
+
   pub no_header_fault : (e : ItemFault) → HasToldFault (IsValueOf multi_header.layout) src place e → ⊥
   no_header_fault e f = excluded multi_header.layout (marked (part_header op)) (drop place src) (drop (place + 9) src) f.0 e.reason head_value header_there.0 f.1
 
@@ -193,6 +200,9 @@ parts_counted src = values_counted part_items src (part_value src) (part_read sr
 abbrev answered : {X : Type 0} → X → Result X ItemFault → X
 answered x (Ok y) = y
 answered x (Err e) = x
+
+pub pair_told : (x y : Part × ℕ) → ◌≡◌ {A = Result (Part × ℕ) ItemFault} (Ok x) (Ok y) → x ≡ y
+pair_told x y = ap (answered y)
 
 pub op_told : (q p : Part) (m n : ℕ) (op : PartOp) → op_of_part q ≡ op → ◌≡◌ {A = Result (Part × ℕ) ItemFault} (Ok (q, m)) (Ok (p, n)) → ◌≡◌ {A = Result (PartOp × ℕ) ItemFault} (Ok (op, m)) (Ok (op_of_part p, n))
 op_told q p m n op is same =

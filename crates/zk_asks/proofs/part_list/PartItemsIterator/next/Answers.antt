@@ -1,12 +1,17 @@
-use Rattle.std.proofs.Common.{◌<◌, sym, ap, ◌∙◌, length, arith}
-use Rattle.zk_jute.proofs.Stretches.{first_there, first_read, never_refused}
+use Rattle.std.proofs.Common.{◌≡◌, ℕ, ◌<◌, Ok, sym, ap, ◌∙◌, length, arith}
+use Rattle.std.specs.Prelude.{Result}
+use Rattle.zk_jute.specs.declared.fault.ItemFault.{ItemFault}
+use Rattle.zk_jute.specs.Item.{HaveBytes}
+use Rattle.zk_jute.specs.Told.{StandsAt}
+use Rattle.zk_jute.proofs.Stretches.{first_there, first_read}
+use Rattle.zk_asks.specs.Held.{Part}
 use Rattle.zk_asks.specs.Parts.{part_items}
 use Rattle.zk_asks.specs.Shown.{part_value}
 use Rattle.zk_asks.proofs.Lying.{part_read}
 use Rattle.zk_asks.proofs.part_list.PartItemsIterator.next.Goals as goal
 
-pub part_in-requires-clause-known : goal.part_in-requires-clause-known
-part_in-requires-clause-known c =
+pub part_in-part-requires-clause-known : goal.part_in-part-requires-clause-known
+part_in-part-requires-clause-known c =
     let l = c.self.inside in
     let some : 0 < l.left = omega (arith, c.if-self-eq0.false) in
     let f = first_there part_items l.payload.now (part_value l.payload.now) (part_read l.payload.now) l.left l.place some c.self.invariant in
@@ -16,21 +21,15 @@ pub invariant_of-self : goal.invariant_of-self
 invariant_of-self c =
     let l = c.self.inside in
     let some : 0 < l.left = omega (arith, c.if-self-eq0.false) in
-    (first_read part_items l.payload.now (part_value l.payload.now) (part_read l.payload.now) l.left l.place some c.self.invariant c.in-Ok.part c.in-Ok.place c.in-Ok.ensures.only).0
+    (first_read part_items l.payload.now (part_value l.payload.now) (part_read l.payload.now) l.left l.place some c.self.invariant c.part_in-part.result.0 c.part_in-part.result.1 (λ p e have stands. ap Ok (c.part_in-part.ensures.only p e have stands))).0
 
-pub returns-in-Ok-clause-steps : goal.returns-in-Ok-clause-steps
-returns-in-Ok-clause-steps c =
+pub returns-clause-steps : goal.returns-clause-steps
+returns-clause-steps c =
     let l = c.self.inside in
     let some : 0 < l.left = omega (arith, c.if-self-eq0.false) in
-    sym c.self.view_is ∙ (first_read part_items l.payload.now (part_value l.payload.now) (part_read l.payload.now) l.left l.place some c.self.invariant c.in-Ok.part c.in-Ok.place c.in-Ok.ensures.only).1
+    sym c.self.view_is ∙ (first_read part_items l.payload.now (part_value l.payload.now) (part_read l.payload.now) l.left l.place some c.self.invariant c.part_in-part.result.0 c.part_in-part.result.1 (λ p e have stands. ap Ok (c.part_in-part.ensures.only p e have stands))).1
 
-pub returns-in-Ok-clause-goes : goal.returns-in-Ok-clause-goes
-returns-in-Ok-clause-goes c =
-    let steps = returns-in-Ok-clause-steps c in
+pub returns-clause-goes : goal.returns-clause-goes
+returns-clause-goes c =
+    let steps = returns-clause-steps c in
     record { on = λ finite. (tt, tt, omega (arith, ap length steps)); keeps = tt; rests = λ finite. tt }
-
-pub returns-in-Err-clause-steps : goal.returns-in-Err-clause-steps
-returns-in-Err-clause-steps c =
-    let l = c.self.inside in
-    let some : 0 < l.left = omega (arith, c.if-self-eq0.false) in
-    absurd (never_refused part_items l.payload.now (part_value l.payload.now) (part_read l.payload.now) l.left l.place some c.self.invariant c.in-Err.field-0 c.in-Err.ensures.only)
