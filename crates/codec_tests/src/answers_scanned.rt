@@ -4,7 +4,7 @@ use std::process::Abort;
 use std::test::Fail;
 use zk_answers::{
     BodyOf, Form, OutcomeOf, PartDoneOf, ServerFrameOf, ServerRef, front_reply, reply_head,
-    scan_connected, scan_event, scan_reply,
+    scan_connected, scan_event, scan_event_under, scan_reply_under,
 };
 use zk_asks::Asked;
 use zk_jute::{ItemFault, Reason};
@@ -30,26 +30,30 @@ fn connected(rt: HostRuntime) -> Result<(), Fail> {
     Ok(())
 }
 
-/// The event, where the payload is one.
-fn event(payload: &[u8]) -> Result<ServerRef<'_>, ItemFault> {
-    if reply_head(payload)?.xid != -1 {
+/// The event, where the payload is one, judged whole and under its header.
+fn event(payload: &[u8]) -> Result<(ServerRef<'_>, ServerRef<'_>), ItemFault> {
+    let head = reply_head(payload)?;
+    if head.xid != -1 {
         return Err(ItemFault::at(0, Reason::Unasked));
     }
-    scan_event(payload)
+    Ok((scan_event(payload)?, scan_event_under(&head, payload)?))
 }
 
 #[test]
 fn events(rt: HostRuntime) -> Result<(), Fail> {
-    assert!(rt; matches!(event(EVENT), Ok(ServerFrameOf::Event { zxid: -1, .. })));
+    let (whole, under) = event(EVENT)?;
+    assert!(rt; matches!(whole, ServerFrameOf::Event { zxid: -1, .. }));
+    assert!(rt; matches!(under, ServerFrameOf::Event { zxid: -1, .. }));
     Ok(())
 }
 
 /// The reply to what left the form, where the payload is no event.
 fn reply<'a>(form: &Form, payload: &'a [u8]) -> Result<ServerRef<'a>, ItemFault> {
-    if reply_head(payload)?.xid == -1 {
+    let head = reply_head(payload)?;
+    if head.xid == -1 {
         return Err(ItemFault::at(0, Reason::Unasked));
     }
-    scan_reply(form, payload)
+    scan_reply_under(form, &head, payload)
 }
 
 /// Whether the payload is a reply to what left the form, and nothing but that, by where its body ends.

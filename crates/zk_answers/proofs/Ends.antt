@@ -50,7 +50,7 @@ module _ (src : List ℕ) (header : ReplyHeader) (rest : List ℕ) (h : IsHead s
   pub behind_header : 16 ≤ length src
   behind_header = omega (arith, ap length h.1, length-append (bytes_of (reply_header.items header)) rest)
 
-  header_there : StandsAt (reply_header.items header) src 0 16
+  pub header_there : StandsAt (reply_header.items header) src 0 16
   header_there =
       let behind : rest ≡ drop 16 src = sym (drop-append_seam (bytes_of (reply_header.items header)) rest) ∙ ap (drop 16) (sym h.1) in
       (h.1 ∙ ap (λ (r : List ℕ). bytes_of (reply_header.items header) ++ r) behind, refl)

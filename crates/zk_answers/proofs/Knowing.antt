@@ -1,14 +1,14 @@
 -- A payload that is known to be a reply or an event: what stands behind its header, and that it is no other frame.
 use Rattle.std.proofs.Common.{◌≡◌, ℕ, ◌+◌, ◌≤◌, inl, inr, Bool, List, [], ◌++◌, length, drop, Result, Ok, Err, refl, sym, ap, subst, ◌∙◌, arith}
 use Rattle.std.specs.Prelude.{◌≢◌, ℤ, pos, IsOk, IfErr}
-use Rattle.std.proofs.lemmas.List.{append-nil, length-drop, drop_at}
-use Rattle.std.proofs.Math.ListN.{drop_of_length-le}
+use Rattle.std.proofs.lemmas.List.{append-nil, length-append}
 use Rattle.zk_jute.specs.declared.fault.ItemFault.{ItemFault}
 use Rattle.zk_jute.specs.Item.{Item, bytes_of, HaveBytes}
 use Rattle.zk_jute.specs.Layout.{IsValueOf}
 use Rattle.zk_jute.specs.Told.{StandsAt, IsToldAt, IsSurelyToldAt}
 use Rattle.zk_jute.specs.Standing.{Known, OneStands}
 use Rattle.zk_jute.proofs.Layouts.{bytes_only, bytes_both, have_parts}
+use Rattle.zk_jute.proofs.Known.{stands_first, stands_last}
 use Rattle.zk_records.specs.declared.header.ReplyHeader.{ReplyHeader}
 use Rattle.zk_records.specs.Held.{WatcherEvent}
 use Rattle.zk_records.specs.declared.op.Op.{Op}
@@ -50,12 +50,7 @@ module _ (src : List ℕ) (op : Op) (parts : List PartOp) (r : Reply) (fits : Is
   head_there = let k = reply_heads r sent in (k.0, is ∙ k.1)
 
   pub header_there : OneStands reply_header.items src 0
-  header_there =
-      let head = bytes_of (reply_header.items (header_of r)) in
-      let rest = bytes_of (rest_items r.outcome) in
-      let n = length head in
-      let left : drop n src ≡ rest = ap (drop n) head_there.1 ∙ drop_at head rest n refl in
-      (header_of r, n, head_there.0, (head_there.1 ∙ ap (λ (b : List ℕ). head ++ b) (sym left), refl))
+  header_there = stands_first reply_header.items (header_of r) src (bytes_of (rest_items r.outcome)) head_there.0 head_there.1
 
   module _ (h : ReplyHeader) (after : ℕ) (v : IsValueOf reply_header.layout (reply_header.items h)) (s : StandsAt (reply_header.items h) src 0 after) where
     same : (h ≡ header_of r) × (drop after src ≡ bytes_of (rest_items r.outcome))
@@ -80,9 +75,8 @@ module _ (src : List ℕ) (op : Op) (parts : List PartOp) (r : Reply) (fits : Is
           let rest = ap rest_items done.2 in
           let have = subst HaveBytes (sym rest) (have_parts (reply_header.items (header_of r)) (rest_items r.outcome) sent.2).1 in
           let bytes : drop after src ≡ bytes_of items = same.1 ∙ ap bytes_of (sym rest) in
-          let end = after + length (bytes_of items) in
-          let all : length src ≤ end = omega (arith, ap length bytes, length-drop after src) in
-          (done.0, end, done.1, have, (bytes ∙ sym (append-nil (bytes_of items)) ∙ ap (λ (z : List ℕ). bytes_of items ++ z) (sym (drop_of_length-le src all)), refl))
+          let le : after ≤ length src = omega (arith, s.1, ap length s.0, length-append (bytes_of (reply_header.items h)) (drop after src)) in
+          (done.0, after + length (bytes_of items), done.1, have, stands_last items src after le bytes)
 
       pub made_done : (b : Body) → ((c : Body) (end : ℕ) → op_of_body c ≡ op → HaveBytes (body_items c) → StandsAt (body_items c) src after end → b ≡ c)
           → reply_under h (outcome.Done b) ≡ frame.Answered r
@@ -182,10 +176,7 @@ module _ (src : List ℕ) (zxid : ℤ) (event : WatcherEvent) (sent : IsSent (fr
   split = is ∙ bytes_both front fields
 
   event_header_there : OneStands reply_header.items src 0
-  event_header_there =
-      let n = length (bytes_of front) in
-      let left : drop n src ≡ bytes_of fields = ap (drop n) split ∙ drop_at (bytes_of front) (bytes_of fields) n refl in
-      (event_header zxid, n, both.0, (split ∙ ap (λ (b : List ℕ). bytes_of front ++ b) (sym left), refl))
+  event_header_there = stands_first reply_header.items (event_header zxid) src (bytes_of fields) both.0 split
 
   module _ (h : ReplyHeader) (after : ℕ) (f : HeaderStands src h after) where
     header_is : (front ≡ reply_header.items h) × (bytes_of fields ≡ drop after src)
@@ -193,10 +184,8 @@ module _ (src : List ℕ) (zxid : ℤ) (event : WatcherEvent) (sent : IsSent (fr
 
     event_there : OneStands watcher_event.items src after
     event_there =
-        let bytes : drop after src ≡ bytes_of fields = sym header_is.1 in
-        let end = after + length (bytes_of fields) in
-        let all : length src ≤ end = omega (arith, ap length bytes, length-drop after src) in
-        (event, end, both.1, (bytes ∙ sym (append-nil (bytes_of fields)) ∙ ap (λ (z : List ℕ). bytes_of fields ++ z) (sym (drop_of_length-le src all)), refl))
+        let le : after ≤ length src = omega (arith, f.1.1, ap length f.1.0, length-append (bytes_of (reply_header.items h)) (drop after src)) in
+        (event, after + length (bytes_of fields), both.1, stands_last fields src after le (sym header_is.1))
 
     event_is : (e : WatcherEvent) (end : ℕ) → IsValueOf watcher_event.layout (watcher_event.items e) → StandsAt (watcher_event.items e) src after end → ◌≡◌ {A = ServerFrame} (frame.Event h.zxid e) (frame.Event zxid event)
     event_is e end v s =

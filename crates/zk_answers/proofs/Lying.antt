@@ -26,6 +26,8 @@ use Rattle.zk_records.specs.declared.op.PartOp.{PartOp}
 use Rattle.zk_records.specs.declared.op.PartOp.TheVariants as parts
 use Rattle.zk_records.proofs.Numbers.{part_number_apart}
 use Rattle.zk_asks.specs.Parts.{marked, end_header}
+use Rattle.zk_asks.proofs.Left.{known_from}
+use Rattle.zk_asks.proofs.Knowing.{of_answer}
 use Rattle.zk_asks.specs.Shown.{part_numbered}
 use Rattle.zk_answers.specs.Fronts.{IsResultAt, IsDoneAt}
 use Rattle.zk_answers.specs.Held.{PartDone}
@@ -197,21 +199,22 @@ set_of done.Checked own = absurd cc
 set_of (done.PartFailed e) own = absurd own
 
 module _ (src : List ℕ) (place : ℕ) (op : PartOp) where
-  pub created_known : (k : Bool) → op ≡ parts.Create → Known k ((e : ℕ) × IsResultAt op src place e) → Known k (OneStands ustring.items src place)
-  created_known false is h = tt
-  created_known true is h =
+  stands_as : {X : Type 0} (w : Wired X) (own : PartOp) → ((d : PartDone) → Own own d → (x : X) × (result_of d ≡ w.items x)) → op ≡ own → (e : ℕ) × IsResultAt op src place e → OneStands w.items src place
+  stands_as w own of is h =
       let r = h.1 in
-      let x = created_of r.0 (subst (λ (o : PartOp). Own o r.0) is r.1) in
+      let x = of r.0 (subst (λ (o : PartOp). Own o r.0) is r.1) in
       (x.0, h.0, subst HaveBytes x.1 r.2.1, subst (λ (i : List Item). StandsAt i src place h.0) x.1 r.3)
+
+  pub created_known : (k : Bool) → op ≡ parts.Create → Known k ((e : ℕ) × IsResultAt op src place e) → Known k (OneStands ustring.items src place)
+  created_known k is = known_from k (stands_as ustring parts.Create created_of is)
 
   pub set_known : (k : Bool) → op ≡ parts.SetData → Known k ((e : ℕ) × IsResultAt op src place e) → Known k (OneStands stat.items src place)
-  set_known false is h = tt
-  set_known true is h =
-      let r = h.1 in
-      let x = set_of r.0 (subst (λ (o : PartOp). Own o r.0) is r.1) in
-      (x.0, h.0, subst HaveBytes x.1 r.2.1, subst (λ (i : List Item). StandsAt i src place h.0) x.1 r.3)
+  set_known k is = known_from k (stands_as stat parts.SetData set_of is)
 
 -- ---- one answer
+
+pub same_answer : {X E : Type 0} (answer : Result X E) (x y : X) → answer ≡ Ok x → answer ≡ Ok y → x ≡ y
+same_answer {X} {E} answer x y e f = of_answer (λ z. z ≡ y) answer x e (subst (λ (r : Result X E). IfOk r (λ z. z ≡ y)) (sym f) refl)
 
 abbrev told : PartDone × ℕ → Read PartDone → PartDone × ℕ
 told other (Ok x) = x
@@ -260,11 +263,11 @@ module _ (src : List ℕ) (d : PartDone) (place end : ℕ) (le : place ≤ lengt
     pub number_known : OneStands int.items src after
     number_known = (failed.0, end, number.0, number.1)
 
-    pub number_only : (n : ℤ) (at : ℕ) → HaveBytes (AnInt n ∷ []) → StandsAt (AnInt n ∷ []) src after at → ◌≡◌ {A = Result (PartDone × ℕ) ItemFault} (Ok (done.PartFailed n, at)) (Ok (d, end))
+    pub number_only : (n : ℤ) (at : ℕ) → HaveBytes (AnInt n ∷ []) → StandsAt (AnInt n ∷ []) src after at → ◌≡◌ {A = PartDone × ℕ} (done.PartFailed n, at) (d, end)
     number_only n at has t =
         let told_of = λ (m : ℤ) (e : ℕ) (p : HaveBytes (AnInt m ∷ [])) (q : StandsAt (AnInt m ∷ []) src after e). behind_told src (done.PartFailed m) after e b.2 p q in
         let same = one_value (result_value None src after) (done.PartFailed n, at) (done.PartFailed failed.0, end) (told_of n at has t) (told_of failed.0 end number.0 number.1) in
-        ap (λ (y : PartDone × ℕ). Ok y) same ∙ ap (λ (x : PartDone). Ok (x, end)) (sym failed.1)
+        same ∙ ap (λ (x : PartDone). (x, end)) (sym failed.1)
 
     pub number_stands : (e : ItemFault) → HasToldFault (IsValueOf int.layout) src after e → ⊥
     number_stands e f = excluded int.layout (AnInt failed.0 ∷ []) (drop after src) (drop end src) f.0 e.reason (int.unfolds failed.0, number.0) number.1.0 f.1

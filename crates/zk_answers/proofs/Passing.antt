@@ -53,10 +53,6 @@ module _ (src : List ℕ) (place : ℕ) (le : place ≤ length src) where
   front_stands [] end have stands = (end_header, end, have, stands)
   front_stands (d ∷ ds) end have stands = let p = first_of d ds end have stands in mark_stands src d place (place + length (bytes_of (done_items d))) le p.have p.stands
 
-  pub no_header : (e : ItemFault) → HasToldFault (IsValueOf multi_header.layout) src place e → (ds : List PartDone) (end : ℕ) → HaveBytes (multi_items ds) → StandsAt (multi_items ds) src place end → IsBehind ds src place end None
-  no_header e f [] end have stands = refl
-  no_header e f (d ∷ ds) end have stands = let p = first_of d ds end have stands in absurd (no_header_fault src d place (place + length (bytes_of (done_items d))) le p.have p.stands e f)
-
   module _ (header : MultiHeader) (after : ℕ) (v : IsValueOf multi_header.layout (marked header)) (s : StandsAt (marked header) src place after) where
     end_is : (end : ℕ) → StandsAt (multi_items []) src place end → header ≡ end_header
     end_is end stands = mark_same header end_header (bytes_only multi_header.layout (marked header) (marked end_header) (drop after src) (drop end src) v end_mark (sym s.0 ∙ stands.0)).0
@@ -80,16 +76,6 @@ module _ (src : List ℕ) (place : ℕ) (le : place ≤ length src) where
           let p = first_of d ds end have stands in
           let next = place + length (bytes_of (done_items d)) in
           (next, ap (λ (r : Result (PartDone × ℕ) ItemFault). Some (place_of n r)) (only d next p.have p.stands), p)
-
-      pub none_read : (fault : ItemFault) → ((d : PartDone) (e : ℕ) → HaveBytes (done_items d) → StandsAt (done_items d) src place e → Err fault ≡ answered d e)
-          → (ds : List PartDone) (end : ℕ) → HaveBytes (multi_items ds) → StandsAt (multi_items ds) src place end → IsBehind ds src place end None
-      none_read fault only [] end have stands = absurd (not (end_is end stands))
-      none_read fault only (d ∷ ds) end have stands =
-          let p = first_of d ds end have stands in
-          refuted (only d (place + length (bytes_of (done_items d))) p.have p.stands)
-        where
-          refuted : Err fault ≡ answered d (place + length (bytes_of (done_items d))) → IsBehind (d ∷ ds) src place end None
-          refuted q = absurd cc
 
 -- ---- so many were passed
 

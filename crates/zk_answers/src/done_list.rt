@@ -97,18 +97,14 @@ impl<'a> Iterator for DoneItems<'a> {
         if self.left == 0 {
             return None;
         }
+        // All that are left stand there.
         let src = KnownPayload {
             bytes: self.payload,
         };
-        match done_in(&src, self.place) {
-            Ok((done, place)) => {
-                self.place = place;
-                self.left -= 1;
-                Some(done)
-            }
-            // All that are left stand there.
-            Err(_) => None,
-        }
+        let (done, place) = done_in(&src, self.place);
+        self.place = place;
+        self.left -= 1;
+        Some(done)
     }
 
     fn size_hint(&self) -> (usize, Option<usize>)
@@ -205,21 +201,18 @@ fn done_end(src: &Payload<'_>, place: usize, op: PartOp) -> Result<usize, ItemFa
 }
 
 /// The result that is known to stand at a place, told by its own header, and the place behind it.
-pub(crate) fn done_in<'a>(
-    src: &KnownPayload<'a>,
-    place: usize,
-) -> Result<(PartDoneRef<'a>, usize), ItemFault>
+pub(crate) fn done_in<'a>(src: &KnownPayload<'a>, place: usize) -> (PartDoneRef<'a>, usize)
     requires place { place ≤ length src.now.bytes.now }
     requires known { OneStands done_items src.now.bytes.now place }
-    ensures only { (d : PartDone) (end : ℕ) → HaveBytes (done_items d) → StandsAt (done_items d) src.now.bytes.now place end → result ≡ Ok (d, end) }
-    ensures within { IfOk result (λ x. x.1 ≤ length src.now.bytes.now) }
+    ensures only { (d : PartDone) (end : ℕ) → HaveBytes (done_items d) → StandsAt (done_items d) src.now.bytes.now place end → result ≡ (d, end) }
+    ensures within { result.1 ≤ length src.now.bytes.now }
 {
-    let (header, after) = read_ref::<_, MultiHeader>(src, place)?;
+    let (header, after) = read_ref::<_, MultiHeader>(src, place).unwrap();
     match part_of(header.kind) {
-        Some(op) => result_ref(src, after, op),
+        Some(op) => result_ref(src, after, op).unwrap(),
         None => {
-            let (number, end) = read_ref::<_, i32>(src, after)?;
-            Ok((PartDoneOf::PartFailed(number), end))
+            let (number, end) = read_ref::<_, i32>(src, after).unwrap();
+            (PartDoneOf::PartFailed(number), end)
         }
     }
 }

@@ -8,7 +8,7 @@ use zk_jute::{TextList, TextRef, end_of};
 use zk_records::{AclBodyRef, ChildrenBodyRef, CreateBodyRef, DataBodyRef, Op, ReplyHeader, Stat};
 
 /// The bytes of a reply's header.
-const HEADER: usize = 16;
+pub(crate) const HEADER: usize = 16;
 
 /// The place after the body of a reply to an operation that has no parts; None says no more.
 #[inline(always)]

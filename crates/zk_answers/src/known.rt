@@ -50,16 +50,12 @@ fn behind_result(src: &KnownPayload<'_>, place: usize) -> Option<usize>
     requires stands { ResultsStand src.now.bytes.now place }
     ensures { IsBehindFirst src.now.bytes.now place result }
 {
-    let Ok((header, _)) = read_ref::<_, MultiHeader>(src, place) else {
-        return None;
-    };
+    let (header, _) = read_ref::<_, MultiHeader>(src, place).unwrap();
     if is_end(&header) {
         return None;
     }
-    match done_in(src, place) {
-        Ok((_, next)) => Some(next),
-        Err(_) => None,
-    }
+    let (_, next) = done_in(src, place);
+    Some(next)
 }
 
 /// The results of a multi that are known to stand at a place.

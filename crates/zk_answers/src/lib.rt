@@ -27,5 +27,5 @@ pub use known::{connected_ref, event_ref, reply_ref};
 pub use laws::{connected_laws, event_laws, form_laws, head_laws, opening_laws, reply_laws};
 pub use layout::Layout;
 pub use read::{read_connected, read_event, read_reply, reply_head};
-pub use scan::{scan_connected, scan_event, scan_reply};
+pub use scan::{scan_connected, scan_event, scan_event_under, scan_reply, scan_reply_under};
 pub use write::write_server;

@@ -15,6 +15,7 @@ use crate::done_list::results_ref;
 use crate::frame::{
     BodyOf, BodyRef, Failure, OutcomeOf, OutcomeRef, ReplyOf, ServerFrameOf, ServerRef,
 };
+use crate::front::HEADER;
 use zk_asks::Asked;
 use zk_jute::{ItemFault, Payload, PayloadOf, Reason, TextList, TextRef, read_ref, scan_flagged};
 use zk_records::{
@@ -115,27 +116,60 @@ pub fn scan_connected<'a>(payload: &'a [u8]) -> Result<ServerRef<'a>, ItemFault>
     connected_in(payload)
 }
 
+/// The reply under this header to what was asked: what stands behind the header is judged.
 #[inline(always)]
-fn reply_in<'a, F: Asked>(form: &F, src: &Payload<'a>) -> Result<ServerRef<'a>, ItemFault>
-    requires { (header : records.ReplyHeader) (rest : List ℕ) → IsHead src.now.bytes.now header rest → header.xid ≢ negsuc 0 }
+fn reply_in<'a, F: Asked>(
+    form: &F,
+    head: &ReplyHeader,
+    src: &Payload<'a>,
+) -> Result<ServerRef<'a>, ItemFault>
+    requires head { (rest : List ℕ) × IsHead src.now.bytes.now head.now rest }
+    requires reply { head.now.xid ≢ negsuc 0 }
     ensures found { IfOk result (λ s. IsReplyTo (F.operation form.now) (F.part_ops form.now) s × IsSent s × (src.now.bytes.now ≡ sent.payload s)) }
     ensures fault { IfErr result (IsSurelyTold (IsReplyFault (F.operation form.now) (F.part_ops form.now) src.now.bytes.now)) }
 {
-    let (header, place) = read_ref::<_, ReplyHeader>(src, 0)?;
-    let (outcome, place) = outcome_ref(src, place, form, header.err)?;
+    let (outcome, place) = outcome_ref(src, HEADER, form, head.err)?;
     if place < src.bytes.len() {
         return Err(ItemFault::at(place, Reason::Trailing));
     }
     Ok(ServerFrameOf::Answered(ReplyOf {
-        xid: header.xid,
-        zxid: header.zxid,
+        xid: head.xid,
+        zxid: head.zxid,
         outcome,
     }))
 }
 
+/// The reply under this header, which was read of the payload, to what was asked, where it lies: decides as `scan_reply`
+/// does, and reads the header no second time.
+#[inline(always)]
+pub fn scan_reply_under<'a, F: Asked>(
+    form: &F,
+    head: &ReplyHeader,
+    payload: &'a [u8],
+) -> Result<ServerRef<'a>, ItemFault>
+    requires head { (rest : List ℕ) × IsHead payload.now head.now rest }
+    requires reply { head.now.xid ≢ negsuc 0 }
+    // What is read has the form that the request fixes, and is the payload's one value.
+    ensures found { IfOk result (λ s. IsReplyTo (F.operation form.now) (F.part_ops form.now) s × IsSent s × (payload.now ≡ sent.payload s)) }
+    // What has the form is read.
+    ensures only { (s : held.ServerFrame) → IsReplyTo (F.operation form.now) (F.part_ops form.now) s → IsSent s → payload.now ≡ sent.payload s → result ≡ Ok s }
+    // Else the first case that applies is told.
+    ensures fault { IfErr result (IsSurelyTold (IsReplyFault (F.operation form.now) (F.part_ops form.now) payload.now)) }
+{
+    reply_in(form, head, &Payload { bytes: payload })
+}
+
+fn whole_reply<'a, F: Asked>(form: &F, src: &Payload<'a>) -> Result<ServerRef<'a>, ItemFault>
+    requires { (header : records.ReplyHeader) (rest : List ℕ) → IsHead src.now.bytes.now header rest → header.xid ≢ negsuc 0 }
+    ensures found { IfOk result (λ s. IsReplyTo (F.operation form.now) (F.part_ops form.now) s × IsSent s × (src.now.bytes.now ≡ sent.payload s)) }
+    ensures fault { IfErr result (IsSurelyTold (IsReplyFault (F.operation form.now) (F.part_ops form.now) src.now.bytes.now)) }
+{
+    let (head, _) = read_ref::<_, ReplyHeader>(src, 0)?;
+    reply_in(form, &head, src)
+}
+
 /// A reply to what was asked, where it lies: decides as `read_reply` does, takes no memory, and
 /// never answers `NoMemory`. Its header, where it is whole, has another xid than -1.
-#[inline(always)]
 pub fn scan_reply<'a, F: Asked>(form: &F, payload: &'a [u8]) -> Result<ServerRef<'a>, ItemFault>
     requires { (header : records.ReplyHeader) (rest : List ℕ) → IsHead payload.now header rest → header.xid ≢ negsuc 0 }
     // What is read has the form that the request fixes, and is the payload's one value.
@@ -145,26 +179,54 @@ pub fn scan_reply<'a, F: Asked>(form: &F, payload: &'a [u8]) -> Result<ServerRef
     // Else the first case that applies is told.
     ensures fault { IfErr result (IsSurelyTold (IsReplyFault (F.operation form.now) (F.part_ops form.now) payload.now)) }
 {
-    reply_in(form, &Payload { bytes: payload })
+    whole_reply(form, &Payload { bytes: payload })
 }
 
-fn event_in<'a>(src: &Payload<'a>) -> Result<ServerRef<'a>, ItemFault>
-    requires { (header : records.ReplyHeader) (rest : List ℕ) → IsHead src.now.bytes.now header rest → header.xid ≡ negsuc 0 }
+/// The event under this header: what stands behind the header is judged.
+fn event_in<'a>(head: &ReplyHeader, src: &Payload<'a>) -> Result<ServerRef<'a>, ItemFault>
+    requires head { (rest : List ℕ) × IsHead src.now.bytes.now head.now rest }
+    requires event { head.now.xid ≡ negsuc 0 }
     ensures found { IfOk result (λ s. IsEvent s × IsSent s × (src.now.bytes.now ≡ sent.payload s)) }
     ensures fault { IfErr result (IsSurelyTold (IsEventFault src.now.bytes.now)) }
 {
-    let (header, place) = read_ref::<_, ReplyHeader>(src, 0)?;
-    if header.err != 0 {
+    if head.err != 0 {
         return Err(ItemFault::at(12, Reason::EventErr));
     }
-    let (event, place) = read_ref::<_, WatcherEventRef>(src, place)?;
+    let (event, place) = read_ref::<_, WatcherEventRef>(src, HEADER)?;
     if place < src.bytes.len() {
         return Err(ItemFault::at(place, Reason::Trailing));
     }
     Ok(ServerFrameOf::Event {
-        zxid: header.zxid,
+        zxid: head.zxid,
         event,
     })
+}
+
+/// What a watch saw, under this header, which was read of the payload, where it lies: decides as `scan_event` does, and
+/// reads the header no second time.
+pub fn scan_event_under<'a>(
+    head: &ReplyHeader,
+    payload: &'a [u8],
+) -> Result<ServerRef<'a>, ItemFault>
+    requires head { (rest : List ℕ) × IsHead payload.now head.now rest }
+    requires event { head.now.xid ≡ negsuc 0 }
+    // What is read has the form, and is the payload's one value.
+    ensures found { IfOk result (λ s. IsEvent s × IsSent s × (payload.now ≡ sent.payload s)) }
+    // What has the form is read.
+    ensures only { (s : held.ServerFrame) → IsEvent s → IsSent s → payload.now ≡ sent.payload s → result ≡ Ok s }
+    // Else the first case that applies is told.
+    ensures fault { IfErr result (IsSurelyTold (IsEventFault payload.now)) }
+{
+    event_in(head, &Payload { bytes: payload })
+}
+
+fn whole_event<'a>(src: &Payload<'a>) -> Result<ServerRef<'a>, ItemFault>
+    requires { (header : records.ReplyHeader) (rest : List ℕ) → IsHead src.now.bytes.now header rest → header.xid ≡ negsuc 0 }
+    ensures found { IfOk result (λ s. IsEvent s × IsSent s × (src.now.bytes.now ≡ sent.payload s)) }
+    ensures fault { IfErr result (IsSurelyTold (IsEventFault src.now.bytes.now)) }
+{
+    let (head, _) = read_ref::<_, ReplyHeader>(src, 0)?;
+    event_in(&head, src)
 }
 
 /// What a watch saw, where it lies: decides as `read_event` does, takes no memory, and never
@@ -178,5 +240,5 @@ pub fn scan_event<'a>(payload: &'a [u8]) -> Result<ServerRef<'a>, ItemFault>
     // Else the first case that applies is told.
     ensures fault { IfErr result (IsSurelyTold (IsEventFault payload.now)) }
 {
-    event_in(&Payload { bytes: payload })
+    whole_event(&Payload { bytes: payload })
 }

@@ -17,7 +17,7 @@ ghost use Rattle.zk_talk.specs.Judged.{TellsLater, TellsClient, TellsServer, IsI
 use std::alloc::Global;
 use zk_answers::{
     ServerFrame, ServerFrameOf, ServerRef, form_of, front_reply, reply_head, scan_connected,
-    scan_event, scan_reply,
+    scan_event_under, scan_reply_under,
 };
 use zk_asks::{
     Asked, ClientFrame, ClientFrameOf, ClientRef, RequestRef, front_ask, scan_ask, scan_first,
@@ -143,7 +143,7 @@ fn seen_answer<'a>(
                 let got = head.xid;
                 return Err(ItemFault::at(0, Reason::XidOrder { expected, got }));
             }
-            scan_reply(&slot, payload)
+            scan_reply_under(&slot, head, payload)
         }
     }
 }
@@ -168,7 +168,7 @@ pub fn next_server<'a>(
     }
     let head = reply_head(payload)?;
     if head.xid == -1 {
-        return scan_event(payload);
+        return scan_event_under(&head, payload);
     }
     seen_answer(&head, waiting, payload)
 }

@@ -8,6 +8,6 @@ use Rattle.zk_answers.proofs.scan.scan_event.Goals as goal
 pub returns-clause-only : goal.returns-clause-only
 returns-clause-only c = λ s is sent e.
     let src = c.args.payload.now in
-    scan_only (λ t. IsEvent t × IsSent t × (src ≡ payload t)) (IsEventFault src) c.event_in.result c.event_in.ensures.found c.event_in.ensures.fault s
+    scan_only (λ t. IsEvent t × IsSent t × (src ≡ payload t)) (IsEventFault src) c.whole_event.result c.whole_event.ensures.found c.whole_event.ensures.fault s
     (λ t f. event_injective t s f.0 is f.1 sent (sym f.2 ∙ e))
     (λ p r f. event_excludes s p r is sent (subst (λ b. IsEventFault b p r) e f))
