@@ -24,6 +24,7 @@ BEGIN, END = "<!-- The lines from here on are written by docs/calls.py. -->", "<
 CLAUSE = re.compile(r"\s*(requires|ensures)\*?\s+(\w+\s+)?\{")
 BLOCK = re.compile(r"^(?:pub )?(impl|trait)\b([^\n{;]*)\{", re.M)
 TAIL = re.compile(r"\n\s*(?:requires|ensures|where)\b|\s*\{|;\n")
+BOUNDS = re.compile(r"(\s*where\b[^{;]*?)?(?=\n\s*(?:requires|ensures)\b|\s*\{|;\n)")
 ANSWER = re.compile(r"\b(IfOk|OnOk|IsOk|Ok|IfSome|OnSome|Some)\b")
 REFUSAL = re.compile(r"\b(IfErr|OnErr|IsErr|IsErrOf|Err|is_err|IfNone|OnNone|None)\b")
 
@@ -38,7 +39,7 @@ class Call:
         self.crate, self.name = crate, f"{owner}::{name[0]}" if owner else name[0]
         self.answer = " ".join(text[at:tail.start()].replace("->", "").split())
         self.conditions, self.clauses = 0, []
-        at = tail.start()
+        at = BOUNDS.match(text, tail.start()).end()
         while clause := CLAUSE.match(text, at):
             at = balanced(text, clause.end() - 1, "{}")
             if clause[1] == "requires":

@@ -3,12 +3,16 @@ use std::alloc::Global;
 use std::process::Abort;
 use std::test::Fail;
 use zk_jute::{
-    Blob, BlobRef, ItemFault, List, Payload, Reason, Spell, Stands, Text, TextList, TextRef, Wire,
-    bool_at, end_of, int_at, laws, long_at, read_flagged, reason_name,
+    Blob, BlobRef, ItemFault, Kept, List, Payload, Reason, Spell, Stands, Text, TextList, TextRef,
+    Wire, bool_at, end_of, int_at, laws, long_at, read_flagged, reason_name,
 };
 
 /// The value of all the bytes, written again as them.
-fn whole<T: Wire>(rt: &impl Abort, alloc: Global, bytes: &[u8]) -> Result<T, Fail> {
+fn whole<'a, T: Wire + Stands<Kept<'a>>>(
+    rt: &impl Abort,
+    alloc: Global,
+    bytes: &'a [u8],
+) -> Result<T, Fail> {
     let (value, end) = T::read(alloc, bytes, 0)?;
     assert_eq!(rt; end, bytes.len());
     let mut out = Vec::new(alloc);
@@ -26,10 +30,10 @@ fn whole<T: Wire>(rt: &impl Abort, alloc: Global, bytes: &[u8]) -> Result<T, Fai
 }
 
 /// The faults of bytes.
-fn refused<T: Wire>(
+fn refused<'a, T: Wire + Stands<Kept<'a>>>(
     rt: &impl Abort,
     alloc: Global,
-    rows: &[(&[u8], u32, Reason)],
+    rows: &[(&'a [u8], u32, Reason)],
 ) -> Result<(), Fail> {
     for (bytes, place, reason) in rows {
         let fault = ItemFault {

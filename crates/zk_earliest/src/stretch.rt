@@ -7,17 +7,17 @@ ghost use Rattle.zk_earliest.specs.Earliest.{Spells, IsEarliest};
 ghost use Rattle.zk_earliest.specs.Stops.{Reaches, then_among};
 
 use crate::sizes::Sizes;
-use zk_jute::Wire;
+use zk_jute::Form;
 
 /// A kind of value of which the first impossible byte can be told.
-pub(crate) trait Stretch: Wire {
+pub(crate) trait Stretch: Form {
     /// The lengths of its values.
     ghost sizes: { Sizes };
 
     fn sizes() -> Sizes
         requires { sizes.least < 2 ^ 32 }
         ensures value { result ≡ sizes }
-        ensures are_sizes { AreSizes (Spells (IsValueOf Self.layout)) sizes };
+        ensures are_sizes { AreSizes (Spells (IsValueOf Self.wired.layout)) sizes };
 
     /// The place after the value at `place`, where one stands there that leaves just such a number of
     /// bytes as may follow; else the first byte that no such value has there.
@@ -25,7 +25,7 @@ pub(crate) trait Stretch: Wire {
         requires place { place ≤ length src.now }
         requires frame { length src.now < 2 ^ 31 }
         requires room { IsAmong (plus sizes behind) (length src.now - place) }
-        ensures { Reaches (Spells (IsValueOf Self.layout)) (then_among behind) src.now place result };
+        ensures { Reaches (Spells (IsValueOf Self.wired.layout)) (then_among behind) src.now place result };
 }
 
 /// A kind of value that may have any number of bytes from its least on, which is not 0.
@@ -41,7 +41,7 @@ pub(crate) trait Elastic: Stretch {
 pub(crate) fn longest<T: Stretch>(bytes: &[u8]) -> Option<usize>
     requires frame { length bytes.now < 2 ^ 31 }
     requires least { T.sizes.least < 2 ^ 32 }
-    ensures { IsEarliest (Spells (IsValueOf T.layout)) bytes.now result }
+    ensures { IsEarliest (Spells (IsValueOf T.wired.layout)) bytes.now result }
 {
     let nothing = Sizes {
         least: 0,

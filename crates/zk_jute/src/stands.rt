@@ -10,11 +10,9 @@ ghost use Rattle.zk_jute.specs.Standing.{IsPlain, Known, OneStands};
 
 use crate::fault::ItemFault;
 use crate::number::{bool_at, int_at, long_at};
-use crate::run::size_at;
+use crate::run::{run_at, size_at, text_at};
 use crate::source::{Kept, Payload, Source};
-use crate::value::{Blob, Items, List, Text};
-use crate::wire::Wire;
-use std::alloc::Global;
+use crate::value::{Blob, Bytes, Chars, Items, List, Text};
 
 /// What stands as items, wherever its texts, blobs and lists lie.
 pub trait Form: Sized + Drop {
@@ -144,8 +142,16 @@ impl Form for Text {
 }
 
 impl<'a> Stands<Kept<'a>> for Text {
+    #[tactic(auto, using(crate::proofs::Fields::text_is, crate::proofs::Fields::refuses_told, crate::proofs::Fields::refuses_memory))]
     fn decode(src: &Kept<'a>, place: usize) -> Result<(Self, usize), ItemFault> {
-        <Text as Wire>::decode(src.alloc, src.bytes, place)
+        let (text, after) = text_at::<false>(src.bytes, place)?;
+        match text {
+            None => Ok((Text::Null, after)),
+            Some(text) => Ok((
+                Text::Full(Chars::new(String::from_str(src.alloc, text)?)),
+                after,
+            )),
+        }
     }
 }
 
@@ -154,8 +160,16 @@ impl Form for Blob {
 }
 
 impl<'a> Stands<Kept<'a>> for Blob {
+    #[tactic(auto, using(crate::proofs::Fields::run_is, crate::proofs::Fields::refuses_told, crate::proofs::Fields::refuses_memory))]
     fn decode(src: &Kept<'a>, place: usize) -> Result<(Self, usize), ItemFault> {
-        <Blob as Wire>::decode(src.alloc, src.bytes, place)
+        let (bytes, after) = run_at::<false>(src.bytes, place)?;
+        match bytes {
+            None => Ok((Blob::Null, after)),
+            Some(bytes) => Ok((
+                Blob::Full(Bytes::new(Vec::from_slice(src.alloc, bytes)?)),
+                after,
+            )),
+        }
     }
 }
 

@@ -3,13 +3,14 @@
 ghost use Rattle.std.specs.Prelude.{◌≡◌, ℕ, ◌≤◌, ◌<◌, ◌++◌, List, length, IfOk, IfErr, IsTrue, OnOk, OnErr};
 ghost use Rattle.zk_jute.specs.Faults.{IsFault};
 ghost use Rattle.zk_jute.specs.Item.{Item, bytes_of, HaveBytes, Fit, IsSizeWithin};
-ghost use Rattle.zk_jute.specs.Layout.{Layout, Unfolds, IsValueOf, HasFields, takes_none};
+ghost use Rattle.zk_jute.specs.Layout.{IsValueOf, takes_none};
 ghost use Rattle.zk_jute.specs.Told.{StandsAt, IsReadAs, IsToldFault, HasSureFault};
 ghost use Rattle.zk_jute.specs.Once.{HaveOneFault, IsReadFirst, BeginAlike};
-ghost use Rattle.zk_jute.specs.Reading.{Fails, Gives, items_at};
 
 use crate::fault::ItemFault;
 use crate::output::{Full, Output, Room};
+use crate::source::Kept;
+use crate::stands::{Form, Stands};
 use std::alloc::{AllocError, Global};
 
 /// What is written as bytes: a value of jute, references to values, and pairs of these.
@@ -48,53 +49,45 @@ pub trait Spell {
     }
 }
 
-/// A value of jute: a primitive, a list or a record.
-pub trait Wire: Spell + Sized + Drop {
-    /// The kinds of its items, in order.
-    ghost layout: { Layout };
-
-    /// The step of `read` that an impl writes: its fields, one after the other.
-    fn decode(alloc: Global, src: &[u8], place: usize) -> Result<(Self, usize), ItemFault>
-        requires { place ≤ length src.now }
-        ensures exact { Gives (λ x. (Self.items x.0, x.1)) result (items_at layout src.now place) }
-        ensures plain { IsTrue (takes_none layout) → IfErr result (λ e. Fails e (items_at layout src.now place)) }
-        ensures within { IfOk result (λ x. x.1 ≤ length src.now) };
+/// A value of jute: a primitive, a list or a record; it is written as it is read.
+pub trait Wire: Spell + Form {
+    /// What is written of a value are its items.
+    ghost written: { Self.items ≡ Self.wired.items };
 
     /// The value that stands at `place`, and the place after it; else the first fault from the left,
     /// its place counted from the beginning of `src`.
-    final fn read(alloc: Global, src: &[u8], place: usize) -> Result<(Self, usize), ItemFault>
+    final fn read<'a>(
+        alloc: Global,
+        src: &'a [u8],
+        place: usize,
+    ) -> Result<(Self, usize), ItemFault>
+    where
+        Self: Stands<Kept<'a>>,
         requires { place ≤ length src.now }
         // What is read stands there, each byte of it.
-        ensures found { IfOk result (λ x. IsValueOf layout (Self.items x.0) × StandsAt (Self.items x.0) src.now place x.1) }
+        ensures found { IfOk result (λ x. IsValueOf Self.wired.layout (Self.wired.items x.0) × StandsAt (Self.wired.items x.0) src.now place x.1) }
         // What stands there is read, unless memory is wanted.
-        ensures only { (x : Self) (end : ℕ) → HaveBytes (Self.items x) → StandsAt (Self.items x) src.now place end → IsReadAs (x, end) result }
+        ensures only { (x : Self) (end : ℕ) → HaveBytes (Self.wired.items x) → StandsAt (Self.wired.items x) src.now place end → IsReadAs (x, end) result }
         // Nothing stands there where a fault is answered, and the items fix which one it is.
-        ensures fault { IfErr result (λ e. IsToldFault (IsValueOf layout) src.now place e) }
+        ensures fault { IfErr result (λ e. IsToldFault (IsValueOf Self.wired.layout) src.now place e) }
         // Numbers, booleans and records of these never want memory.
-        ensures plain { IsTrue (takes_none layout) → IfErr result (HasSureFault (IsValueOf layout) src.now place) }
+        ensures plain { IsTrue (takes_none Self.wired.layout) → IfErr result (HasSureFault (IsValueOf Self.wired.layout) src.now place) }
         ensures within { IfOk result (λ x. x.1 ≤ length src.now) }
     {
-        Self::decode(alloc, src, place)
+        Self::read_in(&Kept { alloc, bytes: src }, place)
     }
-
-    /// A value's items are of the layout.
-    ghost unfolds: { (x : Self) → Unfolds layout (Self.items x) };
-
-    /// No two values have the same items.
-    ghost tells_apart: { (x y : Self) → Self.items x ≡ Self.items y → x ≡ y };
-
-    /// A value has an item.
-    ghost has_fields: { HasFields layout };
 }
 
 /// The laws of each type's values as bytes; the function does nothing.
 pub fn laws<T: Wire>()
+    // What is written of a value are the items that are read.
+    ensures written { (x : T) → T.items x ≡ T.wired.items x }
     // The bytes of a value are read again, whatever follows them.
-    ensures again { (x : T) (more : List ℕ) → HaveBytes (T.items x) → IsReadFirst T.layout (T.items x) (bytes_of (T.items x) ++ more) }
+    ensures again { (x : T) (more : List ℕ) → HaveBytes (T.items x) → IsReadFirst T.wired.layout (T.items x) (bytes_of (T.items x) ++ more) }
     // No two values' bytes stand at one place, so those of no value begin those of another.
     ensures only { (x y : T) (more others : List ℕ) → BeginAlike (T.items x) more (T.items y) others → (x ≡ y) × (more ≡ others) }
     // Bytes that are those of no value have one fault.
-    ensures fault { HaveOneFault (IsFault (IsValueOf T.layout)) }
+    ensures fault { HaveOneFault (IsFault (IsValueOf T.wired.layout)) }
     // Each value has a byte.
     ensures byte { (x : T) → 0 < length (bytes_of (T.items x)) }
 {}

@@ -1,11 +1,11 @@
 //! Who may do what: the records `Id` and `ACL` of zookeeper.jute.
+ghost use Rattle.std.specs.Prelude.{◌≡◌, refl};
 ghost use Rattle.zk_records.specs.Records.{id, acl, id_of, acl_of};
 ghost use Rattle.zk_records.specs.Shown.{acl_value, acl_is_value};
 
 use crate::fields::{decode, fields};
-use std::alloc::Global;
 use zk_jute::{
-    Element, Form, ItemFault, Kept, Output, Series, Source, Spell, Stands, Text, TextRef, Wire,
+    Element, Form, ItemFault, Output, Series, Source, Spell, Stands, Text, TextRef, Wire,
 };
 
 /// Who someone is under a scheme: `Id`.
@@ -42,17 +42,7 @@ impl<P: Source, T: Stands<P>> Stands<P> for IdOf<T> {
 }
 
 impl Wire for Id {
-    ghost layout = { id.layout };
-
-    fn decode(alloc: Global, src: &[u8], place: usize) -> Result<(Self, usize), ItemFault> {
-        Stands::decode(&Kept { alloc, bytes: src }, place)
-    }
-
-    ghost unfolds = { id.unfolds };
-
-    ghost tells_apart = { id.tells_apart };
-
-    ghost has_fields = { id.has_fields };
+    ghost written = { refl };
 }
 
 /// What someone may do: `ACL`.
@@ -89,17 +79,7 @@ impl<P: Source, W: Stands<P>> Stands<P> for AclOf<W> {
 }
 
 impl Wire for Acl {
-    ghost layout = { acl.layout };
-
-    fn decode(alloc: Global, src: &[u8], place: usize) -> Result<(Self, usize), ItemFault> {
-        Stands::decode(&Kept { alloc, bytes: src }, place)
-    }
-
-    ghost unfolds = { acl.unfolds };
-
-    ghost tells_apart = { acl.tells_apart };
-
-    ghost has_fields = { acl.has_fields };
+    ghost written = { refl };
 }
 
 impl<'a> Element for AclRef<'a> {

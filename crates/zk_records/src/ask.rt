@@ -1,12 +1,12 @@
 //! The bodies of requests that change a node, and of a check: `CreateRequest`, `DeleteRequest`,
 //! `SetDataRequest`, `SetACLRequest` and `CheckVersionRequest` of zookeeper.jute.
+ghost use Rattle.std.specs.Prelude.{◌≡◌, refl};
 ghost use Rattle.zk_records.specs.Records.{create_ask, delete_ask, set_data_ask, set_acl_ask, check_ask, create_ask_of, delete_ask_of, set_data_ask_of, set_acl_ask_of, check_ask_of};
 
 use crate::acl::{Acl, AclList};
 use crate::fields::{decode, fields};
-use std::alloc::Global;
 use zk_jute::{
-    Blob, BlobRef, Form, ItemFault, Kept, List, Output, Source, Spell, Stands, Text, TextRef, Wire,
+    Blob, BlobRef, Form, ItemFault, List, Output, Source, Spell, Stands, Text, TextRef, Wire,
 };
 
 /// A node is to be made: `CreateRequest`.
@@ -47,17 +47,7 @@ impl<P: Source, T: Stands<P>, B: Stands<P>, A: Stands<P>> Stands<P> for CreateAs
 }
 
 impl Wire for CreateAsk {
-    ghost layout = { create_ask.layout };
-
-    fn decode(alloc: Global, src: &[u8], place: usize) -> Result<(Self, usize), ItemFault> {
-        Stands::decode(&Kept { alloc, bytes: src }, place)
-    }
-
-    ghost unfolds = { create_ask.unfolds };
-
-    ghost tells_apart = { create_ask.tells_apart };
-
-    ghost has_fields = { create_ask.has_fields };
+    ghost written = { refl };
 }
 
 /// A node is to be removed: `DeleteRequest`.
@@ -94,17 +84,7 @@ impl<P: Source, T: Stands<P>> Stands<P> for DeleteAskOf<T> {
 }
 
 impl Wire for DeleteAsk {
-    ghost layout = { delete_ask.layout };
-
-    fn decode(alloc: Global, src: &[u8], place: usize) -> Result<(Self, usize), ItemFault> {
-        Stands::decode(&Kept { alloc, bytes: src }, place)
-    }
-
-    ghost unfolds = { delete_ask.unfolds };
-
-    ghost tells_apart = { delete_ask.tells_apart };
-
-    ghost has_fields = { delete_ask.has_fields };
+    ghost written = { refl };
 }
 
 /// A node's data is to be set: `SetDataRequest`.
@@ -143,17 +123,7 @@ impl<P: Source, T: Stands<P>, B: Stands<P>> Stands<P> for SetDataAskOf<T, B> {
 }
 
 impl Wire for SetDataAsk {
-    ghost layout = { set_data_ask.layout };
-
-    fn decode(alloc: Global, src: &[u8], place: usize) -> Result<(Self, usize), ItemFault> {
-        Stands::decode(&Kept { alloc, bytes: src }, place)
-    }
-
-    ghost unfolds = { set_data_ask.unfolds };
-
-    ghost tells_apart = { set_data_ask.tells_apart };
-
-    ghost has_fields = { set_data_ask.has_fields };
+    ghost written = { refl };
 }
 
 /// A node's access list is to be set: `SetACLRequest`.
@@ -191,17 +161,7 @@ impl<P: Source, T: Stands<P>, A: Stands<P>> Stands<P> for SetAclAskOf<T, A> {
 }
 
 impl Wire for SetAclAsk {
-    ghost layout = { set_acl_ask.layout };
-
-    fn decode(alloc: Global, src: &[u8], place: usize) -> Result<(Self, usize), ItemFault> {
-        Stands::decode(&Kept { alloc, bytes: src }, place)
-    }
-
-    ghost unfolds = { set_acl_ask.unfolds };
-
-    ghost tells_apart = { set_acl_ask.tells_apart };
-
-    ghost has_fields = { set_acl_ask.has_fields };
+    ghost written = { refl };
 }
 
 /// A node's version is to be checked, within a multi: `CheckVersionRequest`.
@@ -238,15 +198,5 @@ impl<P: Source, T: Stands<P>> Stands<P> for CheckAskOf<T> {
 }
 
 impl Wire for CheckAsk {
-    ghost layout = { check_ask.layout };
-
-    fn decode(alloc: Global, src: &[u8], place: usize) -> Result<(Self, usize), ItemFault> {
-        Stands::decode(&Kept { alloc, bytes: src }, place)
-    }
-
-    ghost unfolds = { check_ask.unfolds };
-
-    ghost tells_apart = { check_ask.tells_apart };
-
-    ghost has_fields = { check_ask.has_fields };
+    ghost written = { refl };
 }

@@ -1,14 +1,14 @@
 //! The bodies of replies of more than one field: `GetDataResponse`, `GetACLResponse`,
 //! `GetChildren2Response` and `Create2Response` of zookeeper.jute.
+ghost use Rattle.std.specs.Prelude.{◌≡◌, refl};
 ghost use Rattle.zk_records.specs.Records.{data_body, acl_body, children_body, create_body, data_body_of, acl_body_of, children_body_of, create_body_of};
 
 use crate::acl::{Acl, AclList};
 use crate::fields::{decode, fields};
 use crate::stat::Stat;
-use std::alloc::Global;
 use zk_jute::{
-    Blob, BlobRef, Form, ItemFault, Kept, List, Output, Source, Spell, Stands, Text, TextList,
-    TextRef, Wire,
+    Blob, BlobRef, Form, ItemFault, List, Output, Source, Spell, Stands, Text, TextList, TextRef,
+    Wire,
 };
 
 /// What a node holds: `GetDataResponse`.
@@ -46,17 +46,7 @@ impl<P: Source, B: Stands<P>> Stands<P> for DataBodyOf<B> {
 }
 
 impl Wire for DataBody {
-    ghost layout = { data_body.layout };
-
-    fn decode(alloc: Global, src: &[u8], place: usize) -> Result<(Self, usize), ItemFault> {
-        Stands::decode(&Kept { alloc, bytes: src }, place)
-    }
-
-    ghost unfolds = { data_body.unfolds };
-
-    ghost tells_apart = { data_body.tells_apart };
-
-    ghost has_fields = { data_body.has_fields };
+    ghost written = { refl };
 }
 
 /// Who may do what with a node: `GetACLResponse`.
@@ -92,17 +82,7 @@ impl<P: Source, A: Stands<P>> Stands<P> for AclBodyOf<A> {
 }
 
 impl Wire for AclBody {
-    ghost layout = { acl_body.layout };
-
-    fn decode(alloc: Global, src: &[u8], place: usize) -> Result<(Self, usize), ItemFault> {
-        Stands::decode(&Kept { alloc, bytes: src }, place)
-    }
-
-    ghost unfolds = { acl_body.unfolds };
-
-    ghost tells_apart = { acl_body.tells_apart };
-
-    ghost has_fields = { acl_body.has_fields };
+    ghost written = { refl };
 }
 
 /// The names below a node: `GetChildren2Response`.
@@ -139,17 +119,7 @@ impl<P: Source, L: Stands<P>> Stands<P> for ChildrenBodyOf<L> {
 }
 
 impl Wire for ChildrenBody {
-    ghost layout = { children_body.layout };
-
-    fn decode(alloc: Global, src: &[u8], place: usize) -> Result<(Self, usize), ItemFault> {
-        Stands::decode(&Kept { alloc, bytes: src }, place)
-    }
-
-    ghost unfolds = { children_body.unfolds };
-
-    ghost tells_apart = { children_body.tells_apart };
-
-    ghost has_fields = { children_body.has_fields };
+    ghost written = { refl };
 }
 
 /// A new node's name, and its `Stat`: `Create2Response`.
@@ -185,15 +155,5 @@ impl<P: Source, T: Stands<P>> Stands<P> for CreateBodyOf<T> {
 }
 
 impl Wire for CreateBody {
-    ghost layout = { create_body.layout };
-
-    fn decode(alloc: Global, src: &[u8], place: usize) -> Result<(Self, usize), ItemFault> {
-        Stands::decode(&Kept { alloc, bytes: src }, place)
-    }
-
-    ghost unfolds = { create_body.unfolds };
-
-    ghost tells_apart = { create_body.tells_apart };
-
-    ghost has_fields = { create_body.has_fields };
+    ghost written = { refl };
 }

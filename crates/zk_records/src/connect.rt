@@ -1,9 +1,9 @@
 //! The first payload of each side: `ConnectRequest` and `ConnectResponse` of zookeeper.jute.
+ghost use Rattle.std.specs.Prelude.{◌≡◌, refl};
 ghost use Rattle.zk_records.specs.Records.{connect_request, connect_response, connect_request_of, connect_response_of};
 
 use crate::fields::{decode, fields};
-use std::alloc::Global;
-use zk_jute::{Blob, BlobRef, Form, ItemFault, Kept, Output, Source, Spell, Stands, Wire};
+use zk_jute::{Blob, BlobRef, Form, ItemFault, Output, Source, Spell, Stands, Wire};
 
 /// A client asks for a session: `ConnectRequest`.
 #[derive(Debug, Drop)]
@@ -45,17 +45,7 @@ impl<P: Source, B: Stands<P>> Stands<P> for ConnectRequestOf<B> {
 }
 
 impl Wire for ConnectRequest {
-    ghost layout = { connect_request.layout };
-
-    fn decode(alloc: Global, src: &[u8], place: usize) -> Result<(Self, usize), ItemFault> {
-        Stands::decode(&Kept { alloc, bytes: src }, place)
-    }
-
-    ghost unfolds = { connect_request.unfolds };
-
-    ghost tells_apart = { connect_request.tells_apart };
-
-    ghost has_fields = { connect_request.has_fields };
+    ghost written = { refl };
 }
 
 /// A server grants a session: `ConnectResponse`.
@@ -95,15 +85,5 @@ impl<P: Source, B: Stands<P>> Stands<P> for ConnectResponseOf<B> {
 }
 
 impl Wire for ConnectResponse {
-    ghost layout = { connect_response.layout };
-
-    fn decode(alloc: Global, src: &[u8], place: usize) -> Result<(Self, usize), ItemFault> {
-        Stands::decode(&Kept { alloc, bytes: src }, place)
-    }
-
-    ghost unfolds = { connect_response.unfolds };
-
-    ghost tells_apart = { connect_response.tells_apart };
-
-    ghost has_fields = { connect_response.has_fields };
+    ghost written = { refl };
 }

@@ -1,9 +1,9 @@
 //! What a watcher is told: `WatcherEvent` of zookeeper.jute.
+ghost use Rattle.std.specs.Prelude.{◌≡◌, refl};
 ghost use Rattle.zk_records.specs.Records.{watcher_event, watcher_event_of};
 
 use crate::fields::{decode, fields};
-use std::alloc::Global;
-use zk_jute::{Form, ItemFault, Kept, Output, Source, Spell, Stands, Text, TextRef, Wire};
+use zk_jute::{Form, ItemFault, Output, Source, Spell, Stands, Text, TextRef, Wire};
 
 /// What a watch saw: `WatcherEvent`.
 #[derive(Debug, Drop)]
@@ -40,15 +40,5 @@ impl<P: Source, T: Stands<P>> Stands<P> for WatcherEventOf<T> {
 }
 
 impl Wire for WatcherEvent {
-    ghost layout = { watcher_event.layout };
-
-    fn decode(alloc: Global, src: &[u8], place: usize) -> Result<(Self, usize), ItemFault> {
-        Stands::decode(&Kept { alloc, bytes: src }, place)
-    }
-
-    ghost unfolds = { watcher_event.unfolds };
-
-    ghost tells_apart = { watcher_event.tells_apart };
-
-    ghost has_fields = { watcher_event.has_fields };
+    ghost written = { refl };
 }

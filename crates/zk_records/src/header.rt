@@ -1,10 +1,10 @@
 //! What stands before a request, a reply and each part of a multi: `RequestHeader`, `ReplyHeader`
 //! and `MultiHeader` of zookeeper.jute.
+ghost use Rattle.std.specs.Prelude.{◌≡◌, refl};
 ghost use Rattle.zk_records.specs.Records.{request_header, reply_header, multi_header};
 
 use crate::fields::{decode, fields};
-use std::alloc::Global;
-use zk_jute::{Form, ItemFault, Kept, Output, Source, Spell, Stands, Wire};
+use zk_jute::{Form, ItemFault, Output, Source, Spell, Stands, Wire};
 
 /// What stands before each request: `RequestHeader`, 8 bytes.
 #[derive(Debug, Drop)]
@@ -36,17 +36,7 @@ impl<P: Source> Stands<P> for RequestHeader {
 }
 
 impl Wire for RequestHeader {
-    ghost layout = { request_header.layout };
-
-    fn decode(alloc: Global, src: &[u8], place: usize) -> Result<(Self, usize), ItemFault> {
-        Stands::decode(&Kept { alloc, bytes: src }, place)
-    }
-
-    ghost unfolds = { request_header.unfolds };
-
-    ghost tells_apart = { request_header.tells_apart };
-
-    ghost has_fields = { request_header.has_fields };
+    ghost written = { refl };
 }
 
 /// What stands before each reply and event: `ReplyHeader`, 16 bytes.
@@ -80,17 +70,7 @@ impl<P: Source> Stands<P> for ReplyHeader {
 }
 
 impl Wire for ReplyHeader {
-    ghost layout = { reply_header.layout };
-
-    fn decode(alloc: Global, src: &[u8], place: usize) -> Result<(Self, usize), ItemFault> {
-        Stands::decode(&Kept { alloc, bytes: src }, place)
-    }
-
-    ghost unfolds = { reply_header.unfolds };
-
-    ghost tells_apart = { reply_header.tells_apart };
-
-    ghost has_fields = { reply_header.has_fields };
+    ghost written = { refl };
 }
 
 /// What stands before each part of a multi and behind the last: `MultiHeader`, 9 bytes.
@@ -124,15 +104,5 @@ impl<P: Source> Stands<P> for MultiHeader {
 }
 
 impl Wire for MultiHeader {
-    ghost layout = { multi_header.layout };
-
-    fn decode(alloc: Global, src: &[u8], place: usize) -> Result<(Self, usize), ItemFault> {
-        Stands::decode(&Kept { alloc, bytes: src }, place)
-    }
-
-    ghost unfolds = { multi_header.unfolds };
-
-    ghost tells_apart = { multi_header.tells_apart };
-
-    ghost has_fields = { multi_header.has_fields };
+    ghost written = { refl };
 }

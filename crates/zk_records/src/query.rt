@@ -1,10 +1,10 @@
 //! The bodies of requests that look at a node: `ExistsRequest`, `GetDataRequest`,
 //! `GetChildrenRequest`, `GetChildren2Request`, `GetACLRequest` and `SyncRequest` of zookeeper.jute.
+ghost use Rattle.std.specs.Prelude.{◌≡◌, refl};
 ghost use Rattle.zk_records.specs.Records.{watch_ask, path_ask, watch_ask_of, path_ask_of};
 
 use crate::fields::{decode, fields};
-use std::alloc::Global;
-use zk_jute::{Form, ItemFault, Kept, Output, Source, Spell, Stands, Text, TextRef, Wire};
+use zk_jute::{Form, ItemFault, Output, Source, Spell, Stands, Text, TextRef, Wire};
 
 /// A node is looked at, and may be watched: `ExistsRequest`, `GetDataRequest`, `GetChildrenRequest`
 /// and `GetChildren2Request`.
@@ -42,17 +42,7 @@ impl<P: Source, T: Stands<P>> Stands<P> for WatchAskOf<T> {
 }
 
 impl Wire for WatchAsk {
-    ghost layout = { watch_ask.layout };
-
-    fn decode(alloc: Global, src: &[u8], place: usize) -> Result<(Self, usize), ItemFault> {
-        Stands::decode(&Kept { alloc, bytes: src }, place)
-    }
-
-    ghost unfolds = { watch_ask.unfolds };
-
-    ghost tells_apart = { watch_ask.tells_apart };
-
-    ghost has_fields = { watch_ask.has_fields };
+    ghost written = { refl };
 }
 
 /// A path alone: `GetACLRequest` and `SyncRequest`.
@@ -87,15 +77,5 @@ impl<P: Source, T: Stands<P>> Stands<P> for PathAskOf<T> {
 }
 
 impl Wire for PathAsk {
-    ghost layout = { path_ask.layout };
-
-    fn decode(alloc: Global, src: &[u8], place: usize) -> Result<(Self, usize), ItemFault> {
-        Stands::decode(&Kept { alloc, bytes: src }, place)
-    }
-
-    ghost unfolds = { path_ask.unfolds };
-
-    ghost tells_apart = { path_ask.tells_apart };
-
-    ghost has_fields = { path_ask.has_fields };
+    ghost written = { refl };
 }

@@ -1,11 +1,11 @@
 //! The bodies of requests about the session: `AuthPacket` and `SetWatches` of zookeeper.jute.
+ghost use Rattle.std.specs.Prelude.{◌≡◌, refl};
 ghost use Rattle.zk_records.specs.Records.{auth_ask, set_watches_ask, auth_ask_of, set_watches_ask_of};
 
 use crate::fields::{decode, fields};
-use std::alloc::Global;
 use zk_jute::{
-    Blob, BlobRef, Form, ItemFault, Kept, List, Output, Source, Spell, Stands, Text, TextList,
-    TextRef, Wire,
+    Blob, BlobRef, Form, ItemFault, List, Output, Source, Spell, Stands, Text, TextList, TextRef,
+    Wire,
 };
 
 /// Who the client is: `AuthPacket`.
@@ -44,17 +44,7 @@ impl<P: Source, T: Stands<P>, B: Stands<P>> Stands<P> for AuthAskOf<T, B> {
 }
 
 impl Wire for AuthAsk {
-    ghost layout = { auth_ask.layout };
-
-    fn decode(alloc: Global, src: &[u8], place: usize) -> Result<(Self, usize), ItemFault> {
-        Stands::decode(&Kept { alloc, bytes: src }, place)
-    }
-
-    ghost unfolds = { auth_ask.unfolds };
-
-    ghost tells_apart = { auth_ask.tells_apart };
-
-    ghost has_fields = { auth_ask.has_fields };
+    ghost written = { refl };
 }
 
 /// Watches are to be set again after a reconnect: `SetWatches`.
@@ -95,15 +85,5 @@ impl<P: Source, L: Stands<P>> Stands<P> for SetWatchesAskOf<L> {
 }
 
 impl Wire for SetWatchesAsk {
-    ghost layout = { set_watches_ask.layout };
-
-    fn decode(alloc: Global, src: &[u8], place: usize) -> Result<(Self, usize), ItemFault> {
-        Stands::decode(&Kept { alloc, bytes: src }, place)
-    }
-
-    ghost unfolds = { set_watches_ask.unfolds };
-
-    ghost tells_apart = { set_watches_ask.tells_apart };
-
-    ghost has_fields = { set_watches_ask.has_fields };
+    ghost written = { refl };
 }

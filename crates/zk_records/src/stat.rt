@@ -1,9 +1,9 @@
 //! What is known of a node: `Stat` of zookeeper.jute.
+ghost use Rattle.std.specs.Prelude.{◌≡◌, refl};
 ghost use Rattle.zk_records.specs.Records.{stat};
 
 use crate::fields::{decode, fields};
-use std::alloc::Global;
-use zk_jute::{Form, ItemFault, Kept, Output, Source, Spell, Stands, Wire};
+use zk_jute::{Form, ItemFault, Output, Source, Spell, Stands, Wire};
 
 /// What is known of a node: `Stat`, 68 bytes.
 #[derive(Clone, Copy, Debug)]
@@ -54,15 +54,5 @@ impl<P: Source> Stands<P> for Stat {
 }
 
 impl Wire for Stat {
-    ghost layout = { stat.layout };
-
-    fn decode(alloc: Global, src: &[u8], place: usize) -> Result<(Self, usize), ItemFault> {
-        Stands::decode(&Kept { alloc, bytes: src }, place)
-    }
-
-    ghost unfolds = { stat.unfolds };
-
-    ghost tells_apart = { stat.tells_apart };
-
-    ghost has_fields = { stat.has_fields };
+    ghost written = { refl };
 }

@@ -3,7 +3,7 @@ use std::alloc::Global;
 use std::fmt::Debug;
 use std::process::Abort;
 use std::test::Fail;
-use zk_jute::Wire;
+use zk_jute::{Kept, Stands, Wire};
 use zk_records::{
     Acl, AclBody, AuthAsk, CheckAsk, ChildrenBody, ConnectRequest, ConnectResponse, CreateAsk,
     DataBody, DeleteAsk, Id, MultiHeader, PathAsk, ReplyHeader, RequestHeader, SetAclAsk,
@@ -11,10 +11,10 @@ use zk_records::{
 };
 
 /// Each row's bytes, as ZooKeeper's own jute wrote them, are the value, and are written again.
-fn reads<T: Wire + Debug>(
+fn reads<'a, T: Wire + Stands<Kept<'a>> + Debug>(
     rt: &impl Abort,
     alloc: Global,
-    rows: &[(&[u8], &str)],
+    rows: &[(&'a [u8], &str)],
 ) -> Result<(), Fail> {
     for (bytes, want) in rows {
         let (value, end) = T::read(alloc, bytes, 0)?;
