@@ -1,5 +1,5 @@
 -- What a talk answers for a piece, by what its side became.
-use Rattle.std.proofs.Common.{◌≡◌, ◌≢◌, true, ℕ, ◌+◌, ◌⊎◌, inl, inr, List, [], ◌∷◌, ◌++◌, length, take, drop, Option, Some, refl, sym, ap, ◌∙◌, subst}
+use Rattle.std.proofs.Common.{◌≡◌, ◌≢◌, true, ℕ, ◌+◌, ◌⊎◌, inl, inr, List, [], ◌∷◌, ◌++◌, length, take, drop, Option, Some, Ok, refl, sym, ap, ◌∙◌, subst}
 use Rattle.std.proofs.lemmas.List.{length-take-le}
 use Rattle.zk_jute.specs.declared.fault.ItemFault.{ItemFault}
 use Rattle.zk_jute.specs.declared.fault.Reason.{Reason}
@@ -19,6 +19,7 @@ use Rattle.zk_talk.specs.Stands.{TalkState, Stands, held_on, kept_on, frames_on,
 use Rattle.zk_talk.specs.Advance.{IsAdvance, IsStop}
 use Rattle.zk_talk.specs.Advance.IsStop.{too_many, out_of_range}
 use Rattle.zk_talk.specs.Viewed.{Shows}
+use Rattle.zk_talk.specs.Receiving.{IsReceived}
 use Rattle.zk_talk.specs.Taking.{GoesOn, Steps, IsRefused, Fails, given_up}
 use Rattle.zk_talk.proofs.Talks.{set_on, put_on, refusing}
 use Rattle.zk_talk.proofs.Sides.{TellsOn, IsNextOn, goes_within, stopped, goes_whole, judged}
@@ -49,6 +50,10 @@ no_range e = cc
 stop_known : (limit size : ℕ) (held piece : List ℕ) (used : ℕ) (reason : Reason) → IsStop limit size held piece used reason → reason ≡ NoMemory → ⊥
 stop_known limit size held piece used reason (too_many k u l full begin r) e = no_end (sym r ∙ e)
 stop_known limit size held piece used reason (out_of_range some l fits few bad r) e = no_range (sym r ∙ e)
+
+-- what a side received, by what the answer holds
+pub received : (side : Side) (old : StreamState) (piece : List ℕ) (kept : Option Fault) (new : StreamState) (keeps : Option Fault) {a b : Option ℕ} → a ≡ b → IsReceived side old piece kept (Ok a) new keeps → IsReceived side old piece kept (Ok b) new keeps
+received side old piece kept new keeps e r = subst (λ z. IsReceived side old piece kept (Ok z) new keeps) e r
 
 -- what is kept is of no weight for the history
 pub rekept : (t : TalkState) (a b : List ℕ) (h : History) (M : List Message) → Stands t h M → Stands (record t { client_kept = a; server_kept = b }) h M
@@ -103,11 +108,11 @@ module _ (side : Side) (t : TalkState) (piece : List ℕ) (s s' : StreamState) {
       subst (λ z. IsRefused t side piece z (put_on side t s t.waiting t.answered k)) (sym told)
       (subst (IsRefused t side piece (fault_of side (frames_on side t) (size_on side t + used) place reason)) (λ i. set_on side t s.held (sym same_kept i) (sym same_count i) (sym same_size i) t.waiting t.answered (sym holds i)) target)
 
-  pub stops : (k : Option Fault) (result : Fault) (used : ℕ) (reason : Reason) → IsAdvance limit (size_on side t) (held_on side t) piece (Refused used reason) s.held → result ≡ fault_of side (frames_on side t) (size_on side t + used) 0 reason → k ≡ Some result →
+  pub stops : {from : Side} → from ≡ side → (k : Option Fault) (result : Fault) (used : ℕ) (reason : Reason) → IsAdvance limit (size_on side t) (held_on side t) piece (Refused used reason) s.held → result ≡ fault_of from (frames_on side t) (size_on side t + used) 0 reason → k ≡ Some result →
       (result.reason ≢ NoMemory) × IsRefused t side piece result (put_on side t s t.waiting t.answered k)
-  stops k result used reason a told kept =
+  stops is k result used reason a told kept =
       let known = stop_known limit (size_on side t) (held_on side t) piece used reason a.0 in
-      ((λ n. known (sym (ap (λ (z : Fault). z.reason) told) ∙ n)), refuses k used 0 reason result told kept (stopped side t piece s.held used reason (advance_on (Refused used reason) a)))
+      ((λ n. known (sym (ap (λ (z : Fault). z.reason) told) ∙ n)), refuses k used 0 reason result (told ∙ (λ i. fault_of (is i) (frames_on side t) (size_on side t + used) 0 reason)) kept (stopped side t piece s.held used reason (advance_on (Refused used reason) a)))
 
   module _ (used : ℕ) (a : IsAdvance limit (size_on side t) (held_on side t) piece (Whole used) s.held) (max : t.waiting.max ≡ t.limits.waiting) where
     -- a frame more, which is passed or kept
@@ -130,18 +135,18 @@ module _ (side : Side) (t : TalkState) (piece : List ℕ) (s s' : StreamState) {
       held_there side t s'.held s'.kept s'.count s'.size w o t.fault ∙ ap (λ (z : StreamState). z.held) q,
     )
 
-    module _ (w : Lanes) (k : Option Fault) (e : ItemFault) (result : Fault) (told : (e.reason ≡ NoMemory → ⊥) → (result ≡ fault_of side s'.count (s'.size + used) e.place e.reason) × (k ≡ Some result)) (waits : w ≡ t.waiting) where
+    module _ {from : Side} (is : from ≡ side) (w : Lanes) (k : Option Fault) (e : ItemFault) (result : Fault) (told : (e.reason ≡ NoMemory → ⊥) → (result ≡ fault_of from s'.count (s'.size + used) e.place e.reason) × (k ≡ Some result)) (waits : w ≡ t.waiting) where
       -- what was judged bad
       pub bad : (e.reason ≢ NoMemory) → s' ≡ s → TellsOn side t.limits.profile t.client_frames s.count t.waiting (drop 4 s.held) e → (result.reason ≢ NoMemory) × IsRefused t side piece result (put_on side t s' w t.answered k)
       bad known q fault =
           let r = told known in
-          let same : result ≡ fault_of side (frames_on side t) (size_on side t + used) e.place e.reason = r.0 ∙ (λ i. fault_of side (q i).count ((q i).size + used) e.place e.reason) ∙ (λ i. fault_of side (same_count i) (same_size i + used) e.place e.reason) in
+          let same : result ≡ fault_of side (frames_on side t) (size_on side t + used) e.place e.reason = r.0 ∙ (λ i. fault_of (is i) (q i).count ((q i).size + used) e.place e.reason) ∙ (λ i. fault_of side (same_count i) (same_size i + used) e.place e.reason) in
           let target = judged side t piece s.held used e (advance_on (Whole used) a) max (subst (λ z. TellsOn side t.limits.profile t.client_frames z t.waiting (drop 4 s.held) e) same_count fault) in (
             (λ n. known (sym (ap (λ (z : Fault). z.reason) r.0) ∙ n)),
             subst (IsRefused t side piece result) (λ i. put_on side t (sym q i) (sym waits i) t.answered k) (refuses k used e.place e.reason result same r.1 target),
           )
 
-      pub fails : kept_on side t ≡ [] → (e.reason ≡ NoMemory → (result ≡ fault_of side s'.count s'.size 0 NoMemory) × (k ≡ t.fault)) →
+      pub fails : kept_on side t ≡ [] → (e.reason ≡ NoMemory → (result ≡ fault_of from s'.count s'.size 0 NoMemory) × (k ≡ t.fault)) →
           (e.reason ≡ NoMemory → (m : Message) × (x : Lanes) × IsNextOn side t.limits.profile t.client_frames s.count t.waiting (drop 4 s.held) m x) →
           (e.reason ≡ NoMemory → (before part : List ℕ) → s.held ≡ before ++ part → length part ≡ used → s' ≡ record s { held = before }) → ((e.reason ≡ NoMemory → ⊥) → s' ≡ s) →
           ((e.reason ≡ NoMemory → ⊥) → TellsOn side t.limits.profile t.client_frames s.count t.waiting (drop 4 s.held) e) → Fails t side piece result (put_on side t s' w t.answered k)
@@ -156,7 +161,7 @@ module _ (side : Side) (t : TalkState) (piece : List ℕ) (s s' : StreamState) {
               let kept' : s'.kept ≡ [] = ap (λ (z : StreamState). z.kept) b ∙ same_kept ∙ none in
               let next = lacks n in
               inl (record {
-                told = r.0 ∙ (λ i. fault_of side (count' i) (size' i) 0 NoMemory);
+                told = r.0 ∙ (λ i. fault_of (is i) (count' i) (size' i) 0 NoMemory);
                 same = (λ i. set_on side t (b i).held (kept' i) (count' i) (size' i) (waits i) t.answered (r.1 i)) ∙ given_there side t;
                 used = used;
                 part = a.1;

@@ -1,11 +1,9 @@
 -- What a piece brings to a side.
-use Rattle.std.specs.Prelude.{◌≡◌, ℕ, ◌+◌, List, length, Option, Some}
+use Rattle.std.specs.Prelude.{◌≡◌, ℕ, ◌+◌, List, length, Option, Some, None, Result, Ok, Err}
 use Rattle.zk_jute.specs.declared.fault.Reason.{Reason}
 use Rattle.zk_talk.specs.declared.message.Side.{Side}
 use Rattle.zk_talk.specs.declared.message.Fault.{Fault}
 use Rattle.zk_talk.specs.declared.stream.Advance.TheVariants as advances
-use Rattle.zk_talk.specs.declared.receive.Received.{Received}
-use Rattle.zk_talk.specs.declared.receive.Received.TheVariants.{Within, Whole, Refused}
 use Rattle.zk_talk.specs.Fault.{fault_of}
 use Rattle.zk_talk.specs.Streams.{StreamState}
 use Rattle.zk_talk.specs.Advance.{IsAdvance}
@@ -30,7 +28,7 @@ pub record IsStopped (side : Side) (old : StreamState) (piece : List ℕ) (fault
   pub told : fault ≡ fault_of side old.count (old.size + used) 0 reason
 
 -- what the side and the fault that is kept become
-abbrev pub IsReceived : Side → StreamState → List ℕ → Option Fault → Received → StreamState → Option Fault → Type 0
-IsReceived side old piece kept Within new keeps = CameWithin old piece new × (keeps ≡ kept)
-IsReceived side old piece kept (Whole used) new keeps = CameWhole old piece used new × (keeps ≡ kept)
-IsReceived side old piece kept (Refused fault) new keeps = IsStopped side old piece fault new × (keeps ≡ Some fault)
+abbrev pub IsReceived : Side → StreamState → List ℕ → Option Fault → Result (Option ℕ) Fault → StreamState → Option Fault → Type 0
+IsReceived side old piece kept (Ok None) new keeps = CameWithin old piece new × (keeps ≡ kept)
+IsReceived side old piece kept (Ok (Some used)) new keeps = CameWhole old piece used new × (keeps ≡ kept)
+IsReceived side old piece kept (Err fault) new keeps = IsStopped side old piece fault new × (keeps ≡ Some fault)

@@ -12,16 +12,6 @@ use crate::message::{Fault, Side};
 use crate::stream::{Advance, Stream};
 use zk_jute::{ItemFault, Reason};
 
-/// What a piece brings to a side.
-pub enum Received {
-    /// All of it was taken, and the frame isn't whole.
-    Within,
-    /// So many of its bytes were taken, and the frame is whole.
-    Whole(usize),
-    /// The side is refused.
-    Refused(Fault),
-}
-
 /// The fault of an item of this side's frame, behind so many bytes of the side.
 fn fault_at(side: Side, frame: u64, offset: u64, item: ItemFault) -> Fault
     ensures { result ≡ fault_of side frame offset item.place item.reason }
@@ -68,8 +58,14 @@ pub fn refuse(
     fault
 }
 
-/// The side takes the piece up to the end of the first frame that becomes whole, or all of it. A refusal is kept.
-pub fn receive(kept: &mut Option<Fault>, side: Side, stream: &mut Stream, piece: &[u8]) -> Received
+/// The side takes the piece up to the end of the first frame that becomes whole, or all of it. A whole frame is answered
+/// with how many bytes were taken; None says that all of them were, and the frame isn't whole. A refusal is kept.
+pub fn receive(
+    kept: &mut Option<Fault>,
+    side: Side,
+    stream: &mut Stream,
+    piece: &[u8],
+) -> Result<Option<usize>, Fault>
     requires begins { IsBeginning stream.old.limit stream.old.held }
     requires given_up { stream.old.kept ≡ [] }
     requires size { stream.old.size < 2 ^ 62 }
@@ -79,12 +75,12 @@ pub fn receive(kept: &mut Option<Fault>, side: Side, stream: &mut Stream, piece:
     match stream.take(piece) {
         Advance::Within => {
             stream.go_on(piece.len());
-            Received::Within
+            Ok(None)
         }
-        Advance::Whole(used) => Received::Whole(used),
+        Advance::Whole(used) => Ok(Some(used)),
         Advance::Refused(used, reason) => {
             let item = ItemFault { place: 0, reason };
-            Received::Refused(refuse(kept, side, stream, used, item))
+            Err(refuse(kept, side, stream, used, item))
         }
     }
 }

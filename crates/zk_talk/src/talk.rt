@@ -21,7 +21,7 @@ use crate::frame::{
 };
 use crate::limits::Limits;
 use crate::message::{Ending, Fault, Message, MessageOf, MessageRef, Side};
-use crate::receive::{Received, receive, refuse};
+use crate::receive::{receive, refuse};
 use crate::refused::{answered_body, asked_body, is_in_body};
 use crate::stream::Stream;
 use crate::view::{shown_client, shown_server};
@@ -108,65 +108,40 @@ impl Talk {
         ensures given_up { kept_on side self.new ≡ [] }
         ensures empty { length piece.now ≡ 0 → IsOk result }
     {
+        let alloc = self.alloc;
         match side {
-            Side::Client => match receive(&mut self.fault, Side::Client, &mut self.client, piece) {
-                Received::Within => Ok(Taken {
-                    used: piece.len(),
-                    message: None,
-                }),
-                Received::Whole(used) => {
-                    let profile = self.limits.profile();
-                    match client_frame(
-                        self.alloc,
-                        profile,
-                        &mut self.client,
-                        &mut self.waiting,
+            Side::Client => {
+                let Some(used) = receive(&mut self.fault, side, &mut self.client, piece)? else {
+                    return Ok(Taken {
+                        used: piece.len(),
+                        message: None,
+                    });
+                };
+                let profile = self.limits.profile();
+                match client_frame(alloc, profile, &mut self.client, &mut self.waiting, used) {
+                    Ok(frame) => Ok(Taken {
                         used,
-                    ) {
-                        Ok(frame) => Ok(Taken {
-                            used,
-                            message: Some(Message::Client(frame)),
-                        }),
-                        Err(item) => Err(refuse(
-                            &mut self.fault,
-                            Side::Client,
-                            &self.client,
-                            used,
-                            item,
-                        )),
-                    }
+                        message: Some(Message::Client(frame)),
+                    }),
+                    Err(item) => Err(refuse(&mut self.fault, side, &self.client, used, item)),
                 }
-                Received::Refused(fault) => Err(fault),
-            },
-            Side::Server => match receive(&mut self.fault, Side::Server, &mut self.server, piece) {
-                Received::Within => Ok(Taken {
-                    used: piece.len(),
-                    message: None,
-                }),
-                Received::Whole(used) => {
-                    let asked = self.client.count();
-                    match server_frame(
-                        self.alloc,
-                        asked,
-                        &mut self.server,
-                        &mut self.waiting,
+            }
+            Side::Server => {
+                let Some(used) = receive(&mut self.fault, side, &mut self.server, piece)? else {
+                    return Ok(Taken {
+                        used: piece.len(),
+                        message: None,
+                    });
+                };
+                let asked = self.client.count();
+                match server_frame(alloc, asked, &mut self.server, &mut self.waiting, used) {
+                    Ok(frame) => Ok(Taken {
                         used,
-                    ) {
-                        Ok(frame) => Ok(Taken {
-                            used,
-                            message: Some(Message::Server(frame)),
-                        }),
-                        Err(item) => Err(refuse(
-                            &mut self.fault,
-                            Side::Server,
-                            &self.server,
-                            used,
-                            item,
-                        )),
-                    }
+                        message: Some(Message::Server(frame)),
+                    }),
+                    Err(item) => Err(refuse(&mut self.fault, side, &self.server, used, item)),
                 }
-                Received::Refused(fault) => Err(fault),
-            },
+            }
         }
     }
 
@@ -222,49 +197,35 @@ impl Talk {
         ensures none { OnErr result (kept_on side self.new ≡ []) }
     {
         match side {
-            Side::Client => match receive(&mut self.fault, Side::Client, &mut self.client, piece) {
-                Received::Within => Ok(Stepped {
-                    used: piece.len(),
-                    whole: false,
-                }),
-                Received::Whole(used) => {
-                    let profile = self.limits.profile();
-                    match client_step(profile, &mut self.client, &mut self.waiting, used) {
-                        Ok(()) => Ok(Stepped { used, whole: true }),
-                        Err(item) => Err(refuse(
-                            &mut self.fault,
-                            Side::Client,
-                            &self.client,
-                            used,
-                            item,
-                        )),
-                    }
+            Side::Client => {
+                let Some(used) = receive(&mut self.fault, side, &mut self.client, piece)? else {
+                    return Ok(Stepped {
+                        used: piece.len(),
+                        whole: false,
+                    });
+                };
+                let profile = self.limits.profile();
+                match client_step(profile, &mut self.client, &mut self.waiting, used) {
+                    Ok(()) => Ok(Stepped { used, whole: true }),
+                    Err(item) => Err(refuse(&mut self.fault, side, &self.client, used, item)),
                 }
-                Received::Refused(fault) => Err(fault),
-            },
-            Side::Server => match receive(&mut self.fault, Side::Server, &mut self.server, piece) {
-                Received::Within => Ok(Stepped {
-                    used: piece.len(),
-                    whole: false,
-                }),
-                Received::Whole(used) => {
-                    let asked = self.client.count();
-                    match server_step(asked, &mut self.server, &mut self.waiting, used) {
-                        Ok(answered) => {
-                            self.answered = answered;
-                            Ok(Stepped { used, whole: true })
-                        }
-                        Err(item) => Err(refuse(
-                            &mut self.fault,
-                            Side::Server,
-                            &self.server,
-                            used,
-                            item,
-                        )),
+            }
+            Side::Server => {
+                let Some(used) = receive(&mut self.fault, side, &mut self.server, piece)? else {
+                    return Ok(Stepped {
+                        used: piece.len(),
+                        whole: false,
+                    });
+                };
+                let asked = self.client.count();
+                match server_step(asked, &mut self.server, &mut self.waiting, used) {
+                    Ok(answered) => {
+                        self.answered = answered;
+                        Ok(Stepped { used, whole: true })
                     }
+                    Err(item) => Err(refuse(&mut self.fault, side, &self.server, used, item)),
                 }
-                Received::Refused(fault) => Err(fault),
-            },
+            }
         }
     }
 
@@ -281,7 +242,7 @@ impl Talk {
 
     /// Steps over the whole frame that the piece begins with, where none is begun and it is seen at once that it may come:
     /// the answer is how many of the piece's bytes were used. None says no more, and `step` decides what comes.
-    // It answers in registers: with it, before `step`, `check` of small messages takes 5% fewer instructions.
+    // It answers in registers: with it, before `step`, `check` of small messages takes 6% fewer instructions.
     #[inline(always)]
     pub fn step_front(&mut self, side: Side, piece: &[u8]) -> Option<usize>
         ensures limits { self.new.limits ≡ self.old.limits }
@@ -291,13 +252,14 @@ impl Talk {
         ensures other { Leaves (other_side side) self.old self.new }
         // Otherwise no byte is used.
         ensures none { IfNone result ((h : History) (M : List Message) → Stands self.old h M → Stands self.new h M) }
+        // Then what was kept on the side is given up, and nothing else changes.
+        ensures same { IfNone result (self.new ≡ given_up side self.old) }
     {
         self.give_up(side);
         if self.fault.is_some() {
             return None;
         }
-        let used = self.front(side, piece)?;
-        Some(used)
+        self.front(side, piece)
     }
 
     /// Takes the piece up to the end of the first frame that becomes whole, or all of it. What is
