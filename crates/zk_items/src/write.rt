@@ -36,9 +36,10 @@ fn one_digit(n: i64) -> Option<u8>
     }
 }
 
-/// Appends a number of many digits.
+/// Appends a number in decimal.
+// A call of its own: the other numbers are written where they stand.
 #[inline(never)]
-fn put_digits_of(out: &mut Vec<u8>, n: i64) -> Result<(), AllocError>
+fn put_decimal(out: &mut Vec<u8>, n: i64) -> Result<(), AllocError>
     ensures spelled { OnOk result (out.new.items ≡ out.old.items ++ signed_decimal n) }
     ensures keeps { Keeps out.old.items out.new.items }
 {
@@ -68,7 +69,7 @@ pub fn put_long(out: &mut Vec<u8>, n: i64) -> Result<(), AllocError>
             out.push(digit)?;
             Ok(())
         }
-        None => put_digits_of(out, n),
+        None => put_decimal(out, n),
     }
 }
 
@@ -191,9 +192,10 @@ fn put_plain(out: &mut Vec<u8>, bytes: &[u8]) -> Result<(), AllocError>
     Ok(())
 }
 
-/// Appends bytes between quotation marks, some of which don't stand for themselves.
+/// Appends bytes between quotation marks, each that doesn't stand for itself as its escape.
+// A call of its own: most texts have no escapes, and are written where they stand.
 #[inline(never)]
-fn put_quoted(out: &mut Vec<u8>, bytes: &[u8]) -> Result<(), AllocError>
+fn put_escaped(out: &mut Vec<u8>, bytes: &[u8]) -> Result<(), AllocError>
     ensures spelled { OnOk result (out.new.items ≡ out.old.items ++ (34 ∷ (flat_map symbol_spell bytes.now ++ (34 ∷ [])))) }
     ensures keeps { Keeps out.old.items out.new.items }
 {
@@ -215,6 +217,6 @@ fn put_chars(out: &mut Vec<u8>, text: &str) -> Result<(), AllocError>
     if plain_len(bytes) == bytes.len() {
         put_plain(out, bytes)
     } else {
-        put_quoted(out, bytes)
+        put_escaped(out, bytes)
     }
 }

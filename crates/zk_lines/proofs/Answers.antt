@@ -1,6 +1,5 @@
 -- The lines of what a server sends have the laws of lines.
 use Rattle.std.proofs.Common.{◌≡◌, ℕ, ℤ, List, [], ◌∷◌, ◌++◌, Option, Some, None, Bool, true, false, refl, ap, sym, subst, ◌∙◌, append_assoc}
-use Rattle.std.specs.List.{flat_map, AllByRecursion}
 use Rattle.zk_jute.specs.Flagged.{flag_items}
 use Rattle.zk_jute.specs.Item.{HaveBytes}
 use Rattle.zk_jute.specs.Wired as wired
@@ -29,14 +28,13 @@ use Rattle.zk_lines.specs.declared.done.DoneName.{DoneName}
 use Rattle.zk_lines.specs.declared.done.DoneName.TheVariants as names
 use Rattle.zk_lines.specs.Series.{if_passed, list_of}
 use Rattle.zk_lines.specs.Records.{stat}
-use Rattle.zk_lines.specs.Rows.{Content, form_of, remake, row_at, told}
+use Rattle.zk_lines.specs.Rows.{Content, form_of, remake, row_at}
 use Rattle.zk_lines.specs.Answers as answers
-use Rattle.zk_lines.proofs.Named.{IsNames, IsRead, are_letters, lettered, named_is, mapped, first_sound}
-use Rattle.zk_lines.proofs.Series.{series_is}
+use Rattle.zk_lines.proofs.Named.{IsNames, IsFound, IsRead, named_is, names_of, mapped}
 use Rattle.zk_lines.proofs.LawsPrinted.{Printed}
-use Rattle.zk_lines.proofs.Held.{parted, int_fits}
-use Rattle.zk_lines.proofs.Shown.{led_shown, series_shown, error_shown}
-use Rattle.zk_lines.proofs.Rows.{IsItem, IsRow, IsTable, ◌with◌, field_of, row_of_fields, row_of_record, nothing_is, table_is, table_opens, table_again, table_sound, table_held, table_shown, named_shown}
+use Rattle.zk_lines.proofs.Held.{int_fits}
+use Rattle.zk_lines.proofs.Shown.{error_shown}
+use Rattle.zk_lines.proofs.Rows.{IsItem, IsRow, IsTable, IsMade, ◌with◌, field_of, row_of_fields, row_of_record, row_of_series, nothing_is, table_is, table_opens, table_again, table_sound, table_held, table_shown, named_shown}
 use Rattle.zk_lines.proofs.Items.{int_item, long_item, ro_item, blob_item, event_code_item, path_field, blob_field, acl_field, version_field, zxid_field, stat_field, names_field}
 use Rattle.zk_lines.proofs.Asks.{op_names}
 
@@ -84,21 +82,13 @@ children_is = row_of_fields (names_field with stat_field)
 
 -- ---- results of a multi
 
-done_found : (k : DoneName) → answers.done_named (answers.done_name k) ≡ Some k
-unfolding answers.done_named
-done_found names.Create = refl
-done_found _ = refl
-
-done_letters : (k : DoneName) → are_letters (answers.done_name k) ≡ true
-done_letters names.Create = refl
-done_letters _ = refl
-
-done_tells : (bytes : List ℕ) (k : DoneName) → answers.done_named bytes ≡ Some k → bytes ≡ answers.done_name k
-unfolding answers.done_named
-done_tells bytes k e = first_sound answers.done_name answers.all_dones bytes k e
+done_found : (k : DoneName) → IsFound answers.done_name answers.all_dones k
+done_found names.Create = (refl, refl)
+done_found _ = (refl, refl)
 
 done_names : IsNames answers.done_name answers.done_named
-done_names = record { found = done_found; tells = done_tells; letters = λ k. lettered (answers.done_name k) (done_letters k) }
+unfolding answers.done_named
+done_names = names_of answers.done_name answers.all_dones done_found
 
 ruleset done_records = (path_row, stat_row, failed_row, nothing_is)
 
@@ -107,54 +97,31 @@ done_rows : (k : DoneName) → IsRow (form_of (answers.done_line_of k)) (λ x. r
 done_rows names.Create = path_row
 done_rows _ = search done_records
 
-done_cases : {R : Type 1} (f : (k : DoneName) → Content (answers.done_line_of k) → R) (P : R → Type 0) → ((k : DoneName) (x : Content (answers.done_line_of k)) → P (f k x)) → (d : PartDone) → P (answers.by_done f d)
-done_cases f P h (done.Created p) = h _ _
-done_cases f P h _ = h _ _
+done_made : (k : DoneName) (x : Content (answers.done_line_of k)) → IsMade answers.done_line_of answers.done_written answers.name_of_done k x
+done_made names.Create x = (refl, refl)
+done_made _ x = (refl, refl)
 
-done_same : (d : PartDone) → (answers.done_told d).value ≡ d
-done_same (done.Created p) = refl
-done_same _ = refl
-
-done_back : (k : DoneName) (x : Content (answers.done_line_of k)) → answers.done_told (remake (answers.done_line_of k) x) ≡ told answers.done_line_of k x
-done_back names.Create x = refl
-done_back _ x = refl
-
-done_keys : (k : DoneName) (x : Content (answers.done_line_of k)) → answers.name_of_done (remake (answers.done_line_of k) x) ≡ k
-done_keys names.Create x = refl
-done_keys _ x = refl
-
-done_table : IsTable answers.done_line_of answers.done_told answers.name_of_done
-done_table = record { cases = done_cases (told answers.done_line_of); same = done_same; back = done_back; keys = done_keys }
+done_table : IsTable answers.done_line_of answers.done_written answers.name_of_done result_of
+done_table = record { each = answers.by_done; made = done_made; rows = done_rows }
 
 done_is : Lawful answers.done_form
-done_is = table_is answers.done_line_of answers.done_told answers.name_of_done result_of done_table done_rows done_names
+done_is = table_is done_table done_names
 
 done_begins : (x : PartDone) (rest : List ℕ) → answers.done_form.fits x → word_at (125 ∷ []) (answers.done_form.spell x ++ rest) ≡ None
 unfolding word_at
 done_begins (done.Created p) rest fit = refl
 done_begins _ rest fit = refl
 
-multi_field : IsField answers.multi
-multi_field = field_is words.Parts _ (series_is 59 125 (λ e. absurd cc) (λ _. refl) (λ _. refl) answers.done_form done_is done_begins)
-
 -- behind the header
 result_has : (d : PartDone) → HaveBytes (done_items d) → HaveBytes (result_of d)
 result_has (done.Created p) h = h.1.1.1
 result_has _ h = h.1.1.1
 
-dones_held : (ds : List PartDone) → HaveBytes (flat_map done_items ds) → AllByRecursion answers.done_form.fits ds
-dones_held [] h = tt
-dones_held (d ∷ ds) h =
-    let r = parted (done_items d) (flat_map done_items ds) h in
-    (table_held answers.done_line_of answers.done_told answers.name_of_done result_of done_table done_rows d (result_has d r.0), dones_held ds r.1)
+done_held : (d : PartDone) → HaveBytes (done_items d) → answers.done_form.fits d
+done_held d h = table_held done_table d (result_has d h)
 
 multi_is : IsRow answers.multi multi_items
-multi_is = record {
-  lawful = multi_field.lawful;
-  opens = λ x rest stop. multi_field.opens x rest;
-  held = λ ds h. dones_held ds (parted (flat_map done_items ds) (marked end_header) h).0;
-  shown = (led_shown words.Parts (series_shown 59 125 refl refl answers.done_form (named_shown answers.done_line_of answers.done_told answers.name_of_done result_of done_table done_rows done_names))).shown;
-}
+multi_is = row_of_series done_items (marked end_header) done_is done_begins done_held (named_shown done_table done_names)
 
 -- ---- replies
 
@@ -165,30 +132,18 @@ body_rows : (k : Op) → IsRow (form_of (answers.line_of k)) (λ x. body_items (
 body_rows ops.Create = path_row
 body_rows _ = search body_records
 
-body_cases : {R : Type 1} (f : (k : Op) → Content (answers.line_of k) → R) (P : R → Type 0) → ((k : Op) (x : Content (answers.line_of k)) → P (f k x)) → (b : Body) → P (answers.by_op f b)
-body_cases f P h (body.Create p) = h _ _
-body_cases f P h _ = h _ _
+body_made : (k : Op) (x : Content (answers.line_of k)) → IsMade answers.line_of answers.body_written op_of_body k x
+body_made ops.Create x = (refl, refl)
+body_made _ x = (refl, refl)
 
-body_same : (b : Body) → (answers.body_told b).value ≡ b
-body_same (body.Create p) = refl
-body_same _ = refl
+body_table : IsTable answers.line_of answers.body_written op_of_body body_items
+body_table = record { each = answers.by_op; made = body_made; rows = body_rows }
 
-body_back : (k : Op) (x : Content (answers.line_of k)) → answers.body_told (remake (answers.line_of k) x) ≡ told answers.line_of k x
-body_back ops.Create x = refl
-body_back _ x = refl
+pub body_held : (b : Body) → HaveBytes (body_items b) → (answers.body_written b).fits
+body_held = table_held body_table
 
-body_keys : (k : Op) (x : Content (answers.line_of k)) → op_of_body (remake (answers.line_of k) x) ≡ k
-body_keys ops.Create x = refl
-body_keys _ x = refl
-
-body_table : IsTable answers.line_of answers.body_told op_of_body
-body_table = record { cases = body_cases (told answers.line_of); same = body_same; back = body_back; keys = body_keys }
-
-pub body_held : (b : Body) → HaveBytes (body_items b) → (answers.body_told b).fits
-body_held = table_held answers.line_of answers.body_told op_of_body body_items body_table body_rows
-
-pub body_printed : (b : Body) → (answers.body_told b).fits → Printed (answers.body_told b).spell
-body_printed = table_shown answers.line_of answers.body_told op_of_body body_items body_table body_rows
+pub body_printed : (b : Body) → (answers.body_written b).fits → Printed (answers.body_written b).spell
+body_printed = table_shown body_table
 
 -- what stands behind a reply: nothing
 abbrev pub is_end : List ℕ → Bool
@@ -196,19 +151,19 @@ is_end [] = true
 is_end (b ∷ rest) = false
 
 -- nothing that is done begins as an error does
-body_begins : (x : Body) → word_at (word_of words.Err) ((answers.body_told x).spell ++ []) ≡ None
+body_begins : (x : Body) → word_at (word_of words.Err) ((answers.body_written x).spell ++ []) ≡ None
 unfolding word_at word_of
 body_begins (body.Create p) = refl
 body_begins _ = refl
 
 outcome_opens : (x : Outcome) (rest : List ℕ) → stops rest ≡ true → stops (answers.outcome_spell x ++ rest) ≡ true
-outcome_opens (outcome.Done b) rest stop = table_opens answers.line_of answers.body_told op_of_body body_items body_table body_rows b rest stop
+outcome_opens (outcome.Done b) rest stop = table_opens body_table b rest stop
 outcome_opens (outcome.Failed op e) rest stop = failed_is.opens e rest
 
 outcome_again : (x : Outcome) → answers.outcome_fits x → answers.outcome_at (op_of_outcome x) (answers.outcome_spell x ++ []) ≡ Some (x, [])
 outcome_again (outcome.Done b) fit =
-    ap (λ (o : Option (List ℕ)). if_passed o (λ rest. read_map (outcome.Failed (op_of_body b)) (failure_code.at rest)) (read_map outcome.Done (row_at (answers.line_of (op_of_body b)) ((answers.body_told b).spell ++ [])))) (body_begins b)
-    ∙ ap (read_map outcome.Done) (table_again answers.line_of answers.body_told op_of_body body_items body_table body_rows b [] fit refl)
+    ap (λ (o : Option (List ℕ)). if_passed o (λ rest. read_map (outcome.Failed (op_of_body b)) (failure_code.at rest)) (read_map outcome.Done (row_at (answers.line_of (op_of_body b)) ((answers.body_written b).spell ++ [])))) (body_begins b)
+    ∙ ap (read_map outcome.Done) (table_again body_table b [] fit refl)
 outcome_again (outcome.Failed op e) fit =
     let word = word_of words.Err in
     let number = failure_code.spell e in
@@ -225,8 +180,8 @@ outcome_sound op bytes x rest e = pick (word_at (word_of words.Err) bytes) refl 
   pick None none e =
       let a = bind_some (row_at (answers.line_of op) bytes) (λ q. Some (outcome.Done q.0, q.1)) (x, rest) e in
       let ends = some_is (outcome.Done a.0.0, a.0.1) (x, rest) a.2 in
-      let s = table_sound answers.line_of answers.body_told op_of_body body_items body_table body_rows op bytes a.0.0 a.0.1 a.1 in
-      subst (IsOutcome op bytes rest) ends.0 (s.0, (s.1.0 ∙ ap (λ (r : List ℕ). (answers.body_told a.0.0).spell ++ r) ends.1, s.1.1))
+      let s = table_sound body_table op bytes a.0.0 a.0.1 a.1 in
+      subst (IsOutcome op bytes rest) ends.0 (s.0, (s.1.0 ∙ ap (λ (r : List ℕ). (answers.body_written a.0.0).spell ++ r) ends.1, s.1.1))
   pick (Some behind) is e =
       let m = mapped failure_code failure_is (outcome.Failed op) behind rest x e in
       let word = word_of words.Err in

@@ -26,6 +26,11 @@ both P (x ∷ xs) ys h = let r = both P xs ys h.1 in ((h.0, r.0), r.1)
 pub parted : (xs ys : List Item) → HaveBytes (xs ++ ys) → HaveBytes xs × HaveBytes ys
 parted xs ys h = both HasBytes xs ys h
 
+-- where the items of each have bytes, each fits
+pub each_held : {X : Type 0} (items : X → List Item) (fits : X → Type 0) → ((x : X) → HaveBytes (items x) → fits x) → (xs : List X) → HaveBytes (flat_map items xs) → AllByRecursion fits xs
+each_held items fits held [] h = tt
+each_held items fits held (x ∷ xs) h = let r = parted (items x) (flat_map items xs) h in (held x r.0, each_held items fits held xs r.1)
+
 -- ---- items
 
 -- a value whose items have bytes fits the form
@@ -67,13 +72,9 @@ blob_held = record { held = fits } where
 
 pub list_held : {X : Type 0} (w : Wired X) (f : Form X) → Held w f → Held (wired.vector w) (list_of f)
 list_held {X} w f is = record { held = fits } where
-  each : (xs : List X) → HaveBytes (flat_map w.items xs) → AllByRecursion f.fits xs
-  each [] h = tt
-  each (x ∷ xs) h = let r = parted (w.items x) (flat_map w.items xs) h in (is.held x r.0, each xs r.1)
-
   fits : (v : Vector X) → HaveBytes ((wired.vector w).items v) → (list_of f).fits v
   fits nullable.Null h = tt
-  fits (nullable.Full xs) h = each xs h.1
+  fits (nullable.Full xs) h = each_held w.items f.fits is.held xs h.1
 
 pub names_held : Held (wired.vector wired.ustring) (list_of leaf.text)
 names_held = list_held wired.ustring leaf.text text_held

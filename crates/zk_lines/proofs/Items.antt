@@ -1,11 +1,14 @@
 -- The laws of the items of a line, and of the fields that many records have.
 use Rattle.zk_jute.specs.Flagged.{flag_items}
+use Rattle.zk_jute.specs.Wired.{Wired}
 use Rattle.zk_jute.specs.Wired as wired
 use Rattle.zk_records.specs.Records as records
+use Rattle.zk_items.specs.Form.{Form}
 use Rattle.zk_items.specs.Codes.{event_code, type_name}
 use Rattle.zk_items.specs.Leaf.{int, long, bit, ro, text, blob}
 use Rattle.zk_items.specs.Words.{field}
 use Rattle.zk_items.specs.declared.word.Word.TheVariants as words
+use Rattle.zk_items.specs.Laws.{Lawful}
 use Rattle.zk_items.proofs.Numbers.{int_is, long_is}
 use Rattle.zk_items.proofs.Codes.{code_is}
 use Rattle.zk_items.proofs.Flags.{bit_is, ro_is}
@@ -15,18 +18,21 @@ use Rattle.zk_lines.specs.Series.{list_of}
 use Rattle.zk_lines.specs.Records.{acl, stat}
 use Rattle.zk_lines.proofs.Records.{stat_is}
 use Rattle.zk_lines.proofs.Lists as lists
-use Rattle.zk_lines.proofs.Held.{int_fits, int_held, long_held, bit_held, text_held, blob_held, names_held, acls_held, stat_held}
-use Rattle.zk_lines.proofs.Shown.{int_shown, long_shown, bit_shown, ro_shown, text_shown, blob_shown, event_code_shown, texts_shown, acls_shown, stat_shown}
+use Rattle.zk_lines.proofs.Held.{Held, int_fits, int_held, long_held, bit_held, text_held, blob_held, names_held, acls_held, stat_held}
+use Rattle.zk_lines.proofs.Shown.{Shown, int_shown, long_shown, bit_shown, ro_shown, text_shown, blob_shown, event_code_shown, texts_shown, acls_shown, stat_shown}
 use Rattle.zk_lines.proofs.Rows.{IsItem, IsFields, field_of}
 
+item : {X : Type 0} {w : Wired X} {f : Form X} → Lawful f → Held w f → Shown f → IsItem f w.items
+item is held shown = record { lawful = is; held = held.held; shown = shown.shown }
+
 pub int_item : IsItem int wired.int.items
-int_item = record { lawful = int_is; held = int_held.held; shown = int_shown.shown }
+int_item = item int_is int_held int_shown
 
 pub long_item : IsItem long wired.long.items
-long_item = record { lawful = long_is; held = long_held.held; shown = long_shown.shown }
+long_item = item long_is long_held long_shown
 
 pub bit_item : IsItem bit wired.boolean.items
-bit_item = record { lawful = bit_is; held = bit_held.held; shown = bit_shown.shown }
+bit_item = item bit_is bit_held bit_shown
 
 pub ro_item : IsItem ro flag_items
 ro_item = record { lawful = ro_is; held = λ b h. tt; shown = ro_shown.shown }
@@ -35,16 +41,16 @@ pub event_code_item : IsItem event_code wired.int.items
 event_code_item = record { lawful = code_is type_name; held = λ n h. int_fits n h.0; shown = event_code_shown.shown }
 
 pub text_item : IsItem text wired.ustring.items
-text_item = record { lawful = text_is; held = text_held.held; shown = text_shown.shown }
+text_item = item text_is text_held text_shown
 
 pub blob_item : IsItem blob wired.buffer.items
-blob_item = record { lawful = blob_is; held = blob_held.held; shown = blob_shown.shown }
+blob_item = item blob_is blob_held blob_shown
 
 pub texts_item : IsItem (list_of text) (wired.vector wired.ustring).items
-texts_item = record { lawful = lists.texts_is; held = names_held.held; shown = texts_shown.shown }
+texts_item = item lists.texts_is names_held texts_shown
 
 pub acls_item : IsItem (list_of acl) (wired.vector records.acl).items
-acls_item = record { lawful = lists.acls_is; held = acls_held.held; shown = acls_shown.shown }
+acls_item = item lists.acls_is acls_held acls_shown
 
 pub stat_item : IsItem stat records.stat.items
 stat_item = record { lawful = stat_is; held = stat_held; shown = stat_shown.shown }

@@ -16,7 +16,7 @@ name_goes_on : (b : ℕ) → in_name b ≡ true → goes_on b ≡ true
 name_goes_on b h = grind arith
 
 -- the key that is found has the name
-pub first_sound : {K : Type 0} (name : K → List ℕ) (keys : List K) (bytes : List ℕ) (k : K) → first_named name keys bytes ≡ Some k → bytes ≡ name k
+first_sound : {K : Type 0} (name : K → List ℕ) (keys : List K) (bytes : List ℕ) (k : K) → first_named name keys bytes ≡ Some k → bytes ≡ name k
 first_sound name [] bytes k e = absurd cc
 first_sound {K} name (x ∷ keys) bytes k e = pick (bytes_eq bytes (name x)) refl e (first_sound name keys bytes k) where
   same : (a b : List ℕ) → bytes_eq a b ≡ true → a ≡ b
@@ -32,14 +32,22 @@ pub record IsNames {K : Type 0} (name : K → List ℕ) (key_at : List ℕ → O
   pub tells : (bytes : List ℕ) (k : K) → key_at bytes ≡ Some k → bytes ≡ name k
   pub letters : (k : K) → AllByRecursion (λ c. in_name c ≡ true) (name k)
 
-abbrev pub are_letters : List ℕ → Bool
+abbrev are_letters : List ℕ → Bool
 are_letters [] = true
 are_letters (b ∷ bytes) = in_name b && are_letters bytes
 
 -- names that are written out
-pub lettered : (bytes : List ℕ) → are_letters bytes ≡ true → AllByRecursion (λ c. in_name c ≡ true) bytes
+lettered : (bytes : List ℕ) → are_letters bytes ≡ true → AllByRecursion (λ c. in_name c ≡ true) bytes
 lettered [] e = tt
 lettered (b ∷ bytes) e = let p = and_parts (in_name b) (are_letters bytes) e in (p.0, lettered bytes p.1)
+
+-- a key that is found by its name, of letters and digits
+abbrev pub IsFound : {K : Type 0} → (K → List ℕ) → List K → K → Type 0
+IsFound name keys k = (first_named name keys (name k) ≡ Some k) × (are_letters (name k) ≡ true)
+
+-- names that are listed
+pub names_of : {K : Type 0} (name : K → List ℕ) (keys : List K) → ((k : K) → IsFound name keys k) → IsNames name (first_named name keys)
+names_of name keys found = record { found = λ k. (found k).0; tells = first_sound name keys; letters = λ k. lettered (name k) (found k).1 }
 
 pub record IsNamed {K X : Type 0} (behind : List ℕ → Bool) (b : Bodies K X) : Type 0 where
   -- names

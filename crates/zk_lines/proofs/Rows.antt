@@ -1,19 +1,23 @@
 -- Tables with a row a key: each value has the laws of its row.
 use Rattle.std.proofs.Common.{◌≡◌, ℕ, List, ◌++◌, Option, Some, true, refl, ap, sym, subst, ◌∙◌}
+use Rattle.std.specs.List.{flat_map}
 use Rattle.zk_jute.specs.Item.{Item, HaveBytes}
 use Rattle.zk_items.specs.Form.{Form, Read, read_map, stops, fields}
 use Rattle.zk_items.specs.Form as form
 use Rattle.zk_items.specs.Words.{field, word_of}
 use Rattle.zk_items.specs.declared.word.Word.{Word}
+use Rattle.zk_items.specs.declared.word.Word.TheVariants as words
 use Rattle.zk_items.specs.Laws.{Lawful}
 use Rattle.zk_items.proofs.Forms.{IsField, and_is, and_opens, fields_is, some_is}
 use Rattle.zk_items.proofs.Words.{field_is}
+use Rattle.zk_lines.specs.Series.{series}
 use Rattle.zk_lines.specs.Named.{named}
-use Rattle.zk_lines.specs.Rows.{Row, holds, nothing, Content, remake, form_of, row_at, Told, told, tabled}
+use Rattle.zk_lines.specs.Rows.{Row, holds, nothing, Content, remake, form_of, row_at, Written, written, bodies_of}
 use Rattle.zk_lines.proofs.Named.{IsNames, named_is, mapped}
 use Rattle.zk_lines.proofs.LawsPrinted.{Printed, joined, word_printed, letters_printed}
-use Rattle.zk_lines.proofs.Held.{parted}
-use Rattle.zk_lines.proofs.Shown.{Shown}
+use Rattle.zk_lines.proofs.Series.{NeverBegins, series_is}
+use Rattle.zk_lines.proofs.Held.{parted, each_held}
+use Rattle.zk_lines.proofs.Shown.{Shown, led_shown, series_shown}
 
 -- ---- fields
 
@@ -64,6 +68,17 @@ row_of_record f items is out made same back = record {
   shown = λ x. is.shown (out x);
 }
 
+-- the elements of a multi, between braces
+pub row_of_series : {X : Type 0} {f : Form X} (items : X → List Item) (last : List Item) → Lawful f → NeverBegins f 125 → ((x : X) → HaveBytes (items x) → f.fits x) → Shown f → IsRow (field words.Parts (series 59 125 f)) (λ xs. flat_map items xs ++ last)
+row_of_series {X} {f} items last is begins held printed = record {
+  lawful = spelled.lawful;
+  opens = λ xs rest stop. spelled.opens xs rest;
+  held = λ xs h. each_held items f.fits held xs (parted (flat_map items xs) last h).0;
+  shown = (led_shown words.Parts (series_shown 59 125 refl refl f printed)).shown;
+} where
+  spelled : IsField (field words.Parts (series 59 125 f))
+  spelled = field_is words.Parts _ (series_is 59 125 (λ e. absurd cc) (λ _. refl) (λ _. refl) f is begins)
+
 nothing_lawful : Lawful nothing
 nothing_lawful = record { again = λ x rest fit stop. refl; sound = λ bytes x rest e. ((some_is (tt, bytes) (x, rest) e).1, tt) }
 
@@ -78,43 +93,44 @@ row_sound (holds make f) is bytes rest y e = mapped f is make bytes rest y e
 
 -- ---- tables
 
--- each value is told by a row
-pub record IsTable {K Y : Type 0} (row : K → Row Y) (tell : Y → Told Y) (key : Y → K) : Type 1 where
-  pub cases : (P : Told Y → Type 0) → ((k : K) (x : Content (row k)) → P (told row k x)) → (y : Y) → P (tell y)
-  pub same : (y : Y) → (tell y).value ≡ y
-  pub back : (k : K) (x : Content (row k)) → tell (remake (row k) x) ≡ told row k x
-  pub keys : (k : K) (x : Content (row k)) → key (remake (row k) x) ≡ k
+-- what a row makes is written by it, and has its key
+abbrev pub IsMade : {K Y : Type 0} (row : K → Row Y) (write : Y → Written) (key : Y → K) (k : K) → Content (row k) → Type 1
+IsMade row write key k x = (write (remake (row k) x) ≡ written row k x) × (key (remake (row k) x) ≡ k)
 
-module _ {K Y : Type 0} (row : K → Row Y) (tell : Y → Told Y) (key : Y → K) (items : Y → List Item) (table : IsTable row tell key) (rows : (k : K) → IsRow (form_of (row k)) (λ x. items (remake (row k) x))) where
+-- each value is made by a row
+pub record IsTable {K Y : Type 0} (row : K → Row Y) (write : Y → Written) (key : Y → K) (items : Y → List Item) : Type 1 where
   -- what holds of each value that a row makes holds of all
-  each : (P : Y → Type 0) → ((k : K) (x : Content (row k)) → P (remake (row k) x)) → (y : Y) → P y
-  each P h y = subst P (table.same y) (table.cases (λ t. P t.value) h y)
+  pub each : (P : Y → Type 0) → ((k : K) (x : Content (row k)) → P (remake (row k) x)) → (y : Y) → P y
+  pub made : (k : K) (x : Content (row k)) → IsMade row write key k x
+  pub rows : (k : K) → IsRow (form_of (row k)) (λ x. items (remake (row k) x))
 
-  pub table_opens : (y : Y) (rest : List ℕ) → stops rest ≡ true → stops ((tell y).spell ++ rest) ≡ true
-  table_opens y rest stop = table.cases (λ t. stops (t.spell ++ rest) ≡ true) (λ k x. (rows k).opens x rest stop) y
+module _ {K Y : Type 0} {row : K → Row Y} {write : Y → Written} {key : Y → K} {items : Y → List Item} (table : IsTable row write key items) where
+  -- what holds of all that rows write holds of how each value is written
+  cases : (P : Y → Written → Type 0) → ((k : K) (x : Content (row k)) → P (remake (row k) x) (written row k x)) → (y : Y) → P y (write y)
+  cases P h = table.each (λ y. P y (write y)) (λ k x. subst (P (remake (row k) x)) (sym (table.made k x).0) (h k x))
 
-  pub table_again : (y : Y) (rest : List ℕ) → (tell y).fits → stops rest ≡ true → row_at (row (key y)) ((tell y).spell ++ rest) ≡ Some (y, rest)
-  table_again y rest = each (λ y. (tell y).fits → stops rest ≡ true → row_at (row (key y)) ((tell y).spell ++ rest) ≡ Some (y, rest)) made y where
-    made : (k : K) (x : Content (row k)) → (tell (remake (row k) x)).fits → stops rest ≡ true → row_at (row (key (remake (row k) x))) ((tell (remake (row k) x)).spell ++ rest) ≡ Some (remake (row k) x, rest)
-    made k x fit stop =
-        ap (λ (j : K). row_at (row j) ((tell (remake (row k) x)).spell ++ rest)) (table.keys k x)
-        ∙ ap (λ (t : Told Y). row_at (row k) (t.spell ++ rest)) (table.back k x)
-        ∙ row_again (row k) (rows k).lawful x rest (subst (λ (t : Told Y). t.fits) (table.back k x) fit) stop
+  pub table_opens : (y : Y) (rest : List ℕ) → stops rest ≡ true → stops ((write y).spell ++ rest) ≡ true
+  table_opens y rest stop = cases (λ y w. stops (w.spell ++ rest) ≡ true) (λ k x. (table.rows k).opens x rest stop) y
 
-  pub table_sound : (k : K) (bytes : List ℕ) (y : Y) (rest : List ℕ) → row_at (row k) bytes ≡ Some (y, rest) → (key y ≡ k) × ((bytes ≡ (tell y).spell ++ rest) × (tell y).fits)
+  pub table_again : (y : Y) (rest : List ℕ) → (write y).fits → stops rest ≡ true → row_at (row (key y)) ((write y).spell ++ rest) ≡ Some (y, rest)
+  table_again y rest = cases (λ y w. w.fits → stops rest ≡ true → row_at (row (key y)) (w.spell ++ rest) ≡ Some (y, rest)) made y where
+    made : (k : K) (x : Content (row k)) → (form_of (row k)).fits x → stops rest ≡ true → row_at (row (key (remake (row k) x))) ((form_of (row k)).spell x ++ rest) ≡ Some (remake (row k) x, rest)
+    made k x fit stop = ap (λ (j : K). row_at (row j) ((form_of (row k)).spell x ++ rest)) (table.made k x).1 ∙ row_again (row k) (table.rows k).lawful x rest fit stop
+
+  pub table_sound : (k : K) (bytes : List ℕ) (y : Y) (rest : List ℕ) → row_at (row k) bytes ≡ Some (y, rest) → (key y ≡ k) × ((bytes ≡ (write y).spell ++ rest) × (write y).fits)
   table_sound k bytes y rest e =
-      let m = row_sound (row k) (rows k).lawful bytes rest y e in
-      subst (λ (y : Y). (key y ≡ k) × ((bytes ≡ (tell y).spell ++ rest) × (tell y).fits)) m.1
-      (table.keys k m.0, subst (λ (t : Told Y). (bytes ≡ t.spell ++ rest) × t.fits) (sym (table.back k m.0)) m.2)
+      let m = row_sound (row k) (table.rows k).lawful bytes rest y e in
+      subst (λ (y : Y). (key y ≡ k) × ((bytes ≡ (write y).spell ++ rest) × (write y).fits)) m.1
+      ((table.made k m.0).1, subst (λ (w : Written). (bytes ≡ w.spell ++ rest) × w.fits) (sym (table.made k m.0).0) m.2)
 
-  pub table_held : (y : Y) → HaveBytes (items y) → (tell y).fits
-  table_held = each (λ y. HaveBytes (items y) → (tell y).fits) (λ k x h. subst (λ (t : Told Y). t.fits) (sym (table.back k x)) ((rows k).held x h))
+  pub table_held : (y : Y) → HaveBytes (items y) → (write y).fits
+  table_held = cases (λ y w. HaveBytes (items y) → w.fits) (λ k x. (table.rows k).held x)
 
-  pub table_shown : (y : Y) → (tell y).fits → Printed (tell y).spell
-  table_shown = table.cases (λ t. t.fits → Printed t.spell) (λ k x. (rows k).shown x)
+  pub table_shown : (y : Y) → (write y).fits → Printed (write y).spell
+  table_shown = cases (λ y w. w.fits → Printed w.spell) (λ k x. (table.rows k).shown x)
 
-  pub table_is : {name : K → List ℕ} {key_at : List ℕ → Option K} → IsNames name key_at → Lawful (named (tabled name key_at key row tell))
-  table_is {name} {key_at} names = named_is (tabled name key_at key row tell) (record {
+  pub table_is : {name : K → List ℕ} {key_at : List ℕ → Option K} → IsNames name key_at → Lawful (named (bodies_of name key_at key row write))
+  table_is {name} {key_at} names = named_is (bodies_of name key_at key row write) (record {
     found = names.found;
     tells = names.tells;
     letters = names.letters;
@@ -123,5 +139,5 @@ module _ {K Y : Type 0} (row : K → Row Y) (tell : Y → Told Y) (key : Y → K
     sound = table_sound;
   })
 
-  pub named_shown : {name : K → List ℕ} {key_at : List ℕ → Option K} → IsNames name key_at → Shown (named (tabled name key_at key row tell))
-  named_shown {name} names = record { shown = λ y fit. joined (name (key y)) (tell y).spell (letters_printed (name (key y)) (names.letters (key y))) (table_shown y fit) }
+  pub named_shown : {name : K → List ℕ} {key_at : List ℕ → Option K} → IsNames name key_at → Shown (named (bodies_of name key_at key row write))
+  named_shown {name} names = record { shown = λ y fit. joined (name (key y)) (write y).spell (letters_printed (name (key y)) (names.letters (key y))) (table_shown y fit) }

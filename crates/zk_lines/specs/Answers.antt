@@ -23,7 +23,7 @@ use Rattle.zk_lines.specs.declared.done.DoneName.TheVariants as names
 use Rattle.zk_lines.specs.Series.{list_of, series, if_passed}
 use Rattle.zk_lines.specs.Records.{acl, stat}
 use Rattle.zk_lines.specs.Named.{Bodies, first_named, named}
-use Rattle.zk_lines.specs.Rows.{Row, holds, bare, Content, row_at, Told, told, tabled}
+use Rattle.zk_lines.specs.Rows.{Row, holds, bare, Content, remake, row_at, Written, written, bodies_of}
 use Rattle.zk_lines.specs.Asks.{op_named}
 
 -- ---- records
@@ -31,12 +31,12 @@ use Rattle.zk_lines.specs.Asks.{op_named}
 abbrev pub connected : Form (ConnectResponse × Option Bool)
 connected = fields (field words.Version int and field words.Timeout int and field words.Session long and field words.Passwd blob and field words.ReadOnly ro)
     (λ p. (p.0.protocol_version, (p.0.time_out, (p.0.session_id, (p.0.passwd, p.1)))))
-    (λ q. (record { protocol_version = q.0; time_out = q.1.0; session_id = q.1.1.0; passwd = q.1.1.1.0 }, q.1.1.1.1))
+    (λ (version, (time_out, (session, (passwd, read_only)))). (record { protocol_version = version; time_out = time_out; session_id = session; passwd = passwd }, read_only))
 
 -- the zxid and the event
 abbrev pub event : Form (ℤ × WatcherEvent)
 event = fields (field words.Zxid long and field words.Kind event_code and field words.State int and field words.Path text)
-    (λ p. (p.0, (p.1.kind, (p.1.state, p.1.path)))) (λ q. (q.0, record { kind = q.1.0; state = q.1.1.0; path = q.1.1.1 }))
+    (λ p. (p.0, (p.1.kind, (p.1.state, p.1.path)))) (λ (zxid, (kind, (state, path))). (zxid, record { kind = kind; state = state; path = path }))
 
 -- a field, and what is known of a node behind it
 abbrev pub with_stat_at : {X : Type 0} → Word → (List ℕ → Read X) → List ℕ → Read (X × Stat)
@@ -84,19 +84,19 @@ done_line_of names.SetData = holds done.DataSet (field words.Stat stat)
 done_line_of names.Check = bare done.Checked
 done_line_of names.Fail = holds done.PartFailed (field words.Err error_code)
 
--- a result by its name and what it holds
-abbrev pub by_done : {R : Type 1} → ((name : DoneName) → Content (done_line_of name) → R) → PartDone → R
-by_done f (done.Created p) = f names.Create p
-by_done f done.Deleted = f names.Delete tt
-by_done f (done.DataSet s) = f names.SetData s
-by_done f done.Checked = f names.Check tt
-by_done f (done.PartFailed e) = f names.Fail e
+-- a result is what its row makes: what is given for each row is given for each result
+abbrev pub by_done {ℓ} : (P : PartDone → Type ℓ) → ((name : DoneName) (x : Content (done_line_of name)) → P (remake (done_line_of name) x)) → (d : PartDone) → P d
+by_done P f (done.Created p) = f names.Create p
+by_done P f done.Deleted = f names.Delete tt
+by_done P f (done.DataSet s) = f names.SetData s
+by_done P f done.Checked = f names.Check tt
+by_done P f (done.PartFailed e) = f names.Fail e
 
-abbrev pub done_told : PartDone → Told PartDone
-done_told d = by_done (told done_line_of) d
+abbrev pub done_written : PartDone → Written
+done_written d = by_done (λ _. Written) (written done_line_of) d
 
 abbrev pub done_bodies : Bodies DoneName PartDone
-done_bodies = tabled done_name done_named name_of_done done_line_of done_told
+done_bodies = bodies_of done_name done_named name_of_done done_line_of done_written
 
 abbrev pub done_form : Form PartDone
 done_form = named done_bodies
@@ -125,35 +125,35 @@ line_of ops.Auth = bare body.Auth
 line_of ops.SetWatches = bare body.SetWatches
 line_of ops.CloseSession = bare body.CloseSession
 
--- a body by its operation and what it holds
-abbrev pub by_op : {R : Type 1} → ((op : Op) → Content (line_of op) → R) → Body → R
-by_op f (body.Create p) = f ops.Create p
-by_op f body.Delete = f ops.Delete tt
-by_op f (body.Exists s) = f ops.Exists s
-by_op f (body.GetData b s) = f ops.GetData (b, s)
-by_op f (body.SetData s) = f ops.SetData s
-by_op f (body.GetAcl a s) = f ops.GetAcl (a, s)
-by_op f (body.SetAcl s) = f ops.SetAcl s
-by_op f (body.GetChildren n) = f ops.GetChildren n
-by_op f (body.Sync p) = f ops.Sync p
-by_op f body.Ping = f ops.Ping tt
-by_op f (body.GetChildren2 n s) = f ops.GetChildren2 (n, s)
-by_op f (body.Multi ds) = f ops.Multi ds
-by_op f (body.Create2 p s) = f ops.Create2 (p, s)
-by_op f body.Auth = f ops.Auth tt
-by_op f body.SetWatches = f ops.SetWatches tt
-by_op f body.CloseSession = f ops.CloseSession tt
+-- a body is what its row makes: what is given for each row is given for each body
+abbrev pub by_op {ℓ} : (P : Body → Type ℓ) → ((op : Op) (x : Content (line_of op)) → P (remake (line_of op) x)) → (b : Body) → P b
+by_op P f (body.Create p) = f ops.Create p
+by_op P f body.Delete = f ops.Delete tt
+by_op P f (body.Exists s) = f ops.Exists s
+by_op P f (body.GetData b s) = f ops.GetData (b, s)
+by_op P f (body.SetData s) = f ops.SetData s
+by_op P f (body.GetAcl a s) = f ops.GetAcl (a, s)
+by_op P f (body.SetAcl s) = f ops.SetAcl s
+by_op P f (body.GetChildren n) = f ops.GetChildren n
+by_op P f (body.Sync p) = f ops.Sync p
+by_op P f body.Ping = f ops.Ping tt
+by_op P f (body.GetChildren2 n s) = f ops.GetChildren2 (n, s)
+by_op P f (body.Multi ds) = f ops.Multi ds
+by_op P f (body.Create2 p s) = f ops.Create2 (p, s)
+by_op P f body.Auth = f ops.Auth tt
+by_op P f body.SetWatches = f ops.SetWatches tt
+by_op P f body.CloseSession = f ops.CloseSession tt
 
-abbrev pub body_told : Body → Told Body
-body_told b = by_op (told line_of) b
+abbrev pub body_written : Body → Written
+body_written b = by_op (λ _. Written) (written line_of) b
 
 -- the error that stands first, or what is done
 abbrev pub outcome_spell : Outcome → List ℕ
-outcome_spell (outcome.Done b) = (body_told b).spell
+outcome_spell (outcome.Done b) = (body_written b).spell
 outcome_spell (outcome.Failed op e) = (field words.Err failure_code).spell e
 
 abbrev pub outcome_fits : Outcome → Type 0
-outcome_fits (outcome.Done b) = (body_told b).fits
+outcome_fits (outcome.Done b) = (body_written b).fits
 outcome_fits (outcome.Failed op e) = failure_code.fits e
 
 abbrev pub outcome_at : Op → List ℕ → Read Outcome

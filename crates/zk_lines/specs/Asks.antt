@@ -19,47 +19,47 @@ use Rattle.zk_items.specs.declared.word.Word.TheVariants as words
 use Rattle.zk_lines.specs.Series.{list_of, series}
 use Rattle.zk_lines.specs.Records.{acl}
 use Rattle.zk_lines.specs.Named.{Bodies, first_named, named}
-use Rattle.zk_lines.specs.Rows.{Row, holds, bare, Content, Told, told, tabled}
+use Rattle.zk_lines.specs.Rows.{Row, holds, bare, Content, remake, Written, written, bodies_of}
 
 -- ---- records
 
 abbrev pub connect : Form (ConnectRequest × Option Bool)
 connect = fields (field words.Version int and field words.Zxid long and field words.Timeout int and field words.Session long and field words.Passwd blob and field words.ReadOnly ro)
     (λ p. (p.0.protocol_version, (p.0.last_zxid_seen, (p.0.time_out, (p.0.session_id, (p.0.passwd, p.1))))))
-    (λ q. (record { protocol_version = q.0; last_zxid_seen = q.1.0; time_out = q.1.1.0; session_id = q.1.1.1.0; passwd = q.1.1.1.1.0 }, q.1.1.1.1.1))
+    (λ (version, (zxid, (time_out, (session, (passwd, read_only))))). (record { protocol_version = version; last_zxid_seen = zxid; time_out = time_out; session_id = session; passwd = passwd }, read_only))
 
 abbrev pub create : Form CreateAsk
 create = fields (field words.Path text and field words.Blob blob and field words.Acl (list_of acl) and field words.Flags int)
-    (λ a. (a.path, (a.blob, (a.acl, a.flags)))) (λ p. record { path = p.0; blob = p.1.0; acl = p.1.1.0; flags = p.1.1.1 })
+    (λ a. (a.path, (a.blob, (a.acl, a.flags)))) (λ (path, (blob, (acl, flags))). record { path = path; blob = blob; acl = acl; flags = flags })
 
 abbrev pub delete : Form DeleteAsk
-delete = fields (field words.Path text and field words.Version int) (λ a. (a.path, a.version)) (λ p. record { path = p.0; version = p.1 })
+delete = fields (field words.Path text and field words.Version int) (λ a. (a.path, a.version)) (λ (path, version). record { path = path; version = version })
 
 abbrev pub watch : Form WatchAsk
-watch = fields (field words.Path text and field words.Watch bit) (λ a. (a.path, a.watch)) (λ p. record { path = p.0; watch = p.1 })
+watch = fields (field words.Path text and field words.Watch bit) (λ a. (a.path, a.watch)) (λ (path, watch). record { path = path; watch = watch })
 
 abbrev pub set_data : Form SetDataAsk
 set_data = fields (field words.Path text and field words.Blob blob and field words.Version int)
-    (λ a. (a.path, (a.blob, a.version))) (λ p. record { path = p.0; blob = p.1.0; version = p.1.1 })
+    (λ a. (a.path, (a.blob, a.version))) (λ (path, (blob, version)). record { path = path; blob = blob; version = version })
 
 abbrev pub path : Form PathAsk
 path = fields (field words.Path text) (λ a. a.path) (λ p. record { path = p })
 
 abbrev pub set_acl : Form SetAclAsk
 set_acl = fields (field words.Path text and field words.Acl (list_of acl) and field words.Version int)
-    (λ a. (a.path, (a.acl, a.version))) (λ p. record { path = p.0; acl = p.1.0; version = p.1.1 })
+    (λ a. (a.path, (a.acl, a.version))) (λ (path, (acl, version)). record { path = path; acl = acl; version = version })
 
 abbrev pub auth : Form AuthAsk
 auth = fields (field words.Kind int and field words.Scheme text and field words.Auth blob)
-    (λ a. (a.kind, (a.scheme, a.auth))) (λ p. record { kind = p.0; scheme = p.1.0; auth = p.1.1 })
+    (λ a. (a.kind, (a.scheme, a.auth))) (λ (kind, (scheme, auth)). record { kind = kind; scheme = scheme; auth = auth })
 
 abbrev pub set_watches : Form SetWatchesAsk
 set_watches = fields (field words.Zxid long and field words.DataWatches (list_of text) and field words.ExistWatches (list_of text) and field words.ChildWatches (list_of text))
     (λ a. (a.zxid, (a.data_watches, (a.exist_watches, a.child_watches))))
-    (λ p. record { zxid = p.0; data_watches = p.1.0; exist_watches = p.1.1.0; child_watches = p.1.1.1 })
+    (λ (zxid, (on_data, (on_exist, on_child))). record { zxid = zxid; data_watches = on_data; exist_watches = on_exist; child_watches = on_child })
 
 abbrev pub check : Form CheckAsk
-check = fields (field words.Path text and field words.Version int) (λ a. (a.path, a.version)) (λ p. record { path = p.0; version = p.1 })
+check = fields (field words.Path text and field words.Version int) (λ a. (a.path, a.version)) (λ (path, version). record { path = path; version = version })
 
 -- ---- parts of a multi
 
@@ -76,19 +76,19 @@ part_line_of parts.Delete = holds part.Delete delete
 part_line_of parts.SetData = holds part.SetData set_data
 part_line_of parts.Check = holds part.Check check
 
--- a part by its operation and what it holds
-abbrev pub by_part : {R : Type 1} → ((op : PartOp) → Content (part_line_of op) → R) → Part → R
-by_part f (part.Create a) = f parts.Create a
-by_part f (part.Delete a) = f parts.Delete a
-by_part f (part.SetData a) = f parts.SetData a
-by_part f (part.Check a) = f parts.Check a
+-- a part is what its row makes: what is given for each row is given for each part
+abbrev pub by_part {ℓ} : (P : Part → Type ℓ) → ((op : PartOp) (x : Content (part_line_of op)) → P (remake (part_line_of op) x)) → (p : Part) → P p
+by_part P f (part.Create a) = f parts.Create a
+by_part P f (part.Delete a) = f parts.Delete a
+by_part P f (part.SetData a) = f parts.SetData a
+by_part P f (part.Check a) = f parts.Check a
 
-abbrev pub part_told : Part → Told Part
-part_told p = by_part (told part_line_of) p
+abbrev pub part_written : Part → Written
+part_written p = by_part (λ _. Written) (written part_line_of) p
 
 -- its name and its record
 abbrev pub part_bodies : Bodies PartOp Part
-part_bodies = tabled part_name part_named op_of_part part_line_of part_told
+part_bodies = bodies_of part_name part_named op_of_part part_line_of part_written
 
 abbrev pub part_form : Form Part
 part_form = named part_bodies
@@ -126,30 +126,30 @@ line_of ops.Auth = holds ask.Auth auth
 line_of ops.SetWatches = holds ask.SetWatches set_watches
 line_of ops.CloseSession = bare ask.CloseSession
 
--- an ask by its operation and what it holds
-abbrev pub by_op : {R : Type 1} → ((op : Op) → Content (line_of op) → R) → Ask → R
-by_op f (ask.Create a) = f ops.Create a
-by_op f (ask.Delete a) = f ops.Delete a
-by_op f (ask.Exists a) = f ops.Exists a
-by_op f (ask.GetData a) = f ops.GetData a
-by_op f (ask.SetData a) = f ops.SetData a
-by_op f (ask.GetAcl a) = f ops.GetAcl a
-by_op f (ask.SetAcl a) = f ops.SetAcl a
-by_op f (ask.GetChildren a) = f ops.GetChildren a
-by_op f (ask.Sync a) = f ops.Sync a
-by_op f ask.Ping = f ops.Ping tt
-by_op f (ask.GetChildren2 a) = f ops.GetChildren2 a
-by_op f (ask.Multi ps) = f ops.Multi ps
-by_op f (ask.Create2 a) = f ops.Create2 a
-by_op f (ask.Auth a) = f ops.Auth a
-by_op f (ask.SetWatches a) = f ops.SetWatches a
-by_op f ask.CloseSession = f ops.CloseSession tt
+-- an ask is what its row makes: what is given for each row is given for each ask
+abbrev pub by_op {ℓ} : (P : Ask → Type ℓ) → ((op : Op) (x : Content (line_of op)) → P (remake (line_of op) x)) → (a : Ask) → P a
+by_op P f (ask.Create a) = f ops.Create a
+by_op P f (ask.Delete a) = f ops.Delete a
+by_op P f (ask.Exists a) = f ops.Exists a
+by_op P f (ask.GetData a) = f ops.GetData a
+by_op P f (ask.SetData a) = f ops.SetData a
+by_op P f (ask.GetAcl a) = f ops.GetAcl a
+by_op P f (ask.SetAcl a) = f ops.SetAcl a
+by_op P f (ask.GetChildren a) = f ops.GetChildren a
+by_op P f (ask.Sync a) = f ops.Sync a
+by_op P f ask.Ping = f ops.Ping tt
+by_op P f (ask.GetChildren2 a) = f ops.GetChildren2 a
+by_op P f (ask.Multi ps) = f ops.Multi ps
+by_op P f (ask.Create2 a) = f ops.Create2 a
+by_op P f (ask.Auth a) = f ops.Auth a
+by_op P f (ask.SetWatches a) = f ops.SetWatches a
+by_op P f ask.CloseSession = f ops.CloseSession tt
 
-abbrev pub ask_told : Ask → Told Ask
-ask_told a = by_op (told line_of) a
+abbrev pub ask_written : Ask → Written
+ask_written a = by_op (λ _. Written) (written line_of) a
 
 abbrev pub ask_bodies : Bodies Op Ask
-ask_bodies = tabled op_name op_named op_of_ask line_of ask_told
+ask_bodies = bodies_of op_name op_named op_of_ask line_of ask_written
 
 -- its name and its record's fields
 abbrev pub ask_form : Form Ask

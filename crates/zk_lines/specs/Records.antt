@@ -12,7 +12,7 @@ use Rattle.zk_items.specs.declared.word.Word.TheVariants.{Close, Colon, Comma, O
 abbrev pub acl : Form Acl
 acl = fields (int and field Colon text and field Colon text)
     (λ a. (a.perms, (a.who.scheme, a.who.ident)))
-    (λ p. record { perms = p.0; who = record { scheme = p.1.0; ident = p.1.1 } })
+    (λ (perms, (scheme, ident)). record { perms = perms; who = record { scheme = scheme; ident = ident } })
 
 -- such an entry, where its texts are spelled so
 abbrev pub entry : {X : Type 0} → (X → List ℕ) → ℤ → X → X → List ℕ
@@ -43,16 +43,16 @@ sizes_of s = (s.ephemeral_owner, (s.data_length, (s.num_children, s.pzxid)))
 abbrev pub stat : Form Stat
 stat = fields (closed (times and versions and sizes) (word_of Close))
     (λ s. (times_of s, (versions_of s, sizes_of s)))
-    (λ p. record {
-      czxid = p.0.0;
-      mzxid = p.0.1.0;
-      ctime = p.0.1.1.0;
-      mtime = p.0.1.1.1;
-      version = p.1.0.0;
-      cversion = p.1.0.1.0;
-      aversion = p.1.0.1.1;
-      ephemeral_owner = p.1.1.0;
-      data_length = p.1.1.1.0;
-      num_children = p.1.1.1.1.0;
-      pzxid = p.1.1.1.1.1;
+    (λ ((czxid, (mzxid, (ctime, mtime))), ((version, (cversion, aversion)), (owner, (length, (children, pzxid))))). record {
+      czxid = czxid;
+      mzxid = mzxid;
+      ctime = ctime;
+      mtime = mtime;
+      version = version;
+      cversion = cversion;
+      aversion = aversion;
+      ephemeral_owner = owner;
+      data_length = length;
+      num_children = children;
+      pzxid = pzxid;
     })

@@ -29,22 +29,21 @@ form_of (holds make f) = f
 abbrev pub row_at : {Y : Type 0} → Row Y → List ℕ → Read Y
 row_at (holds make f) bytes = read_map make (f.at bytes)
 
--- a value as its row tells it
-pub record Told (Y : Type 0) : Type 1 where
-  pub value : Y
+-- a value as its row writes it
+pub record Written : Type 1 where
   pub fits : Type 0
   pub spell : List ℕ
 
-abbrev pub told : {K Y : Type 0} (row : K → Row Y) (k : K) → Content (row k) → Told Y
-told row k x = record { value = remake (row k) x; fits = (form_of (row k)).fits x; spell = (form_of (row k)).spell x }
+abbrev pub written : {K Y : Type 0} (row : K → Row Y) (k : K) → Content (row k) → Written
+written row k x = record { fits = (form_of (row k)).fits x; spell = (form_of (row k)).spell x }
 
 -- the bodies behind the names of a table
-abbrev pub tabled : {K Y : Type 0} (name : K → List ℕ) (key_at : List ℕ → Option K) (key : Y → K) (row : K → Row Y) (tell : Y → Told Y) → Bodies K Y
-tabled name key_at key row tell = record {
+abbrev pub bodies_of : {K Y : Type 0} (name : K → List ℕ) (key_at : List ℕ → Option K) (key : Y → K) (row : K → Row Y) (write : Y → Written) → Bodies K Y
+bodies_of name key_at key row write = record {
   name = name;
   key_at = key_at;
   key = key;
-  fits = λ y. (tell y).fits;
-  spell = λ y. (tell y).spell;
+  fits = λ y. (write y).fits;
+  spell = λ y. (write y).spell;
   at = λ k bytes. row_at (row k) bytes;
 }

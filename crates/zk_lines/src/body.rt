@@ -91,9 +91,9 @@ fn put_with_stat<T: Put>(
 }
 
 impl Put for Body {
-    ghost fits = { λ b. (answers.body_told b).fits };
+    ghost fits = { λ b. (answers.body_written b).fits };
 
-    ghost spell = { λ b. (answers.body_told b).spell };
+    ghost spell = { λ b. (answers.body_written b).spell };
 
     fn put(&self, out: &mut Vec<u8>) -> Result<(), AllocError> {
         body_rows!(put_body_of, out, self)
@@ -101,9 +101,9 @@ impl Put for Body {
 }
 
 impl<'a> Put for BodyRef<'a> {
-    ghost fits = { λ b. (answers.body_told b).fits };
+    ghost fits = { λ b. (answers.body_written b).fits };
 
-    ghost spell = { λ b. (answers.body_told b).spell };
+    ghost spell = { λ b. (answers.body_written b).spell };
 
     fn put(&self, out: &mut Vec<u8>) -> Result<(), AllocError> {
         body_rows!(put_body_of, out, self)

@@ -102,16 +102,16 @@ macro_rules! done_body {
 }
 
 fn put_done(out: &mut Vec<u8>, done: &PartDone) -> Result<(), AllocError>
-    ensures spelled { OnOk result (out.new.items ≡ out.old.items ++ (answers.done_told done.now).spell) }
-    ensures fits { OnOk result ((answers.done_told done.now).fits) }
+    ensures spelled { OnOk result (out.new.items ≡ out.old.items ++ (answers.done_written done.now).spell) }
+    ensures fits { OnOk result ((answers.done_written done.now).fits) }
     ensures keeps { Keeps out.old.items out.new.items }
 {
     done_body!(out, done)
 }
 
 fn put_done_ref(out: &mut Vec<u8>, done: &PartDoneRef<'_>) -> Result<(), AllocError>
-    ensures spelled { OnOk result (out.new.items ≡ out.old.items ++ (answers.done_told done.now).spell) }
-    ensures fits { OnOk result ((answers.done_told done.now).fits) }
+    ensures spelled { OnOk result (out.new.items ≡ out.old.items ++ (answers.done_written done.now).spell) }
+    ensures fits { OnOk result ((answers.done_written done.now).fits) }
     ensures keeps { Keeps out.old.items out.new.items }
 {
     done_body!(out, done)

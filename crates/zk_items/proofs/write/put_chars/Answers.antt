@@ -10,7 +10,7 @@ pub returns-then-plain_len-bytes-clause-fits : goal.returns-then-plain_len-bytes
 returns-then-plain_len-bytes-clause-fits c = told c.put_plain.result (c.utf8.text, text_small _ c.utf8.text)
 
 pub returns-else-plain_len-bytes-clause-fits : goal.returns-else-plain_len-bytes-clause-fits
-returns-else-plain_len-bytes-clause-fits c = told c.put_quoted.result (c.utf8.text, text_small _ c.utf8.text)
+returns-else-plain_len-bytes-clause-fits c = told c.put_escaped.result (c.utf8.text, text_small _ c.utf8.text)
 
 pub returns-then-plain_len-bytes-clause-spelled : goal.returns-then-plain_len-bytes-clause-spelled
 returns-then-plain_len-bytes-clause-spelled c =
