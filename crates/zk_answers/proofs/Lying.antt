@@ -1,6 +1,6 @@
 -- Results that lie in a payload: what stands there is their value, and what reads them.
 use Rattle.std.proofs.Common.{◌≡◌, ℕ, ◌+◌, ◌≤◌, List, [], ◌∷◌, ◌++◌, length, drop, Some, None, Ok, Err, inr, refl, sym, ap, subst, ◌∙◌, arith}
-use Rattle.std.specs.Prelude.{ℤ, negsuc, Bool, true, false, Result, IfOk, IfErr, ◌≢◌}
+use Rattle.std.specs.Prelude.{ℤ, negsuc, Bool, Result, IfOk, IfErr, ◌≢◌}
 use Rattle.std.specs.List.{flat_map}
 use Rattle.std.proofs.lemmas.List.{append-nil}
 use Rattle.zk_jute.specs.declared.fault.ItemFault.{ItemFault}

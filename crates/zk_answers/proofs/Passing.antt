@@ -6,7 +6,7 @@ use Rattle.std.specs.List.{flat_map}
 use Rattle.zk_jute.specs.declared.fault.ItemFault.{ItemFault}
 use Rattle.zk_jute.specs.Item.{Item, bytes_of, HaveBytes}
 use Rattle.zk_jute.specs.Layout.{IsValueOf}
-use Rattle.zk_jute.specs.Told.{StandsAt, HasToldFault}
+use Rattle.zk_jute.specs.Told.{StandsAt}
 use Rattle.zk_jute.specs.Shown.{Stretch}
 use Rattle.zk_jute.proofs.Layouts.{bytes_only, have_parts}
 use Rattle.zk_jute.proofs.Stretches.{stands_split, none_passed, one_passed, values_told}
@@ -20,7 +20,7 @@ use Rattle.zk_answers.specs.Shown.{done_value, dones_at}
 use Rattle.zk_answers.specs.Known.{IsPassed, IsBehind}
 use Rattle.zk_answers.proofs.Dones.{mark_same, end_mark}
 use Rattle.zk_jute.specs.Standing.{OneStands}
-use Rattle.zk_answers.proofs.Lying.{done_read, header_read, behind_there, mark_stands, no_header_fault}
+use Rattle.zk_answers.proofs.Lying.{done_read, header_read, behind_there, mark_stands}
 
 not_end : (d : PartDone) → mark_before d ≡ end_header → ⊥
 not_end (done.Created path) e = let k : false ≡ true = ap (λ (h : MultiHeader). h.done) e in absurd cc

@@ -9,7 +9,6 @@ returns-in_err-head-clause-fault c =
     let e = c.in_err-head.ensures.fault in
     rw (p.1, p.2) (event_short c.args.src.now.bytes.now c.in_err-head.field-0.0 (inr e.0), e.1)
 
-
 pub event_in-requires-clause-head : goal.event_in-requires-clause-head
 event_in-requires-clause-head c =
     let src = c.args.src.now.bytes.now in

@@ -9,7 +9,6 @@ returns-in_err-head-clause-fault g c =
     let e = c.in_err-head.ensures.fault in
     rw (p.1, p.2) (reply_short (g.F.Asked.operation c.args.form.now) (g.F.Asked.part_ops c.args.form.now) c.args.src.now.bytes.now c.in_err-head.field-0.0 (inr e.0), e.1)
 
-
 pub reply_in-requires-clause-head : goal.reply_in-requires-clause-head
 reply_in-requires-clause-head g c =
     let src = c.args.src.now.bytes.now in

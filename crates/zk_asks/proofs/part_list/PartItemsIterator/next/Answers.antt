@@ -1,10 +1,5 @@
-use Rattle.std.proofs.Common.{◌≡◌, ℕ, ◌<◌, Ok, sym, ap, ◌∙◌, length, arith}
-use Rattle.std.specs.Prelude.{Result}
-use Rattle.zk_jute.specs.declared.fault.ItemFault.{ItemFault}
-use Rattle.zk_jute.specs.Item.{HaveBytes}
-use Rattle.zk_jute.specs.Told.{StandsAt}
+use Rattle.std.proofs.Common.{◌<◌, Ok, sym, ap, ◌∙◌, length, arith}
 use Rattle.zk_jute.proofs.Stretches.{first_there, first_read}
-use Rattle.zk_asks.specs.Held.{Part}
 use Rattle.zk_asks.specs.Parts.{part_items}
 use Rattle.zk_asks.specs.Shown.{part_value}
 use Rattle.zk_asks.proofs.Lying.{part_read}
