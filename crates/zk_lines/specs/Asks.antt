@@ -25,7 +25,7 @@ use Rattle.zk_lines.specs.Rows.{Row, holds, bare, Content, remake, Written, writ
 
 abbrev pub connect : Form (ConnectRequest × Option Bool)
 connect = fields (field words.Version int and field words.Zxid long and field words.Timeout int and field words.Session long and field words.Passwd blob and field words.ReadOnly ro)
-    (λ p. (p.0.protocol_version, (p.0.last_zxid_seen, (p.0.time_out, (p.0.session_id, (p.0.passwd, p.1))))))
+    (λ (hello, read_only). (hello.protocol_version, (hello.last_zxid_seen, (hello.time_out, (hello.session_id, (hello.passwd, read_only))))))
     (λ (version, (zxid, (time_out, (session, (passwd, read_only))))). (record { protocol_version = version; last_zxid_seen = zxid; time_out = time_out; session_id = session; passwd = passwd }, read_only))
 
 abbrev pub create : Form CreateAsk
