@@ -95,11 +95,8 @@ by_done P f (done.PartFailed e) = f names.Fail e
 abbrev pub done_written : PartDone → Written
 done_written d = by_done (λ _. Written) (written done_line_of) d
 
-abbrev pub done_bodies : Bodies DoneName PartDone
-done_bodies = bodies_of done_name done_named name_of_done done_line_of done_written
-
 abbrev pub done_form : Form PartDone
-done_form = named done_bodies
+done_form = named (bodies_of done_name done_named name_of_done done_line_of done_written)
 
 abbrev pub multi : Form (List PartDone)
 multi = field words.Parts (series 59 125 done_form)
