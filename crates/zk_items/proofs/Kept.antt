@@ -1,4 +1,4 @@
--- What stands in the output stays there, what is spelled stands behind it, and what is told of the value holds where it is.
+-- What stands in the output stays there, what is spelled stands behind it, and what holds anyway holds where a call goes well.
 use Rattle.std.proofs.Common.{◌≡◌, ℕ, ◌≤◌, List, ◌++◌, length, take, Result, Ok, Err, OnOk, ap, ◌∙◌, arith, append_assoc}
 use Rattle.std.proofs.lemmas.List.{take-append-le, length-take}
 use Rattle.zk_items.specs.Form.{Keeps}
@@ -12,6 +12,6 @@ pub then_spelled : {A E : Type 0} (r : Result A E) (old mid new first next : Lis
 then_spelled (Ok x) old mid new first next e f = f ∙ ap (λ (m : List ℕ). m ++ next) e ∙ append_assoc old first next
 then_spelled (Err x) old mid new first next e f = f
 
-pub told : {A E P : Type 0} (r : Result A E) → P → OnOk r P
-told (Ok x) p = p
-told (Err x) p = tt
+pub on_ok : {A E P : Type 0} (r : Result A E) → P → OnOk r P
+on_ok (Ok x) p = p
+on_ok (Err x) p = tt

@@ -24,7 +24,7 @@ pub fn put_word(out: &mut Vec<u8>, word: Word) -> Result<(), AllocError>
     out.extend_from_slice(word_bytes(word))
 }
 
-/// The digit of a number that has one and no sign.
+/// A byte that is the number in decimal, or nothing.
 #[inline(always)]
 fn one_digit(n: i64) -> Option<u8>
     ensures { IfSome result (λ digit. signed_decimal n ≡ digit ∷ []) }
@@ -135,7 +135,8 @@ fn put_escape(out: &mut Vec<u8>, b: u8) -> Result<(), AllocError>
     out.extend_from_slice(&[b'\\', hex_digit(b / 16), hex_digit(b % 16)])
 }
 
-/// Appends a text's bytes, a run of plain ones at a time.
+/// Appends bytes as they stand in a text.
+// A run of plain ones is copied whole.
 fn put_symbols(out: &mut Vec<u8>, bytes: &[u8]) -> Result<(), AllocError>
     ensures spelled { OnOk result (out.new.items ≡ out.old.items ++ flat_map symbol_spell bytes.now) }
     ensures keeps { Keeps out.old.items out.new.items }
@@ -179,7 +180,8 @@ pub fn put_text_ref(out: &mut Vec<u8>, text: &TextRef<'_>) -> Result<(), AllocEr
     }
 }
 
-/// Appends bytes that stand for themselves between quotation marks, in room that is made once.
+/// Appends bytes as they are between quotation marks.
+// Room is made once.
 #[inline(always)]
 fn put_plain(out: &mut Vec<u8>, bytes: &[u8]) -> Result<(), AllocError>
     ensures spelled { OnOk result (out.new.items ≡ out.old.items ++ (34 ∷ (bytes.now ++ (34 ∷ [])))) }

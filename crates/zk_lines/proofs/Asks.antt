@@ -1,5 +1,5 @@
 -- The lines of what a client sends have the laws of lines.
-use Rattle.std.proofs.Common.{◌≡◌, ℕ, List, [], ◌∷◌, ◌++◌, Some, None, true, refl}
+use Rattle.std.proofs.Common.{◌≡◌, ℕ, List, [], ◌∷◌, ◌++◌, None, refl}
 use Rattle.zk_jute.specs.Flagged.{flag_items}
 use Rattle.zk_jute.specs.Item.{HaveBytes}
 use Rattle.zk_records.specs.Records as records
@@ -10,7 +10,6 @@ use Rattle.zk_records.specs.declared.op.PartOp.TheVariants as parts
 use Rattle.zk_records.specs.Names.{op_name, part_name}
 use Rattle.zk_asks.specs.Held.{Part, Ask}
 use Rattle.zk_asks.specs.declared.frame.PartOf.TheVariants as part
-use Rattle.zk_asks.specs.declared.frame.AskOf.TheVariants as ask
 use Rattle.zk_asks.specs.Parts.{op_of_part, record_of, part_items, part_header, end_header, marked, multi_items}
 use Rattle.zk_asks.specs.Rows.{op_of_ask, body_items}
 use Rattle.zk_items.specs.Form.{word_at}

@@ -25,40 +25,14 @@ count_printed : (word : List ℕ) (n : ℕ) → are_printed word ≡ true → Pr
 unfolding count
 count_printed word n e = joined word (decimal n) (checked word e) (decimal_printed n)
 
-reason_printed : (r : Reason) → Printed (reason_name r)
-reason_printed reasons.Short = checked (codes "Short") refl
-reason_printed reasons.BadBool = checked (codes "BadBool") refl
-reason_printed reasons.BadLength = checked (codes "BadLength") refl
-reason_printed reasons.BadText = checked (codes "BadText") refl
-reason_printed reasons.NoMemory = checked (codes "NoMemory") refl
-reason_printed reasons.Trailing = checked (codes "Trailing") refl
-reason_printed reasons.UnknownOp = checked (codes "UnknownOp") refl
-reason_printed reasons.XidOp = checked (codes "XidOp") refl
-reason_printed reasons.BadPart = checked (codes "BadPart") refl
-reason_printed reasons.EventErr = checked (codes "EventErr") refl
-reason_printed reasons.LengthRange = checked (codes "LengthRange") refl
-reason_printed reasons.QueueFull = checked (codes "QueueFull") refl
-reason_printed reasons.Unasked = checked (codes "Unasked") refl
-reason_printed (reasons.XidOrder expected got) = checked (codes "XidOrder") refl
-reason_printed reasons.StreamEnd = checked (codes "StreamEnd") refl
+reason_checked : (r : Reason) → are_printed (reason_name r) ≡ true
+reason_checked reasons.Short = refl
+reason_checked _ = refl
 
 order_printed : (r : Reason) → Printed (order_text r)
 order_printed (reasons.XidOrder expected got) =
     joined (codes " expected=") _ (checked (codes " expected=") refl) (joined (signed_decimal expected) _ (number_printed expected) (joined (codes " got=") (signed_decimal got) (checked (codes " got=") refl) (number_printed got)))
-order_printed reasons.Short = tt
-order_printed reasons.BadBool = tt
-order_printed reasons.BadLength = tt
-order_printed reasons.BadText = tt
-order_printed reasons.NoMemory = tt
-order_printed reasons.Trailing = tt
-order_printed reasons.UnknownOp = tt
-order_printed reasons.XidOp = tt
-order_printed reasons.BadPart = tt
-order_printed reasons.EventErr = tt
-order_printed reasons.LengthRange = tt
-order_printed reasons.QueueFull = tt
-order_printed reasons.Unasked = tt
-order_printed reasons.StreamEnd = tt
+order_printed _ = tt
 
 place_printed : (f : Fault) → Printed (place_text f)
 place_printed f =
@@ -73,7 +47,7 @@ ending_printed (ending.Cut side frame got) =
     (joined (count (codes " frame=") frame) (count (codes " got=") got) (count_printed (codes " frame=") frame refl) (count_printed (codes " got=") got refl))
 ending_printed (ending.Refused f) =
     joined (place_text f) (reason_text f.reason) (place_printed f)
-    (joined (codes " reason=") _ (checked (codes " reason=") refl) (joined (reason_name f.reason) (order_text f.reason) (reason_printed f.reason) (order_printed f.reason)))
+    (joined (codes " reason=") _ (checked (codes " reason=") refl) (joined (reason_name f.reason) (order_text f.reason) (checked (reason_name f.reason) (reason_checked f.reason)) (order_printed f.reason)))
 
 -- an ending's line begins with a dot
 pub ending_dotted : (e : Ending) → (rest : List ℕ) × (ending_text e ≡ 46 ∷ rest)

@@ -30,13 +30,13 @@ use Rattle.zk_lines.specs.Asks.{op_named}
 
 abbrev pub connected : Form (ConnectResponse × Option Bool)
 connected = fields (field words.Version int and field words.Timeout int and field words.Session long and field words.Passwd blob and field words.ReadOnly ro)
-    (λ p. (p.0.protocol_version, (p.0.time_out, (p.0.session_id, (p.0.passwd, p.1)))))
+    (λ (hello, read_only). (hello.protocol_version, (hello.time_out, (hello.session_id, (hello.passwd, read_only)))))
     (λ (version, (time_out, (session, (passwd, read_only)))). (record { protocol_version = version; time_out = time_out; session_id = session; passwd = passwd }, read_only))
 
 -- the zxid and the event
 abbrev pub event : Form (ℤ × WatcherEvent)
 event = fields (field words.Zxid long and field words.Kind event_code and field words.State int and field words.Path text)
-    (λ p. (p.0, (p.1.kind, (p.1.state, p.1.path)))) (λ (zxid, (kind, (state, path))). (zxid, record { kind = kind; state = state; path = path }))
+    (λ (zxid, e). (zxid, (e.kind, (e.state, e.path)))) (λ (zxid, (kind, (state, path))). (zxid, record { kind = kind; state = state; path = path }))
 
 -- a field, and what is known of a node behind it
 abbrev pub with_stat_at : {X : Type 0} → Word → (List ℕ → Read X) → List ℕ → Read (X × Stat)
@@ -95,11 +95,8 @@ by_done P f (done.PartFailed e) = f names.Fail e
 abbrev pub done_written : PartDone → Written
 done_written d = by_done (λ _. Written) (written done_line_of) d
 
-abbrev pub done_bodies : Bodies DoneName PartDone
-done_bodies = bodies_of done_name done_named name_of_done done_line_of done_written
-
 abbrev pub done_form : Form PartDone
-done_form = named done_bodies
+done_form = named (bodies_of done_name done_named name_of_done done_line_of done_written)
 
 abbrev pub multi : Form (List PartDone)
 multi = field words.Parts (series 59 125 done_form)
@@ -111,16 +108,16 @@ abbrev pub line_of : Op → Row Body
 line_of ops.Create = holds body.Create (field words.Path text)
 line_of ops.Delete = bare body.Delete
 line_of ops.Exists = holds body.Exists (field words.Stat stat)
-line_of ops.GetData = holds (λ p. body.GetData p.0 p.1) content
+line_of ops.GetData = holds (λ (blob, stat). body.GetData blob stat) content
 line_of ops.SetData = holds body.SetData (field words.Stat stat)
-line_of ops.GetAcl = holds (λ p. body.GetAcl p.0 p.1) acls
+line_of ops.GetAcl = holds (λ (acl, stat). body.GetAcl acl stat) acls
 line_of ops.SetAcl = holds body.SetAcl (field words.Stat stat)
 line_of ops.GetChildren = holds body.GetChildren (field words.Names (list_of text))
 line_of ops.Sync = holds body.Sync (field words.Path text)
 line_of ops.Ping = bare body.Ping
-line_of ops.GetChildren2 = holds (λ p. body.GetChildren2 p.0 p.1) children
+line_of ops.GetChildren2 = holds (λ (names, stat). body.GetChildren2 names stat) children
 line_of ops.Multi = holds body.Multi multi
-line_of ops.Create2 = holds (λ p. body.Create2 p.0 p.1) created
+line_of ops.Create2 = holds (λ (path, stat). body.Create2 path stat) created
 line_of ops.Auth = bare body.Auth
 line_of ops.SetWatches = bare body.SetWatches
 line_of ops.CloseSession = bare body.CloseSession
@@ -179,4 +176,4 @@ abbrev pub reply_to : Op → ℤ → ℤ → List ℕ → List ℕ
 reply_to op xid zxid outcome = signed_decimal xid ++ (word_of words.Blank ++ (op_name op ++ ((word_of words.Zxid ++ signed_decimal zxid) ++ outcome)))
 
 abbrev pub reply : Form Reply
-reply = fields (int and field words.Blank named_outcome) (λ r. (r.xid, (r.zxid, r.outcome))) (λ p. record { xid = p.0; zxid = p.1.0; outcome = p.1.1 })
+reply = fields (int and field words.Blank named_outcome) (λ r. (r.xid, (r.zxid, r.outcome))) (λ (xid, (zxid, outcome)). record { xid = xid; zxid = zxid; outcome = outcome })

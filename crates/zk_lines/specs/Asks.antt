@@ -18,14 +18,14 @@ use Rattle.zk_items.specs.Words.{field}
 use Rattle.zk_items.specs.declared.word.Word.TheVariants as words
 use Rattle.zk_lines.specs.Series.{list_of, series}
 use Rattle.zk_lines.specs.Records.{acl}
-use Rattle.zk_lines.specs.Named.{Bodies, first_named, named}
+use Rattle.zk_lines.specs.Named.{first_named, named}
 use Rattle.zk_lines.specs.Rows.{Row, holds, bare, Content, remake, Written, written, bodies_of}
 
 -- ---- records
 
 abbrev pub connect : Form (ConnectRequest × Option Bool)
 connect = fields (field words.Version int and field words.Zxid long and field words.Timeout int and field words.Session long and field words.Passwd blob and field words.ReadOnly ro)
-    (λ p. (p.0.protocol_version, (p.0.last_zxid_seen, (p.0.time_out, (p.0.session_id, (p.0.passwd, p.1))))))
+    (λ (hello, read_only). (hello.protocol_version, (hello.last_zxid_seen, (hello.time_out, (hello.session_id, (hello.passwd, read_only))))))
     (λ (version, (zxid, (time_out, (session, (passwd, read_only))))). (record { protocol_version = version; last_zxid_seen = zxid; time_out = time_out; session_id = session; passwd = passwd }, read_only))
 
 abbrev pub create : Form CreateAsk
@@ -87,11 +87,8 @@ abbrev pub part_written : Part → Written
 part_written p = by_part (λ _. Written) (written part_line_of) p
 
 -- its name and its record
-abbrev pub part_bodies : Bodies PartOp Part
-part_bodies = bodies_of part_name part_named op_of_part part_line_of part_written
-
 abbrev pub part_form : Form Part
-part_form = named part_bodies
+part_form = named (bodies_of part_name part_named op_of_part part_line_of part_written)
 
 -- joined by semicolons, between braces
 abbrev pub multi : Form (List Part)
@@ -148,12 +145,9 @@ by_op P f ask.CloseSession = f ops.CloseSession tt
 abbrev pub ask_written : Ask → Written
 ask_written a = by_op (λ _. Written) (written line_of) a
 
-abbrev pub ask_bodies : Bodies Op Ask
-ask_bodies = bodies_of op_name op_named op_of_ask line_of ask_written
-
 -- its name and its record's fields
 abbrev pub ask_form : Form Ask
-ask_form = named ask_bodies
+ask_form = named (bodies_of op_name op_named op_of_ask line_of ask_written)
 
 -- the xid and the request
 abbrev pub request : Form (ℤ × Ask)

@@ -1,16 +1,16 @@
 use Rattle.std.proofs.Common.{◌≡◌, ◌∷◌, ◌++◌, [], ℕ, List, OnOk, length, subst, sym, ◌∙◌}
 use Rattle.std.specs.List.{prefix_len}
 use Rattle.zk_items.specs.Leaf.{is_plain}
-use Rattle.zk_items.proofs.Kept.{told}
+use Rattle.zk_items.proofs.Kept.{on_ok}
 use Rattle.zk_items.proofs.Looks.{all_plain}
 use Rattle.zk_items.proofs.Small.{text_small}
 use Rattle.zk_items.proofs.write.put_chars.Goals as goal
 
 pub returns-then-plain_len-bytes-clause-fits : goal.returns-then-plain_len-bytes-clause-fits
-returns-then-plain_len-bytes-clause-fits c = told c.put_plain.result (c.utf8.text, text_small _ c.utf8.text)
+returns-then-plain_len-bytes-clause-fits c = on_ok c.put_plain.result (c.utf8.text, text_small _ c.utf8.text)
 
 pub returns-else-plain_len-bytes-clause-fits : goal.returns-else-plain_len-bytes-clause-fits
-returns-else-plain_len-bytes-clause-fits c = told c.put_escaped.result (c.utf8.text, text_small _ c.utf8.text)
+returns-else-plain_len-bytes-clause-fits c = on_ok c.put_escaped.result (c.utf8.text, text_small _ c.utf8.text)
 
 pub returns-then-plain_len-bytes-clause-spelled : goal.returns-then-plain_len-bytes-clause-spelled
 returns-then-plain_len-bytes-clause-spelled c =
