@@ -1,27 +1,26 @@
 -- A multi request: headers, records and the header behind the last.
-use Rattle.std.proofs.Common.{◌≡◌, ℕ, zero, suc, ◌+◌, ◌-◌, ◌^◌, ◌<◌, ◌≤◌, ◌⊎◌, inl, inr, List, [], ◌∷◌, ◌++◌, length, get_or, take, drop, Option, Some, None, Result, Ok, Err, refl, sym, ap, subst, ◌∙◌, append_assoc, arith}
-use Rattle.std.proofs.lemmas.List.{append-nil, length-append, length-drop, length-take, take-append-drop, take-append-le, drop-drop, take_at, take_all, get_or_append_left}
-use Rattle.std.specs.Prelude.{ℤ, pos}
-use Rattle.zk_jute.specs.Item.{Item, Int, Buffer, Ustring, bytes_of, HaveBytes}
-use Rattle.zk_jute.specs.Layout.{Layout, End, One, Each, ◌then◌, IsValueOf}
+use Rattle.std.proofs.Common.{◌≡◌, ℕ, zero, suc, ◌+◌, ◌-◌, ◌^◌, ◌<◌, ◌≤◌, ◌⊎◌, inl, inr, List, [], ◌∷◌, ◌++◌, length, get_or, take, drop, Some, None, Result, Ok, Err, refl, sym, ap, subst, ◌∙◌, arith}
+use Rattle.std.proofs.lemmas.List.{length-append, length-drop, take-append-drop, take-append-le, drop-drop, take_at, take_all, get_or_append_left}
+use Rattle.std.specs.Prelude.{pos}
+use Rattle.zk_jute.specs.Item.{Item, Int, Buffer, Ustring, bytes_of}
+use Rattle.zk_jute.specs.Layout.{End, One, Each, ◌then◌}
 use Rattle.zk_jute.proofs.Layouts.{bytes_both}
-use Rattle.zk_records.specs.Records.{acl, create_ask, delete_ask, set_data_ask, check_ask}
+use Rattle.zk_records.specs.Records.{acl}
 use Rattle.zk_records.specs.Codes.{part_number}
 use Rattle.zk_records.specs.declared.op.PartOp.{PartOp}
 use Rattle.zk_records.specs.declared.op.PartOp.TheVariants as parts
 use Rattle.zk_asks.specs.Parts.{part_layout, part_header, end_header, marked, IsMulti, no_more, a_part}
-use Rattle.zk_earliest.specs.declared.sizes.Sizes.{Sizes}
-use Rattle.zk_earliest.specs.Sizes.{IsBehind, IsAmong, AreSizes, plus, nothing}
+use Rattle.zk_earliest.specs.Sizes.{IsAmong, AreSizes, plus, nothing}
 use Rattle.zk_earliest.specs.Earliest.{Spells}
 use Rattle.zk_earliest.specs.Marks.{part_mark, end_mark, part_sizes, multi_sizes, IsMark, MayMark}
 use Rattle.zk_earliest.specs.Runs.{run_sizes, list_sizes}
-use Rattle.zk_earliest.specs.Stops.{Stops, Passes, StopsAt, Reaches, then_among}
-use Rattle.zk_earliest.proofs.Sums.{sizes, at_least, among_plus, Split, split_plus}
+use Rattle.zk_earliest.specs.Stops.{Passes, StopsAt, Reaches, then_among}
+use Rattle.zk_earliest.proofs.Sums.{sizes, at_least, among_plus, split_plus}
 use Rattle.zk_earliest.proofs.Compose.{Chain, IsAlone, at_first, at_second, at_both}
 use Rattle.zk_earliest.proofs.Spelled.{Spelling, spelled_alone, then_sizes}
 use Rattle.zk_earliest.proofs.Fixed.{int_sizes}
 use Rattle.zk_earliest.proofs.Words.{same_byte}
-use Rattle.zk_earliest.proofs.Running.{text_sizes, blob_sizes, sizes_as}
+use Rattle.zk_earliest.proofs.Running.{text_sizes, blob_sizes}
 use Rattle.zk_earliest.proofs.Counts.{list_are}
 
 -- ---- the lengths of the records of parts

@@ -4,7 +4,7 @@ use Rattle.zk_records.specs.declared.op.PartOp.{PartOp}
 use Rattle.zk_records.specs.declared.op.PartOp.TheVariants as parts
 use Rattle.zk_earliest.specs.declared.sizes.Sizes.{Sizes}
 use Rattle.zk_earliest.specs.Sizes.{IsAmong, plus}
-use Rattle.zk_earliest.specs.Stops.{Stops, StopsAt}
+use Rattle.zk_earliest.specs.Stops.{StopsAt}
 
 abbrev pub part_mark : PartOp → List ℕ
 part_mark parts.Create = 0 ∷ 0 ∷ 0 ∷ 1 ∷ 0 ∷ 255 ∷ 255 ∷ 255 ∷ 255 ∷ []
