@@ -87,7 +87,9 @@ fn fronts(rt: HostRuntime) -> Result<(), Fail> {
     let no_node = b"\0\0\0\x01\0\0\0\0\0\0\0\x05\xff\xff\xff\x9b";
     assert!(rt; front(&form, no_node));
     assert!(rt; !front(&form, &no_node[..15]));
-    assert!(rt; !front(&two(rt.alloc())?, TWO));
+    let form = two(rt.alloc())?;
+    assert!(rt; front(&form, TWO));
+    assert!(rt; !front(&form, &TWO[..48]));
     Ok(())
 }
 

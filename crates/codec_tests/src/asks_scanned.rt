@@ -4,7 +4,8 @@ ghost use Rattle.std.specs.Prelude.{◌≤◌, take};
 use std::process::Abort;
 use std::test::Fail;
 use zk_asks::{
-    AskOf, Asked, ClientFrameOf, PartOf, RequestRef, Room, front_ask, scan_ask, scan_first,
+    AskOf, Asked, ClientFrameOf, PartOf, RequestRef, Room, front_ask, front_multi, scan_ask,
+    scan_first,
 };
 use zk_jute::{ItemFault, Reason};
 use zk_records::{Op, PartOp, Profile};
@@ -57,6 +58,9 @@ fn fronts(rt: HostRuntime) -> Result<(), Fail> {
     for other in [b"\0\0\0\x01\0\0\0\x03\0\0\0\x02/a\x02" as &[u8], TWO] {
         assert!(rt; front_ask(Profile::V34, other).is_none());
     }
+    for other in [exists as &[u8], &TWO[..54]] {
+        assert!(rt; front_multi(Profile::V34, other).is_none());
+    }
     Ok(())
 }
 
@@ -99,6 +103,24 @@ fn operations_in_order(rt: HostRuntime) -> Result<(), Fail> {
         count: 0,
     };
     request.put_ops(&mut two);
+    assert_eq!(rt; two.ops, [PartOp::Delete, PartOp::Check]);
+    Ok(())
+}
+
+#[test]
+fn operations_of_a_front(rt: HostRuntime) -> Result<(), Fail> {
+    let (xid, multi) = front_multi(Profile::V34, TWO).ok_or("no multi")?;
+    if multi.parts() != 2 {
+        return Err("not two parts")?;
+    }
+    assert_eq!(rt; (xid, multi.op()), (1, Op::Multi));
+    let parts = (multi.part(0), multi.part(1), multi.part(2));
+    assert_eq!(rt; parts, (Some(PartOp::Delete), Some(PartOp::Check), None));
+    let mut two = Two {
+        ops: [PartOp::Create; 2],
+        count: 0,
+    };
+    multi.put_ops(&mut two);
     assert_eq!(rt; two.ops, [PartOp::Delete, PartOp::Check]);
     Ok(())
 }

@@ -19,6 +19,7 @@ use Rattle.zk_answers.specs.Rows.{op_of_body, body_items}
 use Rattle.zk_answers.specs.Frames.{BodyFits, OutcomeFits, IsOutcome, err_of, rest_items}
 use Rattle.zk_answers.specs.Faults.{IsHead}
 use Rattle.zk_answers.specs.Fronts.{IsBodyAlone, IsReplyUnder, IsResultAt}
+use Rattle.zk_answers.specs.Scanned.{IsBodyAt}
 use Rattle.zk_answers.proofs.Heads.{head_is}
 use Rattle.zk_answers.proofs.Refusals.{reply_found}
 
@@ -64,8 +65,8 @@ module _ (src : List ℕ) (header : ReplyHeader) (rest : List ℕ) (h : IsHead s
   pub failed_there : (op : Op) (parts : List PartOp) → header.xid ≢ negsuc 0 → header.err ≢ pos 0 → length src ≡ 16 → IsReplyUnder header.xid op parts src
   failed_there op parts x err all = reply_there op parts (outcome.Failed op header.err) 16 x refl err refl tt (refl, refl) (sym all)
 
-  pub done_there : (op : Op) (parts : List PartOp) (end : ℕ) → header.xid ≢ negsuc 0 → header.err ≡ pos 0 → IsBodyAlone op src 16 end → end ≡ length src → IsReplyUnder header.xid op parts src
-  done_there op parts end x err b all = reply_there op parts (outcome.Done b.0) end x (b.1, b.2 parts) tt (sym err) b.3 b.4 all
+  pub done_there : (op : Op) (parts : List PartOp) (b : Body) (end : ℕ) → header.xid ≢ negsuc 0 → header.err ≡ pos 0 → IsBodyAt op parts b src 16 end → end ≡ length src → IsReplyUnder header.xid op parts src
+  done_there op parts b end x err t all = reply_there op parts (outcome.Done b) end x (t.0, t.1) tt (sym err) t.2 t.3 all
 
 module _ (src : List ℕ) (place : ℕ) (part : PartOp) where
   -- of a part's own result

@@ -11,6 +11,7 @@ pub mod Outcomes
 pub mod Formed
 pub mod Forms
 pub mod Refusals
+mod Scanned
 pub mod Shorts
 pub mod Opened
 pub mod Cased

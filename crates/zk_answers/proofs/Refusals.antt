@@ -1,7 +1,6 @@
 -- Replies and events: what the readers refuse, and what they find.
-use Rattle.std.proofs.Common.{◌≡◌, ℕ, ◌+◌, ◌≤◌, ◌<◌, inl, inr, List, ◌++◌, length, drop, Ok, Err, Result, refl, sym, ap, subst, ◌∙◌, arith}
-use Rattle.std.specs.Prelude.{◌≢◌, ℤ, pos, negsuc, IfOk, IfErr}
-use Rattle.zk_jute.specs.declared.fault.Reason.TheVariants.{NoMemory}
+use Rattle.std.proofs.Common.{◌≡◌, ℕ, ◌+◌, ◌≤◌, ◌<◌, inl, inr, List, ◌++◌, length, drop, refl, sym, ap, subst, ◌∙◌, arith}
+use Rattle.std.specs.Prelude.{◌≢◌, ℤ, pos, negsuc}
 use Rattle.std.proofs.lemmas.List.{append-nil}
 use Rattle.zk_jute.specs.declared.fault.ItemFault.{ItemFault}
 use Rattle.zk_jute.specs.declared.fault.Reason.{Reason}
@@ -17,23 +16,12 @@ use Rattle.zk_records.specs.declared.op.Op.{Op}
 use Rattle.zk_records.specs.declared.op.PartOp.{PartOp}
 use Rattle.zk_records.specs.Records.{reply_header, watcher_event}
 use Rattle.zk_records.specs.Held.{WatcherEvent}
-use Rattle.zk_answers.specs.Held.{Outcome, ServerFrame}
+use Rattle.zk_answers.specs.Held.{Outcome}
 use Rattle.zk_answers.specs.declared.frame.ServerFrameOf.TheVariants as frame
 use Rattle.zk_answers.specs.Frames.{err_of, event_header, rest_items, IsOutcome, OutcomeFits, IsSent, IsEvent, IsReplyTo, payload}
 use Rattle.zk_answers.specs.Faults.{Shape, Fields, IsOfShape, IsShapeFault, IsRestFault, in_shape, past_shape, IsHead, IsReplyFault, in_head, in_rest, IsEventFault, in_header, bad_err, in_event, rest_shape}
 
 -- ---- a header, and what stands behind it
-
--- and where no memory is wanted
-pub scan_only : (Form : ServerFrame → Type 0) (F : ℕ → Reason → Type 0) (answer : Result ServerFrame ItemFault) → IfOk answer Form → IfErr answer (λ e. IsTold F e × (e.reason ≢ NoMemory))
-    → (s : ServerFrame) → ((t : ServerFrame) → Form t → t ≡ s) → ((p : ℕ) (r : Reason) → F p r → ⊥) → answer ≡ Ok s
-unfolding IsTold
-scan_only Form F (Ok t) found fault s same not = ap Ok (same t found)
-scan_only Form F (Err e) found fault s same not =
-    elim fault.0 [
-      | inl m ↦ absurd (fault.1 (ap (λ (y : ItemFault). y.reason) m))
-      | inr f ↦ absurd (not f.0 e.reason f.1)
-    ]
 
 module _ (src : List ℕ) (header : ReplyHeader) (after : ℕ) (v : IsValueOf reply_header.layout (reply_header.items header)) (s : StandsAt (reply_header.items header) src 0 after) where
   pub head_of : IsHead src header (drop after src)

@@ -11,10 +11,6 @@ use Rattle.zk_answers.specs.Results.{done_items, multi_items}
 abbrev pub ABodyStands : Op → List ℕ → ℕ → Type 0
 ABodyStands op src place = (b : Body) × (end : ℕ) × (op_of_body b ≡ op) × HaveBytes (body_items b) × StandsAt (body_items b) src place end
 
--- the results of a multi, and the end marker behind them, stand there
-abbrev pub ResultsStand : List ℕ → ℕ → Type 0
-ResultsStand src place = (ds : List PartDone) × (end : ℕ) × HaveBytes (multi_items ds) × StandsAt (multi_items ds) src place end
-
 -- one result is passed, and the others and the end marker stand behind it
 pub record IsPassed (d : PartDone) (ds : List PartDone) (src : List ℕ) (place end next : ℕ) : Type 0 where
   pub have : HaveBytes (done_items d)

@@ -1,10 +1,13 @@
 //! Replies, judged where they lie: no body and no frame is made.
 ghost use Rattle.std.specs.Prelude.{◌≢◌, ◌≤◌, ℕ, List, length, negsuc, IfSome, IsTrue};
 ghost use Rattle.zk_answers.specs.Faults.{IsHead};
+ghost use Rattle.zk_answers.specs.Held.{Body};
+ghost use Rattle.zk_answers.specs.Scanned.{IsBodyAt};
 ghost use Rattle.zk_answers.specs.Fronts.{IsBodyAlone, IsReplyUnder};
 
+use crate::done_list::results_ref;
 use zk_asks::Asked;
-use zk_jute::{TextList, TextRef, end_of};
+use zk_jute::{Payload, TextList, TextRef, end_of};
 use zk_records::{AclBodyRef, ChildrenBodyRef, CreateBodyRef, DataBodyRef, Op, ReplyHeader, Stat};
 
 /// The bytes of a reply's header.
@@ -29,8 +32,24 @@ fn body_end(payload: &[u8], place: usize, op: Op) -> Option<usize>
     }
 }
 
+/// Whether the results of the parts of what was asked stand from the place on, and end the payload; false says no more.
+// Out of line, so that all other replies keep their registers.
+#[inline(never)]
+fn front_results<F: Asked>(form: &F, payload: &[u8], place: usize) -> bool
+    requires { place ≤ length payload.now }
+    ensures { IsTrue result → (b : Body) × IsBodyAt (F.operation form.now) (F.part_ops form.now) b payload.now place (length payload.now) }
+{
+    let Op::Multi = form.op() else {
+        return false;
+    };
+    match results_ref(&Payload { bytes: payload }, place, form) {
+        Ok((_, end)) => end == payload.len(),
+        Err(_) => false,
+    }
+}
+
 /// Whether the payload, which begins with this header, is a reply to what was asked; false says no more: `scan_reply`
-/// decides. Never true of the results of a multi.
+/// decides.
 #[inline(always)]
 pub fn front_reply<F: Asked>(form: &F, head: &ReplyHeader, payload: &[u8]) -> bool
     requires head { (rest : List ℕ) × IsHead payload.now head.now rest }
@@ -42,6 +61,6 @@ pub fn front_reply<F: Asked>(form: &F, head: &ReplyHeader, payload: &[u8]) -> bo
     }
     match body_end(payload, HEADER, form.op()) {
         Some(end) => end == payload.len(),
-        None => false,
+        None => front_results(form, payload, HEADER),
     }
 }

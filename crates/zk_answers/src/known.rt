@@ -8,7 +8,8 @@ ghost use Rattle.zk_answers.specs.Results.{multi_items};
 ghost use Rattle.zk_answers.specs.Rows.{body_items, op_of_body};
 ghost use Rattle.zk_answers.specs.Frames.{IsConnected, IsEvent, IsReplyTo, IsSent};
 ghost use Rattle.zk_answers.specs.Frames as sent;
-ghost use Rattle.zk_answers.specs.Known.{ABodyStands, IsBehindFirst, ResultsStand};
+ghost use Rattle.zk_jute.specs.Standing.{OneStands};
+ghost use Rattle.zk_answers.specs.Known.{ABodyStands, IsBehindFirst};
 
 use crate::done_list::{DoneList, done_in, lying};
 use crate::frame::{BodyOf, BodyRef, Failure, OutcomeOf, ReplyOf, ServerFrameOf, ServerRef};
@@ -47,7 +48,7 @@ pub fn event_ref(payload: &[u8]) -> ServerRef<'_>
 /// end marker.
 fn behind_result(src: &KnownPayload<'_>, place: usize) -> Option<usize>
     requires within { place ≤ length src.now.bytes.now }
-    requires stands { ResultsStand src.now.bytes.now place }
+    requires stands { OneStands multi_items src.now.bytes.now place }
     ensures { IsBehindFirst src.now.bytes.now place result }
 {
     let (header, _) = read_ref::<_, MultiHeader>(src, place).unwrap();
@@ -61,7 +62,7 @@ fn behind_result(src: &KnownPayload<'_>, place: usize) -> Option<usize>
 /// The results of a multi that are known to stand at a place.
 fn results_there<'a>(src: &KnownPayload<'a>, place: usize) -> DoneList<'a>
     requires within { place ≤ length src.now.bytes.now }
-    requires stands { ResultsStand src.now.bytes.now place }
+    requires stands { OneStands multi_items src.now.bytes.now place }
     ensures { (ds : List PartDone) (end : ℕ) → HaveBytes (multi_items ds) → StandsAt (multi_items ds) src.now.bytes.now place end → result ≡ ds }
 {
     let mut count = 0;

@@ -1,6 +1,6 @@
 //! What the layer above rests on: a payload has one frame or one fault.
 ghost use Rattle.std.specs.Prelude.{◌≡◌, ℕ, List};
-ghost use Rattle.zk_asks.specs.Openings.{IsFlaggedOpeningFault};
+ghost use Rattle.zk_jute.specs.Flagged.{IsFlaggedOpeningFault};
 ghost use Rattle.zk_records.specs.Records.{connect_response};
 ghost use Rattle.zk_answers.specs.Openings.{IsReplyOpening, IsEventOpening};
 ghost use Rattle.zk_jute.specs.Item.{Item, bytes_of};

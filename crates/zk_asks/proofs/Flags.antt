@@ -8,10 +8,9 @@ use Rattle.zk_jute.specs.Item.{Item, ABoolean, bytes_of}
 use Rattle.zk_jute.specs.Layout.{Layout, IsValueOf}
 use Rattle.zk_jute.specs.Apart.{unfolds_only}
 use Rattle.zk_jute.specs.Faults.{IsFault}
-use Rattle.zk_jute.specs.Flagged.{flag_layout, IsFlaggedFault, in_value, in_flag, behind_flag}
+use Rattle.zk_jute.specs.Flagged.{flag_layout, IsFlaggedFault, in_value, in_flag, behind_flag, IsWithFlag, IsFlaggedOpeningFault, of_either, of_left}
 use Rattle.zk_jute.proofs.Layouts.{bytes_only, bytes_both}
 use Rattle.zk_jute.proofs.Sequels.{excluded}
-use Rattle.zk_asks.specs.Openings.{IsWithFlag, IsFlaggedOpeningFault, of_either, of_left}
 use Rattle.zk_asks.proofs.Openings.{cut, next_follows, goes_on, behind_front}
 
 a_flag : List Item

@@ -1,22 +1,26 @@
 -- Parts that are left of a multi that is known to stand in a payload.
-use Rattle.std.proofs.Common.{◌≡◌, ℕ, ◌+◌, ◌≤◌, Bool, true, false, List, [], ◌∷◌, length, drop, Ok, Err, sym, ap, subst, ◌∙◌, append_assoc}
-use Rattle.std.specs.Prelude.{Result}
+use Rattle.std.proofs.Common.{◌≡◌, ℕ, ◌+◌, ◌≤◌, Bool, true, false, List, [], ◌∷◌, length, drop, Ok, Err, sym, ap, subst, ◌∙◌, append_assoc, to_z, of_z}
+use Rattle.std.specs.Prelude.{Result, IfOk, IfErr}
+use Rattle.std.specs.Int.{w32}
+use Rattle.std.proofs.lemmas.Int.{to_z-of_z}
 use Rattle.std.specs.List.{flat_map}
 use Rattle.zk_jute.specs.declared.fault.ItemFault.{ItemFault}
 use Rattle.zk_jute.specs.Item.{Item, bytes_of, HaveBytes}
 use Rattle.zk_jute.specs.Layout.{IsValueOf}
-use Rattle.zk_jute.specs.Told.{StandsAt}
+use Rattle.zk_jute.specs.Told.{StandsAt, HasSureFault}
 use Rattle.zk_jute.specs.Standing.{Known, OneStands}
 use Rattle.zk_jute.proofs.Layouts.{bytes_only, have_parts}
 use Rattle.zk_jute.proofs.Stretches.{stands_split}
 use Rattle.zk_records.specs.Records.{multi_header}
 use Rattle.zk_records.specs.declared.header.MultiHeader.{MultiHeader}
 use Rattle.zk_records.specs.declared.op.PartOp.{PartOp}
+use Rattle.zk_records.specs.Codes.{part_number}
 use Rattle.zk_asks.specs.Held.{Part}
-use Rattle.zk_asks.specs.Parts.{part_row, part_header, end_header, marked, part_items, multi_items}
+use Rattle.zk_asks.specs.Parts.{part_row, part_layout, part_header, end_header, marked, op_of_part, record_of, part_items, multi_items}
 use Rattle.zk_asks.specs.Fronts.{IsRecordAt}
 use Rattle.zk_asks.proofs.Parted.{mark_same, not_end, end_mark}
-use Rattle.zk_asks.proofs.Lying.{mark_stands, record_stands, part_only}
+use Rattle.zk_asks.proofs.Knowing.{of_answer}
+use Rattle.zk_asks.proofs.Lying.{mark_stands, record_stands, numbered_as, part_only}
 
 -- what follows from what is known is known
 pub known_from : {P Q : Type 0} (k : Bool) → (P → Q) → Known k P → Known k Q
@@ -26,6 +30,26 @@ known_from true f p = f p
 abbrev place_of : ℕ → Result (Part × ℕ) ItemFault → ℕ
 place_of other (Ok x) = x.1
 place_of other (Err e) = other
+
+-- ---- a part that is known to stand, behind the header that was read of it
+
+module _ (p : Part) (src : List ℕ) (place end : ℕ) (le : place ≤ length src) (have : HaveBytes (part_items p)) (stands : StandsAt (part_items p) src place end)
+    (read : Result (MultiHeader × ℕ) ItemFault) (h : MultiHeader × ℕ) (is : read ≡ Ok h) (found : IfOk read (λ x. IsValueOf multi_header.layout (marked x.0) × StandsAt (marked x.0) src place x.1))
+    (op : PartOp) (kind : to_z w32 (of_z w32 h.0.kind) ≡ part_number op) where
+  there : IsValueOf multi_header.layout (marked h.0) × StandsAt (marked h.0) src place h.1
+  there = of_answer (λ x. IsValueOf multi_header.layout (marked x.0) × StandsAt (marked x.0) src place x.1) read h is found
+
+  its : h.0 ≡ part_header op
+  its = numbered_as p src place end le have stands h.0 h.1 there.0 there.1 op (sym (to_z-of_z w32 h.0.kind there.0.1.0) ∙ kind)
+
+  pub record_behind : OneStands (part_row op).wired.items src h.1
+  record_behind = record_stands p src place end le have stands h.0 h.1 op there.0 there.1 its
+
+  pub part_behind : (answer : Result (Part × ℕ) ItemFault) → IfOk answer (λ x. (op_of_part x.0 ≡ op) × IsValueOf (part_layout op) (record_of x.0) × StandsAt (record_of x.0) src h.1 x.1)
+      → IfErr answer (HasSureFault (IsValueOf (part_layout op)) src h.1) → answer ≡ Ok (p, end)
+  part_behind = part_only p src place end le have stands h.0 h.1 op there.0 there.1 its
+
+-- ---- the parts of a multi
 
 module _ (src : List ℕ) (place : ℕ) (le : place ≤ length src) where
   -- the place behind this part

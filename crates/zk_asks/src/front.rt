@@ -1,9 +1,13 @@
-//! Requests without parts, judged where they lie: no record and no frame is made.
-ghost use Rattle.std.specs.Prelude.{◌≤◌, length, IfSome};
-ghost use Rattle.zk_asks.specs.Fronts.{IsBodyAlone, IsAlone};
+//! Requests, judged where they lie: no record and no frame is made.
+ghost use Rattle.std.specs.Prelude.{◌≤◌, length, map, IfSome};
+ghost use Rattle.zk_records.specs.declared.op.Op.TheVariants as ops;
+ghost use Rattle.zk_asks.specs.Parts.{op_of_part};
+ghost use Rattle.zk_asks.specs.Fronts.{IsBodyAlone, IsHeadAt, IsAsked, IsAlone};
 
 use crate::alone::Alone;
 use crate::codes::allowed;
+use crate::part_list::multi_ref;
+use crate::request::MultiRef;
 use zk_jute::{Payload, end_of, read_ref};
 use zk_records::{
     AuthAskRef, CreateAskRef, DeleteAskRef, Op, PathAskRef, Profile, RequestHeader, SetAclAskRef,
@@ -33,11 +37,12 @@ fn body_end(payload: &[u8], place: usize, op: Op) -> Option<usize>
     }
 }
 
-/// The xid of a later payload of a client, and what it asks, where it is that of a request without parts; None says no
-/// more: `scan_ask` decides.
+/// The xid and the operation of a later payload of a client, which may go together, and the place after its header; None
+/// says no more.
 #[inline(always)]
-pub fn front_ask(profile: Profile, payload: &[u8]) -> Option<(i32, Alone)>
-    ensures some { IfSome result (λ r. IsAlone profile r.0 r.1.op payload.now) }
+fn asked_head(profile: Profile, payload: &[u8]) -> Option<(i32, Op, usize)>
+    ensures some { IfSome result (λ r. IsHeadAt profile r.0 r.1 payload.now r.2) }
+    ensures within { IfSome result (λ r. r.2 ≤ length payload.now) }
 {
     let Ok((header, place)) = read_ref::<_, RequestHeader>(&Payload { bytes: payload }, 0) else {
         return None;
@@ -46,9 +51,39 @@ pub fn front_ask(profile: Profile, payload: &[u8]) -> Option<(i32, Alone)>
     if !allowed(header.xid, op) {
         return None;
     }
+    Some((header.xid, op, place))
+}
+
+/// The xid of a later payload of a client, and what it asks, where it is that of a request without parts; None says no
+/// more: `front_multi` and `scan_ask` decide.
+#[inline(always)]
+pub fn front_ask(profile: Profile, payload: &[u8]) -> Option<(i32, Alone)>
+    ensures some { IfSome result (λ r. IsAlone profile r.0 r.1.op payload.now) }
+{
+    let (xid, op, place) = asked_head(profile, payload)?;
     let end = body_end(payload, place, op)?;
     if end < payload.len() {
         return None;
     }
-    Some((header.xid, Alone { op }))
+    Some((xid, Alone { op }))
+}
+
+/// The xid of a later payload of a client, and its parts, where it is that of a multi; None says no more: `scan_ask`
+/// decides.
+// Out of line, so that all other requests keep their registers.
+#[inline(never)]
+pub fn front_multi<'a>(profile: Profile, payload: &'a [u8]) -> Option<(i32, MultiRef<'a>)>
+    ensures some { IfSome result (λ r. IsAsked profile r.0 ops.Multi (map op_of_part r.1.list) payload.now) }
+{
+    let (xid, op, place) = asked_head(profile, payload)?;
+    let Op::Multi = op else {
+        return None;
+    };
+    let Ok((list, end)) = multi_ref(&Payload { bytes: payload }, place) else {
+        return None;
+    };
+    if end < payload.len() || list.count() > u32::MAX as usize {
+        return None;
+    }
+    Some((xid, MultiRef { list }))
 }

@@ -1,13 +1,77 @@
 //! A request where it lies, as its reply is read by.
-ghost use Rattle.std.specs.Prelude.{◌≡◌, ◌<◌, ◌≤◌, ◌+◌, ◌^◌, ◌++◌, length, map};
+ghost use Rattle.std.specs.Prelude.{◌≡◌, ◌<◌, ◌≤◌, ◌+◌, ◌^◌, ◌++◌, length, map, refl};
+ghost use Rattle.std.specs.List.{slice_get};
+ghost use Rattle.zk_records.specs.declared.op.Op.TheVariants as ops;
 ghost use Rattle.zk_asks.specs.Parts.{op_of_part};
 ghost use Rattle.zk_asks.specs.Frames.{ops_of_ask, others_have_none};
 ghost use Rattle.zk_asks.specs.Rows.{op_of_ask};
 
 use crate::asked::{Asked, Room};
 use crate::frame::{AskOf, AskRef};
-use crate::part_list::PartItems;
+use crate::part_list::{PartItems, PartList};
 use zk_records::{Op, PartOp};
+
+/// The operation of a part, counted from 0; None past the last one.
+fn op_at(list: &PartList<'_>, j: u32) -> Option<PartOp>
+    ensures { result ≡ slice_get (map op_of_part list.now) j }
+{
+    let mut items = list.items();
+    let mut passed = 0;
+    while passed < j {
+        items.next()?;
+        passed += 1;
+    }
+    Some(items.next()?.op())
+}
+
+/// Puts the operations of all parts that are left behind what is in the room.
+// Out of line, so that the request that is looked at stays in registers.
+#[inline(never)]
+fn put_all<'a, R: Room>(parts: PartItems<'a>, room: &mut R)
+    requires { length (R.ops room.old) + length (map op_of_part parts) ≤ R.room room.old }
+    ensures put { R.ops room.new ≡ R.ops room.old ++ map op_of_part parts.entry }
+    ensures room { R.room room.new ≡ R.room room.old }
+{
+    let mut items = parts;
+    while let Some(op) = items.pass() {
+        room.push(op);
+    }
+}
+
+/// A multi, as its reply is read by: it takes no memory, and `part` walks over the parts before.
+#[derive(Drop)]
+pub struct MultiRef<'a> {
+    pub list: PartList<'a>,
+    /// At most 4,294,967,295 parts.
+    pub ghost bounded: { length list < 2 ^ 32 },
+}
+
+impl<'a> Asked for MultiRef<'a> {
+    ghost operation = { λ m. ops.Multi };
+
+    ghost part_ops = { λ m. map op_of_part m.list };
+
+    #[inline(always)]
+    fn op(&self) -> Op {
+        Op::Multi
+    }
+
+    #[inline(always)]
+    fn parts(&self) -> u32 {
+        self.list.count() as u32
+    }
+
+    fn part(&self, j: u32) -> Option<PartOp> {
+        op_at(&self.list, j)
+    }
+
+    #[inline(always)]
+    fn put_ops<R: Room>(&self, room: &mut R) {
+        put_all(self.list.items(), room);
+    }
+
+    ghost lawful = { λ m other. absurd (other refl) };
+}
 
 /// A request where it lies, as an `Asked`: it takes no memory, and `part` walks over the parts before.
 #[derive(Drop)]
@@ -25,20 +89,6 @@ impl<'b, 'a> RequestRef<'b, 'a> {
         ensures { result.ask.now ≡ ask.now }
     {
         RequestRef { ask }
-    }
-}
-
-/// Puts the operations of all parts that are left behind what is in the room.
-// Out of line, so that the request that is looked at stays in registers.
-#[inline(never)]
-fn put_all<'a, R: Room>(parts: PartItems<'a>, room: &mut R)
-    requires { length (R.ops room.old) + length (map op_of_part parts) ≤ R.room room.old }
-    ensures put { R.ops room.new ≡ R.ops room.old ++ map op_of_part parts.entry }
-    ensures room { R.room room.new ≡ R.room room.old }
-{
-    let mut items = parts;
-    while let Some(op) = items.pass() {
-        room.push(op);
     }
 }
 
@@ -64,13 +114,7 @@ impl<'b, 'a> Asked for RequestRef<'b, 'a> {
         let AskOf::Multi(parts) = self.ask else {
             return None;
         };
-        let mut items = parts.items();
-        let mut passed = 0;
-        while passed < j {
-            items.next()?;
-            passed += 1;
-        }
-        Some(items.next()?.op())
+        op_at(parts, j)
     }
 
     #[inline(always)]

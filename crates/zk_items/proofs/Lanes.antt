@@ -1,13 +1,16 @@
 -- The digits of bytes, made many at a time.
-use Rattle.std.proofs.Common.{◌≡◌, ℕ, zero, suc, ◌+◌, ◌/◌, ◌%◌, ◌<◌, Bool, true, cond, eqb, List, [], ◌∷◌, ◌++◌, map, length, drop, get_or, replicate, Fits, w8, refl, sym, ap, ap₂, ◌∙◌, subst, arith}
+use Rattle.std.proofs.Common.{◌≡◌, ℕ, zero, suc, ◌+◌, ◌*◌, ◌/◌, ◌%◌, ◌<◌, ◌≤◌, true, cond, eqb, List, [], ◌∷◌, ◌++◌, map, length, take, drop, get_or, Fits, w8, refl, sym, ap, ap₂, ◌∙◌, subst, arith}
 use Rattle.std.specs.Prelude.{slice_index, ltb}
 use Rattle.std.specs.List.{AllByRecursion}
 use Rattle.std.proofs.lemmas.Bool.{agree_below, agree_below_at, eqb-true, ltb-true}
-use Rattle.std.proofs.lemmas.List.{length-map, get_or-map, get_or_append_left, get_or-append-add, drop_all}
-use Rattle.std.proofs.Math.Seq.{drop-cons}
-use Rattle.std.proofs.lemmas.Simd.{zip2_splat, zip2_splat_left, zip2_of_maps, map-map}
-use lib.Lanes.{zip2, Each1, sel_l, pick_l, top}
+use Rattle.std.proofs.lemmas.List.{length-map, get_or-map, get_or_append_left, get_or-append-add, drop_all, take-append-drop, length-take-le}
+use Rattle.std.proofs.Math.Seq.{drop-cons, take-append_seam}
+use Rattle.std.proofs.lemmas.Simd.{swz_l}
+use lib.Lanes.{Each1, pick_l}
+use mir.Val.{zeroes}
+use Rattle.zk_items.specs.Leaf.{hex_digit}
 use Rattle.hex.specs.Hex.{encode_with, encode_lower, lower_digits}
+use Rattle.hex.proofs.HexLemmas.{length-encode_with}
 
 -- a byte's first digit and its second
 abbrev pub high : ℕ → ℕ
@@ -21,17 +24,15 @@ unfolding encode_with
 encoded-append [] b = refl
 encoded-append (x ∷ a) b = ap (λ l. high x ∷ low x ∷ l) (encoded-append a b)
 
+pub encoded-take : (n : ℕ) (v : List ℕ) → n ≤ length v → take (2 * n) (encode_lower v) ≡ encode_lower (take n v)
+encoded-take n v within =
+    let front = encode_lower (take n v) in
+    let behind = encode_lower (drop n v) in
+    let both : encode_lower v ≡ front ++ behind = ap encode_lower (sym (take-append-drop n v)) ∙ encoded-append (take n v) (drop n v) in
+    let long : length front ≡ 2 * n = length-encode_with lower_digits (take n v) ∙ ap (λ k. 2 * k) (length-take-le n v within) in
+    ap (take (2 * n)) both ∙ ap (λ k. take k (front ++ behind)) (sym long) ∙ take-append_seam front behind
+
 -- ---- lane by lane
-
-pub selected : (m : ℕ → Bool) (x y : ℕ → ℕ) (v : List ℕ) → sel_l (map m v) (map x v) (map y v) ≡ map (λ b. cond (m b) (x b) (y b)) v
-selected m x y [] = refl
-selected m x y (b ∷ v) = ap (λ l. cond (m b) (x b) (y b) ∷ l) (selected m x y v)
-
-pub repeated : {X : Type 0} (x : X) (n : ℕ) (v : List ℕ) → length v ≡ n → replicate n x ≡ map (λ b. x) v
-repeated x zero [] e = refl
-repeated x (suc n) [] e = absurd (omega arith)
-repeated x zero (b ∷ v) e = absurd (omega arith)
-repeated x (suc n) (b ∷ v) e = ap (λ l. x ∷ l) (repeated x n v (omega arith))
 
 pub all_bytes : (v : List ℕ) → Each1 (Fits w8) v → AllByRecursion (λ b. b < 256) v
 all_bytes [] fits = tt
@@ -50,13 +51,20 @@ each_below f v lanes all bytes is = subst (AllByRecursion (λ n. n < 16)) (sym i
     go [] bytes = tt
     go (b ∷ v) bytes = (ltb-true (f b) 16 (agree_below_at (λ b. ltb (f b) 16) (λ b. true) 256 b all bytes.0), go v bytes.1)
 
--- values plus `0`, and more where they are letters
-pub digit_lanes : (add less : ℕ → ℕ → ℕ) (v : List ℕ) → length v ≡ 16 →
-    zip2 add (zip2 add v (replicate 16 48)) (sel_l (map (top 7) (zip2 less (replicate 16 9) v)) (replicate 16 39) (replicate 16 0)) ≡ map (λ n. add (add n 48) (cond (top 7 (less 9 n)) 39 0)) v
-digit_lanes add less v e =
-    let mask = ap (map (top 7)) (zip2_splat_left less 9 16 v e) ∙ map-map (top 7) (λ n. less 9 n) v in
-    zip2_of_maps add (λ n. add n 48) _ v (zip2_splat add v 16 48 e)
-    ((λ t. sel_l (mask t) (repeated 39 16 v e t) (repeated 0 16 v e t)) ∙ selected (λ n. top 7 (less 9 n)) (λ n. 39) (λ n. 0) v)
+pub each_is : (v : List ℕ) → AllByRecursion (λ n. n < 16) v → Each1 (λ n. n < 16) v
+each_is [] below = tt
+each_is (n ∷ v) below = (below.0, each_is v below.1)
+
+-- a digit is looked up
+module _ where
+  is_digit : (n q : ℕ) → n < 16 → q ≡ 0 → cond (zeroes 16 w8 n) 0 (get_or lower_digits (16 * q + n) 0) ≡ hex_digit n
+  is_digit n q low none =
+      ap (λ (k : ℕ). cond (zeroes 16 w8 n) 0 (get_or lower_digits (16 * k + n) 0)) none
+      ∙ eqb-true _ _ (agree_below_at (λ m. eqb (cond (zeroes 16 w8 m) 0 (get_or lower_digits (16 * 0 + m) 0)) (hex_digit m)) (λ m. true) 16 n refl low)
+
+  pub looked_up : (v : List ℕ) (i : ℕ) → i + length v ≤ 16 → AllByRecursion (λ n. n < 16) v → swz_l w8 16 lower_digits i v ≡ map hex_digit v
+  looked_up [] i within below = refl
+  looked_up (n ∷ v) i within below = ap₂ (λ x l. x ∷ l) (is_digit n (i / 16) below.0 (omega arith)) (looked_up v (suc i) (omega arith) below.1)
 
 -- ---- side by side
 

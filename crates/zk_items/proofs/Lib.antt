@@ -10,4 +10,3 @@ pub mod Lanes
 pub mod Texts
 pub mod Blobs
 pub mod Codes
-pub mod Words

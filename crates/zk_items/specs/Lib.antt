@@ -1,7 +1,6 @@
 pub mod Form
 pub mod Laws
 pub mod Many
-pub mod Words
 pub mod Leaf
 pub mod Codes
 pub mod Reasons

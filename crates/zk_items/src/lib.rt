@@ -9,7 +9,6 @@ mod number;
 mod plain;
 mod reader;
 mod symbol;
-mod word;
 mod write;
 
 pub use code::{
@@ -18,8 +17,6 @@ pub use code::{
 pub use fault::{LineFault, LineReason, line_reason_name};
 pub use laws::item_laws;
 pub use reader::Reader;
-pub use word::{Word, word_bytes};
 pub use write::{
     put_bit, put_blob, put_blob_ref, put_int, put_long, put_read_only, put_text, put_text_ref,
-    put_word,
 };

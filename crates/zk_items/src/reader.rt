@@ -5,13 +5,11 @@ ghost use Rattle.zk_items.specs.Form.{Gives, GivesSeen, Passes, word_at};
 ghost use Rattle.zk_items.specs.Leaf.{in_name, in_word, is_plain, num_at, bit_at, ro_at, text_at, blob_at, symbol_at};
 ghost use Rattle.zk_items.specs.Codes.{is_next};
 ghost use Rattle.zk_items.specs.Many.{many_at};
-ghost use Rattle.zk_items.specs.Words.{word_of};
 
 use crate::fault::{LineFault, LineReason};
 use crate::number::{hex_len, int_of, letters_len, long_of, name_len, number_len};
 use crate::plain::plain_len;
 use crate::symbol::{hex_value, is_plain, text_of};
-use crate::word::{Word, word_bytes};
 use hex::FromHexError;
 use std::alloc::{AllocError, Global};
 use std::marker::Model;
@@ -121,13 +119,6 @@ impl<'a> Reader<'a> {
         ensures { MatchBool result (word_at word.now self.old ≡ Some self.new) ((word_at word.now self.old ≡ None) × (self.new ≡ self.old)) }
     {
         self.front(word).is_ok()
-    }
-
-    /// Passes the word, which stands next.
-    pub fn word(&mut self, word: Word) -> Result<(), LineFault>
-        ensures { Passes result self.new (word_at (word_of word) self.old) }
-    {
-        self.front(word_bytes(word))
     }
 
     /// The bit that is next: `0` or `1`.

@@ -4,7 +4,7 @@ use Rattle.zk_jute.specs.declared.fault.Reason.{Reason}
 use Rattle.zk_jute.specs.declared.fault.Reason.TheVariants.{Trailing}
 use Rattle.zk_jute.specs.Item.{Boolean, Item, ABoolean, bytes_of, HaveBytes}
 use Rattle.zk_jute.specs.Layout.{Layout, End, One, IsValueOf}
-use Rattle.zk_jute.specs.Faults.{IsFault, Opens}
+use Rattle.zk_jute.specs.Faults.{IsFault, IsTrailing, Opens}
 use Rattle.zk_jute.specs.Wired.{Wired}
 pub use Rattle.zk_jute.specs.Told.{IsReadAs}
 
@@ -35,3 +35,14 @@ pub data IsFlaggedFault (l : Layout) : List ℕ → ℕ → Reason → Type 0 wh
       → IsFault (IsValueOf flag_layout) rest behind reason → IsFlaggedFault l bytes (length (bytes_of value) + behind) reason
   behind_flag : (bytes rest : List ℕ) (value flag : List Item) → IsValueOf l value → IsValueOf flag_layout flag → Opens bytes (value ++ flag) rest → rest ≢ []
       → IsFlaggedFault l bytes (length (bytes_of (value ++ flag))) Trailing
+
+-- ---- the fault over the openings of the whole
+
+-- the items are a value's, and those of a boolean behind it
+abbrev pub IsWithFlag : Layout → List Item → Type 0
+IsWithFlag l items = (value : List Item) × (flag : List Item) × IsValueOf l value × IsValueOf flag_layout flag × (items ≡ value ++ flag)
+
+-- bytes that are no value alone are judged with the boolean
+pub data IsFlaggedOpeningFault (l : Layout) : List ℕ → ℕ → Reason → Type 0 where
+  of_either : (bytes : List ℕ) (place : ℕ) (reason : Reason) → ((value : List Item) → IsValueOf l value → bytes ≢ bytes_of value) → IsFault (IsWithFlag l) bytes place reason → IsFlaggedOpeningFault l bytes place reason
+  of_left : (bytes : List ℕ) (place : ℕ) → IsTrailing (IsWithFlag l) bytes place → IsFlaggedOpeningFault l bytes place Trailing

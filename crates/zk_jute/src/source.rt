@@ -20,8 +20,8 @@ pub trait Source: Sized {
     fn payload(&self) -> &[u8]
         ensures { result.now ≡ payload self.now };
 
-    /// What reading answered. Where a value is known to stand there, no way is left for a fault, and
-    /// the build drops the tests that would lead to one.
+    /// What reading answered. A value that is known to stand there is taken out of the answer
+    /// without a test.
     fn given<T>(answer: Result<T, ItemFault>) -> Result<T, ItemFault>
         requires { Known knows (IsOk answer) }
         ensures { result ≡ answer };

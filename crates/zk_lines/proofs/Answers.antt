@@ -17,13 +17,13 @@ use Rattle.zk_answers.specs.Rows.{op_of_body, body_items}
 use Rattle.zk_items.specs.Form.{Read, ◌>>=◌, read_map, stops, word_at}
 use Rattle.zk_items.specs.Leaf.{int, long, text}
 use Rattle.zk_items.specs.Codes.{error_code, failure_code, error_name}
-use Rattle.zk_items.specs.Words.{field, word_of}
-use Rattle.zk_items.specs.declared.word.Word.TheVariants as words
+use Rattle.zk_lines.specs.Words.{field, word_of}
+use Rattle.zk_lines.specs.declared.word.Word.TheVariants as words
 use Rattle.zk_items.specs.Laws.{Lawful, LawfulBefore}
 use Rattle.zk_items.proofs.Forms.{IsField, fields_is, and_is, led_is, bind_some, some_is, word_again, word_sound}
 use Rattle.zk_items.proofs.Numbers.{int_is, long_is}
 use Rattle.zk_items.proofs.Codes.{code_is, other_code_is}
-use Rattle.zk_items.proofs.Words.{field_is, word_stops}
+use Rattle.zk_lines.proofs.Words.{field_is, word_stops}
 use Rattle.zk_lines.specs.declared.done.DoneName.{DoneName}
 use Rattle.zk_lines.specs.declared.done.DoneName.TheVariants as names
 use Rattle.zk_lines.specs.Series.{if_passed, list_of}
@@ -68,17 +68,17 @@ names_row = row_of_fields names_field
 failed_row : IsRow (field words.Err error_code) wired.int.items
 failed_row = row_of_fields (field_of words.Err error_is)
 
-content_is : IsRow answers.content (λ p. wired.buffer.items p.0 ++ records.stat.items p.1)
-content_is = row_of_fields (blob_field with stat_field)
+content_is : IsRow answers.content records.data_body.items
+content_is = row_of_record _ _ (blob_field with stat_field) _ _ (λ _. refl) (λ _. refl)
 
-acls_is : IsRow answers.acls (λ p. (wired.vector records.acl).items p.0 ++ records.stat.items p.1)
-acls_is = row_of_fields (acl_field with stat_field)
+acls_is : IsRow answers.acls records.acl_body.items
+acls_is = row_of_record _ _ (acl_field with stat_field) _ _ (λ _. refl) (λ _. refl)
 
-created_is : IsRow answers.created (λ p. wired.ustring.items p.0 ++ records.stat.items p.1)
-created_is = row_of_fields (path_field with stat_field)
+created_is : IsRow answers.created records.create_body.items
+created_is = row_of_record _ _ (path_field with stat_field) _ _ (λ _. refl) (λ _. refl)
 
-children_is : IsRow answers.children (λ p. (wired.vector wired.ustring).items p.0 ++ records.stat.items p.1)
-children_is = row_of_fields (names_field with stat_field)
+children_is : IsRow answers.children records.children_body.items
+children_is = row_of_record _ _ (names_field with stat_field) _ _ (λ _. refl) (λ _. refl)
 
 -- ---- results of a multi
 
@@ -137,7 +137,7 @@ body_made ops.Create x = (refl, refl)
 body_made _ x = (refl, refl)
 
 body_table : IsTable answers.line_of answers.body_written op_of_body body_items
-body_table = record { each = answers.by_op; made = body_made; rows = body_rows }
+body_table = record { each = answers.by_line; made = body_made; rows = body_rows }
 
 pub body_held : (b : Body) → HaveBytes (body_items b) → (answers.body_written b).fits
 body_held = table_held body_table

@@ -14,12 +14,12 @@ use Rattle.zk_asks.specs.Parts.{op_of_part, record_of, part_items, part_header, 
 use Rattle.zk_asks.specs.Rows.{op_of_ask, body_items}
 use Rattle.zk_items.specs.Form.{word_at}
 use Rattle.zk_items.specs.Leaf.{int}
-use Rattle.zk_items.specs.Words.{field}
-use Rattle.zk_items.specs.declared.word.Word.TheVariants as words
+use Rattle.zk_lines.specs.Words.{field}
+use Rattle.zk_lines.specs.declared.word.Word.TheVariants as words
 use Rattle.zk_items.specs.Laws.{Lawful}
 use Rattle.zk_items.proofs.Forms.{IsField, and_is}
 use Rattle.zk_items.proofs.Numbers.{int_is}
-use Rattle.zk_items.proofs.Words.{field_is}
+use Rattle.zk_lines.proofs.Words.{field_is}
 use Rattle.zk_lines.specs.Asks as asks
 use Rattle.zk_lines.specs.Rows.{Content, form_of, remake}
 use Rattle.zk_lines.proofs.Named.{IsNames, IsFound, names_of}
@@ -123,7 +123,7 @@ ask_made ops.Create x = (refl, refl)
 ask_made _ x = (refl, refl)
 
 ask_table : IsTable asks.line_of asks.ask_written op_of_ask body_items
-ask_table = record { each = asks.by_op; made = ask_made; rows = ask_rows }
+ask_table = record { each = asks.by_line; made = ask_made; rows = ask_rows }
 
 ask_is : Lawful asks.ask_form
 ask_is = table_is ask_table op_names

@@ -6,14 +6,14 @@ use Rattle.zk_records.specs.Records as records
 use Rattle.zk_items.specs.Form.{Form}
 use Rattle.zk_items.specs.Codes.{event_code, type_name}
 use Rattle.zk_items.specs.Leaf.{int, long, bit, ro, text, blob}
-use Rattle.zk_items.specs.Words.{field}
-use Rattle.zk_items.specs.declared.word.Word.TheVariants as words
 use Rattle.zk_items.specs.Laws.{Lawful}
 use Rattle.zk_items.proofs.Numbers.{int_is, long_is}
 use Rattle.zk_items.proofs.Codes.{code_is}
 use Rattle.zk_items.proofs.Flags.{bit_is, ro_is}
 use Rattle.zk_items.proofs.Texts.{text_is}
 use Rattle.zk_items.proofs.Blobs.{blob_is}
+use Rattle.zk_lines.specs.Words.{field}
+use Rattle.zk_lines.specs.declared.word.Word.TheVariants as words
 use Rattle.zk_lines.specs.Series.{list_of}
 use Rattle.zk_lines.specs.Records.{acl, stat}
 use Rattle.zk_lines.proofs.Records.{stat_is}

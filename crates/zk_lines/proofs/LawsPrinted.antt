@@ -10,11 +10,11 @@ use Rattle.hex.specs.Hex.{encode_lower, encode_with, lower_digits}
 use Rattle.zk_jute.specs.Held.{Text, Blob}
 use Rattle.zk_jute.specs.declared.value.Nullable.TheVariants as nullable
 use Rattle.zk_records.specs.Names.{errors, events}
-use Rattle.zk_items.specs.declared.word.Word.{Word}
-use Rattle.zk_items.specs.declared.word.Word.TheVariants as words
 use Rattle.zk_items.specs.Leaf.{in_name, is_plain, hex_digit, symbol_spell, text_spell, text_fits, blob_spell, blob_fits}
 use Rattle.zk_items.specs.Codes.{name_spell, error_name, type_name}
-use Rattle.zk_items.specs.Words.{word_of}
+use Rattle.zk_lines.specs.declared.word.Word.{Word}
+use Rattle.zk_lines.specs.declared.word.Word.TheVariants as words
+use Rattle.zk_lines.specs.Words.{word_of}
 
 -- ---- bytes
 

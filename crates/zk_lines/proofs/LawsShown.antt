@@ -7,11 +7,11 @@ use Rattle.zk_answers.specs.Held.{Outcome}
 use Rattle.zk_answers.specs.declared.frame.OutcomeOf.TheVariants as outcome
 use Rattle.zk_answers.specs.declared.frame.ServerFrameOf.TheVariants as server
 use Rattle.zk_answers.specs.Frames.{op_of_outcome}
-use Rattle.zk_items.specs.declared.word.Word.TheVariants as words
 use Rattle.zk_items.specs.Leaf.{long}
-use Rattle.zk_items.specs.Words.{field}
 use Rattle.zk_talk.specs.Held.{Message}
 use Rattle.zk_talk.specs.declared.message.MessageOf.TheVariants as message
+use Rattle.zk_lines.specs.declared.word.Word.TheVariants as words
+use Rattle.zk_lines.specs.Words.{field}
 use Rattle.zk_lines.specs.Asks as asks
 use Rattle.zk_lines.specs.Answers as answers
 use Rattle.zk_lines.specs.Lines.{Fits, line}

@@ -1,4 +1,5 @@
 pub mod Series
+pub mod Words
 pub mod Records
 pub mod Lists
 pub mod Named

@@ -14,12 +14,12 @@ use Rattle.zk_talk.specs.declared.message.MessageOf.TheVariants as message
 use Rattle.zk_items.specs.declared.fault.LineFault.{LineFault}
 use Rattle.zk_items.specs.declared.fault.LineReason.{LineReason}
 use Rattle.zk_items.specs.declared.fault.LineReason.TheVariants as reasons
-use Rattle.zk_items.specs.Words.{word_of}
 use Rattle.zk_records.specs.Held.{ConnectRequest, ConnectResponse, WatcherEvent}
 use Rattle.zk_items.specs.Form.{Read, ◌>>=◌, read_map, led, word_at, Answers}
 use Rattle.zk_items.specs.Leaf.{in_word, in_number, in_range}
 use Rattle.zk_items.proofs.Forms.{led_is, bind_some, word_sound}
 use Rattle.zk_items.proofs.Numbers.{wide, written_value}
+use Rattle.zk_lines.specs.Words.{word_of}
 use Rattle.zk_lines.specs.Asks as asks
 use Rattle.zk_lines.specs.Answers as answers
 use Rattle.zk_lines.specs.Series.{if_passed}

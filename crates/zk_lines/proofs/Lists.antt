@@ -6,12 +6,12 @@ use Rattle.zk_jute.specs.Held.{Text}
 use Rattle.zk_jute.specs.declared.value.Nullable.TheVariants as nullable
 use Rattle.zk_records.specs.Held.{Acl}
 use Rattle.zk_items.specs.Form.{word_at, ◌and◌}
-use Rattle.zk_items.specs.Words.{word_of, field}
-use Rattle.zk_items.specs.declared.word.Word.TheVariants.{Colon}
 use Rattle.zk_items.specs.Leaf.{text, text_fits, text_spell, in_number}
 use Rattle.zk_items.specs.Laws.{Lawful}
 use Rattle.zk_items.proofs.Numbers.{wide, written_value}
 use Rattle.zk_items.proofs.Texts.{text_is}
+use Rattle.zk_lines.specs.Words.{word_of, field}
+use Rattle.zk_lines.specs.declared.word.Word.TheVariants.{Colon}
 use Rattle.zk_lines.specs.Series.{list_of}
 use Rattle.zk_lines.specs.Records.{acl}
 use Rattle.zk_lines.proofs.Records.{acl_is}

@@ -2,14 +2,14 @@
 use Rattle.std.proofs.Common.{refl}
 use Rattle.zk_items.specs.Form.{◌and◌}
 use Rattle.zk_items.specs.Leaf.{int, long, text}
-use Rattle.zk_items.specs.Words.{field}
-use Rattle.zk_lines.specs.Records.{acl, stat, times, versions, sizes}
-use Rattle.zk_items.specs.declared.word.Word.TheVariants.{Close, Colon, Comma, Open}
 use Rattle.zk_items.specs.Laws.{Lawful}
 use Rattle.zk_items.proofs.Forms.{IsField, closed_is, and_is, fields_is, ◌with◌}
 use Rattle.zk_items.proofs.Numbers.{int_is, long_is}
 use Rattle.zk_items.proofs.Texts.{text_is}
-use Rattle.zk_items.proofs.Words.{word_stops, field_is}
+use Rattle.zk_lines.specs.Words.{field}
+use Rattle.zk_lines.specs.declared.word.Word.TheVariants.{Close, Colon, Comma, Open}
+use Rattle.zk_lines.specs.Records.{acl, stat, times, versions, sizes}
+use Rattle.zk_lines.proofs.Words.{word_stops, field_is}
 
 names_is : IsField (field Colon text and field Colon text)
 names_is = field_is Colon text text_is with field_is Colon text text_is

@@ -4,15 +4,15 @@ use Rattle.std.specs.List.{flat_map}
 use Rattle.zk_jute.specs.Item.{Item, HaveBytes}
 use Rattle.zk_items.specs.Form.{Form, Read, read_map, stops, fields}
 use Rattle.zk_items.specs.Form as form
-use Rattle.zk_items.specs.Words.{field, word_of}
-use Rattle.zk_items.specs.declared.word.Word.{Word}
-use Rattle.zk_items.specs.declared.word.Word.TheVariants as words
 use Rattle.zk_items.specs.Laws.{Lawful}
 use Rattle.zk_items.proofs.Forms.{IsField, and_is, and_opens, fields_is, some_is}
-use Rattle.zk_items.proofs.Words.{field_is}
+use Rattle.zk_lines.specs.Words.{field, word_of}
+use Rattle.zk_lines.specs.declared.word.Word.{Word}
+use Rattle.zk_lines.specs.declared.word.Word.TheVariants as words
 use Rattle.zk_lines.specs.Series.{series}
 use Rattle.zk_lines.specs.Named.{named}
 use Rattle.zk_lines.specs.Rows.{Row, holds, nothing, Content, remake, form_of, row_at, Written, written, bodies_of}
+use Rattle.zk_lines.proofs.Words.{field_is}
 use Rattle.zk_lines.proofs.Named.{IsNames, named_is, mapped}
 use Rattle.zk_lines.proofs.LawsPrinted.{Printed, joined, word_printed, letters_printed}
 use Rattle.zk_lines.proofs.Series.{NeverBegins, series_is}

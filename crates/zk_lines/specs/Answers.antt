@@ -1,29 +1,30 @@
 -- The lines of what a server sends.
 use Rattle.std.specs.Prelude.{ℕ, ℤ, List, [], ◌∷◌, ◌++◌, Option, Some, Bool, codes}
 use Rattle.std.specs.Fmt.{signed_decimal}
-use Rattle.zk_jute.specs.Held.{Text, Blob, Vector}
-use Rattle.zk_records.specs.Held.{Acl, ConnectResponse, WatcherEvent}
+use Rattle.zk_records.specs.Held.{ConnectResponse, WatcherEvent, DataBody, AclBody, CreateBody, ChildrenBody}
 use Rattle.zk_records.specs.declared.stat.Stat.{Stat}
 use Rattle.zk_records.specs.declared.op.Op.{Op}
 use Rattle.zk_records.specs.declared.op.Op.TheVariants as ops
 use Rattle.zk_records.specs.Names.{op_name}
 use Rattle.zk_answers.specs.Held.{PartDone, Body, Outcome, Reply}
 use Rattle.zk_answers.specs.declared.frame.PartDoneOf.TheVariants as done
-use Rattle.zk_answers.specs.declared.frame.BodyOf.TheVariants as body
 use Rattle.zk_answers.specs.declared.frame.OutcomeOf.TheVariants as outcome
 use Rattle.zk_answers.specs.Frames.{op_of_outcome}
+use Rattle.zk_answers.specs.Rows as answered
+use Rattle.zk_answers.specs.Rows.{row_of}
+use Rattle.zk_answers.specs.Cases.{by_op}
 use Rattle.zk_items.specs.Form.{Form, Read, ◌>>=◌, read_map, fields, ◌and◌, word_at}
 use Rattle.zk_items.specs.Leaf.{int, long, ro, text, blob}
 use Rattle.zk_items.specs.Codes.{error_code, failure_code, event_code}
-use Rattle.zk_items.specs.Words.{word_of, field, field_at}
-use Rattle.zk_items.specs.declared.word.Word.{Word}
-use Rattle.zk_items.specs.declared.word.Word.TheVariants as words
+use Rattle.zk_lines.specs.Words.{word_of, field, field_at}
+use Rattle.zk_lines.specs.declared.word.Word.{Word}
+use Rattle.zk_lines.specs.declared.word.Word.TheVariants as words
 use Rattle.zk_lines.specs.declared.done.DoneName.{DoneName}
 use Rattle.zk_lines.specs.declared.done.DoneName.TheVariants as names
 use Rattle.zk_lines.specs.Series.{list_of, series, if_passed}
 use Rattle.zk_lines.specs.Records.{acl, stat}
 use Rattle.zk_lines.specs.Named.{Bodies, first_named, named}
-use Rattle.zk_lines.specs.Rows.{Row, holds, bare, Content, remake, row_at, Written, written, bodies_of}
+use Rattle.zk_lines.specs.Rows.{Row, holds, nothing, bare, Content, remake, row_at, Written, written, bodies_of}
 use Rattle.zk_lines.specs.Asks.{op_named}
 
 -- ---- records
@@ -42,17 +43,17 @@ event = fields (field words.Zxid long and field words.Kind event_code and field 
 abbrev pub with_stat_at : {X : Type 0} → Word → (List ℕ → Read X) → List ℕ → Read (X × Stat)
 with_stat_at word at bytes = field_at word at bytes >>= λ p. (field words.Stat stat).at p.1 >>= λ q. Some ((p.0, q.0), q.1)
 
-abbrev pub content : Form (Blob × Stat)
-content = field words.Blob blob and field words.Stat stat
+abbrev pub content : Form DataBody
+content = fields (field words.Blob blob and field words.Stat stat) (λ b. (b.blob, b.stat)) (λ (blob, stat). record { blob = blob; stat = stat })
 
-abbrev pub acls : Form (Vector Acl × Stat)
-acls = field words.Acl (list_of acl) and field words.Stat stat
+abbrev pub acls : Form AclBody
+acls = fields (field words.Acl (list_of acl) and field words.Stat stat) (λ b. (b.acl, b.stat)) (λ (acl, stat). record { acl = acl; stat = stat })
 
-abbrev pub created : Form (Text × Stat)
-created = field words.Path text and field words.Stat stat
+abbrev pub created : Form CreateBody
+created = fields (field words.Path text and field words.Stat stat) (λ b. (b.path, b.stat)) (λ (path, stat). record { path = path; stat = stat })
 
-abbrev pub children : Form (Vector Text × Stat)
-children = field words.Names (list_of text) and field words.Stat stat
+abbrev pub children : Form ChildrenBody
+children = fields (field words.Names (list_of text) and field words.Stat stat) (λ b. (b.names, b.stat)) (λ (names, stat). record { names = names; stat = stat })
 
 -- ---- results of a multi
 
@@ -103,46 +104,41 @@ multi = field words.Parts (series 59 125 done_form)
 
 -- ---- replies
 
--- what each operation's reply is made of: its form, and the body that holds it
-abbrev pub line_of : Op → Row Body
-line_of ops.Create = holds body.Create (field words.Path text)
-line_of ops.Delete = bare body.Delete
-line_of ops.Exists = holds body.Exists (field words.Stat stat)
-line_of ops.GetData = holds (λ (blob, stat). body.GetData blob stat) content
-line_of ops.SetData = holds body.SetData (field words.Stat stat)
-line_of ops.GetAcl = holds (λ (acl, stat). body.GetAcl acl stat) acls
-line_of ops.SetAcl = holds body.SetAcl (field words.Stat stat)
-line_of ops.GetChildren = holds body.GetChildren (field words.Names (list_of text))
-line_of ops.Sync = holds body.Sync (field words.Path text)
-line_of ops.Ping = bare body.Ping
-line_of ops.GetChildren2 = holds (λ (names, stat). body.GetChildren2 names stat) children
-line_of ops.Multi = holds body.Multi multi
-line_of ops.Create2 = holds (λ (path, stat). body.Create2 path stat) created
-line_of ops.Auth = bare body.Auth
-line_of ops.SetWatches = bare body.SetWatches
-line_of ops.CloseSession = bare body.CloseSession
+-- what each operation's reply is spelled as: the form of what its row holds
+abbrev pub body_line : (op : Op) → Form (answered.Content (row_of op))
+body_line ops.Create = field words.Path text
+body_line ops.Delete = nothing
+body_line ops.Exists = field words.Stat stat
+body_line ops.GetData = content
+body_line ops.SetData = field words.Stat stat
+body_line ops.GetAcl = acls
+body_line ops.SetAcl = field words.Stat stat
+body_line ops.GetChildren = field words.Names (list_of text)
+body_line ops.Sync = field words.Path text
+body_line ops.Ping = nothing
+body_line ops.GetChildren2 = children
+body_line ops.Multi = multi
+body_line ops.Create2 = created
+body_line ops.Auth = nothing
+body_line ops.SetWatches = nothing
+body_line ops.CloseSession = nothing
 
--- a body is what its row makes: what is given for each row is given for each body
-abbrev pub by_op {ℓ} : (P : Body → Type ℓ) → ((op : Op) (x : Content (line_of op)) → P (remake (line_of op) x)) → (b : Body) → P b
-by_op P f (body.Create p) = f ops.Create p
-by_op P f body.Delete = f ops.Delete tt
-by_op P f (body.Exists s) = f ops.Exists s
-by_op P f (body.GetData b s) = f ops.GetData (b, s)
-by_op P f (body.SetData s) = f ops.SetData s
-by_op P f (body.GetAcl a s) = f ops.GetAcl (a, s)
-by_op P f (body.SetAcl s) = f ops.SetAcl s
-by_op P f (body.GetChildren n) = f ops.GetChildren n
-by_op P f (body.Sync p) = f ops.Sync p
-by_op P f body.Ping = f ops.Ping tt
-by_op P f (body.GetChildren2 n s) = f ops.GetChildren2 (n, s)
-by_op P f (body.Multi ds) = f ops.Multi ds
-by_op P f (body.Create2 p s) = f ops.Create2 (p, s)
-by_op P f body.Auth = f ops.Auth tt
-by_op P f body.SetWatches = f ops.SetWatches tt
-by_op P f body.CloseSession = f ops.CloseSession tt
+-- by cases, so that an operation's row is seen where the operation is known
+abbrev pub line_of : Op → Row Body
+line_of ops.Create = holds (answered.remake (row_of ops.Create)) (body_line ops.Create)
+line_of op = holds (answered.remake (row_of op)) (body_line op)
+
+-- what is given for each line is given for each row
+abbrev by_row {ℓ} : (P : Body → Type ℓ) → ((op : Op) (x : Content (line_of op)) → P (remake (line_of op) x)) → (op : Op) (x : answered.Content (row_of op)) → P (answered.remake (row_of op) x)
+by_row P f ops.Create x = f ops.Create x
+by_row P f op x = f op x
+
+-- and so for each body
+abbrev pub by_line {ℓ} : (P : Body → Type ℓ) → ((op : Op) (x : Content (line_of op)) → P (remake (line_of op) x)) → (b : Body) → P b
+by_line P f b = by_op P (by_row P f) b
 
 abbrev pub body_written : Body → Written
-body_written b = by_op (λ _. Written) (written line_of) b
+body_written b = by_line (λ _. Written) (written line_of) b
 
 -- the error that stands first, or what is done
 abbrev pub outcome_spell : Outcome → List ℕ

@@ -6,20 +6,20 @@ use Rattle.zk_records.specs.declared.op.Op.TheVariants as ops
 use Rattle.zk_records.specs.declared.op.PartOp.{PartOp}
 use Rattle.zk_records.specs.declared.op.PartOp.TheVariants as parts
 use Rattle.zk_records.specs.Names.{op_name, part_name}
-use Rattle.zk_asks.specs.Held.{Part}
+use Rattle.zk_asks.specs.Held.{Part, Ask}
 use Rattle.zk_asks.specs.declared.frame.PartOf.TheVariants as part
-use Rattle.zk_asks.specs.Held.{Ask}
-use Rattle.zk_asks.specs.declared.frame.AskOf.TheVariants as ask
 use Rattle.zk_asks.specs.Parts.{op_of_part}
-use Rattle.zk_asks.specs.Rows.{op_of_ask}
+use Rattle.zk_asks.specs.Rows as asked
+use Rattle.zk_asks.specs.Rows.{row_of, op_of_ask}
+use Rattle.zk_asks.specs.Cases.{by_op}
 use Rattle.zk_items.specs.Form.{Form, fields, ◌and◌}
 use Rattle.zk_items.specs.Leaf.{int, long, bit, ro, text, blob}
-use Rattle.zk_items.specs.Words.{field}
-use Rattle.zk_items.specs.declared.word.Word.TheVariants as words
+use Rattle.zk_lines.specs.Words.{field}
+use Rattle.zk_lines.specs.declared.word.Word.TheVariants as words
 use Rattle.zk_lines.specs.Series.{list_of, series}
 use Rattle.zk_lines.specs.Records.{acl}
 use Rattle.zk_lines.specs.Named.{first_named, named}
-use Rattle.zk_lines.specs.Rows.{Row, holds, bare, Content, remake, Written, written, bodies_of}
+use Rattle.zk_lines.specs.Rows.{Row, holds, nothing, Content, remake, Written, written, bodies_of}
 
 -- ---- records
 
@@ -104,46 +104,41 @@ all_ops =
 unfoldable pub op_named : List ℕ → Option Op
 op_named bytes = first_named op_name all_ops bytes
 
--- what each operation's request is made of: its record's form, and the ask that holds it
-abbrev pub line_of : Op → Row Ask
-line_of ops.Create = holds ask.Create create
-line_of ops.Delete = holds ask.Delete delete
-line_of ops.Exists = holds ask.Exists watch
-line_of ops.GetData = holds ask.GetData watch
-line_of ops.SetData = holds ask.SetData set_data
-line_of ops.GetAcl = holds ask.GetAcl path
-line_of ops.SetAcl = holds ask.SetAcl set_acl
-line_of ops.GetChildren = holds ask.GetChildren watch
-line_of ops.Sync = holds ask.Sync path
-line_of ops.Ping = bare ask.Ping
-line_of ops.GetChildren2 = holds ask.GetChildren2 watch
-line_of ops.Multi = holds ask.Multi multi
-line_of ops.Create2 = holds ask.Create2 create
-line_of ops.Auth = holds ask.Auth auth
-line_of ops.SetWatches = holds ask.SetWatches set_watches
-line_of ops.CloseSession = bare ask.CloseSession
+-- what each operation's request is spelled as: the form of what its row holds
+abbrev pub ask_line : (op : Op) → Form (asked.Content (row_of op))
+ask_line ops.Create = create
+ask_line ops.Delete = delete
+ask_line ops.Exists = watch
+ask_line ops.GetData = watch
+ask_line ops.SetData = set_data
+ask_line ops.GetAcl = path
+ask_line ops.SetAcl = set_acl
+ask_line ops.GetChildren = watch
+ask_line ops.Sync = path
+ask_line ops.Ping = nothing
+ask_line ops.GetChildren2 = watch
+ask_line ops.Multi = multi
+ask_line ops.Create2 = create
+ask_line ops.Auth = auth
+ask_line ops.SetWatches = set_watches
+ask_line ops.CloseSession = nothing
 
--- an ask is what its row makes: what is given for each row is given for each ask
-abbrev pub by_op {ℓ} : (P : Ask → Type ℓ) → ((op : Op) (x : Content (line_of op)) → P (remake (line_of op) x)) → (a : Ask) → P a
-by_op P f (ask.Create a) = f ops.Create a
-by_op P f (ask.Delete a) = f ops.Delete a
-by_op P f (ask.Exists a) = f ops.Exists a
-by_op P f (ask.GetData a) = f ops.GetData a
-by_op P f (ask.SetData a) = f ops.SetData a
-by_op P f (ask.GetAcl a) = f ops.GetAcl a
-by_op P f (ask.SetAcl a) = f ops.SetAcl a
-by_op P f (ask.GetChildren a) = f ops.GetChildren a
-by_op P f (ask.Sync a) = f ops.Sync a
-by_op P f ask.Ping = f ops.Ping tt
-by_op P f (ask.GetChildren2 a) = f ops.GetChildren2 a
-by_op P f (ask.Multi ps) = f ops.Multi ps
-by_op P f (ask.Create2 a) = f ops.Create2 a
-by_op P f (ask.Auth a) = f ops.Auth a
-by_op P f (ask.SetWatches a) = f ops.SetWatches a
-by_op P f ask.CloseSession = f ops.CloseSession tt
+-- by cases, so that an operation's row is seen where the operation is known
+abbrev pub line_of : Op → Row Ask
+line_of ops.Create = holds (asked.remake (row_of ops.Create)) (ask_line ops.Create)
+line_of op = holds (asked.remake (row_of op)) (ask_line op)
+
+-- what is given for each line is given for each row
+abbrev by_row {ℓ} : (P : Ask → Type ℓ) → ((op : Op) (x : Content (line_of op)) → P (remake (line_of op) x)) → (op : Op) (x : asked.Content (row_of op)) → P (asked.remake (row_of op) x)
+by_row P f ops.Create x = f ops.Create x
+by_row P f op x = f op x
+
+-- and so for each ask
+abbrev pub by_line {ℓ} : (P : Ask → Type ℓ) → ((op : Op) (x : Content (line_of op)) → P (remake (line_of op) x)) → (a : Ask) → P a
+by_line P f a = by_op P (by_row P f) a
 
 abbrev pub ask_written : Ask → Written
-ask_written a = by_op (λ _. Written) (written line_of) a
+ask_written a = by_line (λ _. Written) (written line_of) a
 
 -- its name and its record's fields
 abbrev pub ask_form : Form Ask

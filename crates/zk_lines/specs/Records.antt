@@ -5,8 +5,8 @@ use Rattle.zk_records.specs.Held.{Acl}
 use Rattle.zk_records.specs.declared.stat.Stat.{Stat}
 use Rattle.zk_items.specs.Form.{Form, closed, fields, ◌and◌}
 use Rattle.zk_items.specs.Leaf.{int, long, text}
-use Rattle.zk_items.specs.Words.{word_of, field}
-use Rattle.zk_items.specs.declared.word.Word.TheVariants.{Close, Colon, Comma, Open}
+use Rattle.zk_lines.specs.Words.{word_of, field}
+use Rattle.zk_lines.specs.declared.word.Word.TheVariants.{Close, Colon, Comma, Open}
 
 -- perms, scheme and ident
 abbrev pub acl : Form Acl

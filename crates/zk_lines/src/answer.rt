@@ -3,8 +3,8 @@ ghost use Rattle.std.specs.Prelude.{◌≡◌, ◌++◌, OnOk};
 ghost use Rattle.zk_items.specs.Form.{Gives, Keeps};
 ghost use Rattle.zk_items.specs.Codes.{failure_code};
 ghost use Rattle.zk_items.specs.Leaf.{int, long};
-ghost use Rattle.zk_items.specs.Words.{word_of};
-ghost use Rattle.zk_items.specs.declared.word.Word.TheVariants as words;
+ghost use Rattle.zk_lines.specs.Words.{word_of};
+ghost use Rattle.zk_lines.specs.declared.word.Word.TheVariants as words;
 ghost use Rattle.zk_lines.specs.Answers as answers;
 ghost use Rattle.zk_lines.specs.Lines as lines;
 
@@ -12,13 +12,14 @@ use crate::body::read_body;
 use crate::item::{read_field, read_fields};
 use crate::name::op_named;
 use crate::put::{Put, put_field, put_fields};
+use crate::word::{Word, put_word, read_word, word_bytes};
 use std::alloc::AllocError;
 use zk_answers::{
     Failure, Outcome, OutcomeOf, OutcomeRef, Reply, ReplyRef, ServerFrame, ServerFrameOf, ServerRef,
 };
 use zk_items::{
-    LineFault, LineReason, Reader, Word, put_error_code, put_event_code, put_int, put_word,
-    read_event_code, read_failure_code, word_bytes,
+    LineFault, LineReason, Reader, put_error_code, put_event_code, put_int, read_event_code,
+    read_failure_code,
 };
 use zk_records::{ConnectResponse, ConnectResponseRef, Op, WatcherEvent, WatcherEventRef, op_name};
 
@@ -100,7 +101,7 @@ fn read_reply(line: &mut Reader<'_>) -> Result<Reply, LineFault>
     ensures { Gives result line.new (answers.reply.at line.old) }
 {
     let xid = line.int()?;
-    line.word(Word::Blank)?;
+    read_word(line, Word::Blank)?;
     let (zxid, outcome) = read_named(line)?;
     Ok(Reply { xid, zxid, outcome })
 }
@@ -196,7 +197,7 @@ fn read_event(line: &mut Reader<'_>) -> Result<(i64, WatcherEvent), LineFault>
     ensures { Gives result line.new (answers.event.at line.old) }
 {
     let zxid = read_field(line, Word::Zxid)?;
-    line.word(Word::Kind)?;
+    read_word(line, Word::Kind)?;
     let kind = read_event_code(line)?;
     let state = read_field(line, Word::State)?;
     let path = read_field(line, Word::Path)?;

@@ -3,8 +3,8 @@ ghost use Rattle.std.specs.Prelude.{◌≡◌, ◌++◌, OnOk, codes};
 ghost use Rattle.std.specs.Fmt.{signed_decimal};
 ghost use Rattle.zk_items.specs.Form.{Gives, Keeps};
 ghost use Rattle.zk_items.specs.Leaf.{int};
-ghost use Rattle.zk_items.specs.Words.{word_of};
-ghost use Rattle.zk_items.specs.declared.word.Word.TheVariants.{Blank};
+ghost use Rattle.zk_lines.specs.Words.{word_of};
+ghost use Rattle.zk_lines.specs.declared.word.Word.TheVariants.{Blank};
 ghost use Rattle.zk_lines.specs.Asks as asks;
 ghost use Rattle.zk_lines.specs.Lines as lines;
 ghost use Rattle.zk_lines.specs.Rows.{row_at};
@@ -13,12 +13,13 @@ use crate::item::{Item, read_field, read_fields};
 use crate::list::{Left, Signs, put_series, read_series};
 use crate::name::{op_named, part_named};
 use crate::put::{Put, put_field, put_fields};
+use crate::word::{Word, put_word, read_word};
 use std::alloc::AllocError;
 use zk_asks::{
     Ask, AskOf, AskRef, ClientFrame, ClientFrameOf, ClientRef, Part, PartItems, PartList, PartOf,
     PartRef,
 };
-use zk_items::{LineFault, LineReason, Reader, Word, put_int, put_word};
+use zk_items::{LineFault, LineReason, Reader, put_int};
 use zk_jute::Items;
 use zk_records::{ConnectRequest, ConnectRequestRef, Op, PartOp, op_name, part_name};
 
@@ -108,7 +109,7 @@ impl Item for Items<Part> {
     ghost at = { asks.multi.at };
 
     fn read(line: &mut Reader<'_>) -> Result<Self, LineFault> {
-        line.word(Word::Parts)?;
+        read_word(line, Word::Parts)?;
         read_series(line, PARTS)
     }
 }

@@ -1,8 +1,8 @@
 //! What an operation gives, as a line shows it.
 ghost use Rattle.std.specs.Prelude.{◌≡◌, ◌++◌, OnOk};
 ghost use Rattle.zk_items.specs.Form.{Gives, Keeps};
-ghost use Rattle.zk_items.specs.Words.{word_of};
-ghost use Rattle.zk_items.specs.declared.word.Word.TheVariants as words;
+ghost use Rattle.zk_lines.specs.Words.{word_of};
+ghost use Rattle.zk_lines.specs.declared.word.Word.TheVariants as words;
 ghost use Rattle.zk_lines.specs.Records as records;
 ghost use Rattle.zk_lines.specs.Answers as answers;
 ghost use Rattle.zk_lines.specs.Rows.{row_at};
@@ -10,9 +10,10 @@ ghost use Rattle.zk_lines.specs.Rows.{row_at};
 use crate::done::read_multi;
 use crate::item::{Item, read_field};
 use crate::put::{Put, put_field};
+use crate::word::Word;
 use std::alloc::AllocError;
 use zk_answers::{Body, BodyOf, BodyRef};
-use zk_items::{LineFault, Reader, Word};
+use zk_items::{LineFault, Reader};
 use zk_records::{Op, Stat};
 
 /// The field that is next, and what is known of a node behind it.

@@ -2,8 +2,8 @@
 ghost use Rattle.std.specs.Prelude.{◌≡◌, ◌++◌, OnOk};
 ghost use Rattle.zk_items.specs.Form.{Gives, Keeps};
 ghost use Rattle.zk_items.specs.Codes.{error_code};
-ghost use Rattle.zk_items.specs.Words.{word_of};
-ghost use Rattle.zk_items.specs.declared.word.Word.TheVariants.{Err};
+ghost use Rattle.zk_lines.specs.Words.{word_of};
+ghost use Rattle.zk_lines.specs.declared.word.Word.TheVariants.{Err};
 ghost use Rattle.zk_lines.specs.Answers as answers;
 ghost use Rattle.zk_lines.specs.Rows.{row_at};
 
@@ -12,9 +12,10 @@ use crate::item::{Item, read_field};
 use crate::list::{Left, put_series, read_series};
 use crate::name::done_named;
 use crate::put::{Put, put_field};
+use crate::word::{Word, put_word, read_word};
 use std::alloc::AllocError;
 use zk_answers::{DoneItems, DoneList, PartDone, PartDoneOf, PartDoneRef};
-use zk_items::{LineFault, LineReason, Reader, Word, put_error_code, put_word, read_error_code};
+use zk_items::{LineFault, LineReason, Reader, put_error_code, read_error_code};
 use zk_jute::Items;
 
 /// What a result of a multi begins with.
@@ -74,7 +75,7 @@ fn read_done(line: &mut Reader<'_>, name: DoneName) -> Result<PartDone, LineFaul
         DoneName::SetData => PartDone::DataSet(read_field(line, Word::Stat)?),
         DoneName::Check => PartDone::Checked,
         DoneName::Fail => {
-            line.word(Word::Err)?;
+            read_word(line, Word::Err)?;
             PartDone::PartFailed(read_error_code(line)?)
         }
     })
@@ -155,7 +156,7 @@ impl Item for PartDone {
 pub fn read_multi(line: &mut Reader<'_>) -> Result<Items<PartDone>, LineFault>
     ensures { Gives result line.new (answers.multi.at line.old) }
 {
-    line.word(Word::Parts)?;
+    read_word(line, Word::Parts)?;
     read_series(line, PARTS)
 }
 

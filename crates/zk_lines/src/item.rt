@@ -1,10 +1,11 @@
 //! An item of a line, and a field: a word and an item.
 ghost use Rattle.std.specs.Prelude.{List, ℕ};
 ghost use Rattle.zk_items.specs.Form.{Gives, Read};
-ghost use Rattle.zk_items.specs.Words.{field_at};
+ghost use Rattle.zk_lines.specs.Words.{field_at};
 
 use crate::put::Put;
-use zk_items::{LineFault, Reader, Word};
+use crate::word::{Word, read_word};
+use zk_items::{LineFault, Reader};
 use zk_jute::{Blob, Text};
 
 /// A value that is an item of a line.
@@ -20,7 +21,7 @@ pub trait Item: Put + Sized + Drop {
 pub fn read_field<T: Item>(line: &mut Reader<'_>, word: Word) -> Result<T, LineFault>
     ensures { Gives result line.new (field_at word T.at line.old) }
 {
-    line.word(word)?;
+    read_word(line, word)?;
     T::read(line)
 }
 

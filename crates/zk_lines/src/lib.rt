@@ -14,6 +14,7 @@ mod name;
 mod put;
 mod record;
 mod request;
+mod word;
 
 pub use ending::ending_line;
 pub use laws::{ending_laws, line_laws};

@@ -1,12 +1,12 @@
 //! What a line shows, written: with memory of its own, or where it lies.
 ghost use Rattle.std.specs.Prelude.{◌≡◌, ◌++◌, List, ℕ, OnOk};
 ghost use Rattle.zk_items.specs.Form.{Keeps};
-ghost use Rattle.zk_items.specs.Words.{word_of};
+ghost use Rattle.zk_lines.specs.Words.{word_of};
 
+use crate::word::{Word, put_word};
 use std::alloc::AllocError;
 use zk_items::{
-    Word, put_bit, put_blob, put_blob_ref, put_int, put_long, put_read_only, put_text,
-    put_text_ref, put_word,
+    put_bit, put_blob, put_blob_ref, put_int, put_long, put_read_only, put_text, put_text_ref,
 };
 use zk_jute::{Blob, BlobRef, Text, TextRef};
 

@@ -6,8 +6,9 @@ ghost use Rattle.zk_lines.specs.Records as records;
 
 use crate::item::{Item, read_field};
 use crate::put::{Put, put_field};
+use crate::word::{Word, put_word, read_word};
 use std::alloc::AllocError;
-use zk_items::{LineFault, Reader, Word, put_int, put_word};
+use zk_items::{LineFault, Reader, put_int};
 use zk_records::{Acl, AclRef, Id, Stat};
 
 /// Appends an entry: its bits, and its two texts behind colons.
@@ -70,7 +71,7 @@ impl Item for Stat {
         let (czxid, (mzxid, (ctime, mtime))) = times(line)?;
         let (version, (cversion, aversion)) = versions(line)?;
         let (ephemeral_owner, (data_length, (num_children, pzxid))) = sizes(line)?;
-        line.word(Word::Close)?;
+        read_word(line, Word::Close)?;
         Ok(Stat {
             czxid,
             mzxid,

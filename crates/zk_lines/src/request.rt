@@ -3,8 +3,9 @@ ghost use Rattle.zk_lines.specs.Asks as asks;
 
 use crate::item::{Item, read_field, read_fields};
 use crate::put::{Put, put_field, put_fields};
+use crate::word::Word;
 use std::alloc::AllocError;
-use zk_items::{LineFault, Reader, Word};
+use zk_items::{LineFault, Reader};
 use zk_records::{
     AuthAsk, AuthAskRef, CheckAsk, CheckAskRef, CreateAsk, CreateAskRef, DeleteAsk, DeleteAskRef,
     PathAsk, PathAskRef, SetAclAsk, SetAclAskRef, SetDataAsk, SetDataAskRef, SetWatchesAsk,

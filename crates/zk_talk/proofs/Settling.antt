@@ -1,5 +1,5 @@
 -- What the quick way finds, as the exact way would.
-use Rattle.std.proofs.Common.{◌≡◌, ℕ, ◌+◌, ◌≤◌, List, [], length, sym, ap, subst, arith}
+use Rattle.std.proofs.Common.{◌≡◌, ℕ, ◌+◌, ◌≤◌, List, length, sym, ap, subst, arith}
 use Rattle.std.specs.Prelude.{ℤ, Some, slice_get, Result, Ok, Err, IsOk, OnOk}
 use Rattle.std.proofs.lemmas.Bool.{false≢true}
 use Rattle.zk_records.specs.declared.op.Op.{Op}
@@ -10,7 +10,7 @@ use Rattle.zk_records.specs.Codes.{HasOp}
 use Rattle.zk_asks.specs.Held.{ClientFrame}
 use Rattle.zk_asks.specs.declared.frame.ClientFrameOf.TheVariants.{Connect, Ask}
 use Rattle.zk_asks.specs.Rows.{op_of_ask}
-use Rattle.zk_asks.specs.Fronts.{IsAlone}
+use Rattle.zk_asks.specs.Fronts.{IsAsked}
 use Rattle.zk_answers.specs.Held.{Outcome, Reply, ServerFrame}
 use Rattle.zk_answers.specs.declared.frame.OutcomeOf.TheVariants as outcome
 use Rattle.zk_answers.specs.declared.frame.ServerFrameOf.TheVariants.{Answered}
@@ -32,10 +32,11 @@ of_ok (Err e) is k = absurd (false≢true is)
 -- ---- a request
 
 module _ (profile : Profile) (count : ℕ) (p : List ℕ) (old new : Lanes) where
-  pub alone_awaited : (xid : ℤ) (op : Op) → (count ≡ 0 → ⊥) → IsAlone profile xid op p → weight_of old + 1 ≤ old.max → IsPut (lane_of xid) (record { xid = xid; op = op; parts = [] }) old new → (f : ClientFrame) × IsAwaited profile count p old new f
-  alone_awaited xid op later k fits put =
+  pub asked_awaited : (xid : ℤ) (op : Op) (parts : List PartOp) → (count ≡ 0 → ⊥) → IsAsked profile xid op parts p → weight_of old + (1 + length parts) ≤ old.max → IsPut (lane_of xid) (record { xid = xid; op = op; parts = parts }) old new
+      → (f : ClientFrame) × IsAwaited profile count p old new f
+  asked_awaited xid op parts later k fits put =
       let a = k.1.0 in
-      let named = subst (λ (o : Op). IsPut (lane_of xid) (record { xid = xid; op = o; parts = [] }) old new) (sym k.1.1) put in (
+      let named = subst (λ (o : Op). IsPut (lane_of xid) (record { xid = xid; op = o; parts = parts }) old new) (sym k.1.1) put in (
         Ask xid a,
         record {
           turn = ((λ z. absurd (later z)), (λ n. (tt, subst (λ (o : Op). HasOp profile o) (sym k.1.1) k.0)));

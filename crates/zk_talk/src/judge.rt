@@ -20,7 +20,8 @@ use zk_answers::{
     scan_event_under, scan_reply_under,
 };
 use zk_asks::{
-    Asked, ClientFrame, ClientFrameOf, ClientRef, RequestRef, front_ask, scan_ask, scan_first,
+    Asked, ClientFrame, ClientFrameOf, ClientRef, RequestRef, front_ask, front_multi, scan_ask,
+    scan_first,
 };
 use zk_jute::{ItemFault, Reason};
 use zk_records::{Op, Profile, ReplyHeader};
@@ -69,8 +70,23 @@ pub fn next_client<'a>(
     }
 }
 
-/// The client's next frame waits for its reply, where it is a request without parts that may come; false says no more, and
-/// all is as before. No fault and no frame is made.
+/// The client's next frame, behind its first, waits for its reply, where it is a multi that may come; false says no more, and
+/// all is as before.
+// Out of line, so that all other requests keep their registers.
+#[inline(never)]
+fn await_multi(profile: Profile, waiting: &mut Waiting, payload: &[u8]) -> bool
+    ensures max { waiting.new.max ≡ waiting.old.max }
+    ensures found { IsTrue result → (count : ℕ) → (count ≡ 0 → ⊥) → (f : asks.ClientFrame) × IsAwaited profile count payload.now waiting.old waiting.new f }
+    ensures same { result ≡ false → waiting.new ≡ waiting.old }
+{
+    match front_multi(profile, payload) {
+        Some((xid, multi)) => waiting.put(xid, &multi).is_ok(),
+        None => false,
+    }
+}
+
+/// The client's next frame waits for its reply, where it is a request that may come; false says no more, and all is as
+/// before. No fault and no frame is made.
 #[inline(always)]
 pub fn await_front(profile: Profile, count: u64, waiting: &mut Waiting, payload: &[u8]) -> bool
     ensures max { waiting.new.max ≡ waiting.old.max }
@@ -82,7 +98,7 @@ pub fn await_front(profile: Profile, count: u64, waiting: &mut Waiting, payload:
     }
     match front_ask(profile, payload) {
         Some((xid, ask)) => waiting.put(xid, &ask).is_ok(),
-        None => false,
+        None => await_multi(profile, waiting, payload),
     }
 }
 
@@ -188,8 +204,8 @@ fn front_answer(head: &ReplyHeader, waiting: &Waiting, payload: &[u8]) -> Option
     }
 }
 
-/// What the server's next frame answers waits no more, where it is a reply that may come, and none with the results of a
-/// multi: the operation that was asked; None says no more, and all is as before. No fault and no frame is made.
+/// What the server's next frame answers waits no more, where it is a reply that may come: the operation that was asked;
+/// None says no more, and all is as before. No fault and no frame is made.
 #[inline(always)]
 pub fn forget_front(count: u64, waiting: &mut Waiting, payload: &[u8]) -> Option<Op>
     ensures max { waiting.new.max ≡ waiting.old.max }

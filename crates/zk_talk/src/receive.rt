@@ -1,7 +1,6 @@
 //! What a piece brings to a side, whichever it is, and the fault that is kept.
 ghost use Rattle.std.specs.Prelude.{◌≡◌, ◌≢◌, ◌<◌, ◌+◌, ◌^◌, [], Some};
 ghost use Rattle.zk_jute.specs.declared.fault.Reason.TheVariants.{NoMemory};
-ghost use Rattle.zk_jute.specs.Reading.{no_memory};
 ghost use Rattle.zk_frames.specs.Framing.{IsBeginning};
 ghost use Rattle.zk_talk.specs.Fault.{fault_of};
 ghost use Rattle.zk_talk.specs.Sound.{IsKnown};
@@ -25,16 +24,6 @@ fn fault_at(side: Side, frame: u64, offset: u64, item: ItemFault) -> Fault
     }
 }
 
-/// Memory is wanted.
-fn wanting() -> ItemFault
-    ensures { result ≡ no_memory }
-{
-    ItemFault {
-        place: 0,
-        reason: Reason::NoMemory,
-    }
-}
-
 /// The fault of the frame that so many more bytes have brought; it is kept, but for want of
 /// memory.
 #[inline(never)]
@@ -51,7 +40,8 @@ pub fn refuse(
     ensures known { IsKnown kept.old → IsKnown kept.new }
 {
     if is_no_memory(item) {
-        return fault_at(side, stream.count(), stream.size(), wanting());
+        let wanted = ItemFault::at(0, Reason::NoMemory);
+        return fault_at(side, stream.count(), stream.size(), wanted);
     }
     let fault = fault_at(side, stream.count(), stream.size() + used as u64, item);
     *kept = Some(fault);
@@ -79,7 +69,7 @@ pub fn receive(
         }
         Advance::Whole(used) => Ok(Some(used)),
         Advance::Refused(used, reason) => {
-            let item = ItemFault { place: 0, reason };
+            let item = ItemFault::at(0, reason);
             Err(refuse(kept, side, stream, used, item))
         }
     }

@@ -1,4 +1,4 @@
-use Rattle.std.proofs.Common.{◌≡◌, sym, ap, subst, ◌∙◌, of_z, to_z}
+use Rattle.std.proofs.Common.{◌≡◌, refl, sym, ap, subst, ◌∙◌, of_z, to_z, length}
 use Rattle.std.specs.Prelude.{pos}
 use Rattle.std.specs.Int.{w32}
 use Rattle.std.proofs.lemmas.Int.{to_z-of_z}
@@ -26,5 +26,14 @@ returns-in-Some g c = λ all.
     let op = g.F.Asked.operation c.args.form.now in
     let parts = g.F.Asked.part_ops c.args.form.now in
     let err : c.args.head.now.err ≡ pos 0 = sym (to_z-of_z w32 c.args.head.now.err h.1.0.1.1.0) ∙ ap (to_z w32) c.if-head-ne0.false in
-    let body = subst (λ (o : Op). IsBodyAlone o c.args.payload.now 16 c.in-Some.end) c.op.ensures c.in-Some.ensures in
-    done_there c.args.payload.now c.args.head.now h.0 h.1 op parts c.in-Some.end c.requires.reply err body (eqb-true _ _ all)
+    let b = subst (λ (o : Op). IsBodyAlone o c.args.payload.now 16 c.in-Some.end) c.op.ensures c.in-Some.ensures in
+    done_there c.args.payload.now c.args.head.now h.0 h.1 op parts b.0 c.in-Some.end c.requires.reply err (b.1, b.2 parts, b.3, b.4) (eqb-true _ _ all)
+
+pub returns-in-None : goal.returns-in-None
+returns-in-None g c = λ yes.
+    let h = c.requires.head in
+    let op = g.F.Asked.operation c.args.form.now in
+    let parts = g.F.Asked.part_ops c.args.form.now in
+    let err : c.args.head.now.err ≡ pos 0 = sym (to_z-of_z w32 c.args.head.now.err h.1.0.1.1.0) ∙ ap (to_z w32) c.if-head-ne0.false in
+    let b = c.front_results.ensures yes in
+    done_there c.args.payload.now c.args.head.now h.0 h.1 op parts b.0 (length c.args.payload.now) c.requires.reply err b.1 refl

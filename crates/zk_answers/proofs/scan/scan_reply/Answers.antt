@@ -1,15 +1,11 @@
-use Rattle.std.proofs.Common.{◌≡◌, sym, subst, ◌∙◌}
-use Rattle.zk_answers.specs.Frames.{IsReplyTo, IsSent, payload}
+use Rattle.zk_answers.specs.Frames.{IsReplyTo}
 use Rattle.zk_answers.specs.Faults.{IsReplyFault}
 use Rattle.zk_answers.proofs.Replies.{reply_injective, reply_excludes}
-use Rattle.zk_answers.proofs.Refusals.{scan_only}
+use Rattle.zk_answers.proofs.Scanned.{only_it}
 use Rattle.zk_answers.proofs.scan.scan_reply.Goals as goal
 
 pub returns-clause-only : goal.returns-clause-only
-returns-clause-only g c = λ s is sent e.
-    let src = c.args.payload.now in
+returns-clause-only g c =
     let op = g.F.Asked.operation c.args.form.now in
     let parts = g.F.Asked.part_ops c.args.form.now in
-    scan_only (λ t. IsReplyTo op parts t × IsSent t × (src ≡ payload t)) (IsReplyFault op parts src) c.whole_reply.result c.whole_reply.ensures.found c.whole_reply.ensures.fault s
-    (λ t f. reply_injective op parts t s f.0 is f.1 sent (sym f.2 ∙ e))
-    (λ p r f. reply_excludes op parts s p r is sent (subst (λ b. IsReplyFault op parts b p r) e f))
+    only_it (IsReplyTo op parts) (IsReplyFault op parts) c.args.payload.now c.whole_reply.result c.whole_reply.ensures.found c.whole_reply.ensures.fault (reply_injective op parts) (reply_excludes op parts)

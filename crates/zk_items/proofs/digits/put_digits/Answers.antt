@@ -1,6 +1,6 @@
-use Rattle.std.proofs.Common.{◌≡◌, ◌++◌, List, ℕ, sym, ap, ap₂, ◌∙◌, append_assoc, take_all, arith}
-use Rattle.std.proofs.lemmas.List.{take-append-drop}
-use Rattle.hex.specs.Hex.{encode_lower}
+use Rattle.std.proofs.Common.{◌≡◌, ◌++◌, ◌-◌, ◌%◌, List, [], ℕ, length, take, drop, sym, ap, ap₂, ◌∙◌, append_assoc, take_all, arith}
+use Rattle.std.proofs.lemmas.List.{take-append-drop, take-append-le, length-take-le, length-drop, nil_from_length, append-nil}
+use Rattle.hex.specs.Hex.{encode_with, encode_lower}
 use Rattle.zk_items.proofs.Kept.{keeps_more}
 use Rattle.zk_items.proofs.Lanes.{encoded-append}
 use Rattle.zk_items.proofs.digits.put_digits.Goals as goal
@@ -18,4 +18,28 @@ loop-block-preserved c =
     let spelled =
     ap (λ (o : List ℕ). o ++ encode_lower rest) (more ∙ ap (λ (b : List ℕ). out ++ b) pairs) ∙ append_assoc out (encode_lower block) (encode_lower rest)
     ∙ ap (λ (d : List ℕ). out ++ d) (sym (encoded-append block rest) ∙ ap encode_lower parts) ∙ c.loop-block.invariant.spelled in
-    record { spelled = spelled; keeps = λ front is. keeps_more _ _ _ more front (c.loop-block.invariant.keeps front is) }
+    let whole : length rest % 16 ≡ 0 = let long = ap length split.2 ∙ length-drop 16 ahead in let now = c.loop-block.invariant.whole in omega arith in
+    record { spelled = spelled; whole = whole; keeps = λ front is. keeps_more _ _ _ more front (c.loop-block.invariant.keeps front is) }
+
+pub loop-block-init : goal.loop-block-init
+loop-block-init c =
+    let out = c.args.out.now.items in
+    let bytes = c.args.bytes.now in
+    let few = length bytes % 16 in
+    let left = length-drop few bytes in
+    let rest : take (length bytes - few) (drop few bytes) ≡ drop few bytes = take_all (length bytes - few) (drop few bytes) (omega arith) in
+    let front : encode_lower (take few (take 16 bytes)) ≡ encode_lower (take few bytes) = ap encode_lower (sym (take-append-le few (take 16 bytes) (drop 16 bytes) (omega (arith, length-take-le 16 bytes (omega arith)))) ∙ ap (take few) (take-append-drop 16 bytes)) in
+    let spelled = ap₂ (λ (o : List ℕ) (r : List ℕ). o ++ encode_lower r) (c.in_ok-put_front.ensures.spelled ∙ ap (λ (d : List ℕ). out ++ d) front) rest
+    ∙ append_assoc out (encode_lower (take few bytes)) (encode_lower (drop few bytes))
+    ∙ ap (λ (d : List ℕ). out ++ d) (sym (encoded-append (take few bytes) (drop few bytes)) ∙ ap encode_lower (take-append-drop few bytes)) in
+    let whole : length (take (length bytes - few) (drop few bytes)) % 16 ≡ 0 = omega (arith, ap length rest) in
+    record { spelled = spelled; whole = whole; keeps = c.put_front.ensures.keeps }
+
+pub returns-clause-spelled : goal.returns-clause-spelled
+unfolding encode_with
+returns-clause-spelled c =
+    let out = c.loop-block.out.items in
+    let short = c.in_default.ensures.cases in
+    let whole = c.loop-block.invariant.whole in
+    let none : c.loop-block.ahead.now ≡ [] = nil_from_length c.loop-block.ahead.now (omega arith) in
+    sym (append-nil out) ∙ ap (λ (a : List ℕ). out ++ encode_lower a) (sym none) ∙ c.loop-block.invariant.spelled

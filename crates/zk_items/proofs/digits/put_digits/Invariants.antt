@@ -1,4 +1,4 @@
-use Rattle.std.proofs.Common.{◌≡◌, ◌++◌, length}
+use Rattle.std.proofs.Common.{◌≡◌, ◌++◌, ◌%◌, length}
 use Rattle.hex.specs.Hex.{encode_lower}
 use Rattle.zk_items.specs.Form.{Keeps}
 use Rattle.zk_items.proofs.digits.put_digits.Given as goal
@@ -6,6 +6,7 @@ use Rattle.zk_items.proofs.digits.put_digits.Given as goal
 abbrev pub invariant-loop-block : goal.invariant-loop-block
 invariant-loop-block l = record {
   spelled : l.out.items ++ encode_lower l.ahead ≡ l.fn.out.items ++ encode_lower l.bytes;
+  whole : length l.ahead % 16 ≡ 0;
   keeps : Keeps l.fn.out.items l.out.items;
 }
 

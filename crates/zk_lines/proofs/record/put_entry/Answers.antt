@@ -1,8 +1,8 @@
 use Rattle.std.proofs.Common.{rules, ◌≡◌, ◌++◌}
 use Rattle.std.specs.Fmt.{signed_decimal}
-use Rattle.zk_items.specs.Words.{word_of}
-use Rattle.zk_items.specs.declared.word.Word.TheVariants.{Colon}
 use Rattle.zk_items.proofs.Kept.{then_spelled}
+use Rattle.zk_lines.specs.Words.{word_of}
+use Rattle.zk_lines.specs.declared.word.Word.TheVariants.{Colon}
 use Rattle.zk_lines.proofs.record.put_entry.Goals as goal
 
 pub returns-clause-spelled : goal.returns-clause-spelled

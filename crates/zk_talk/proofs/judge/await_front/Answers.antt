@@ -1,9 +1,9 @@
-use Rattle.std.proofs.Common.{subst, arith, Bool, IsTrue, [], ℤ}
+use Rattle.std.proofs.Common.{subst, Bool, IsTrue, [], ℤ}
 use Rattle.std.specs.Int.{w32}
 use Rattle.std.proofs.lemmas.Int.{to_z-of_z}
 use Rattle.zk_waiting.specs.Lane.{lane_of}
 use Rattle.zk_waiting.specs.Waiting.{IsPut}
-use Rattle.zk_talk.proofs.Settling.{of_ok, alone_awaited}
+use Rattle.zk_talk.proofs.Settling.{of_ok, asked_awaited}
 use Rattle.zk_talk.proofs.judge.await_front.Goals as goal
 
 pub returns-in-Some-clause-found : goal.returns-in-Some-clause-found
@@ -15,4 +15,4 @@ returns-in-Some-clause-found c = λ yes.
     let ok = subst (λ (b : Bool). IsTrue b) c.is_ok.ensures.value yes in
     let fits = of_ok c.put.result ok c.put.ensures.fits in
     let put = subst (λ (z : ℤ). IsPut (lane_of z) (record { xid = z; op = op; parts = [] }) w new) (to_z-of_z w32 c.in-Some.xid alone.1.3.1.0) (of_ok c.put.result ok c.put.ensures.ok) in
-    alone_awaited c.args.profile c.args.count c.args.payload.now w new c.in-Some.xid op c.if-count-eq0.false alone (omega (arith, fits)) put
+    asked_awaited c.args.profile c.args.count c.args.payload.now w new c.in-Some.xid op [] c.if-count-eq0.false alone fits put

@@ -1,6 +1,10 @@
 //! The fixed words of a line.
-ghost use Rattle.std.specs.Prelude.{◌≡◌};
-ghost use Rattle.zk_items.specs.Words.{word_of};
+ghost use Rattle.std.specs.Prelude.{◌≡◌, ◌++◌, OnOk};
+ghost use Rattle.zk_items.specs.Form.{Keeps, Passes, word_at};
+ghost use Rattle.zk_lines.specs.Words.{word_of};
+
+use std::alloc::AllocError;
+use zk_items::{LineFault, Reader};
 
 /// A fixed word before a field, or a sign.
 #[derive(Clone, Copy, Debug, PartialEq, Eq)]
@@ -69,4 +73,20 @@ pub fn word_bytes(word: Word) -> &'static [u8]
         Word::Watch => b" watch=",
         Word::Zxid => b" zxid=",
     }
+}
+
+/// Appends a fixed word.
+#[inline(always)]
+pub fn put_word(out: &mut Vec<u8>, word: Word) -> Result<(), AllocError>
+    ensures spelled { OnOk result (out.new.items ≡ out.old.items ++ word_of word) }
+    ensures keeps { Keeps out.old.items out.new.items }
+{
+    out.extend_from_slice(word_bytes(word))
+}
+
+/// Passes the word, which stands next.
+pub fn read_word(line: &mut Reader<'_>, word: Word) -> Result<(), LineFault>
+    ensures { Passes result line.new (word_at (word_of word) line.old) }
+{
+    line.front(word_bytes(word))
 }

@@ -1,9 +1,10 @@
 -- The fixed words of a line: those before a field, and the signs.
 use Rattle.std.specs.Prelude.{List, ℕ, codes}
 use Rattle.zk_items.specs.Form.{Form, Read, led, word_at, ◌>>=◌}
-use Rattle.zk_items.specs.declared.word.Word.{Word}
-use Rattle.zk_items.specs.declared.word.Word.TheVariants as words
+use Rattle.zk_lines.specs.declared.word.Word.{Word}
+use Rattle.zk_lines.specs.declared.word.Word.TheVariants as words
 
+-- the bytes of a word
 unfoldable pub word_of : Word → List ℕ
 word_of words.Acl = codes " acl="
 word_of words.Auth = codes " auth="
@@ -33,6 +34,7 @@ word_of words.Version = codes " version="
 word_of words.Watch = codes " watch="
 word_of words.Zxid = codes " zxid="
 
+-- what is read where the word stands first: what `at` reads behind it
 abbrev pub field_at : {X : Type 0} → Word → (List ℕ → Read X) → List ℕ → Read X
 field_at word at bytes = word_at (word_of word) bytes >>= at
 

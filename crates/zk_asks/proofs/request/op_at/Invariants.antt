@@ -1,10 +1,9 @@
 use Rattle.std.proofs.Common.{◌≡◌, ◌≤◌, ◌-◌, drop}
-use Rattle.zk_asks.specs.Frames.{parts_of_ask}
-use Rattle.zk_asks.proofs.request.RequestRefAsked.part.Given as goal
+use Rattle.zk_asks.proofs.request.op_at.Given as goal
 
 abbrev pub invariant-loop-passed : goal.invariant-loop-passed
 invariant-loop-passed l = record {
-  items : l.items ≡ drop l.passed (parts_of_ask l.self.ask.now);
+  items : l.items ≡ drop l.passed l.list;
   within : l.passed ≤ l.j;
 }
 

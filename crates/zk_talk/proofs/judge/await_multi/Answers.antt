@@ -1,0 +1,20 @@
+use Rattle.std.proofs.Common.{subst, Bool, IsTrue, ℤ, map}
+use Rattle.std.specs.Int.{w32}
+use Rattle.std.proofs.lemmas.Int.{to_z-of_z}
+use Rattle.zk_records.specs.declared.op.Op.TheVariants as ops
+use Rattle.zk_asks.specs.Parts.{op_of_part}
+use Rattle.zk_waiting.specs.Lane.{lane_of}
+use Rattle.zk_waiting.specs.Waiting.{IsPut}
+use Rattle.zk_talk.proofs.Settling.{of_ok, asked_awaited}
+use Rattle.zk_talk.proofs.judge.await_multi.Goals as goal
+
+pub returns-in-Some-clause-found : goal.returns-in-Some-clause-found
+returns-in-Some-clause-found c = λ yes count later.
+    let w = c.args.waiting.now in
+    let new = c.put.new.self in
+    let parts = map op_of_part c.in-Some.multi.list in
+    let asked = c.in-Some.ensures.some in
+    let ok = subst (λ (b : Bool). IsTrue b) c.is_ok.ensures.value yes in
+    let fits = of_ok c.put.result ok c.put.ensures.fits in
+    let put = subst (λ (z : ℤ). IsPut (lane_of z) (record { xid = z; op = ops.Multi; parts = parts }) w new) (to_z-of_z w32 c.in-Some.xid asked.1.3.1.0) (of_ok c.put.result ok c.put.ensures.ok) in
+    asked_awaited c.args.profile count c.args.payload.now w new c.in-Some.xid ops.Multi parts later asked fits put
