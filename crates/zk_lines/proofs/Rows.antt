@@ -2,7 +2,7 @@
 use Rattle.std.proofs.Common.{◌≡◌, ℕ, List, ◌++◌, Option, Some, true, refl, ap, sym, subst, ◌∙◌}
 use Rattle.std.specs.List.{flat_map}
 use Rattle.zk_jute.specs.Item.{Item, HaveBytes}
-use Rattle.zk_items.specs.Form.{Form, Read, read_map, stops, fields}
+use Rattle.zk_items.specs.Form.{Form, read_map, stops, fields}
 use Rattle.zk_items.specs.Form as form
 use Rattle.zk_items.specs.Laws.{Lawful}
 use Rattle.zk_items.proofs.Forms.{IsField, and_is, and_opens, fields_is, some_is}

@@ -1,7 +1,7 @@
 -- Bytes of one side that are given in several calls.
-use Rattle.std.proofs.Common.{◌≡◌, ◌≢◌, ℕ, ◌+◌, Bool, true, false, List, [], ◌∷◌, ◌++◌, length, take, drop, Option, None, Some, refl, sym, ◌∙◌, ap, subst, append_assoc, inl, inr}
+use Rattle.std.proofs.Common.{◌≡◌, ℕ, ◌+◌, Bool, true, false, List, [], ◌∷◌, ◌++◌, length, take, drop, Option, None, Some, refl, sym, ◌∙◌, ap, subst, append_assoc, inl, inr}
 use Rattle.std.specs.Io.KnownBytes.{Appends}
-use Rattle.std.proofs.lemmas.List.{map-append, take-append-drop, append-nil}
+use Rattle.std.proofs.lemmas.List.{take-append-drop, append-nil}
 use Rattle.std.proofs.lemmas.List.Concat.{flat_map-append}
 use Rattle.std.proofs.Math.Seq.{take-add, take-append-add, take-length}
 use Rattle.zk_jute.specs.declared.fault.Reason.TheVariants.{NoMemory}
@@ -20,7 +20,7 @@ use Rattle.zk_listings.specs.declared.listing.Listing.TheVariants.{All, Last}
 use Rattle.zk_listings.specs.Lines.{message_line, text_of}
 use Rattle.zk_listings.specs.Outcome.{IsGoodWith, HasGrownIn}
 use Rattle.zk_listings.specs.Following.{Takes}
-use Rattle.zk_listings.proofs.Bytes.{Appends-none, Appends-then}
+use Rattle.zk_listings.proofs.Bytes.{Appends-then}
 use Rattle.zk_recordings.proofs.Lists.{on-append}
 
 pub text_of-append : (listing : Listing) (a b : List Message) → text_of listing (a ++ b) ≡ text_of listing a ++ text_of listing b

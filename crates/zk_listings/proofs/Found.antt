@@ -7,7 +7,7 @@ use Rattle.zk_talk.specs.Stands.{TalkState}
 use Rattle.zk_listings.specs.declared.progress.Progress.{Progress}
 use Rattle.zk_listings.specs.declared.summary.Summary.{Summary}
 use Rattle.zk_recordings.specs.Recording.{Recording, Spells, history_of, limits_of}
-use Rattle.zk_listings.specs.Outcome.{Reads, IsFound, IsRunning, HasBegun, HasGrownIn, IsGoodWith}
+use Rattle.zk_listings.specs.Outcome.{Reads, IsFound, IsRunning, HasBegun, HasGrownIn}
 use Rattle.zk_listings.specs.Following.{Follows, IsKept, Finishes, Decides, Opens}
 use Rattle.std.proofs.Math.Seq.{take-append-add, take-append_seam}
 use Rattle.zk_listings.proofs.Bytes.{Consumes-then, Appends-then}

@@ -1,10 +1,9 @@
 -- What a front of a recording decides stands whatever follows it.
-use Rattle.std.proofs.Common.{◌≡◌, ℕ, List, [], ◌∷◌, ◌++◌, Some, None, inl, inr, refl, sym, ap, ◌∙◌, subst, append_assoc, append-nil}
+use Rattle.std.proofs.Common.{◌≡◌, ℕ, List, [], ◌++◌, inl, inr, sym, ap, ◌∙◌, subst, append-nil}
 use Rattle.zk_talk.specs.declared.limits.Limits.{Limits}
 use Rattle.zk_talk.specs.Held.{Message}
 use Rattle.zk_talk.specs.declared.message.Fault.{Fault}
 use Rattle.zk_talk.specs.declared.message.Ending.TheVariants.{Whole, Cut, Refused}
-use Rattle.zk_talk.specs.History.{History}
 use Rattle.zk_talk.specs.Fault.{IsFaultOf}
 use Rattle.zk_talk.specs.Answer.{AreMessages}
 use Rattle.zk_talk.proofs.Headline.{fault_is_bad, fault_more, messages_more}

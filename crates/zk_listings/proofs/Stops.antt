@@ -1,5 +1,5 @@
 -- What a run finds before the end.
-use Rattle.std.proofs.Common.{◌≡◌, ℕ, List, [], ◌∷◌, ◌++◌, take, drop, Option, Some, None, inl, inr, refl, sym, ap, ◌∙◌, subst, append_assoc, append-nil}
+use Rattle.std.proofs.Common.{◌≡◌, ℕ, List, [], ◌++◌, take, drop, Option, Some, None, inl, inr, refl, sym, ap, ◌∙◌, subst, append_assoc, append-nil}
 use Rattle.std.proofs.lemmas.List.{take-append-drop}
 use Rattle.zk_talk.specs.declared.limits.Limits.{Limits}
 use Rattle.zk_talk.specs.Held.{Message}
@@ -14,14 +14,13 @@ use Rattle.zk_talk.specs.Stands.{TalkState, Refuses}
 use Rattle.zk_talk.proofs.Headline.{fault_is_bad, refused, refuses_more, stands_messages}
 use Rattle.zk_recordings.specs.declared.parts.DamageAt.{DamageAt}
 use Rattle.zk_listings.specs.declared.progress.Progress.{Progress}
-use Rattle.zk_recordings.specs.declared.recording.State.{State}
 use Rattle.zk_listings.specs.declared.listing.Listing.{Listing}
 use Rattle.zk_listings.specs.declared.summary.Summary.{Summary}
 use Rattle.zk_listings.specs.declared.summary.Summary.TheVariants.{Ended, Broken}
 use Rattle.zk_recordings.specs.Recording.{Recording, Spells, place_of, begun_history, history_at, history_of, limits_at, limits_of, damage_of}
-use Rattle.zk_recordings.specs.Reading.{IsAt, IsDecidedBy, IsHeaded}
-use Rattle.zk_listings.specs.Outcome.{HasNoFault, ComesTo, IsGoodWith, IsOutcome}
-use Rattle.zk_listings.specs.Following.{Has, Talks, HasRefused, IsKept, Follows, Decides, Finishes, Reaches, Advances}
+use Rattle.zk_recordings.specs.Reading.{IsDecidedBy, IsHeaded}
+use Rattle.zk_listings.specs.Outcome.{HasNoFault, ComesTo, IsGoodWith}
+use Rattle.zk_listings.specs.Following.{Has, HasRefused, IsKept, Decides, Finishes, Reaches, Advances}
 use Rattle.zk_recordings.proofs.Any.{longer}
 use Rattle.zk_listings.proofs.Feeding.{listed-none, listed-then}
 use Rattle.zk_recordings.proofs.Stages.{damaged-more}

@@ -6,11 +6,11 @@ use Rattle.zk_talk.specs.Held.{Message}
 use Rattle.zk_talk.specs.declared.message.Fault.{Fault}
 use Rattle.zk_talk.specs.declared.message.Side.{Side}
 use Rattle.zk_talk.specs.History.{History}
-use Rattle.zk_talk.specs.Stands.{TalkState, Stands, Refuses}
+use Rattle.zk_talk.specs.Stands.{TalkState, Stands}
 use Rattle.zk_talk.proofs.Start.{start_state, start}
 use Rattle.zk_listings.specs.declared.listing.Listing.{Listing}
-use Rattle.zk_recordings.specs.Recording.{Head, Piece, piece_history, Place, AtLetters, InHead, InPieces, Recording, Breaks, Ends, place_of, begun_history, history_at, history_of, limits_at, limits_of}
-use Rattle.zk_recordings.specs.Reading.{content_of, IsHeaded, IsBare, MayHold, GoesOn, in_head, within, ends}
+use Rattle.zk_recordings.specs.Recording.{piece_history, Place, AtLetters, InHead, InPieces, Recording, Breaks, Ends, place_of, begun_history, history_at, history_of, limits_at, limits_of}
+use Rattle.zk_recordings.specs.Reading.{content_of, IsHeaded, IsBare, GoesOn, in_head, within, ends}
 use Rattle.zk_listings.specs.Lines.{text_of}
 use Rattle.zk_listings.specs.Outcome.{IsGoodWith}
 use Rattle.zk_listings.specs.Following.{Has, IsHeadedBy, Talks, HasOr, Judges, Takes, Gives}

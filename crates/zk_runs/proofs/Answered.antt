@@ -1,5 +1,5 @@
 -- What a run that builds has read and written when it answers.
-use Rattle.std.proofs.Common.{◌≡◌, ℕ, List, [], ◌++◌, Option, Result, Ok, Err, IfOk, IfErr, IsErrOf, OnErr, refl, ap, ◌∙◌, sym, subst, append-nil, Bool}
+use Rattle.std.proofs.Common.{◌≡◌, ℕ, List, [], ◌++◌, Option, Result, Ok, Err, IfOk, OnErr, refl, ap, ◌∙◌, sym, subst, append-nil, Bool}
 use Rattle.std.specs.Io.KnownBytes.{Consumes, IsAtEnd}
 use Rattle.zk_talk.specs.declared.limits.Limits.{Limits}
 use Rattle.zk_talk.specs.Said.{SpeakerState}
@@ -7,11 +7,11 @@ use Rattle.zk_runs.specs.declared.built.Built.{Built}
 use Rattle.zk_runs.specs.declared.built.Built.TheVariants.{Whole, LineRefused, SayRefused}
 use Rattle.zk_runs.specs.declared.builder.Halt.{Halt}
 use Rattle.zk_runs.specs.declared.builder.Halt.TheVariants.{Refused, Fails}
-use Rattle.zk_listings.specs.declared.listing.RunFault.TheVariants.{Read, Write, Memory}
+use Rattle.zk_listings.specs.declared.listing.RunFault.TheVariants.{Memory}
 use Rattle.zk_runs.specs.Building.{head}
 use Rattle.zk_listings.specs.Outcome.{HasGrownIn}
 use Rattle.zk_runs.specs.Building.{AreLines, StandFirst, fed_in, all_of, Covers, HasBuilt, HasBuiltSoFar, HasBegunBuilding}
-use Rattle.zk_runs.specs.Accepting.{HasTaken, IsRefused, HaltsIn, BeginsIn, BuildsAll, BeginsAll, StandIn, some, all, answer_of, IfSpared}
+use Rattle.zk_runs.specs.Accepting.{HasTaken, IsRefused, HaltsIn, BeginsIn, BuildsAll, BeginsAll, StandIn, some, all, answer_of}
 use Rattle.zk_listings.proofs.Bytes.{Consumes-none, Consumes-then}
 use Rattle.zk_runs.proofs.Accepted.{built-good, nothing-accepted}
 use Rattle.zk_runs.proofs.Taken.{halts-here}

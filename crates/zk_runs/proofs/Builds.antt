@@ -13,8 +13,8 @@ use Rattle.zk_runs.specs.declared.built.Built.TheVariants.{Whole, LineRefused, S
 use Rattle.zk_runs.specs.Building.{head, built_bytes}
 use Rattle.zk_recordings.specs.Recording.{First, InPieces, front}
 use Rattle.zk_listings.specs.Outcome.{HasGrownIn}
-use Rattle.zk_runs.specs.Building.{AreLines, StandFirst, recording_of, piece_of, AreAccepted, IsNextLine, IsBuilt, without_ending, with_ending, behind_ending, other_ending, no_message, not_said, Covers, HasBuilt, HasBegunBuilding}
-use Rattle.zk_runs.specs.Rebuilding.{AreAlike, AreBuilt, BuildsAlike, BuildsWithin, Stopped}
+use Rattle.zk_runs.specs.Building.{AreLines, StandFirst, recording_of, piece_of, AreAccepted, IsNextLine, IsBuilt, without_ending, with_ending, behind_ending, other_ending, no_message, not_said, Covers}
+use Rattle.zk_runs.specs.Rebuilding.{AreBuilt, BuildsAlike, BuildsWithin, Stopped}
 use Rattle.zk_runs.proofs.Splits.{lines_once, first_lines}
 use Rattle.zk_runs.proofs.Verdicts.{messages_once, alike_once, accepted_first}
 

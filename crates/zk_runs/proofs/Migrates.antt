@@ -1,12 +1,10 @@
 -- What a recording of the first format is migrated to is listed as it is.
-use Rattle.std.proofs.Common.{◌≡◌, ℕ, ◌<◌, ◌≤◌, ◌^◌, List, [], ◌∷◌, ◌++◌, length, Option, None, Some, true, refl, sym, ap, ◌∙◌, subst, append-nil, arith, zero, suc}
+use Rattle.std.proofs.Common.{◌≡◌, ℕ, ◌<◌, ◌≤◌, ◌^◌, List, [], ◌∷◌, length, None, Some, true, refl, sym, ap, ◌∙◌, subst, append-nil, arith}
 use Rattle.std.specs.List.{All}
 use Rattle.std.specs.Option.{option_map}
 use Rattle.std.specs.Int.{w32, to_be_bytes}
 use Rattle.std.proofs.lemmas.Bool.Decides.{nat_tests}
 use Rattle.zk_talk.specs.declared.limits.Limits.{Limits}
-use Rattle.zk_talk.specs.Held.{Message}
-use Rattle.zk_talk.specs.History.{History}
 use Rattle.zk_records.specs.declared.profile.Profile.{Profile as ProfileType}
 use Rattle.zk_records.specs.declared.profile.Profile.TheVariants.{V34, V35}
 use Rattle.zk_records.specs.Codes.{profile_number}
@@ -16,13 +14,10 @@ use Rattle.zk_recordings.specs.declared.parts.Damage.TheVariants.{Short}
 use Rattle.zk_recordings.specs.declared.parts.Format.{Format}
 use Rattle.zk_recordings.specs.declared.parts.Format.TheVariants.{Zkr1, Zkr2}
 use Rattle.zk_recordings.specs.declared.parts.Part.{Part}
-use Rattle.zk_recordings.specs.declared.parts.Part.TheVariants.{Letters, ClientLimit, ServerLimit, Waiting, Profile, SideByte, Time, Size}
-use Rattle.zk_listings.specs.declared.summary.Summary.{Summary}
-use Rattle.zk_listings.specs.declared.summary.Summary.TheVariants.{Ended, Broken}
-use Rattle.zk_recordings.specs.Parts.{number, long_number, is_within, is_good, width, damage_cut, head_parts, piece_parts}
+use Rattle.zk_recordings.specs.declared.parts.Part.TheVariants.{SideByte, Time, Size}
+use Rattle.zk_recordings.specs.Parts.{number, long_number, is_within, is_good, damage_cut, piece_parts}
 use Rattle.zk_recordings.specs.HeadLimits.{profile_by}
-use Rattle.zk_recordings.specs.Recording.{IsValue, spelled, End, Cut, Bad, end_bytes, Break, IsBreakIn, Head, First, Second, IsHead, Piece, IsPiece, no_time, Place, AtLetters, InHead, InPieces, AreIn, Recording, Breaks, Ends, IsRecording, bytes_of, Spells, place_of, front, behind, damage_at, end_damage, history_of, limits_of, damage_of, nothing}
-use Rattle.zk_listings.specs.Lines.{text_of, last_line}
+use Rattle.zk_recordings.specs.Recording.{End, Cut, Bad, IsBreakIn, Head, First, Second, IsHead, Piece, IsPiece, no_time, AtLetters, InHead, InPieces, AreIn, Recording, Breaks, Ends, IsRecording, bytes_of, Spells, place_of, front, behind, damage_at, end_damage, history_of, limits_of, damage_of, nothing}
 use Rattle.zk_listings.specs.Outcome.{ComesTo, HasMessages, IsOutcome}
 use Rattle.zk_runs.specs.Migrating.{head_of, migrated, IsListing, IsOf, IsWhole}
 use Rattle.zk_recordings.proofs.Accepts.{limits-some}

@@ -1,5 +1,5 @@
 -- What one step of the reader adds to what is written of a recording that is migrated.
-use Rattle.std.proofs.Common.{◌≡◌, ℕ, ◌+◌, ◌<◌, ◌≤◌, zero, suc, List, [], ◌∷◌, ◌++◌, length, take, drop, Bool, true, false, cond, nat_lt, Option, None, Some, inl, inr, refl, sym, ap, ◌∙◌, subst, append_assoc, append-nil, arith, length-append}
+use Rattle.std.proofs.Common.{◌≡◌, ℕ, ◌+◌, ◌<◌, zero, suc, List, [], ◌∷◌, ◌++◌, length, take, drop, Bool, true, false, cond, nat_lt, Option, Some, inl, inr, refl, sym, ap, ◌∙◌, subst, append_assoc, append-nil, arith, length-append}
 use Rattle.std.specs.List.{All, flat_map}
 use Rattle.std.specs.Io.KnownBytes.{Appends, Consumes, IsAtEnd}
 use Rattle.std.proofs.Math.Seq.{take-add}
@@ -15,14 +15,13 @@ use Rattle.zk_recordings.specs.declared.parts.Part.{Part}
 use Rattle.zk_recordings.specs.declared.parts.Part.TheVariants.{SideByte}
 use Rattle.zk_recordings.specs.declared.recording.State.{State}
 use Rattle.zk_recordings.specs.Parts.{number, piece_parts}
-use Rattle.zk_recordings.specs.Recording.{spelled, End, Cut, Bad, end_bytes, Break, IsBreakIn, IsBreak, break_bytes, Head, First, Second, format_of, head_bytes, Piece, IsPiece, no_time, piece_bytes, Place, AtLetters, InHead, InPieces, AreIn, IsPlace, front, Recording, Breaks, Ends, IsRecording, bytes_of, Spells, place_of, begun_of, damage_of, nothing}
-use Rattle.zk_recordings.specs.Reading.{IsAt, IsDecidedBy, IsHeaded, IsBare, IsBetween, GoesOn, in_head, within, ends, ReadsOn, format_at}
+use Rattle.zk_recordings.specs.Recording.{spelled, End, Cut, Bad, end_bytes, Break, IsBreakIn, Head, First, Second, format_of, head_bytes, Piece, IsPiece, piece_bytes, Place, AtLetters, InHead, InPieces, IsPlace, front, Recording, Breaks, Ends, IsRecording, Spells, place_of, begun_of, damage_of, nothing}
+use Rattle.zk_recordings.specs.Reading.{IsAt, IsDecidedBy, IsHeaded, IsBetween, GoesOn, in_head, within, ends, ReadsOn, format_at}
 use Rattle.zk_listings.specs.Outcome.{HasGrownIn}
 use Rattle.zk_runs.specs.Migrating.{head_of, second, migrated_at, migrated, sent, kept_at, kept, IsHeadedIf, HasMoved, HasMovedIn, HasMovedTo, HasMigrated, HasMigratedSoFar, HasBegunMigrating, answered}
 use Rattle.zk_listings.proofs.Bytes.{Appends-then, Consumes-then}
-use Rattle.zk_recordings.proofs.Lists.{flat_map-snoc}
 use Rattle.zk_recordings.proofs.Walks.{Walk, Walked, Broke, walk}
-use Rattle.zk_recordings.proofs.Once.{with_content, piece_with, sized, choose, parse, piece-some, spells-once, recorded}
+use Rattle.zk_recordings.proofs.Once.{with_content, piece_with, choose, parse, piece-some, spells-once, recorded}
 use Rattle.zk_recordings.proofs.Any.{any, goes}
 use Rattle.zk_listings.proofs.Found.{reads as reads-by, grown-further}
 use Rattle.zk_listings.proofs.Feeding.{grown-whole}

@@ -1,5 +1,5 @@
 -- What is built of the listing of a whole conversation.
-use Rattle.std.proofs.Common.{◌≡◌, ℕ, ◌<◌, ◌≤◌, ◌^◌, List, [], ◌∷◌, ◌++◌, length, map, Option, Some, refl, sym, ap, ◌∙◌, append-nil, arith, subst, true}
+use Rattle.std.proofs.Common.{◌≡◌, ℕ, ◌<◌, ◌≤◌, ◌^◌, List, [], ◌∷◌, ◌++◌, length, map, refl, sym, ap, ◌∙◌, append-nil, arith, subst, true}
 use Rattle.std.proofs.Common.{w32}
 use Rattle.std.proofs.lemmas.Bool.Decides.{nat_tests}
 use Rattle.std.proofs.lemmas.Nat.{from_be_bytes-to_be_bytes_4}
@@ -8,7 +8,6 @@ use Rattle.std.proofs.lemmas.List.Folds.{flat_map-map}
 use Rattle.std.proofs.lemmas.List.Elements.{All-map, All-from_recursion}
 use Rattle.std.specs.Int.{to_be_bytes}
 use Rattle.std.specs.List.{All, AllByRecursion, flat_map}
-use Rattle.std.specs.Io.KnownBytes.{Appends}
 use Rattle.zk_frames.specs.Framing.{frame}
 use Rattle.zk_frames.proofs.Cuts.{length-frame}
 use Rattle.zk_talk.specs.declared.limits.Limits.{Limits}
@@ -34,11 +33,11 @@ use Rattle.zk_runs.specs.declared.built.Built.{Built}
 use Rattle.zk_runs.specs.declared.built.Built.TheVariants.{Whole, LineRefused, SayRefused}
 use Rattle.zk_listings.specs.declared.summary.Summary.TheVariants.{Ended}
 use Rattle.zk_recordings.specs.declared.parts.Format.TheVariants.{Zkr1}
-use Rattle.zk_recordings.specs.declared.parts.Part.TheVariants.{SideByte, Size}
+use Rattle.zk_recordings.specs.declared.parts.Part.TheVariants.{SideByte}
 use Rattle.zk_recordings.specs.Parts.{number, is_good, is_within}
 use Rattle.zk_recordings.specs.Recording.{IsPiece, side_byte, piece_history, Spells, history_of}
 use Rattle.zk_listings.specs.Outcome.{IsOutcome}
-use Rattle.zk_runs.specs.Building.{IsLine, with_feed, fed, AreLines, all_fed, recording_of, piece_of, due_ending, IsBuilt, with_ending, HasBuilt}
+use Rattle.zk_runs.specs.Building.{IsLine, with_feed, fed, AreLines, all_fed, recording_of, piece_of, due_ending, IsBuilt, with_ending}
 use Rattle.zk_runs.specs.Rebuilding.{whole_listing, one_a_piece, AreAlike, AreBuilt, BuildsJust}
 use Rattle.zk_runs.proofs.Builds.{run_once}
 

@@ -1,5 +1,5 @@
 -- What is shown of the recording that was built.
-use Rattle.std.proofs.Common.{◌≡◌, ℕ, ◌+◌, ◌⊎◌, inl, inr, List, [], ◌++◌, Option, Some, refl, sym, ap, ◌∙◌, append-nil, subst}
+use Rattle.std.proofs.Common.{ℕ, ◌+◌, ◌⊎◌, inl, inr, List, [], ◌++◌, Option, refl, sym, ap, ◌∙◌, append-nil, subst}
 use Rattle.std.specs.Io.KnownBytes.{IsAtEnd, Appends}
 use Rattle.zk_talk.specs.declared.limits.Limits.{Limits}
 use Rattle.zk_talk.specs.Held.{Message}
@@ -10,12 +10,9 @@ use Rattle.zk_talk.specs.Good.{Good, IsGood, IsOrder}
 use Rattle.zk_talk.specs.Ending.{IsEnding}
 use Rattle.zk_listings.specs.declared.listing.Listing.{Listing}
 use Rattle.zk_listings.specs.declared.summary.Summary.TheVariants.{Ended}
-use Rattle.zk_listings.specs.declared.summary.Status.{Status}
-use Rattle.zk_listings.specs.declared.summary.Status.TheVariants.{Good as good_end}
 use Rattle.zk_recordings.specs.Recording.{Recording, Spells, history_of, limits_of}
 use Rattle.zk_listings.specs.Lines.{text_of, last_line, status_of}
 use Rattle.zk_listings.specs.Outcome.{IsOutcome, IsDecided}
-use Rattle.zk_listings.specs.Running.{HasListed}
 use Rattle.zk_runs.specs.Building.{recording_of}
 use Rattle.zk_runs.specs.Rebuilding.{one_a_piece, ListsJust}
 use Rattle.zk_recordings.proofs.Once.{spells-once}

@@ -9,7 +9,7 @@ use Rattle.zk_asks.specs.Rows.{op_of_ask}
 use Rattle.zk_asks.specs.Frames as asks
 use Rattle.zk_answers.specs.Held.{Reply, ServerFrame}
 use Rattle.zk_answers.specs.declared.frame.ServerFrameOf.TheVariants.{Connected, Answered, Event}
-use Rattle.zk_answers.specs.Frames.{IsConnected, IsEvent, Fits}
+use Rattle.zk_answers.specs.Frames.{IsConnected, Fits}
 use Rattle.zk_answers.specs.Frames as answers
 use Rattle.zk_waiting.specs.declared.lane.Lane.{Lane}
 use Rattle.zk_waiting.specs.Lane.{lane_of}

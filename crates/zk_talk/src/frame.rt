@@ -48,7 +48,8 @@ pub fn keep_client(
     true
 }
 
-/// The client's frame, which so many bytes have made whole, is decided under this profile, and kept.
+/// The client's frame, which so many bytes have made whole, is decided under this profile, and kept. Of a request that may
+/// come no frame is made.
 #[inline(never)]
 pub fn client_step(
     profile: Profile,
@@ -63,6 +64,9 @@ pub fn client_step(
     ensures same { IfErr result (λ e. (waiting.new ≡ waiting.old) × (stream.new ≡ stream.old)) }
     ensures fault { IfErr result (λ e. (e.reason ≢ NoMemory) × TellsClient profile stream.old.count waiting.old (drop 4 stream.old.held) e) }
 {
+    if keep_client(profile, stream, waiting, used) {
+        return Ok(());
+    }
     let frame = next_client(profile, stream.count(), waiting, stream.payload())?;
     await_reply(waiting, &frame);
     stream.keep(used);
@@ -128,7 +132,7 @@ pub fn keep_server(stream: &mut Stream, waiting: &mut Waiting, used: usize) -> O
 }
 
 /// The server's frame, likewise, where the client has sent so many; the operation whose request it
-/// answers.
+/// answers. Of a reply that may come no frame is made.
 #[inline(never)]
 pub fn server_step(
     asked: u64,
@@ -143,6 +147,9 @@ pub fn server_step(
     ensures same { IfErr result (λ e. (waiting.new ≡ waiting.old) × (stream.new ≡ stream.old)) }
     ensures fault { IfErr result (λ e. (e.reason ≢ NoMemory) × TellsServer asked stream.old.count waiting.old (drop 4 stream.old.held) e) }
 {
+    if let Some(op) = keep_server(stream, waiting, used) {
+        return Ok(Some(op));
+    }
     let frame = next_server(asked, stream.count(), waiting, stream.payload())?;
     let answered = answered(&frame);
     forget_seen(waiting, &frame);

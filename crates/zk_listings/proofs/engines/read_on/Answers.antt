@@ -1,7 +1,6 @@
-use Rattle.std.proofs.Common.{arith, ◌∙◌, ◌++◌, false, true, refl, length-take, ap, ◌||◌, inl, inr, subst, None, Some}
+use Rattle.std.proofs.Common.{arith, ◌∙◌, ◌++◌, false, true, refl, length-take, ap, ◌||◌, inl, inr, subst}
 use Rattle.std.specs.Io.KnownBytes.{Appends}
 use Rattle.std.proofs.lemmas.Result.{err_from_is_err_and}
-use Rattle.zk_listings.specs.Lines.{text_of}
 use Rattle.zk_listings.specs.Outcome.{HasGrownIn}
 use Rattle.zk_listings.specs.Following.{Reaches}
 use Rattle.zk_listings.proofs.Bytes.{Consumes-then, Consumes-kept}

@@ -1,4 +1,4 @@
-use Rattle.std.proofs.Common.{inr, length, take, refl, ap, ◌∙◌, subst, arith, length-drop, Some, None, sym}
+use Rattle.std.proofs.Common.{inr, length, take, refl, ap, ◌∙◌, subst, arith, length-drop, None}
 use Rattle.std.specs.Option.{option_to_list}
 use Rattle.std.proofs.lemmas.List.{take_all}
 use Rattle.zk_talk.specs.History.{on}

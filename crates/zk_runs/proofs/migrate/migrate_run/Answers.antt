@@ -1,4 +1,4 @@
-use Rattle.std.proofs.Common.{arith, ◌∙◌, [], false, true, refl, length-take, ap, ◌||◌, inl, inr, subst, None, Some}
+use Rattle.std.proofs.Common.{arith, ◌∙◌, [], false, true, refl, length-take, ap, ◌||◌, inl, inr, subst}
 use Rattle.std.proofs.lemmas.Result.{err_from_is_err_and}
 use Rattle.zk_runs.specs.Migrating.{HasMovedBy}
 use Rattle.zk_listings.proofs.Bytes.{Consumes-none, Consumes-then, Consumes-kept}

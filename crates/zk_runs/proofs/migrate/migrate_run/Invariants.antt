@@ -1,4 +1,4 @@
-use Rattle.std.proofs.Common.{◌≡◌, ◌+◌, ◌*◌, ◌≤◌, List, Option, ℕ, false, length}
+use Rattle.std.proofs.Common.{◌≡◌, ◌+◌, ◌*◌, ◌≤◌, List, ℕ, false, length}
 use Rattle.std.specs.Io.KnownBytes.{Consumes}
 use Rattle.zk_recordings.specs.Reading.{place_in}
 use Rattle.zk_runs.specs.Migrating.{HasMoved}

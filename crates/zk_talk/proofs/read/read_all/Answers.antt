@@ -11,7 +11,6 @@ use Rattle.zk_talk.proofs.Headline.{answer_whole, read_refused, read_more, read_
 use Rattle.zk_talk.proofs.OrderOnce.{order_once}
 use Rattle.zk_talk.proofs.FaultOnce.{answer_fault}
 use Rattle.zk_talk.proofs.read.read_all.Goals as goal
-use Rattle.zk_talk.proofs.read.read_all.Goals.{In-Some}
 
 abbrev no_piece : Side × Bor (List ℕ)
 no_piece = (Client, record { ref_ptr = (0, 0); now = [] })

@@ -1,4 +1,4 @@
-use Rattle.std.proofs.Common.{arith, ◌≡◌, ◌++◌, take, drop, length, length-drop, subst, ap, sym, None, Some}
+use Rattle.std.proofs.Common.{arith, ◌≡◌, take, drop, length, length-drop, subst, ap, sym, None, Some}
 use Rattle.std.proofs.lemmas.List.{take_all, take-append-drop}
 use Rattle.std.proofs.Math.Seq.{take-add}
 use Rattle.zk_listings.specs.Following.{Advances, Steps, IsWithin}

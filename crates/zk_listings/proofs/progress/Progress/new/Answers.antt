@@ -1,4 +1,4 @@
-use Rattle.std.proofs.Common.{[], refl}
+use Rattle.std.proofs.Common.{refl}
 use Rattle.zk_listings.proofs.progress.Progress.new.Goals as goal
 
 pub returns-clause-start : goal.returns-clause-start

@@ -1,4 +1,4 @@
-use Rattle.std.proofs.Common.{Some, None, subst}
+use Rattle.std.proofs.Common.{subst}
 use Rattle.zk_listings.specs.Earliest.{TellsBody}
 use Rattle.zk_listings.specs.Following.{HasRefused}
 use Rattle.zk_listings.proofs.progress.Progress.refused_body.Goals as goal

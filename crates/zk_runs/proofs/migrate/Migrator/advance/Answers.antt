@@ -1,7 +1,5 @@
-use Rattle.std.proofs.Common.{◌≡◌, ◌<◌, ◌++◌, ◌∙◌, ap, sym, subst, take, length, length-take, arith}
+use Rattle.std.proofs.Common.{◌≡◌, ◌<◌, ◌++◌, ◌∙◌, ap, take, length, length-take, arith}
 use Rattle.std.proofs.lemmas.Result.{err_from_is_err_and}
-use Rattle.zk_listings.specs.Outcome.{HasGrownIn}
-use Rattle.std.specs.Io.KnownBytes.{Appends}
 use Rattle.zk_runs.specs.Migrating.{sent}
 use Rattle.zk_runs.proofs.Moves.{stop-here, moved-on, moved-all, moved-part}
 use Rattle.zk_runs.proofs.migrate.Migrator.advance.Goals as goal

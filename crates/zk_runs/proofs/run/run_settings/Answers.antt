@@ -1,1 +1,0 @@
-use Rattle.zk_runs.proofs.run.run_settings.Goals as goal
