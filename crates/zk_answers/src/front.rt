@@ -1,4 +1,4 @@
-//! Replies, judged where they lie: no body and no frame is made.
+//! Replies, judged where they lie, by where their bodies end: no frame is made.
 ghost use Rattle.std.specs.Prelude.{◌≢◌, ◌≤◌, ℕ, List, length, negsuc, IfSome, IsTrue};
 ghost use Rattle.zk_answers.specs.Faults.{IsHead};
 ghost use Rattle.zk_answers.specs.Held.{Body};

@@ -1,4 +1,4 @@
-//! Requests, judged where they lie: no record and no frame is made.
+//! Requests, judged where they lie, by where their records end: no frame is made.
 ghost use Rattle.std.specs.Prelude.{◌≤◌, length, map, IfSome};
 ghost use Rattle.zk_records.specs.declared.op.Op.TheVariants as ops;
 ghost use Rattle.zk_asks.specs.Parts.{op_of_part};

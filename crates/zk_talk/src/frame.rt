@@ -27,7 +27,7 @@ pub fn is_no_memory(item: ItemFault) -> bool
 }
 
 /// The client's frame, which so many bytes have made whole, is kept where it is a request that may come under this profile; else all is as
-/// before, and no fault is made.
+/// before, and no fault is told.
 #[inline(always)]
 pub fn keep_client(
     profile: Profile,
@@ -48,8 +48,8 @@ pub fn keep_client(
     true
 }
 
-/// The client's frame, which so many bytes have made whole, is decided under this profile, and kept. Of a request that may
-/// come no frame is made.
+/// The client's frame, which so many bytes have made whole, is decided under this profile, and kept.
+// By the quick way first, so that a request that came in several pieces is decided by scalars, too.
 #[inline(never)]
 pub fn client_step(
     profile: Profile,
@@ -117,7 +117,7 @@ fn answered(frame: &ServerRef<'_>) -> Option<Op>
 }
 
 /// The server's frame, which so many bytes have made whole, is kept where it is a reply that may come, and
-/// the answer is the operation whose request it answers; else all is as before, and no fault is made.
+/// the answer is the operation whose request it answers; else all is as before, and no fault is told.
 #[inline(always)]
 pub fn keep_server(stream: &mut Stream, waiting: &mut Waiting, used: usize) -> Option<Op>
     requires { IsAtFrame stream.old used }
@@ -132,7 +132,8 @@ pub fn keep_server(stream: &mut Stream, waiting: &mut Waiting, used: usize) -> O
 }
 
 /// The server's frame, likewise, where the client has sent so many; the operation whose request it
-/// answers. Of a reply that may come no frame is made.
+/// answers.
+// By the quick way first, as in `client_step`.
 #[inline(never)]
 pub fn server_step(
     asked: u64,

@@ -86,7 +86,7 @@ fn await_multi(profile: Profile, waiting: &mut Waiting, payload: &[u8]) -> bool
 }
 
 /// The client's next frame waits for its reply, where it is a request that may come; false says no more, and all is as
-/// before. No fault and no frame is made.
+/// before. No fault is told, and no frame is made.
 #[inline(always)]
 pub fn await_front(profile: Profile, count: u64, waiting: &mut Waiting, payload: &[u8]) -> bool
     ensures max { waiting.new.max ≡ waiting.old.max }
@@ -205,7 +205,7 @@ fn front_answer(head: &ReplyHeader, waiting: &Waiting, payload: &[u8]) -> Option
 }
 
 /// What the server's next frame answers waits no more, where it is a reply that may come: the operation that was asked;
-/// None says no more, and all is as before. No fault and no frame is made.
+/// None says no more, and all is as before. No fault is told, and no frame is made.
 #[inline(always)]
 pub fn forget_front(count: u64, waiting: &mut Waiting, payload: &[u8]) -> Option<Op>
     ensures max { waiting.new.max ≡ waiting.old.max }
