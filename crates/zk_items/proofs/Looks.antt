@@ -1,5 +1,5 @@
 -- Plain bytes, looked at many at a time.
-use Rattle.std.proofs.Common.{◌≡◌, ℕ, zero, suc, ◌+◌, ◌/◌, ◌%◌, ◌^◌, ◌<◌, ◌≤◌, Bool, true, false, not, cond, eqb, List, [], ◌∷◌, ◌++◌, map, length, take, drop, Fits, w8, refl, sym, ap, ap₂, ◌∙◌, take_all, arith}
+use Rattle.std.proofs.Common.{◌≡◌, ℕ, zero, suc, ◌+◌, ◌-◌, ◌*◌, ◌/◌, ◌%◌, ◌^◌, ◌<◌, ◌≤◌, Bool, true, false, not, cond, eqb, List, [], ◌∷◌, ◌++◌, map, length, take, drop, get_or, Fits, w8, refl, sym, ap, ap₂, ◌∙◌, take_all, arith}
 use Rattle.std.proofs.lemmas.Bool.{agree_below, agree_below_at, eq-eqb, ne_eqb, cond-true, cond-false}
 use Rattle.std.proofs.lemmas.List.{append-nil, drop_all, length-map, length-drop}
 use Rattle.std.proofs.lemmas.List.Folds.{prefix_len-append}
@@ -7,7 +7,8 @@ use Rattle.std.proofs.lemmas.List.Sums.{prefix_len-le-length}
 use Rattle.std.proofs.lemmas.Simd.{chunk-drop, length-chunk, map-map, mask_l-mod, leading_from_mask_l, trailing_mask_l}
 use Rattle.std.specs.List.{prefix_len, flat_map}
 use lib.Count.{count_trailing_zeros}
-use lib.Lanes.{chunk, Each1, mask_l, top}
+use Rattle.std.proofs.Math.Seq.{drop-cons}
+use lib.Lanes.{chunk, Each1, mask_l, pick_l, top}
 use Rattle.zk_items.specs.Leaf.{is_plain, symbol_spell, hex_digit}
 
 abbrev odd : ℕ → Bool
@@ -71,6 +72,34 @@ module _ (q : ℕ → Bool) where
   look_last d at n before room =
       let ends : take n (drop at d) ≡ drop at d = take_all n (drop at d) (omega (arith, length-drop at d)) in
       passed at d before ∙ ap (λ xs. at + prefix_len q xs) (sym ends)
+
+-- looks at the first bytes and at the last, side by side
+module _ (q : ℕ → Bool) where
+  both_pass : (a b : List ℕ) → prefix_len q (a ++ b) ≡ length a + length b → (prefix_len q a ≡ length a) × (prefix_len q b ≡ length b)
+  both_pass [] b e = (refl, omega (arith, e))
+  both_pass (x ∷ a) b e = pick (q x) (both_pass a b) e where
+    pick : (t : Bool) → (prefix_len q (a ++ b) ≡ length a + length b → (prefix_len q a ≡ length a) × (prefix_len q b ≡ length b))
+        → cond t (1 + prefix_len q (a ++ b)) 0 ≡ suc (length a) + length b → (cond t (1 + prefix_len q a) 0 ≡ suc (length a)) × (prefix_len q b ≡ length b)
+    pick true f e = let both = f (omega arith) in (omega (arith, both.0), both.1)
+    pick false f e = absurd (omega arith)
+
+  pub ends_pass : (d : List ℕ) (n : ℕ) → n ≤ length d → length d ≤ 2 * n → prefix_len q (chunk 0 n d ++ chunk (length d - n) n d) ≡ 2 * n → prefix_len q d ≡ length d
+  ends_pass d n within twice e =
+      let at = length d - n in
+      let first = length-chunk 0 n d (omega arith) in
+      let last = length-chunk at n d (omega arith) in
+      let both = both_pass (chunk 0 n d) (chunk at n d) (omega (arith, first, last)) in
+      let front = look_passes q d 0 n (omega arith) (omega arith) (omega (arith, both.0, first)) in
+      omega (arith, look_last q d at n (omega (arith, front)) (omega arith), both.1, last)
+
+-- the places from one on to the last, picked in order
+abbrev pub upto : ℕ → ℕ → List ℕ
+upto i zero = []
+upto i (suc k) = i ∷ upto (suc i) k
+
+pub in_order : (l : List ℕ) (k i : ℕ) → i + k ≡ length l → pick_l 0 l (upto i k) ≡ drop i l
+in_order l zero i e = sym (drop_all i l (omega arith))
+in_order l (suc k) i e = ap (λ (r : List ℕ). get_or l i 0 ∷ r) (in_order l k (suc i) (omega arith)) ∙ sym (drop-cons l i 0 (omega arith))
 
 -- ---- texts, a run of plain bytes at a time
 

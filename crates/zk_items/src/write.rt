@@ -7,7 +7,7 @@ ghost use Rattle.zk_items.specs.Form.{Keeps};
 ghost use Rattle.zk_items.specs.Leaf.{int, long, is_plain, text_fits, text_spell, blob_fits, blob_spell, symbol_spell, bit_spell, ro_spell};
 
 use crate::digits::put_digits;
-use crate::plain::plain_len;
+use crate::plain::{are_plain, plain_len};
 use crate::symbol::{hex_digit, is_plain};
 use itoa::Buffer;
 use std::alloc::AllocError;
@@ -256,7 +256,7 @@ fn put_chars(out: &mut Vec<u8>, text: &str) -> Result<(), AllocError>
     ensures keeps { Keeps out.old.items out.new.items }
 {
     let bytes = text.as_bytes();
-    if plain_len(bytes) == bytes.len() {
+    if are_plain(bytes) {
         put_plain(out, bytes)
     } else {
         put_escaped(out, bytes)
