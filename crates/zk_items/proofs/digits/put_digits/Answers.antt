@@ -5,14 +5,29 @@ use Rattle.zk_items.proofs.Kept.{keeps_more}
 use Rattle.zk_items.proofs.Lanes.{encoded-append}
 use Rattle.zk_items.proofs.digits.put_digits.Goals as goal
 
+pub loop-four-preserved : goal.loop-four-preserved
+loop-four-preserved c =
+    let out = c.loop-four.out.items in
+    let four = c.in-Some.four.now in
+    let rest = c.in-Some.rest.now in
+    let more = c.in_ok-put_four.ensures.spelled in
+    let ahead = c.loop-four.ahead.now in
+    let split = c.in-Some.ensures.cases in
+    let parts : four ++ rest ≡ ahead = ap₂ (λ (a b : List ℕ). a ++ b) split.1 split.2 ∙ take-append-drop 64 ahead in
+    let spelled =
+    ap (λ (o : List ℕ). o ++ encode_lower rest) more ∙ append_assoc out (encode_lower four) (encode_lower rest)
+    ∙ ap (λ (d : List ℕ). out ++ d) (sym (encoded-append four rest) ∙ ap encode_lower parts) ∙ c.loop-four.invariant.spelled in
+    let whole : length rest % 16 ≡ 0 = let long = ap length split.2 ∙ length-drop 64 ahead in let now = c.loop-four.invariant.whole in omega arith in
+    record { spelled = spelled; whole = whole; keeps = λ front is. keeps_more _ _ _ more front (c.loop-four.invariant.keeps front is) }
+
 pub loop-block-preserved : goal.loop-block-preserved
 loop-block-preserved c =
     let out = c.loop-block.out.items in
-    let block = c.in-Some.block.now in
-    let rest = c.in-Some.rest.now in
+    let block = c.in-Some-split_at_checked.block.now in
+    let rest = c.in-Some-split_at_checked.rest.now in
     let more = c.in_ok-extend_from_slice.ensures.items in
     let ahead = c.loop-block.ahead.now in
-    let split = c.in-Some.ensures.cases in
+    let split = c.in-Some-split_at_checked.ensures.cases in
     let parts : block ++ rest ≡ ahead = ap₂ (λ (a b : List ℕ). a ++ b) split.1 split.2 ∙ take-append-drop 16 ahead in
     let pairs : c.as_array.result.now ≡ encode_lower block = c.as_array.ensures ∙ c.pairs.ensures ∙ ap encode_lower (take_all 16 block (omega (arith, split.3))) in
     let spelled =
@@ -21,8 +36,8 @@ loop-block-preserved c =
     let whole : length rest % 16 ≡ 0 = let long = ap length split.2 ∙ length-drop 16 ahead in let now = c.loop-block.invariant.whole in omega arith in
     record { spelled = spelled; whole = whole; keeps = λ front is. keeps_more _ _ _ more front (c.loop-block.invariant.keeps front is) }
 
-pub loop-block-init : goal.loop-block-init
-loop-block-init c =
+pub loop-four-init : goal.loop-four-init
+loop-four-init c =
     let out = c.args.out.now.items in
     let bytes = c.args.bytes.now in
     let few = length bytes % 16 in
@@ -39,7 +54,7 @@ pub returns-clause-spelled : goal.returns-clause-spelled
 unfolding encode_with
 returns-clause-spelled c =
     let out = c.loop-block.out.items in
-    let short = c.in_default.ensures.cases in
+    let short = c.in_default-split_at_checked.ensures.cases in
     let whole = c.loop-block.invariant.whole in
     let none : c.loop-block.ahead.now ≡ [] = nil_from_length c.loop-block.ahead.now (omega arith) in
     sym (append-nil out) ∙ ap (λ (a : List ℕ). out ++ encode_lower a) (sym none) ∙ c.loop-block.invariant.spelled
