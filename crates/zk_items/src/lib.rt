@@ -2,6 +2,7 @@
 #![tactic(auto)]
 
 mod code;
+mod decimal;
 mod digits;
 mod fault;
 mod laws;
