@@ -174,12 +174,6 @@ module _ where
   length-padded zero n = refl
   length-padded (suc k) n = length-append (padded k (n / 10)) ((n % 10) ∷ []) ∙ (let e = length-padded k (n / 10) in omega arith)
 
-  pub some_other : (k n : ℕ) → 0 < n → n < 2 ^ 64 → Short k n → prefix_len is_zero (padded k n) < k
-  some_other k n some wide short =
-      let xs = padded k n in
-      let c = prefix_len is_zero xs in
-      omega (arith, ap length (without_zeros k n some wide short), length-map (drop c xs) (λ d. 48 + d), length-drop c xs, decimal_nonempty n wide, length-padded k n)
-
 -- ---- lanes moved to the front
 
 module _ where
