@@ -75,8 +75,8 @@ fn without(lanes: u8x16, count: usize) -> u8x16
 }
 
 /// Appends a number below 10^16 in decimal.
-// Sixteen bytes are written, and those behind the digits taken back: some 90 instructions for a number of 13 digits, and no
-// copy of a size that differs; itoa's buffer and the copy took 109.
+// Sixteen bytes are written, and those behind the digits taken back: 86 instructions, and no copy of a size that differs.
+// itoa's buffer and the copy took 109 for 13 digits, and a way of its own for two and three digits bought less than 1%.
 #[inline(always)]
 pub fn put_sixteen(out: &mut Vec<u8>, n: u64) -> Result<(), AllocError>
     requires some { 0 < n }
