@@ -7,7 +7,6 @@ pub mod Flags
 pub mod Many
 pub mod Looks
 pub mod Lanes
-pub mod Decimals
 pub mod Texts
 pub mod Blobs
 pub mod Codes

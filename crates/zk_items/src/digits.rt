@@ -63,8 +63,8 @@ fn put_front(out: &mut Vec<u8>, block: u8x16, count: usize) -> Result<(), AllocE
 }
 
 /// Appends the digits of 64 bytes.
-// One test of room, and one store of the length, for the digits of four blocks: 34 instructions for each sixteen bytes one
-// block at a time.
+// One test of room, and one store of the vector's length, for four blocks: 25 instructions for each sixteen bytes, and 34
+// with one block at a time.
 #[inline(always)]
 fn put_four(out: &mut Vec<u8>, bytes: &[u8]) -> Result<(), AllocError>
     requires { length bytes.now ≡ 64 }

@@ -2,7 +2,6 @@
 #![tactic(auto)]
 
 mod code;
-mod decimal;
 mod digits;
 mod fault;
 mod laws;
