@@ -6,6 +6,8 @@ use Rattle.zk_jute.specs.declared.fault.ItemFault.{ItemFault}
 use Rattle.zk_jute.specs.Item.{Item, bytes_of, HaveBytes}
 use Rattle.zk_jute.specs.Layout.{IsValueOf}
 use Rattle.zk_jute.specs.Told.{StandsAt, IsToldAt, IsSurelyToldAt}
+use Rattle.zk_jute.specs.Held.{Text, Vector}
+use Rattle.zk_jute.specs.Wired.{ustring, vector}
 use Rattle.zk_jute.specs.Standing.{Known, OneStands}
 use Rattle.zk_jute.proofs.Layouts.{bytes_only, bytes_both, have_parts}
 use Rattle.zk_jute.proofs.Known.{stands_first, stands_last}
@@ -21,7 +23,7 @@ use Rattle.zk_answers.specs.declared.frame.OutcomeOf.TheVariants as outcome
 use Rattle.zk_answers.specs.declared.frame.ServerFrameOf.TheVariants as frame
 use Rattle.zk_answers.specs.Faults.{IsHead, IsOfShape, IsShapeFault, body_shape}
 use Rattle.zk_answers.specs.Frames.{err_of, header_of, event_header, rest_items, IsEvent, IsOutcome, IsSent, IsReplyTo, OutcomeFits, BodyFits, payload}
-use Rattle.zk_answers.specs.Rows.{row_of, items_in, op_of_body, body_items}
+use Rattle.zk_answers.specs.Rows.{Content, row_of, remake, items_in, op_of_body, body_items}
 use Rattle.zk_answers.specs.Results.{multi_items}
 use Rattle.zk_answers.specs.Scanned.{IsBodyAt}
 use Rattle.zk_answers.specs.Known.{ABodyStands}
@@ -153,12 +155,22 @@ module _ (op : Op) (src : List ℕ) (place : ℕ) (b : Body) (end : ℕ) (of : o
         let same = shape_only (body_shape op []) (body_items c) (body_items b) (drop after src) (drop end src) is_shaped shaped (sym found.3.0 ∙ stands.0) in
         body_same [] c b (found.0 ∙ sym of) found.1 fits found.2 have (ap bytes_of same.0)
 
+-- what an operation's own content makes
+module _ (op : Op) (src : List ℕ) (place : ℕ) (x : Content (row_of op)) where
+  pub content_is : ((y : Content (row_of op)) (end : ℕ) → HaveBytes (items_in (row_of op) y) → StandsAt (items_in (row_of op) y) src place end → x ≡ y)
+      → (b : Body) (end : ℕ) → op_of_body b ≡ op → HaveBytes (body_items b) → StandsAt (body_items b) src place end → remake (row_of op) x ≡ b
+  unfolding IsMade
+  content_is only b end of have stands =
+      let m : IsMade op b = subst (λ (o : Op). IsMade o b) of (is_made b) in
+      ap (remake (row_of op)) (only m.0 end (subst HaveBytes (sym m.2) have) (subst (λ (i : List Item). StandsAt i src place end) (sym m.2) stands)) ∙ m.1
+
 pub multi_is : (src : List ℕ) (place : ℕ) (ds : List PartDone) → ((xs : List PartDone) (end : ℕ) → HaveBytes (multi_items xs) → StandsAt (multi_items xs) src place end → ds ≡ xs)
     → (b : Body) (end : ℕ) → op_of_body b ≡ ops.Multi → HaveBytes (body_items b) → StandsAt (body_items b) src place end → body.Multi ds ≡ b
-unfolding IsMade
-multi_is src place ds only b end of have stands =
-    let m : IsMade ops.Multi b = subst (λ (o : Op). IsMade o b) of (is_made b) in
-    ap body.Multi (only m.0 end (subst HaveBytes (sym m.2) have) (subst (λ (i : List Item). StandsAt i src place end) (sym m.2) stands)) ∙ m.1
+multi_is src place ds = content_is ops.Multi src place ds
+
+pub names_are : (src : List ℕ) (place : ℕ) (names : Vector Text) → ((xs : Vector Text) (end : ℕ) → HaveBytes ((vector ustring).items xs) → StandsAt ((vector ustring).items xs) src place end → names ≡ xs)
+    → (b : Body) (end : ℕ) → op_of_body b ≡ ops.GetChildren → HaveBytes (body_items b) → StandsAt (body_items b) src place end → body.GetChildren names ≡ b
+names_are src place names = content_is ops.GetChildren src place names
 
 -- ---- an event
 

@@ -16,7 +16,7 @@ use crate::frame::{BodyOf, BodyRef, Failure, OutcomeOf, ReplyOf, ServerFrameOf, 
 use crate::multi::is_end;
 use crate::scan::body_ref;
 use zk_asks::Alone;
-use zk_jute::{KnownPayload, known_flagged, read_ref};
+use zk_jute::{KnownPayload, known_flagged, known_list, read_ref};
 use zk_records::{MultiHeader, Op, ReplyHeader};
 
 /// The answer to the connect request that the payload is known to be, where it lies: no memory is
@@ -82,6 +82,9 @@ fn known_body<'a>(src: &KnownPayload<'a>, place: usize, op: Op) -> BodyRef<'a>
 {
     match op {
         Op::Multi => BodyOf::Multi(results_there(src, place)),
+        Op::GetChildren => BodyOf::GetChildren {
+            names: known_list(src.bytes, place),
+        },
         _ => body_ref(src, place, &Alone { op }).unwrap().0,
     }
 }

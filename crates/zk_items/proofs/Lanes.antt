@@ -3,10 +3,10 @@ use Rattle.std.proofs.Common.{◌≡◌, ℕ, zero, suc, ◌+◌, ◌*◌, ◌/�
 use Rattle.std.specs.Prelude.{slice_index, ltb}
 use Rattle.std.specs.List.{AllByRecursion}
 use Rattle.std.proofs.lemmas.Bool.{agree_below, agree_below_at, eqb-true, ltb-true}
-use Rattle.std.proofs.lemmas.List.{length-map, get_or-map, get_or_append_left, get_or-append-add, drop_all, drop-drop, take-append-drop, length-take-le}
+use Rattle.std.proofs.lemmas.List.{length-map, get_or-map, get_or_append_left, get_or-append-add, drop_all, take-append-drop, length-take-le}
 use Rattle.std.proofs.Math.Seq.{drop-cons, take-append_seam}
 use Rattle.std.proofs.lemmas.Simd.{swz_l}
-use lib.Lanes.{Each1, chunk, pick_l}
+use lib.Lanes.{Each1, pick_l}
 use mir.Val.{zeroes}
 use Rattle.zk_items.specs.Leaf.{hex_digit}
 use Rattle.hex.specs.Hex.{encode_with, encode_lower, lower_digits}
@@ -32,24 +32,16 @@ encoded-take n v within =
     let long : length front ≡ 2 * n = length-encode_with lower_digits (take n v) ∙ ap (λ k. 2 * k) (length-take-le n v within) in
     ap (take (2 * n)) both ∙ ap (λ k. take k (front ++ behind)) (sym long) ∙ take-append_seam front behind
 
--- sixteen bytes from a place on, and those behind them
-pub encoded_chunk : (v : List ℕ) (k : ℕ) → encode_lower (chunk k 16 v) ++ encode_lower (drop (k + 16) v) ≡ encode_lower (drop k v)
-encoded_chunk v k =
-    sym (encoded-append (chunk k 16 v) (drop (k + 16) v)) ∙ ap (λ (b : List ℕ). encode_lower (chunk k 16 v ++ b)) (sym (drop-drop 16 k v))
-    ∙ ap encode_lower (take-append-drop 16 (drop k v))
+pub take_first : (m n : ℕ) (v : List ℕ) → m ≤ n → take m v ≡ take m (take n v)
+take_first zero n v within = refl
+take_first (suc m) zero v within = absurd (omega (arith, within))
+take_first (suc m) (suc n) [] within = refl
+take_first (suc m) (suc n) (x ∷ v) within = ap (λ (l : List ℕ). x ∷ l) (take_first m n v (omega (arith, within)))
 
--- sixty-four bytes, sixteen at a time
-pub encoded_four : (v : List ℕ) → length v ≡ 64
-    → encode_lower (chunk 0 16 v) ++ (encode_lower (chunk 16 16 v) ++ (encode_lower (chunk 32 16 v) ++ (encode_lower (chunk 48 16 v) ++ []))) ≡ encode_lower v
-unfolding encode_with
-encoded_four v long =
-    let digits = λ (k : ℕ). encode_lower (chunk k 16 v) in
-    let none : drop 64 v ≡ [] = drop_all 64 v (omega (arith, long)) in
-    ap (λ (b : List ℕ). digits 0 ++ (digits 16 ++ (digits 32 ++ (digits 48 ++ encode_lower b)))) (sym none)
-    ∙ ap (λ (d : List ℕ). digits 0 ++ (digits 16 ++ (digits 32 ++ d))) (encoded_chunk v 48)
-    ∙ ap (λ (d : List ℕ). digits 0 ++ (digits 16 ++ d)) (encoded_chunk v 32)
-    ∙ ap (λ (d : List ℕ). digits 0 ++ d) (encoded_chunk v 16)
-    ∙ encoded_chunk v 0
+-- of bytes that begin with some, as many as these
+pub front_of : (k count : ℕ) (v front behind : List ℕ) → v ≡ front ++ behind → count ≡ length front → count ≤ k → take count (take k v) ≡ front
+front_of k count v front behind is long within =
+    sym (take_first count k v within) ∙ ap (take count) is ∙ ap (λ n. take n (front ++ behind)) long ∙ take-append_seam front behind
 
 -- ---- lane by lane
 

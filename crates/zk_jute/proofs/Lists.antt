@@ -1,14 +1,19 @@
 -- A list that lies in a payload shows what stands there.
-use Rattle.std.proofs.Common.{◌≡◌, ◌<◌, ◌-◌, ℕ, zero, suc, List, [], ◌∷◌, ◌++◌, length, Some, Ok, Err, refl, sym, ap, subst, ◌∙◌, arith}
+use Rattle.std.proofs.Common.{◌≡◌, ◌<◌, ◌≤◌, ◌-◌, ℕ, zero, suc, List, [], ◌∷◌, ◌++◌, length, drop, Option, Some, None, Ok, Err, refl, sym, ap, subst, ◌∙◌, arith}
 use Rattle.std.specs.List.{flat_map}
 use Rattle.zk_jute.specs.declared.fault.ItemFault.{ItemFault}
 use Rattle.zk_jute.specs.declared.value.Nullable.TheVariants as nullable
-use Rattle.zk_jute.specs.Item.{Item, ACount}
+use Rattle.zk_jute.specs.Item.{Item, ACount, HaveBytes}
 use Rattle.zk_jute.specs.Layout.{Layout, Each, End}
 use Rattle.zk_jute.specs.Reading.{Read, Fails, Refuses, ◌>>=◌, read_map, end_of, size_at, times_at, items_at}
-use Rattle.zk_jute.specs.Values.{list_items}
-use Rattle.zk_jute.specs.Shown.{next_value, values_at}
-use Rattle.zk_jute.proofs.Fields.{list_some, elements_fail, refuses_fails}
+use Rattle.zk_jute.specs.Held.{Vector}
+use Rattle.zk_jute.specs.Told.{StandsAt}
+use Rattle.zk_jute.specs.Standing.{OneStands}
+use Rattle.zk_jute.specs.Wired.{Wired, vector}
+use Rattle.zk_jute.specs.Values.{list_items, list_unfolds}
+use Rattle.zk_jute.specs.Shown.{AllStand, next_value, values_at, list_at}
+use Rattle.zk_jute.proofs.Layouts.{items_again}
+use Rattle.zk_jute.proofs.Fields.{end_map, list_none, list_some, elements_fail, refuses_fails}
 
 module _ {X : Type 0} (items : X → List Item) (at : ℕ → Read X) (read : ℕ → Read (List Item)) (is : (place : ℕ) → read place ≡ read_map items (at place)) where
   -- what reading them gives is what they show, and where it ends
@@ -47,6 +52,43 @@ module _ {X : Type 0} (l : Layout) (items : X → List Item) (src : List ℕ) (a
       list_some l src place n start size
       ∙ ap (read_map (λ (inside : List Item). ACount (Some n) ∷ inside)) r.0
       ∙ ap (λ (m : ℕ). Ok (ACount (Some m) ∷ flat_map items xs, end)) (sym r.1)
+
+abbrev items_read : Read (List Item) → List Item
+items_read (Ok x) = x.0
+items_read (Err f) = []
+
+one_read : (read : Read (List Item)) (x y : List Item) (m n : ℕ) → read ≡ Ok (x, m) → read ≡ Ok (y, n) → x ≡ y
+one_read read x y m n a b = sym (ap items_read a) ∙ ap items_read b
+
+-- what is known of a list that stands somewhere, once its count is read
+module _ {X : Type 0} (w : Wired X) (src : List ℕ) (at : ℕ → Read X) (is : (place : ℕ) → items_at w.layout src place ≡ read_map w.items (at place)) (place : ℕ) (within : place ≤ length src) where
+  abbrev Stands : Vector X → ℕ → Type 0
+  Stands v end = HaveBytes (list_items w.items v) × StandsAt (list_items w.items v) src place end
+
+  abbrev read : Read (List Item)
+  read = items_at (Each w.layout End) src place
+
+  read_again : (v : Vector X) (end : ℕ) → Stands v end → read ≡ Ok (list_items w.items v, end)
+  read_again v end s =
+      items_again (Each w.layout End) src (list_items w.items v) (drop end src) place (list_unfolds w.layout w.items w.unfolds v) s.0 within s.1.0
+      ∙ ap (λ (n : ℕ). Ok (list_items w.items v, n)) (sym s.1.1)
+
+  module _ (n start : ℕ) (size : size_at src place ≡ Ok (Some n, start)) (v : Vector X) (end : ℕ) (s : Stands v end) where
+    times_end : end_of (times_at (items_at w.layout src) n start) ≡ Ok end
+    times_end =
+        sym (end_map (λ inside. ACount (Some n) ∷ inside) (times_at (items_at w.layout src) n start))
+        ∙ ap end_of (sym (list_some w.layout src place n start size) ∙ read_again v end s)
+
+  pub list_stands : (count : Option ℕ) (start : ℕ) → size_at src place ≡ Ok (count, start) → OneStands (list_items w.items) src place → AllStand at count start
+  list_stands None start size s = tt
+  list_stands (Some n) start size s = all_stand w.layout w.items src at is n start s.1 (times_end n start size s.0 s.1 (s.2, s.3))
+
+  pub list_is : (count : Option ℕ) (start : ℕ) → size_at src place ≡ Ok (count, start) → (v : Vector X) (end : ℕ) → HaveBytes (list_items w.items v) → StandsAt (list_items w.items v) src place end → list_at at count start ≡ v
+  list_is None start size v end have stands =
+      (vector w).tells_apart nullable.Null v (one_read read _ _ start end (list_none w.layout src place start size) (read_again v end (have, stands)))
+  list_is (Some n) start size v end have stands =
+      let shown = list_shows w.layout w.items src at is n start end (times_end n start size v end (have, stands)) place size in
+      (vector w).tells_apart (nullable.Full (values_at at n start)) v (one_read read _ _ end end shown (read_again v end (have, stands)))
 
 pub elements_refuse : (l : Layout) (src : List ℕ) (place n after : ℕ) (e : ItemFault) → size_at src place ≡ Ok (Some n, after) → Fails e (times_at (items_at l src) n after) → Refuses e (items_at (Each l End) src place)
 elements_refuse l src place n after e size h = refuses_fails e (items_at (Each l End) src place) (elements_fail l src place n after e size h)

@@ -21,7 +21,7 @@ pub use fault::{ItemFault, Reason, reason_name};
 pub use number::{bool_at, int_at, long_at};
 pub use output::Output;
 pub use payload::{known_flagged, read_flagged, scan_flagged};
-pub use series::{Element, Elements, Series, TextList};
+pub use series::{Element, Elements, Series, TextList, known_list};
 pub use source::{Kept, KnownPayload, Payload, PayloadOf, Source};
 pub use stands::{Form, Stands, end_of, read_ref};
 pub use value::{

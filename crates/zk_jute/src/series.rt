@@ -1,10 +1,14 @@
 //! Lists where they lie in a payload: they take no memory.
 ghost use Rattle.std.specs.Prelude.{◌≡◌, ◌≤◌, ◌↔◌, ℕ, List, length, Some, IsTrue, IsOk, IfOk, IfSome};
+ghost use Rattle.zk_jute.specs.Held.{Vector};
+ghost use Rattle.zk_jute.specs.Item.{HaveBytes};
+ghost use Rattle.zk_jute.specs.Told.{StandsAt};
 ghost use Rattle.std.specs.Iterator.{YieldsFirst, UpTo, item_count};
 ghost use Rattle.std.specs.Iterator.SizeHint.{IsWithinCount};
 ghost use Rattle.zk_jute.specs.Reading.{Read, Scans, items_at, read_map, times_at};
 ghost use Rattle.zk_jute.specs.Wired.{vector};
-ghost use Rattle.zk_jute.specs.Standing.{IsPlain, Known};
+ghost use Rattle.zk_jute.specs.Standing.{IsPlain, Known, OneStands};
+ghost use Rattle.zk_jute.specs.Values.{list_items};
 ghost use Rattle.zk_jute.specs.Shown.{AllStand, IsNull, count_of, elements_of, list_at, text_value, text_is_value};
 
 use crate::fault::ItemFault;
@@ -151,6 +155,16 @@ fn lying<'a, R: Element>(payload: &'a [u8], count: Option<usize>, place: usize) 
         place,
         of: PhantomData,
     }
+}
+
+/// The list that is known to stand at a place. It isn't walked to its end.
+pub fn known_list<'a, R: Element>(payload: &'a [u8], place: usize) -> Series<'a, R>
+    requires place { place ≤ length payload.now }
+    requires stands { OneStands (list_items R.wired.items) payload.now place }
+    ensures { (v : Vector R) (end : ℕ) → HaveBytes (list_items R.wired.items v) → StandsAt (list_items R.wired.items v) payload.now place end → result ≡ v }
+{
+    let (count, start) = size_at(payload, place).unwrap();
+    lying(payload, count, start)
 }
 
 #[tactic(auto, using(crate::proofs::Loops::scanning_goes_on, crate::proofs::Loops::scanning_ends))]
