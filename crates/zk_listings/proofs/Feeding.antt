@@ -105,3 +105,12 @@ module _ (listing : Listing) (old mid new : TalkState) (before during after : Li
       let joined : (h ++ on side (take at' bytes)) ++ on side (drop at' bytes) ≡ h ++ on side bytes =
       on-append side (take at' bytes) (drop at' bytes) h ∙ ap (λ b. h ++ on side b) (take-append-drop at' bytes) in
       (b.0, subst (λ z. Refuses new z (messages ++ b.0) fault) joined (r (h ++ on side (take at' bytes)) (messages ++ b.0) b.1), b.2)
+
+-- a step over a part of the bytes, and the message that is seen then, or none
+pub shown-more : (old from new : TalkState) (side : Side) (bytes piece : List ℕ) (at' used end : ℕ) (whole : Bool) (before during after : List ℕ) (seen : Option Message) → piece ≡ drop at' bytes → end ≡ at' + used →
+    Takes All old before (on side (take at' bytes)) None from during → Steps from side (take used piece) whole new → (kept_on side new ≡ [] → seen ≡ None) → ((m : Message) → Shows new side m → seen ≡ Some m) →
+    after ≡ during ++ text_of All (option_to_list seen) → Takes All old before (on side (take end bytes)) None new after
+shown-more old from new side bytes piece at' used end whole before during after seen is ends taken steps none only told =
+    let went = stepped-shows from side (take used piece) whole new steps seen none only in
+    let goes = subst (λ z. GoesOn from side (take used z) (option_to_list seen) new) is went in
+    subst (λ n. Takes All old before (on side (take n bytes)) None new after) (sym ends) (takes-more All old from new before during after side bytes at' taken used (option_to_list seen) goes told)

@@ -59,6 +59,8 @@ fn judge(talk: &mut Talk, side: Side, bytes: &[u8]) -> Option<Fault>
 
 /// Gives bytes of one side to the conversation, and appends the lines of its messages, each from
 /// where it lies.
+// By the quick step first, which takes 5% of the instructions off `show` of small messages. It is written out here and in
+// `judge`: a function of it for both gave `check` of small messages 2% more.
 fn list(
     talk: &mut Talk,
     side: Side,
@@ -70,9 +72,14 @@ fn list(
 {
     let mut at = 0;
     while at < bytes.len() {
-        match talk.step(side, rest(bytes, at)) {
-            Ok(stepped) => at += stepped.used,
-            Err(fault) => return Ok(Some(fault)),
+        let piece = rest(bytes, at);
+        if let Some(used) = talk.step_front(side, piece) {
+            at += used;
+        } else {
+            match talk.step(side, piece) {
+                Ok(stepped) => at += stepped.used,
+                Err(fault) => return Ok(Some(fault)),
+            }
         }
         tell(talk.view(side), lines)?;
     }
