@@ -248,7 +248,7 @@ def main():
     options = parser.parse_args()
     if options.library is None:
         options.library = CRATE / "out" / "libzk_c.a"
-        subprocess.run(["rt", "lib", "--jobs", "1"], cwd=CRATE, check=True, stdout=subprocess.DEVNULL)
+        subprocess.run(["rt", "lib"], cwd=CRATE, check=True, stdout=subprocess.DEVNULL)
     results = list(compare_header())
     with tempfile.TemporaryDirectory() as folder:
         for name, words in made(folder, options.library, kit_archive()):
