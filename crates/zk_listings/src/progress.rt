@@ -59,8 +59,8 @@ fn judge(talk: &mut Talk, side: Side, bytes: &[u8]) -> Option<Fault>
 
 /// Gives bytes of one side to the conversation, and appends the lines of its messages, each from
 /// where it lies.
-// By the quick step first, which takes 5% of the instructions off `show` of small messages. It is written out here and in
-// `judge`: a function of it for both gave `check` of small messages 2% more.
+// By the quick step first, which takes 4% of the instructions off `show` of small messages. It is written out here and in
+// `judge`: a function of it for both gave `check` of small messages 2% more instructions.
 fn list(
     talk: &mut Talk,
     side: Side,
