@@ -3,7 +3,7 @@ use Rattle.std.proofs.Common.{◌≡◌, ℕ, zero, suc, ◌+◌, ◌*◌, ◌/�
 use Rattle.std.specs.Prelude.{slice_index, ltb}
 use Rattle.std.specs.List.{AllByRecursion}
 use Rattle.std.proofs.lemmas.Bool.{agree_below, agree_below_at, eqb-true, ltb-true}
-use Rattle.std.proofs.lemmas.List.{length-map, get_or-map, get_or_append_left, get_or-append-add, drop_all, take-append-drop, length-take-le}
+use Rattle.std.proofs.lemmas.List.{length-map, get_or-map, get_or_append_left, get_or-append-add, drop_all, take-append-drop, length-take-le, take-take}
 use Rattle.std.proofs.Math.Seq.{drop-cons, take-append_seam}
 use Rattle.std.proofs.lemmas.Simd.{swz_l}
 use lib.Lanes.{Each1, pick_l}
@@ -32,16 +32,10 @@ encoded-take n v within =
     let long : length front ≡ 2 * n = length-encode_with lower_digits (take n v) ∙ ap (λ k. 2 * k) (length-take-le n v within) in
     ap (take (2 * n)) both ∙ ap (λ k. take k (front ++ behind)) (sym long) ∙ take-append_seam front behind
 
-pub take_first : (m n : ℕ) (v : List ℕ) → m ≤ n → take m v ≡ take m (take n v)
-take_first zero n v within = refl
-take_first (suc m) zero v within = absurd (omega (arith, within))
-take_first (suc m) (suc n) [] within = refl
-take_first (suc m) (suc n) (x ∷ v) within = ap (λ (l : List ℕ). x ∷ l) (take_first m n v (omega (arith, within)))
-
 -- of bytes that begin with some, as many as these
 pub front_of : (k count : ℕ) (v front behind : List ℕ) → v ≡ front ++ behind → count ≡ length front → count ≤ k → take count (take k v) ≡ front
 front_of k count v front behind is long within =
-    sym (take_first count k v within) ∙ ap (take count) is ∙ ap (λ n. take n (front ++ behind)) long ∙ take-append_seam front behind
+    take-take count k v within ∙ ap (take count) is ∙ ap (λ n. take n (front ++ behind)) long ∙ take-append_seam front behind
 
 -- ---- lane by lane
 

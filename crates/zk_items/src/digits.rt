@@ -33,20 +33,6 @@ fn pairs(bytes: u8x16) -> u8x32
     )
 }
 
-/// Appends the digits of the bytes one by one.
-fn put_few(out: &mut Vec<u8>, bytes: &[u8]) -> Result<(), AllocError>
-    ensures spelled { OnOk result (out.new.items ≡ out.old.items ++ encode_lower bytes.now) }
-    ensures keeps { Keeps out.old.items out.new.items }
-{
-    let start = out.len();
-    let room = bytes.len().saturating_mul(2);
-    out.resize(start.saturating_add(room), 0)?;
-    match hex::encode_to_slice(bytes, &mut out[start..]) {
-        Ok(()) => Ok(()),
-        Err(_) => Err(AllocError),
-    }
-}
-
 /// Writes the digits of the sixteen bytes from a place on, at twice that place.
 #[inline(always)]
 fn write_block(room: &mut [u8], bytes: &[u8], at: usize)
@@ -74,6 +60,18 @@ fn write_blocks(room: &mut [u8], bytes: &[u8])
     }
 }
 
+/// Writes two lower-case digits for each byte.
+fn write_digits(room: &mut [u8], bytes: &[u8])
+    requires { length room.old ≡ 2 * length bytes.now }
+    ensures { room.new ≡ encode_lower bytes.now }
+{
+    if bytes.len() < 16 {
+        hex::encode_to_slice(bytes, room).unwrap();
+    } else {
+        write_blocks(room, bytes);
+    }
+}
+
 /// Appends two lower-case digits for each byte.
 // Room is made once, and the digits are written where they stay: a block takes 17 instructions, and 25 where four blocks'
 // digits were appended at once.
@@ -81,13 +79,10 @@ pub fn put_digits(out: &mut Vec<u8>, bytes: &[u8]) -> Result<(), AllocError>
     ensures spelled { OnOk result (out.new.items ≡ out.old.items ++ encode_lower bytes.now) }
     ensures keeps { Keeps out.old.items out.new.items }
 {
-    if bytes.len() < 16 {
-        return put_few(out, bytes);
-    }
     let start = out.len();
     let room = bytes.len().checked_mul(2).ok_or(AllocError)?;
     let end = start.checked_add(room).ok_or(AllocError)?;
     out.resize(end, 0)?;
-    write_blocks(&mut out[start..], bytes);
+    write_digits(&mut out[start..], bytes);
     Ok(())
 }

@@ -1,7 +1,7 @@
 use Rattle.std.proofs.Common.{◌≡◌, ◌+◌, ◌*◌, ◌%◌, ◌++◌, List, ℕ, length, take, drop, sym, ap, ◌∙◌, take_all, take-add, arith}
-use Rattle.std.proofs.lemmas.List.{length-take-le}
+use Rattle.std.proofs.lemmas.List.{length-take-le, take-take}
 use Rattle.hex.specs.Hex.{encode_lower}
-use Rattle.zk_items.proofs.Lanes.{encoded-append, encoded-take, take_first}
+use Rattle.zk_items.proofs.Lanes.{encoded-append, encoded-take}
 use Rattle.zk_items.proofs.digits.write_blocks.Goals as goal
 
 pub loop-at-init : goal.loop-at-init
@@ -13,8 +13,8 @@ loop-at-init c =
       within = omega arith;
       whole = omega arith;
       room = c.write_block.ensures.room ∙ c.requires.room;
-      written = take_first (2 * few) 32 c.write_block.new.room (omega arith) ∙ ap (take (2 * few)) c.write_block.ensures.written
-          ∙ encoded-take few block (omega (arith, length-take-le 16 bytes (omega arith))) ∙ ap encode_lower (sym (take_first few 16 bytes (omega arith)));
+      written = sym (take-take (2 * few) 32 c.write_block.new.room (omega arith)) ∙ ap (take (2 * few)) c.write_block.ensures.written
+          ∙ encoded-take few block (omega (arith, length-take-le 16 bytes (omega arith))) ∙ ap encode_lower (take-take few 16 bytes (omega arith));
     }
 
 pub loop-at-preserved : goal.loop-at-preserved
