@@ -91,6 +91,22 @@ impl Frames {
         answer(advance.standing, advance.used)
     }
 
+    /// How many bytes the whole frame has that the piece begins with, where no byte is held; None says no more. Nothing is
+    /// taken.
+    #[inline(always)]
+    pub fn front(&self, piece: &[u8]) -> Option<usize>
+        ensures { IfSome result (λ used. IsFront self.now.bytes piece.now used (record { limit = self.now.limit; bytes = take used piece.now })) }
+    {
+        if !self.bytes.is_empty() {
+            return None;
+        }
+        let front = cut(self.limit, &self.bytes, piece);
+        match front.standing {
+            Standing::Whole => Some(front.used),
+            _ => None,
+        }
+    }
+
     /// Takes the whole frame that the piece begins with, where no byte is held; else nothing, and None says no more.
     // Most frames come so: 4% fewer instructions in `check` on small messages than by `take`.
     #[inline(always)]
@@ -99,18 +115,10 @@ impl Frames {
         ensures some { IfSome result (λ used. IsFront self.old.bytes piece.now used self.new) }
         ensures none { IfNone result (self.new ≡ self.old) }
     {
-        if !self.bytes.is_empty() {
-            return None;
-        }
-        let front = cut(self.limit, &self.bytes, piece);
-        match front.standing {
-            Standing::Whole => {
-                append(&mut self.bytes, &piece[..front.used]);
-                self.standing = Standing::Whole;
-                Some(front.used)
-            }
-            _ => None,
-        }
+        let used = self.front(piece)?;
+        append(&mut self.bytes, &piece[..used]);
+        self.standing = Standing::Whole;
+        Some(used)
     }
 
     /// What the whole frame carries.

@@ -38,3 +38,7 @@ passed s used = record s { held = []; count = s.count + 1; size = s.size + used 
 -- it is counted and kept
 abbrev pub kept_now : StreamState → ℕ → StreamState
 kept_now s used = record s { held = []; kept = s.held; count = s.count + 1; size = s.size + used }
+
+-- these bytes are held of a frame that isn't counted
+abbrev pub held_in : StreamState → List ℕ → StreamState
+held_in s bytes = record s { held = bytes }

@@ -1,14 +1,14 @@
 //! Whole frames: each is decided, and then kept or done with.
-ghost use Rattle.std.specs.Prelude.{◌≡◌, ◌≢◌, ◌<◌, ◌↔◌, ℕ, drop, IfOk, IfErr, IfSome, IfNone, OnOk, IsTrue, false};
+ghost use Rattle.std.specs.Prelude.{◌≡◌, ◌≢◌, ◌<◌, ◌≤◌, ◌↔◌, ℕ, [], length, take, drop, IfOk, IfErr, IfSome, IfNone, OnOk, IsTrue, false};
 ghost use Rattle.zk_jute.specs.declared.fault.Reason.TheVariants.{NoMemory};
 ghost use Rattle.zk_asks.specs.Held as asks;
 ghost use Rattle.zk_answers.specs.Held as answers;
 ghost use Rattle.zk_talk.specs.Judged.{KeepsClient, KeepsServer, TellsClient, TellsServer, IsNextClient, IsNextServer, HasNextClient, HasNextServer, IsRemembered, IsForgotten};
-ghost use Rattle.zk_talk.specs.Streams.{IsAtFrame, TakenBack, passed, kept_now};
+ghost use Rattle.zk_talk.specs.Streams.{IsAtFrame, TakenBack, passed, kept_now, held_in};
 ghost use Rattle.zk_talk.specs.Viewed.{answered_by};
 
 use crate::judge::{await_front, await_reply, forget_front, forget_seen, next_client, next_server};
-use crate::stream::Stream;
+use crate::stream::{Stream, carried};
 use std::alloc::Global;
 use zk_answers::{ServerFrame, ServerFrameOf, ServerRef};
 use zk_asks::ClientFrame;
@@ -45,6 +45,31 @@ pub fn keep_client(
         return false;
     }
     stream.keep(used);
+    true
+}
+
+/// The client's frame that the first bytes of the piece are, so many, is passed where it is a request that may come under
+/// this profile; else all is as before, and no fault is told. Nothing of it is held.
+#[inline(always)]
+pub fn pass_client(
+    profile: Profile,
+    stream: &mut Stream,
+    waiting: &mut Waiting,
+    piece: &[u8],
+    used: usize,
+) -> bool
+    requires part { used ≤ length piece.now }
+    requires front { IsAtFrame (held_in stream.old (take used piece.now)) used }
+    requires none { (stream.old.held ≡ []) × (stream.old.kept ≡ []) }
+    ensures max { waiting.new.max ≡ waiting.old.max }
+    ensures found { IsTrue result → (f : asks.ClientFrame) × IsNextClient profile stream.old.count waiting.old (drop 4 (take used piece.now)) f × IsRemembered f waiting.old waiting.new }
+    ensures passed { IsTrue result → stream.new ≡ passed stream.old used }
+    ensures same { result ≡ false → (waiting.new ≡ waiting.old) × (stream.new ≡ stream.old) }
+{
+    if !await_front(profile, stream.count(), waiting, carried(piece, used)) {
+        return false;
+    }
+    stream.pass_front(used);
     true
 }
 
@@ -128,6 +153,28 @@ pub fn keep_server(stream: &mut Stream, waiting: &mut Waiting, used: usize) -> O
 {
     let op = forget_front(stream.count(), waiting, stream.payload())?;
     stream.keep(used);
+    Some(op)
+}
+
+/// The server's frame that the first bytes of the piece are, so many, is passed where it is a reply that may come, and the
+/// answer is the operation whose request it answers; else all is as before, and no fault is told. Nothing of it is held.
+#[inline(always)]
+pub fn pass_server(
+    stream: &mut Stream,
+    waiting: &mut Waiting,
+    piece: &[u8],
+    used: usize,
+) -> Option<Op>
+    requires part { used ≤ length piece.now }
+    requires front { IsAtFrame (held_in stream.old (take used piece.now)) used }
+    requires none { (stream.old.held ≡ []) × (stream.old.kept ≡ []) }
+    ensures max { waiting.new.max ≡ waiting.old.max }
+    ensures found { (asked : ℕ) → IfSome result (λ op. (s : answers.ServerFrame) × IsNextServer asked stream.old.count waiting.old (drop 4 (take used piece.now)) s × IsForgotten s waiting.old waiting.new) }
+    ensures passed { IfSome result (λ op. stream.new ≡ passed stream.old used) }
+    ensures same { IfNone result ((waiting.new ≡ waiting.old) × (stream.new ≡ stream.old)) }
+{
+    let op = forget_front(stream.count(), waiting, carried(piece, used))?;
+    stream.pass_front(used);
     Some(op)
 }
 

@@ -2,7 +2,7 @@
 ghost use Rattle.std.specs.Prelude.{◌≡◌, ◌≤◌, ◌<◌, ◌+◌, ◌^◌, ◌++◌, ℕ, List, [], length, take, IfOk, IfSome, IfNone, MatchOption};
 ghost use Rattle.zk_frames.specs.Framing.{frame, IsBeginning, IsFrame};
 ghost use Rattle.zk_talk.specs.Advance.{IsAdvance};
-ghost use Rattle.zk_talk.specs.Streams.{IsAtFrame, TakenBack, passed, kept_now};
+ghost use Rattle.zk_talk.specs.Streams.{IsAtFrame, TakenBack, passed, kept_now, held_in};
 ghost use Rattle.zk_talk.specs.declared.stream.Advance.TheVariants.{Within, Whole};
 
 use std::alloc::{AllocError, Global};
@@ -64,6 +64,16 @@ fn front(piece: &[u8], used: usize) -> &[u8]
     ensures { result.now ≡ take used piece.now }
 {
     &piece[..used]
+}
+
+/// What the frame carries that the first bytes of the piece are, so many.
+#[inline(always)]
+pub fn carried(piece: &[u8], used: usize) -> &[u8]
+    requires part { used ≤ length piece.now }
+    requires whole { (limit : ℕ) × IsFrame limit (take used piece.now) }
+    ensures { take used piece.now ≡ frame result.now }
+{
+    &piece[4..used]
 }
 
 /// What the piece does to the frame of a side of so many bytes.
@@ -188,6 +198,18 @@ impl Stream {
         go_forward(&mut self.frames, self.size, piece)
     }
 
+    /// How many bytes the whole frame has that the piece begins with, where no byte is held; None says no more. Nothing is
+    /// taken.
+    #[inline(always)]
+    pub fn front(&self, piece: &[u8]) -> Option<usize>
+        requires given_up { self.now.kept ≡ [] }
+        requires size { self.now.size < 2 ^ 62 }
+        ensures { IfSome result (λ used. (self.now.held ≡ []) × IsAdvance self.now.limit self.now.size self.now.held piece.now (Whole used) (take used piece.now)) }
+    {
+        let room = within(self.size, piece);
+        self.frames.front(front(piece, room))
+    }
+
     /// Takes the whole frame that the piece begins with, where no byte is held; else nothing, and None says no more.
     #[inline(always)]
     pub fn take_front(&mut self, piece: &[u8]) -> Option<usize>
@@ -223,6 +245,17 @@ impl Stream {
         ensures { self.new ≡ passed self.old used }
     {
         self.frames.drop_frame();
+        self.count += 1;
+        self.size += used as u64;
+    }
+
+    /// A whole frame of so many bytes, of which none was held, is counted and done with.
+    #[inline(always)]
+    pub fn pass_front(&mut self, used: usize)
+        requires none { (self.old.held ≡ []) × (self.old.kept ≡ []) }
+        requires fits { (self.old.size + used < 2 ^ 62) × (self.old.count ≤ self.old.size) }
+        ensures { self.new ≡ passed self.old used }
+    {
         self.count += 1;
         self.size += used as u64;
     }

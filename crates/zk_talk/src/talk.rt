@@ -1,5 +1,5 @@
 //! The conversation, as it comes.
-ghost use Rattle.std.specs.Prelude.{false, true, ◌≡◌, ◌≢◌, ◌≤◌, ◌+◌, List, [], length, take, Some, None, Err, IsOk, IfOk, IfErr, OnErr, IfSome, IfNone, MatchOption};
+ghost use Rattle.std.specs.Prelude.{false, true, ◌≡◌, ◌≢◌, ◌≤◌, ◌+◌, List, [], ◌∷◌, length, take, Some, None, Err, IsOk, IfOk, IfErr, OnErr, IfSome, IfNone, MatchOption};
 ghost use Rattle.std.specs.Option.{option_to_list};
 ghost use Rattle.zk_jute.specs.declared.fault.Reason.TheVariants.{NoMemory};
 ghost use Rattle.zk_talk.specs.declared.message.Fault.{Fault};
@@ -17,7 +17,8 @@ ghost use Rattle.zk_talk.specs.Viewed.{Shows, Leaves, other_side};
 ghost use Rattle.zk_talk.specs.Taking.{TakesOn, StepsOn, IsRefused, Fails, given_up};
 
 use crate::frame::{
-    client_frame, client_step, keep_client, keep_server, server_frame, server_step,
+    client_frame, client_step, keep_client, keep_server, pass_client, pass_server, server_frame,
+    server_step,
 };
 use crate::limits::Limits;
 use crate::message::{Ending, Fault, Message, MessageOf, MessageRef, Side};
@@ -185,6 +186,36 @@ impl Talk {
         }
     }
 
+    /// Passes the side's whole frame that the piece begins with, where none is begun and it may come; else all is as before,
+    /// and None says no more.
+    // The frame isn't copied: a tenth of the time of `check` on small messages.
+    #[inline(always)]
+    fn pass(&mut self, side: Side, piece: &[u8]) -> Option<usize>
+        requires good { self.old.fault ≡ None }
+        requires given_up { kept_on side self.old ≡ [] }
+        ensures limits { self.new.limits ≡ self.old.limits }
+        ensures some { IfSome result (λ used. (m : Message) × TakesOn self.old side piece.now used (m ∷ []) self.new) }
+        ensures other { Leaves (other_side side) self.old self.new }
+        ensures given_up { kept_on side self.new ≡ [] }
+        ensures none { IfNone result (self.new ≡ self.old) }
+    {
+        match side {
+            Side::Client => {
+                let used = self.client.front(piece)?;
+                let profile = self.limits.profile();
+                if !pass_client(profile, &mut self.client, &mut self.waiting, piece, used) {
+                    return None;
+                }
+                Some(used)
+            }
+            Side::Server => {
+                let used = self.server.front(piece)?;
+                pass_server(&mut self.server, &mut self.waiting, piece, used)?;
+                Some(used)
+            }
+        }
+    }
+
     #[inline(never)]
     fn exact(&mut self, side: Side, piece: &[u8]) -> Result<Stepped, Fault>
         requires good { self.old.fault ≡ None }
@@ -260,6 +291,29 @@ impl Talk {
             return None;
         }
         self.front(side, piece)
+    }
+
+    /// Passes the whole frame that the piece begins with, where none is begun and it is seen at once that it may come: the
+    /// answer is how many of the piece's bytes were used. The frame isn't kept. None says no more, and `step` or `take`
+    /// decides what comes.
+    #[inline(always)]
+    pub fn pass_front(&mut self, side: Side, piece: &[u8]) -> Option<usize>
+        ensures limits { self.new.limits ≡ self.old.limits }
+        // What is used goes on with the history, by one message.
+        ensures some { IfSome result (λ used. (m : Message) × TakesOn self.old side piece.now used (m ∷ []) self.new) }
+        // The other side's frame stays as it is, and shows what it shows.
+        ensures other { Leaves (other_side side) self.old self.new }
+        // What was kept on the side is given up.
+        ensures given_up { kept_on side self.new ≡ [] }
+        // Otherwise no byte is used, and nothing else changes.
+        ensures none { IfNone result ((h : History) (M : List Message) → Stands self.old h M → Stands self.new h M) }
+        ensures same { IfNone result (self.new ≡ given_up side self.old) }
+    {
+        self.give_up(side);
+        match self.fault {
+            None => self.pass(side, piece),
+            Some(_) => None,
+        }
     }
 
     /// Takes the piece up to the end of the first frame that becomes whole, or all of it. What is

@@ -1,4 +1,4 @@
-use Rattle.std.proofs.Common.{inr, length, true, take, refl, ap, ◌∙◌, subst, sym, arith, length-drop, None}
+use Rattle.std.proofs.Common.{inr, length, take, ◌∷◌, [], refl, ap, ◌∙◌, subst, sym, arith, length-drop, None}
 use Rattle.std.proofs.lemmas.List.{append-nil, take_all}
 use Rattle.zk_talk.specs.History.{on}
 use Rattle.zk_talk.specs.Taking.{GoesOn, IsRefused}
@@ -19,18 +19,18 @@ loop-at-preserved-in-Some c =
     let l = c.loop-at in
     let o = c.in-Some.ensures.some in
     let used = c.in-Some.used in
-    let went = stepped-goes l.talk c.args.side (take used c.rest-piece.result.now) true c.step_front.new.self o.2 in
-    let goes = subst (λ z. GoesOn l.talk c.args.side (take used z) went.0 c.step_front.new.self) c.rest-piece.ensures went.1 in
+    let went = o.0 ∷ [] in
+    let goes = subst (λ z. GoesOn l.talk c.args.side (take used z) went c.pass_front.new.self) c.rest-piece.ensures o.1.2 in
     record {
-      within = omega (arith, o.0, ap length c.rest-piece.ensures, length-drop l.at c.args.bytes.now);
+      within = omega (arith, o.1.0, ap length c.rest-piece.ensures, length-drop l.at c.args.bytes.now);
       limits = c.in-Some.ensures.limits ∙ l.invariant.limits;
-      taken = λ lines. takes-more Last c.args.talk.now l.talk c.step_front.new.self lines lines lines c.args.side c.args.bytes.now l.at (l.invariant.taken lines) used went.0 goes (sym (append-nil lines));
+      taken = λ lines. takes-more Last c.args.talk.now l.talk c.pass_front.new.self lines lines lines c.args.side c.args.bytes.now l.at (l.invariant.taken lines) used went goes (sym (append-nil lines));
     }
 
 pub returns-in-Err-clause-taken : goal.returns-in-Err-clause-taken
 returns-in-Err-clause-taken c =
     let l = c.loop-at in
-    let mid = c.step_front.new.self in
+    let mid = c.pass_front.new.self in
     let e = c.in-Err.ensures.err in
     let refused = subst (λ z. IsRefused mid c.args.side z c.in-Err.fault c.step.new.self) c.rest-piece.ensures e.1 in
     λ lines.
@@ -40,7 +40,7 @@ returns-in-Err-clause-taken c =
 pub loop-at-preserved : goal.loop-at-preserved
 loop-at-preserved c =
     let l = c.loop-at in
-    let mid = c.step_front.new.self in
+    let mid = c.pass_front.new.self in
     let o = c.in-Ok.ensures.ok in
     let s = c.in-Ok.stepped in
     let went = stepped-goes mid c.args.side (take s.used c.rest-piece.result.now) s.whole c.step.new.self o.2 in

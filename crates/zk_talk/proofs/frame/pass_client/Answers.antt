@@ -1,0 +1,15 @@
+use Rattle.std.proofs.Common.{take}
+use Rattle.zk_talk.specs.Streams.{held_in}
+use Rattle.zk_talk.proofs.Seen.{client_seen}
+use Rattle.zk_talk.proofs.Settling.{room_before}
+use Rattle.zk_talk.proofs.frame.pass_client.Goals as goal
+
+pub returns-clause-found : goal.returns-clause-found
+returns-clause-found c = λ yes.
+    let found = c.await_front.ensures.found c.if-not-await_front.false in
+    let f = found.0 in
+    let k = found.1 in
+    let old = held_in c.args.stream.now (take c.args.used c.args.piece.now) in
+    let w = c.args.waiting.now in
+    let next = client_seen old c.args.used c.count.result c.requires.front c.carried.result.now c.carried.ensures c.count.ensures w c.args.profile f k.turn k.sent k.is (room_before f w c.await_front.new.waiting k.waits) in
+    (f, next, k.waits)
