@@ -165,7 +165,6 @@ fn result_end(payload: &[u8], place: usize, op: PartOp) -> Option<usize>
 }
 
 /// The place after a part's own result behind its header.
-#[inline(always)]
 fn own_end(src: &Payload<'_>, place: usize, op: PartOp) -> Result<usize, ItemFault>
     requires { place ≤ length src.now.bytes.now }
     ensures found { IfOk result (λ end. IsResultAt op src.now.bytes.now place end) }
@@ -230,8 +229,6 @@ pub(crate) fn lying<'a>(payload: &'a [u8], count: usize, place: usize) -> DoneLi
 }
 
 /// What became of each part of what was asked, and the place behind the end marker.
-// A loop of its own keeps its registers.
-#[inline(never)]
 pub(crate) fn results_ref<'a, F: Asked>(
     src: &Payload<'a>,
     place: usize,

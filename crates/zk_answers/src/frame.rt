@@ -28,7 +28,6 @@ impl Model for Failure {
 
 impl Failure {
     /// The error of the number; None for 0, which says that nothing failed.
-    #[inline(always)]
     pub fn new(number: i32) -> Option<Self>
         ensures some { IfSome result (λ f. (f ≡ number) × (number ≢ pos 0)) }
         ensures none { IfNone result (number ≡ pos 0) }
@@ -143,7 +142,6 @@ pub type ServerFrame = ServerFrameOf<Text, Blob, Body>;
 /// ServerFrame where it lies in a payload.
 pub type ServerRef<'a> = ServerFrameOf<TextRef<'a>, BlobRef<'a>, BodyRef<'a>>;
 
-#[inline(always)]
 fn op_of<T, B, L, A, M>(body: &BodyOf<T, B, L, A, M>) -> Op
     ensures { result ≡ op_of_body body.now }
 {
@@ -169,7 +167,6 @@ fn op_of<T, B, L, A, M>(body: &BodyOf<T, B, L, A, M>) -> Op
 
 impl<T, B, L, A, M> ReplyOf<BodyOf<T, B, L, A, M>> {
     /// The operation that is answered.
-    #[inline(always)]
     pub fn op(&self) -> Op
         ensures { result ≡ op_of_reply self.now }
     {

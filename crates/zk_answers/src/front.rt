@@ -14,6 +14,7 @@ use zk_records::{AclBodyRef, ChildrenBodyRef, CreateBodyRef, DataBodyRef, Op, Re
 pub(crate) const HEADER: usize = 16;
 
 /// The place after the body of a reply to an operation that has no parts; None says no more.
+// As in front.rt of zk_asks.
 #[inline(always)]
 fn body_end(payload: &[u8], place: usize, op: Op) -> Option<usize>
     requires { place ≤ length payload.now }
@@ -33,8 +34,6 @@ fn body_end(payload: &[u8], place: usize, op: Op) -> Option<usize>
 }
 
 /// Whether the results of the parts of what was asked stand from the place on, and end the payload; false says no more.
-// Out of line, so that all other replies keep their registers.
-#[inline(never)]
 fn front_results<F: Asked>(form: &F, payload: &[u8], place: usize) -> bool
     requires { place ≤ length payload.now }
     ensures { IsTrue result → (b : Body) × IsBodyAt (F.operation form.now) (F.part_ops form.now) b payload.now place (length payload.now) }

@@ -17,7 +17,6 @@ use zk_jute::{ItemFault, int_at, long_at};
 use zk_records::{Own, ReplyHeader};
 
 /// The header that a reply and an event begin with (`ReplyHeader`); it takes no memory.
-#[inline(always)]
 pub fn reply_head(payload: &[u8]) -> Result<ReplyHeader, ItemFault>
     // The payload begins with it.
     ensures found { IfOk result (λ header. (rest : List ℕ) × IsHead payload.now header rest) }

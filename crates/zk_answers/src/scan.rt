@@ -25,8 +25,6 @@ use zk_records::{
 
 /// The body of a reply to what was asked, and the place behind it; it is judged, or known to stand there.
 #[tactic(auto, unfolding(zk_jute::specs::Told::IsToldAt))]
-// As in scan.rt of zk_asks.
-#[inline(always)]
 pub(crate) fn body_ref<'a, F: Asked, const KNOWN: bool>(
     src: &PayloadOf<'a, KNOWN>,
     place: usize,
@@ -74,7 +72,6 @@ pub(crate) fn body_ref<'a, F: Asked, const KNOWN: bool>(
 }
 
 /// What a header with this err leaves: a failure and no more, or the body.
-#[inline(always)]
 fn outcome_ref<'a, F: Asked>(
     src: &Payload<'a>,
     place: usize,
@@ -117,7 +114,6 @@ pub fn scan_connected<'a>(payload: &'a [u8]) -> Result<ServerRef<'a>, ItemFault>
 }
 
 /// The reply under this header to what was asked: what stands behind the header is judged.
-#[inline(always)]
 fn reply_in<'a, F: Asked>(
     form: &F,
     head: &ReplyHeader,
@@ -141,7 +137,6 @@ fn reply_in<'a, F: Asked>(
 
 /// The reply under this header, which was read of the payload, to what was asked, where it lies: decides as `scan_reply`
 /// does, and reads the header no second time.
-#[inline(always)]
 pub fn scan_reply_under<'a, F: Asked>(
     form: &F,
     head: &ReplyHeader,

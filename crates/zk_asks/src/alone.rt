@@ -15,22 +15,18 @@ impl Asked for Alone {
 
     ghost part_ops = { λ a. [] };
 
-    #[inline(always)]
     fn op(&self) -> Op {
         self.op
     }
 
-    #[inline(always)]
     fn parts(&self) -> u32 {
         0
     }
 
-    #[inline(always)]
     fn part(&self, _j: u32) -> Option<PartOp> {
         None
     }
 
-    #[inline(always)]
     fn put_ops<R: Room>(&self, _room: &mut R) {}
 
     ghost lawful = { λ a other. refl };

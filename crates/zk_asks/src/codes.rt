@@ -7,7 +7,6 @@ use zk_records::Op;
 /// Whether a request of the operation may have the xid: -1 is that of events, -2 that of pings
 /// and of nothing else, -4 that of auths likewise, and under -8 comes setWatches alone
 /// (`ClientCnxn`).
-#[inline(always)]
 pub fn allowed(xid: i32, op: Op) -> bool
     ensures { IsTrue result ↔ IsAllowed xid op }
 {

@@ -53,6 +53,7 @@ impl<'a> PartList<'a> {
     }
 
     /// The parts, in order.
+    // As `op_of` of zk_records.
     #[inline(always)]
     pub fn items(&self) -> PartItems<'a>
         ensures { result ≡ self.now }
@@ -167,6 +168,7 @@ fn part_end(payload: &[u8], place: usize, op: PartOp) -> Option<usize>
 }
 
 /// The place after the record of a part, judged or known to stand there.
+// As `op_of` of zk_records.
 #[inline(always)]
 fn record_end<const KNOWN: bool>(
     src: &PayloadOf<'_, KNOWN>,
@@ -252,8 +254,6 @@ fn lying<'a>(payload: &'a [u8], count: usize, place: usize) -> PartList<'a>
 }
 
 /// The parts from a place on, judged or known to stand there, and the place behind the end marker.
-// A loop of its own keeps its registers.
-#[inline(never)]
 pub(crate) fn multi_ref<'a, const KNOWN: bool>(
     src: &PayloadOf<'a, KNOWN>,
     place: usize,

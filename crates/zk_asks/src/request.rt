@@ -25,8 +25,6 @@ fn op_at(list: &PartList<'_>, j: u32) -> Option<PartOp>
 }
 
 /// Puts the operations of all parts that are left behind what is in the room.
-// Out of line, so that the request that is looked at stays in registers.
-#[inline(never)]
 fn put_all<'a, R: Room>(parts: PartItems<'a>, room: &mut R)
     requires { length (R.ops room.old) + length (map op_of_part parts) ≤ R.room room.old }
     ensures put { R.ops room.new ≡ R.ops room.old ++ map op_of_part parts.entry }
@@ -51,12 +49,10 @@ impl<'a> Asked for MultiRef<'a> {
 
     ghost part_ops = { λ m. map op_of_part m.list };
 
-    #[inline(always)]
     fn op(&self) -> Op {
         Op::Multi
     }
 
-    #[inline(always)]
     fn parts(&self) -> u32 {
         self.list.count() as u32
     }
@@ -65,7 +61,6 @@ impl<'a> Asked for MultiRef<'a> {
         op_at(&self.list, j)
     }
 
-    #[inline(always)]
     fn put_ops<R: Room>(&self, room: &mut R) {
         put_all(self.list.items(), room);
     }
@@ -83,7 +78,6 @@ pub struct RequestRef<'b, 'a> {
 
 impl<'b, 'a> RequestRef<'b, 'a> {
     /// The request, which has fewer than 4,294,967,296 parts.
-    #[inline(always)]
     pub fn of(ask: &'b AskRef<'a>) -> Self
         requires { length (ops_of_ask ask.now) < 2 ^ 32 }
         ensures { result.ask.now ≡ ask.now }
@@ -97,12 +91,10 @@ impl<'b, 'a> Asked for RequestRef<'b, 'a> {
 
     ghost part_ops = { λ r. ops_of_ask r.ask.now };
 
-    #[inline(always)]
     fn op(&self) -> Op {
         self.ask.op()
     }
 
-    #[inline(always)]
     fn parts(&self) -> u32 {
         match self.ask {
             AskOf::Multi(parts) => parts.count() as u32,
@@ -117,7 +109,6 @@ impl<'b, 'a> Asked for RequestRef<'b, 'a> {
         op_at(parts, j)
     }
 
-    #[inline(always)]
     fn put_ops<R: Room>(&self, room: &mut R) {
         let AskOf::Multi(parts) = self.ask else {
             return;

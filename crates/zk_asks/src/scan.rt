@@ -21,9 +21,7 @@ use zk_records::{
 
 /// The record of an operation, judged or known to stand there.
 #[tactic(auto, using(crate::proofs::Lying::fields_lying))]
-// As in number.rt of zk_jute; but a build passes over the hint on `body_ref`, for its size. A step asks front.rt first, which
-// makes no record.
-#[inline(always)]
+// A step asks front.rt first, which makes no record.
 pub(crate) fn body_ref<'a, const KNOWN: bool>(
     src: &PayloadOf<'a, KNOWN>,
     place: usize,
@@ -64,7 +62,6 @@ pub(crate) fn body_ref<'a, const KNOWN: bool>(
     }
 }
 
-#[inline(always)]
 fn ask_ref<'a>(profile: Profile, src: &Payload<'a>) -> Result<ClientRef<'a>, ItemFault>
     ensures found { IfOk result (λ f. IsLater f × IsOfProfile profile f × IsSent f × (src.now.bytes.now ≡ frames.payload f)) }
     ensures fault { IfErr result (IsSurelyTold (IsAskFault profile src.now.bytes.now)) }
@@ -88,7 +85,6 @@ fn ask_ref<'a>(profile: Profile, src: &Payload<'a>) -> Result<ClientRef<'a>, Ite
 
 /// A later payload of a client where it lies: decides as `read_ask` does, takes no memory, and
 /// never answers `NoMemory`.
-#[inline(always)]
 pub fn scan_ask<'a>(profile: Profile, payload: &'a [u8]) -> Result<ClientRef<'a>, ItemFault>
     // What is read has the form, and is the payload's one value.
     ensures found { IfOk result (λ f. IsLater f × IsOfProfile profile f × IsSent f × (payload.now ≡ frames.payload f)) }

@@ -93,6 +93,7 @@ impl Frames {
 
     /// How many bytes the whole frame has that the piece begins with, where no byte is held; None says no more. Nothing is
     /// taken.
+    // As in cutter.rt.
     #[inline(always)]
     pub fn front(&self, piece: &[u8]) -> Option<usize>
         ensures { IfSome result (λ used. IsFront self.now.bytes piece.now used (record { limit = self.now.limit; bytes = take used piece.now })) }
@@ -108,7 +109,7 @@ impl Frames {
     }
 
     /// Takes the whole frame that the piece begins with, where no byte is held; else nothing, and None says no more.
-    // Most frames come so: 4% fewer instructions in `check` on small messages than by `take`.
+    // As in cutter.rt.
     #[inline(always)]
     pub fn take_front(&mut self, piece: &[u8]) -> Option<usize>
         ensures limit { self.new.limit ≡ self.old.limit }

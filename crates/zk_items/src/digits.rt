@@ -9,7 +9,6 @@ use std::alloc::AllocError;
 use std::simd::prelude::*;
 
 /// The lower-case digit of each value.
-#[inline(always)]
 fn digits(values: u8x16) -> u8x16
     requires { AllByRecursion (λ n. n < 16) values }
     ensures { result ≡ map hex_digit values }
@@ -18,7 +17,6 @@ fn digits(values: u8x16) -> u8x16
 }
 
 /// The two digits of each byte, side by side.
-#[inline(always)]
 fn pairs(bytes: u8x16) -> u8x32
     ensures { result ≡ encode_lower bytes }
 {
@@ -34,7 +32,6 @@ fn pairs(bytes: u8x16) -> u8x32
 }
 
 /// Writes the digits of the sixteen bytes from a place on, at twice that place.
-#[inline(always)]
 fn write_block(room: &mut [u8], bytes: &[u8], at: usize)
     requires block { at + 16 ≤ length bytes.now }
     requires room { length room.old ≡ 2 * length bytes.now }

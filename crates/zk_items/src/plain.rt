@@ -7,7 +7,6 @@ use crate::symbol::is_plain;
 use std::simd::prelude::*;
 
 /// How many bytes of a vector come before the first that isn't plain.
-#[inline(always)]
 fn plain_in<const N: usize>(v: Simd<u8, N>) -> usize
     requires { N ≤ 64 }
     ensures { result ≡ prefix_len is_plain v.entry }
@@ -25,7 +24,6 @@ fn plain_in<const N: usize>(v: Simd<u8, N>) -> usize
 }
 
 /// The length of the run of plain bytes in front, seen N at a time. The last look takes in some bytes again.
-#[inline(always)]
 fn plain_by<const N: usize>(bytes: &[u8]) -> usize
     requires some { (0 < N) × (N ≤ 64) }
     requires room { N ≤ length bytes.now }
@@ -58,7 +56,6 @@ pub fn plain_len(bytes: &[u8]) -> usize
 }
 
 /// Whether each of 16 to 32 bytes is plain: the first sixteen and the last, some of them twice, at one look.
-#[inline(always)]
 fn are_plain_by_16(bytes: &[u8]) -> bool
     requires { (16 ≤ length bytes.now) × (length bytes.now ≤ 32) }
     ensures { IsTrue result → prefix_len is_plain bytes.now ≡ length bytes.now }
@@ -76,7 +73,6 @@ fn are_plain_by_16(bytes: &[u8]) -> bool
 }
 
 /// The same of 8 to 16 bytes.
-#[inline(always)]
 fn are_plain_by_8(bytes: &[u8]) -> bool
     requires { (8 ≤ length bytes.now) × (length bytes.now ≤ 16) }
     ensures { IsTrue result → prefix_len is_plain bytes.now ≡ length bytes.now }
@@ -89,7 +85,6 @@ fn are_plain_by_8(bytes: &[u8]) -> bool
 
 /// Whether each byte is plain.
 // One look at up to 32 bytes: 5% of the instructions of `show` on names of 17 bytes.
-#[inline(always)]
 pub fn are_plain(bytes: &[u8]) -> bool
     ensures { IsTrue result → prefix_len is_plain bytes.now ≡ length bytes.now }
 {

@@ -14,7 +14,6 @@ use std::alloc::AllocError;
 use zk_jute::{Blob, BlobRef, Text, TextRef};
 
 /// A byte that is the number in decimal, or nothing.
-#[inline(always)]
 fn one_digit(n: i64) -> Option<u8>
     ensures { IfSome result (λ digit. signed_decimal n ≡ digit ∷ []) }
 {
@@ -26,7 +25,6 @@ fn one_digit(n: i64) -> Option<u8>
 }
 
 /// The bytes of a number of two digits, or nothing.
-#[inline(always)]
 fn two_digits(n: u64) -> Option<[u8; 2]>
     ensures { IfSome result (λ digits. decimal n ≡ digits) }
 {
@@ -38,7 +36,6 @@ fn two_digits(n: u64) -> Option<[u8; 2]>
 }
 
 /// The bytes of a number of three digits, or nothing.
-#[inline(always)]
 fn three_digits(n: u64) -> Option<[u8; 3]>
     ensures { IfSome result (λ digits. decimal n ≡ digits) }
 {
@@ -57,7 +54,6 @@ fn three_digits(n: u64) -> Option<[u8; 3]>
 /// Appends a natural number in decimal.
 // Twenty bytes are written, room for the longest number, and those behind the digits taken back: a copy of as many bytes
 // as there are digits is a call. This takes 3% of the instructions off `show` on small messages.
-#[inline(always)]
 fn put_natural(out: &mut Vec<u8>, n: u64) -> Result<(), AllocError>
     ensures spelled { OnOk result (out.new.items ≡ out.old.items ++ decimal n) }
     ensures keeps { Keeps out.old.items out.new.items }
@@ -71,8 +67,6 @@ fn put_natural(out: &mut Vec<u8>, n: u64) -> Result<(), AllocError>
 }
 
 /// Appends a number in decimal.
-// A call of its own: a number of one digit is written where it stands.
-#[inline(never)]
 fn put_decimal(out: &mut Vec<u8>, n: i64) -> Result<(), AllocError>
     ensures spelled { OnOk result (out.new.items ≡ out.old.items ++ signed_decimal n) }
     ensures keeps { Keeps out.old.items out.new.items }
@@ -84,7 +78,6 @@ fn put_decimal(out: &mut Vec<u8>, n: i64) -> Result<(), AllocError>
 }
 
 /// Appends a number below 1,000 in decimal.
-#[inline(never)]
 fn put_short(out: &mut Vec<u8>, n: u64) -> Result<(), AllocError>
     requires { n < 1000 }
     ensures spelled { OnOk result (out.new.items ≡ out.old.items ++ decimal n) }
@@ -102,7 +95,6 @@ fn put_short(out: &mut Vec<u8>, n: u64) -> Result<(), AllocError>
 /// Appends an int.
 // Of the ints of small messages with several digits nearly half have two or three, which take 30 instructions fewer so
 // than by way of itoa's buffer.
-#[inline(always)]
 pub fn put_int(out: &mut Vec<u8>, n: i32) -> Result<(), AllocError>
     ensures spelled { OnOk result (out.new.items ≡ out.old.items ++ signed_decimal n) }
     ensures fits { OnOk result (int.fits n) }
@@ -117,7 +109,6 @@ pub fn put_int(out: &mut Vec<u8>, n: i32) -> Result<(), AllocError>
 
 /// Appends a long.
 // Of the numbers of small messages a third have one digit: written at once it takes 4% of the instructions off `show`.
-#[inline(always)]
 pub fn put_long(out: &mut Vec<u8>, n: i64) -> Result<(), AllocError>
     ensures spelled { OnOk result (out.new.items ≡ out.old.items ++ signed_decimal n) }
     ensures fits { OnOk result (long.fits n) }
@@ -254,8 +245,6 @@ fn put_plain(out: &mut Vec<u8>, bytes: &[u8]) -> Result<(), AllocError>
 }
 
 /// Appends bytes between quotation marks, each that doesn't stand for itself as its escape.
-// A call of its own: most texts have no escapes, and are written where they stand.
-#[inline(never)]
 fn put_escaped(out: &mut Vec<u8>, bytes: &[u8]) -> Result<(), AllocError>
     ensures spelled { OnOk result (out.new.items ≡ out.old.items ++ (34 ∷ (flat_map symbol_spell bytes.now ++ (34 ∷ [])))) }
     ensures keeps { Keeps out.old.items out.new.items }

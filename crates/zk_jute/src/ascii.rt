@@ -5,6 +5,7 @@ ghost use Rattle.std.specs.Str.{IsAscii};
 use std::simd::prelude::*;
 
 /// Whether each byte of the block is ASCII.
+// As in number.rt.
 #[inline(always)]
 fn is_low(block: u8x16) -> bool
     ensures { IsTrue result → IsAscii block }

@@ -169,8 +169,6 @@ pub fn known_list<'a, R: Element>(payload: &'a [u8], place: usize) -> Series<'a,
 
 #[tactic(auto, using(crate::proofs::Loops::scanning_goes_on, crate::proofs::Loops::scanning_ends))]
 /// The place after so many elements.
-// A loop of its own keeps its registers: a quarter off lists of names.
-#[inline(never)]
 fn elements_end<P: Source, R: Stands<P>>(
     src: &P,
     count: usize,

@@ -69,8 +69,6 @@ pub fn read_ref<P: Source, T: Stands<P>>(src: &P, place: usize) -> Result<(T, us
 }
 
 /// The place after a value that lies at a place of a payload; None says no more. No value is made.
-// Never inlined: a match over records is then one call an arm, with what it answers in registers.
-#[inline(never)]
 pub fn end_of<'a, T: Stands<Payload<'a>>>(payload: &'a [u8], place: usize) -> Option<usize>
     requires { place ≤ length payload.now }
     ensures some { IfSome result (λ end. (x : T) × HaveBytes (T.wired.items x) × StandsAt (T.wired.items x) payload.now place end) }

@@ -39,6 +39,7 @@ pub enum Word {
 }
 
 /// The bytes of a word.
+// As in put.rt.
 #[inline(always)]
 #[tactic(auto, unfolding(crate::specs::Words::word_of))]
 pub fn word_bytes(word: Word) -> &'static [u8]

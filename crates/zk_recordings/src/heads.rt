@@ -9,7 +9,6 @@ use crate::parts::{Format, Part, number};
 use zk_talk::Side;
 
 /// The side that a byte names; None where it names none.
-#[inline(always)]
 pub fn side_named(byte: u8) -> Option<Side>
     ensures { IfSome result (λ side. byte ≡ side_byte side) }
 {
@@ -21,7 +20,6 @@ pub fn side_named(byte: u8) -> Option<Side>
 }
 
 /// The place of a piece's size, where a good time stands behind its side's byte, or its format has none.
-#[inline(always)]
 pub fn behind_time(format: Format, block: &[u8]) -> Option<usize>
     ensures { IfSome result (IsTimeIn format block.now) }
 {
@@ -40,7 +38,6 @@ pub fn behind_time(format: Format, block: &[u8]) -> Option<usize>
 }
 
 /// The size that stands at a place of the block, where it is whole and good.
-#[inline(always)]
 pub fn size_in(block: &[u8], at: usize) -> Option<u32>
     requires { at ≤ 9 }
     ensures within { IfSome result (λ size. at + 4 ≤ length block.now) }

@@ -223,7 +223,6 @@ impl State {
     /// Behind the whole head of a piece that the block begins with, and how long that is; None says no more.
     // Most pieces come so, with all their content in the block: 11% fewer instructions in `check` on small messages than
     // byte by byte.
-    #[inline(always)]
     fn pass_head(self, block: &[u8]) -> Option<(State, usize)>
         requires { self.at + length block.now < 2 ^ 64 }
         ensures { IfSome result (λ x. PassesHead self block.now x.1 x.0) }

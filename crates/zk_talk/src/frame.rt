@@ -28,6 +28,7 @@ pub fn is_no_memory(item: ItemFault) -> bool
 
 /// The client's frame, which so many bytes have made whole, is kept where it is a request that may come under this profile; else all is as
 /// before, and no fault is told.
+// As in cutter.rt of zk_frames.
 #[inline(always)]
 pub fn keep_client(
     profile: Profile,
@@ -75,7 +76,6 @@ pub fn pass_client(
 
 /// The client's frame, which so many bytes have made whole, is decided under this profile, and kept.
 // By the quick way first, so that a request that came in several pieces is decided by scalars, too.
-#[inline(never)]
 pub fn client_step(
     profile: Profile,
     stream: &mut Stream,
@@ -181,7 +181,6 @@ pub fn pass_server(
 /// The server's frame, likewise, where the client has sent so many; the operation whose request it
 /// answers.
 // By the quick way first, as in `client_step`.
-#[inline(never)]
 pub fn server_step(
     asked: u64,
     stream: &mut Stream,

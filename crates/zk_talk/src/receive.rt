@@ -26,7 +26,6 @@ fn fault_at(side: Side, frame: u64, offset: u64, item: ItemFault) -> Fault
 
 /// The fault of the frame that so many more bytes have brought; it is kept, but for want of
 /// memory.
-#[inline(never)]
 pub fn refuse(
     kept: &mut Option<Fault>,
     side: Side,

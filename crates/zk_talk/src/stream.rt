@@ -43,6 +43,7 @@ impl Model for Stream {
 }
 
 /// How many bytes of the piece the side may still send.
+// As in cutter.rt of zk_frames.
 #[inline(always)]
 fn within(size: u64, piece: &[u8]) -> usize
     requires { size < 2 ^ 62 }

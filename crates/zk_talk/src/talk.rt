@@ -148,8 +148,8 @@ impl Talk {
 
     /// Keeps the side's whole frame that the piece begins with, where none is begun and it may come; else all is as before,
     /// and None says no more.
-    // Most frames come so, and no fault, and no frame as a value, is made on the way: this and the hints on what it calls
-    // take a quarter of the instructions off `check` on small messages.
+    // Most frames come so, and no fault, and no frame as a value, is made on the way. The hints of this file are as in
+    // cutter.rt of zk_frames.
     #[inline(always)]
     fn front(&mut self, side: Side, piece: &[u8]) -> Option<usize>
         requires good { self.old.fault ≡ None }
@@ -188,7 +188,7 @@ impl Talk {
 
     /// Passes the side's whole frame that the piece begins with, where none is begun and it may come; else all is as before,
     /// and None says no more.
-    // The frame isn't copied: a tenth of the time of `check` on small messages.
+    // As `front`, and the frame isn't copied: 18% off the instructions of `check` on small messages.
     #[inline(always)]
     fn pass(&mut self, side: Side, piece: &[u8]) -> Option<usize>
         requires good { self.old.fault ≡ None }
@@ -216,7 +216,6 @@ impl Talk {
         }
     }
 
-    #[inline(never)]
     fn exact(&mut self, side: Side, piece: &[u8]) -> Result<Stepped, Fault>
         requires good { self.old.fault ≡ None }
         requires given_up { kept_on side self.old ≡ [] }
@@ -273,7 +272,7 @@ impl Talk {
 
     /// Steps over the whole frame that the piece begins with, where none is begun and it is seen at once that it may come:
     /// the answer is how many of the piece's bytes were used. None says no more, and `step` decides what comes.
-    // It answers in registers: with it, before `step`, `check` of small messages takes 6% fewer instructions.
+    // It answers in registers: with it, before `step`, `show` of small messages takes 4% fewer instructions.
     #[inline(always)]
     pub fn step_front(&mut self, side: Side, piece: &[u8]) -> Option<usize>
         ensures limits { self.new.limits ≡ self.old.limits }
