@@ -1,5 +1,5 @@
 //! The items of a line, written.
-ghost use Rattle.std.specs.Prelude.{◌≡◌, ◌<◌, ◌∷◌, ◌++◌, [], IfSome, OnOk, false};
+ghost use Rattle.std.specs.Prelude.{◌≡◌, ◌∷◌, ◌++◌, [], IfSome, OnOk, false};
 ghost use Rattle.std.specs.Fmt.{decimal, signed_decimal};
 ghost use Rattle.std.specs.List.{flat_map};
 ghost use Rattle.zk_jute.specs.declared.value.Nullable.TheVariants as nullable;
@@ -19,33 +19,6 @@ fn one_digit(n: i64) -> Option<u8>
 {
     if n >= 0 && n < 10 {
         Some(b'0' + n as u8)
-    } else {
-        None
-    }
-}
-
-/// The bytes of a number of two digits, or nothing.
-fn two_digits(n: u64) -> Option<[u8; 2]>
-    ensures { IfSome result (λ digits. decimal n ≡ digits) }
-{
-    if n >= 10 && n < 100 {
-        Some([b'0' + (n / 10) as u8, b'0' + (n % 10) as u8])
-    } else {
-        None
-    }
-}
-
-/// The bytes of a number of three digits, or nothing.
-fn three_digits(n: u64) -> Option<[u8; 3]>
-    ensures { IfSome result (λ digits. decimal n ≡ digits) }
-{
-    if n >= 100 && n < 1000 {
-        let tens = n / 10 % 10;
-        Some([
-            b'0' + (n / 100) as u8,
-            b'0' + tens as u8,
-            b'0' + (n % 10) as u8,
-        ])
     } else {
         None
     }
@@ -77,34 +50,13 @@ fn put_decimal(out: &mut Vec<u8>, n: i64) -> Result<(), AllocError>
     put_natural(out, n.unsigned_abs())
 }
 
-/// Appends a number below 1,000 in decimal.
-fn put_short(out: &mut Vec<u8>, n: u64) -> Result<(), AllocError>
-    requires { n < 1000 }
-    ensures spelled { OnOk result (out.new.items ≡ out.old.items ++ decimal n) }
-    ensures keeps { Keeps out.old.items out.new.items }
-{
-    match two_digits(n) {
-        Some(digits) => out.extend_from_slice(&digits),
-        None => match three_digits(n) {
-            Some(digits) => out.extend_from_slice(&digits),
-            None => put_decimal(out, n as i64),
-        },
-    }
-}
-
 /// Appends an int.
-// Of the ints of small messages with several digits nearly half have two or three, which take 30 instructions fewer so
-// than by way of itoa's buffer.
 pub fn put_int(out: &mut Vec<u8>, n: i32) -> Result<(), AllocError>
     ensures spelled { OnOk result (out.new.items ≡ out.old.items ++ signed_decimal n) }
     ensures fits { OnOk result (int.fits n) }
     ensures keeps { Keeps out.old.items out.new.items }
 {
-    if n >= 10 && n < 1000 {
-        put_short(out, n as u64)
-    } else {
-        put_long(out, i64::from(n))
-    }
+    put_long(out, i64::from(n))
 }
 
 /// Appends a long.
