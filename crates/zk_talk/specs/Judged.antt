@@ -104,6 +104,14 @@ HasNextClient profile stream waiting = (f : ClientFrame) × IsNextClient profile
 abbrev pub HasNextServer : ℕ → StreamState → Lanes → Type 0
 HasNextServer asked stream waiting = (s : ServerFrame) × IsNextServer asked stream.count waiting (drop 4 stream.held) s
 
+-- the client's frame of these bytes may come next, and then waits for its reply
+abbrev pub PassesClient : Profile → StreamState → Lanes → List ℕ → ClientFrame → Lanes → Type 0
+PassesClient profile old waiting bytes f waits = IsNextClient profile old.count waiting (drop 4 bytes) f × IsRemembered f waiting waits
+
+-- and the server's; what it answers then waits no more
+abbrev pub PassesServer : ℕ → StreamState → Lanes → List ℕ → ServerFrame → Lanes → Type 0
+PassesServer asked old waiting bytes s waits = IsNextServer asked old.count waiting (drop 4 bytes) s × IsForgotten s waiting waits
+
 -- the client's frame that may come next is counted and kept, and waits for its reply
 abbrev pub KeepsClient : Profile → StreamState → Lanes → ClientFrame → Lanes → StreamState → Type 0
 KeepsClient profile old waiting f waits new = IsNextClient profile old.count waiting (drop 4 old.held) f × IsRemembered f waiting waits × ShowsClient new.count new.kept f

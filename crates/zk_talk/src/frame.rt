@@ -3,7 +3,7 @@ ghost use Rattle.std.specs.Prelude.{◌≡◌, ◌≢◌, ◌<◌, ◌≤◌, �
 ghost use Rattle.zk_jute.specs.declared.fault.Reason.TheVariants.{NoMemory};
 ghost use Rattle.zk_asks.specs.Held as asks;
 ghost use Rattle.zk_answers.specs.Held as answers;
-ghost use Rattle.zk_talk.specs.Judged.{KeepsClient, KeepsServer, TellsClient, TellsServer, IsNextClient, IsNextServer, HasNextClient, HasNextServer, IsRemembered, IsForgotten};
+ghost use Rattle.zk_talk.specs.Judged.{KeepsClient, KeepsServer, TellsClient, TellsServer, PassesClient, PassesServer, HasNextClient, HasNextServer};
 ghost use Rattle.zk_talk.specs.Streams.{IsAtFrame, TakenBack, passed, kept_now, held_in};
 ghost use Rattle.zk_talk.specs.Viewed.{answered_by};
 
@@ -63,7 +63,7 @@ pub fn pass_client(
     requires front { IsAtFrame (held_in stream.old (take used piece.now)) used }
     requires none { (stream.old.held ≡ []) × (stream.old.kept ≡ []) }
     ensures max { waiting.new.max ≡ waiting.old.max }
-    ensures found { IsTrue result → (f : asks.ClientFrame) × IsNextClient profile stream.old.count waiting.old (drop 4 (take used piece.now)) f × IsRemembered f waiting.old waiting.new }
+    ensures found { IsTrue result → (f : asks.ClientFrame) × PassesClient profile stream.old waiting.old (take used piece.now) f waiting.new }
     ensures passed { IsTrue result → stream.new ≡ passed stream.old used }
     ensures same { result ≡ false → (waiting.new ≡ waiting.old) × (stream.new ≡ stream.old) }
 {
@@ -108,7 +108,7 @@ pub fn client_frame(
 ) -> Result<ClientFrame, ItemFault>
     requires { IsAtFrame stream.old used }
     ensures max { waiting.new.max ≡ waiting.old.max }
-    ensures found { IfOk result (λ f. IsNextClient profile stream.old.count waiting.old (drop 4 stream.old.held) f × IsRemembered f waiting.old waiting.new) }
+    ensures found { IfOk result (λ f. PassesClient profile stream.old waiting.old stream.old.held f waiting.new) }
     ensures passed { IfOk result (λ f. stream.new ≡ passed stream.old used) }
     ensures same { IfErr result (λ e. waiting.new ≡ waiting.old) }
     ensures lacks { IfErr result (λ e. e.reason ≡ NoMemory → HasNextClient profile stream.old waiting.old) }
@@ -169,7 +169,7 @@ pub fn pass_server(
     requires front { IsAtFrame (held_in stream.old (take used piece.now)) used }
     requires none { (stream.old.held ≡ []) × (stream.old.kept ≡ []) }
     ensures max { waiting.new.max ≡ waiting.old.max }
-    ensures found { (asked : ℕ) → IfSome result (λ op. (s : answers.ServerFrame) × IsNextServer asked stream.old.count waiting.old (drop 4 (take used piece.now)) s × IsForgotten s waiting.old waiting.new) }
+    ensures found { (asked : ℕ) → IfSome result (λ op. (s : answers.ServerFrame) × PassesServer asked stream.old waiting.old (take used piece.now) s waiting.new) }
     ensures passed { IfSome result (λ op. stream.new ≡ passed stream.old used) }
     ensures same { IfNone result ((waiting.new ≡ waiting.old) × (stream.new ≡ stream.old)) }
 {
@@ -214,7 +214,7 @@ pub fn server_frame(
 ) -> Result<ServerFrame, ItemFault>
     requires { IsAtFrame stream.old used }
     ensures max { waiting.new.max ≡ waiting.old.max }
-    ensures found { IfOk result (λ s. IsNextServer asked stream.old.count waiting.old (drop 4 stream.old.held) s × IsForgotten s waiting.old waiting.new) }
+    ensures found { IfOk result (λ s. PassesServer asked stream.old waiting.old stream.old.held s waiting.new) }
     ensures passed { IfOk result (λ s. stream.new ≡ passed stream.old used) }
     ensures same { IfErr result (λ e. waiting.new ≡ waiting.old) }
     ensures lacks { IfErr result (λ e. e.reason ≡ NoMemory → HasNextServer asked stream.old waiting.old) }

@@ -12,4 +12,4 @@ returns-clause-found c = λ yes.
     let old = held_in c.args.stream.now (take c.args.used c.args.piece.now) in
     let w = c.args.waiting.now in
     let next = client_seen old c.args.used c.count.result c.requires.front c.carried.result.now c.carried.ensures c.count.ensures w c.args.profile f k.turn k.sent k.is (room_before f w c.await_front.new.waiting k.waits) in
-    (f, next, k.waits)
+    (f, (next, k.waits))

@@ -11,4 +11,4 @@ returns-clause-found c = λ asked.
     let old = held_in c.args.stream.now (take c.args.used c.args.piece.now) in
     let w = c.args.waiting.now in
     let next = server_seen old c.args.used c.count.result c.requires.front c.carried.result.now c.carried.ensures c.count.ensures w asked s k.due k.is (k.may asked) in
-    (s, next, k.forgotten)
+    (s, (next, k.forgotten))

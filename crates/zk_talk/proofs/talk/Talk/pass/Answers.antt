@@ -15,8 +15,8 @@ returns-else-not-pass_client-clause-some c =
     let k = c.pass_client.ensures in
     let f = k.found c.if-not-pass_client.false in
     let a = c.in_ok-used-in-Client.ensures.1 in
-    let next = subst (λ z. IsNextClient z s.count T.waiting (drop 4 s.held) f.0) c.profile-profile.ensures f.1 in
-    rw (c.in-Client.is, ← c.self.view_is) (FromClient f.0, (a.1, (λ l. a.0), makes Client T c.args.piece.now s c.pass_client.new.stream c.self.invariant.0.same refl used a c.self.invariant.2 (FromClient f.0) c.pass_client.new.waiting (next, f.2) (k.passed c.if-not-pass_client.false)))
+    let next = subst (λ z. IsNextClient z s.count T.waiting (drop 4 s.held) f.0) c.profile-profile.ensures f.1.0 in
+    rw (c.in-Client.is, ← c.self.view_is) (FromClient f.0, (a.1, (λ l. a.0), makes Client T c.args.piece.now s c.pass_client.new.stream c.self.invariant.0.same refl used a c.self.invariant.2 (FromClient f.0) c.pass_client.new.waiting (next, f.1.1) (k.passed c.if-not-pass_client.false)))
 
 pub returns-in_ok-pass_server-in-Server-clause-some : goal.returns-in_ok-pass_server-in-Server-clause-some
 returns-in_ok-pass_server-in-Server-clause-some c =
@@ -26,4 +26,4 @@ returns-in_ok-pass_server-in-Server-clause-some c =
     let k = c.in_ok-pass_server-in-Server.ensures in
     let f = k.found T.client_frames in
     let a = c.in_ok-used-in-Server.ensures.1 in
-    rw (c.in-Server.is, ← c.self.view_is) (FromServer f.0, (a.1, (λ l. a.0), makes Server T c.args.piece.now s c.pass_server.new.stream c.self.invariant.1.same refl used a c.self.invariant.2 (FromServer f.0) c.pass_server.new.waiting (f.1, f.2) k.passed))
+    rw (c.in-Server.is, ← c.self.view_is) (FromServer f.0, (a.1, (λ l. a.0), makes Server T c.args.piece.now s c.pass_server.new.stream c.self.invariant.1.same refl used a c.self.invariant.2 (FromServer f.0) c.pass_server.new.waiting (f.1.0, f.1.1) k.passed))
