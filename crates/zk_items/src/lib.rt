@@ -18,5 +18,6 @@ pub use fault::{LineFault, LineReason, line_reason_name};
 pub use laws::item_laws;
 pub use reader::Reader;
 pub use write::{
-    put_bit, put_blob, put_blob_ref, put_int, put_long, put_read_only, put_text, put_text_ref,
+    int_before, long_before, put_bit, put_blob, put_blob_ref, put_int, put_long, put_read_only,
+    put_text, put_text_ref,
 };

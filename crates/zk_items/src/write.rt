@@ -1,5 +1,5 @@
 //! The items of a line, written.
-ghost use Rattle.std.specs.Prelude.{◌≡◌, ◌∷◌, ◌++◌, [], IfSome, OnOk, false};
+ghost use Rattle.std.specs.Prelude.{◌≡◌, ◌∷◌, ◌++◌, [], ◌+◌, ◌<◌, ◌≤◌, IfSome, OnOk, false, length, take, drop};
 ghost use Rattle.std.specs.Fmt.{decimal, signed_decimal};
 ghost use Rattle.std.specs.List.{flat_map};
 ghost use Rattle.zk_jute.specs.declared.value.Nullable.TheVariants as nullable;
@@ -73,6 +73,56 @@ pub fn put_long(out: &mut Vec<u8>, n: i64) -> Result<(), AllocError>
         }
         None => put_decimal(out, n),
     }
+}
+
+/// Writes a byte before a place, and tells where it stands.
+fn byte_before(room: &mut [u8], end: usize, byte: u8) -> usize
+    requires room { (1 ≤ end) × (end ≤ length room.old) }
+    ensures begins { result + 1 ≡ end }
+    ensures written { drop result room.new ≡ byte ∷ drop end room.old }
+    ensures before { take result room.new ≡ take result room.old }
+{
+    room[end - 1] = byte;
+    end - 1
+}
+
+/// Writes a number in decimal, so that it ends at a place; tells where it begins.
+fn decimal_before(room: &mut [u8], end: usize, n: i64) -> usize
+    requires room { (20 ≤ end) × (end ≤ length room.old) }
+    ensures near { (end ≤ result + 20) × (result < end) }
+    ensures written { drop result room.new ≡ signed_decimal n ++ drop end room.old }
+    ensures before { take result room.new ≡ take result room.old }
+{
+    let start = write_digits(n.unsigned_abs(), room, end);
+    if n < 0 {
+        byte_before(room, start, b'-')
+    } else {
+        start
+    }
+}
+
+/// Writes a byte, and behind it a number in decimal, so that they end at a place; tells where they begin.
+// `itoa` writes a number from its last digit on: so are numbers in a row, where they stay, and copied together.
+pub fn long_before(room: &mut [u8], end: usize, sign: u8, n: i64) -> usize
+    requires room { (21 ≤ end) × (end ≤ length room.old) }
+    ensures near { (end ≤ result + 21) × (result < end) }
+    ensures written { drop result room.new ≡ sign ∷ (signed_decimal n ++ drop end room.old) }
+    ensures before { take result room.new ≡ take result room.old }
+    ensures fits { long.fits n }
+{
+    let start = decimal_before(room, end, n);
+    byte_before(room, start, sign)
+}
+
+/// As `long_before`, of an int.
+pub fn int_before(room: &mut [u8], end: usize, sign: u8, n: i32) -> usize
+    requires room { (21 ≤ end) × (end ≤ length room.old) }
+    ensures near { (end ≤ result + 21) × (result < end) }
+    ensures written { drop result room.new ≡ sign ∷ (signed_decimal n ++ drop end room.old) }
+    ensures before { take result room.new ≡ take result room.old }
+    ensures fits { int.fits n }
+{
+    long_before(room, end, sign, i64::from(n))
 }
 
 /// Appends a bit: `0` or `1`.

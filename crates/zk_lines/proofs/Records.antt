@@ -1,5 +1,7 @@
 -- Access lists and stats are read as they are spelled.
-use Rattle.std.proofs.Common.{refl}
+use Rattle.std.proofs.Common.{◌≡◌, ◌∷◌, ◌++◌, ℕ, ℤ, List, refl, ap, sym, ◌∙◌, append_assoc, SFits, to_z, of_z, to_z-of_z}
+use Rattle.std.specs.Fmt.{signed_decimal}
+use Rattle.std.specs.Int.{Width}
 use Rattle.zk_items.specs.Form.{◌and◌}
 use Rattle.zk_items.specs.Leaf.{int, long, text}
 use Rattle.zk_items.specs.Laws.{Lawful}
@@ -31,3 +33,12 @@ numbers_is = times_is with versions_is with sizes_is
 
 pub stat_is : Lawful stat
 stat_is = fields_is _ (closed_is _ numbers_is.lawful _ (word_stops Close)) _ _ (λ _. refl) (λ _. refl)
+
+-- a number is written behind a sign
+pub written : (b : Width) (sign : ℕ) (z : ℤ) (w v : List ℕ) → SFits b z → w ≡ sign ∷ (signed_decimal (to_z b (of_z b z)) ++ v) → w ≡ (sign ∷ signed_decimal z) ++ v
+written b sign z w v fits is = is ∙ ap (λ (n : ℤ). sign ∷ (signed_decimal n ++ v)) (to_z-of_z fits)
+
+-- and others behind it
+pub and_others : (b : Width) (sign : ℕ) (z : ℤ) (others w v rest : List ℕ) → SFits b z → w ≡ sign ∷ (signed_decimal (to_z b (of_z b z)) ++ v) → v ≡ others ++ rest → w ≡ ((sign ∷ signed_decimal z) ++ others) ++ rest
+and_others b sign z others w v rest fits is ahead =
+    written b sign z w v fits is ∙ ap (λ (l : List ℕ). (sign ∷ signed_decimal z) ++ l) ahead ∙ sym (append_assoc (sign ∷ signed_decimal z) others rest)
