@@ -1,15 +1,13 @@
 -- Numbers are read as they are written.
-use Rattle.std.specs.Prelude.{◌≡◌, ◌≢◌, ℕ, suc, ◌+◌, ◌^◌, ◌<◌, ◌≤◌, List, [], ◌∷◌, ◌++◌, length, take, drop, Some, None, Result, Ok, Bool, true, false, ◌==◌, ◌&&◌, ◌||◌, nat_le, ℤ, pos, negsuc, IsUtf8, bytes_eq, refl}
+use Rattle.std.specs.Prelude.{◌≡◌, ◌≢◌, ℕ, suc, ◌^◌, ◌<◌, ◌≤◌, List, [], ◌∷◌, ◌++◌, length, take, drop, Some, None, Result, Ok, Bool, true, false, ◌==◌, ◌&&◌, ◌||◌, nat_le, ℤ, pos, negsuc, IsUtf8, bytes_eq, refl}
 use Rattle.std.specs.List.{prefix_len, AllByRecursion}
 use Rattle.std.specs.Fmt.{signed_decimal, decimal}
 use Rattle.std.specs.Str.{IsAscii}
-use lib.IntN.{nat_abs}
-use lib.Signed.{le_z, lt_z}
 use Rattle.std.specs.Str.Parse.{signed_digits_value, digits_value, AllDigits, ParsesSigned, without_leading_sign, without_leading_plus}
-use Rattle.std.proofs.Common.{ap, sym, ◌∙◌, cond, arith, subst, ltb-true, lt-ltb, le-leb, ne_eqb, neg_ℤ, true≢false, w32, w64}
+use Rattle.std.proofs.Common.{ap, sym, ◌∙◌, cond, arith, subst, ltb-true, lt-ltb, le-leb, ne_eqb, neg_ℤ, w32, w64}
 use Rattle.std.proofs.lemmas.List.{take-append-drop}
 use Rattle.std.proofs.Math.Seq.{take-append_seam, drop-append_seam}
-use Rattle.std.proofs.lemmas.Fmt.{decimal_digit, decimal_is_IsNumeral, IsAscii-signed, parse-signed_decimal}
+use Rattle.std.proofs.lemmas.Fmt.{decimal_is_IsNumeral, IsAscii-signed, parse-signed_decimal}
 use Rattle.std.proofs.lemmas.Str.{IsUtf8-from_ascii}
 use Rattle.std.proofs.lemmas.Str.Parse.{digit_from_value}
 use Rattle.std.proofs.lemmas.Slice.Eq.{bytes_eq-Decides}
@@ -131,8 +129,3 @@ parse_int (negsuc n) run r fit e h = let small : n < 2 ^ 31 = ltb-true n (2 ^ 31
 pub parse_long : {E : Type 0} (z : ℤ) (run : List ℕ) (r : Result ℤ E) → in_range 63 z ≡ true → run ≡ signed_decimal z → ParsesSigned w64 10 run r → r ≡ Ok z
 parse_long (pos n) run r fit e h = let small : n < 2 ^ 63 = ltb-true n (2 ^ 63) fit in parse-signed_decimal w64 (pos n) run r (record { sfits = small }) (omega arith) e h
 parse_long (negsuc n) run r fit e h = let small : n < 2 ^ 63 = ltb-true n (2 ^ 63) fit in parse-signed_decimal w64 (negsuc n) run r (record { sfits = small }) (omega arith) e h
-
--- a number below ten is its digit
-pub digit : (z : ℤ) → le_z (pos 0) z ≡ true → lt_z z (pos 10) ≡ true → signed_decimal z ≡ (48 + nat_abs z) ∷ []
-digit (pos m) low high = decimal_digit m (ltb-true m 10 high)
-digit (negsuc m) low high = absurd (true≢false (sym low))

@@ -1,4 +1,4 @@
-use Rattle.std.proofs.Common.{rules, ◌≡◌, ◌≤◌, ◌^◌, ◌∙◌, ℕ, length, take, arith, ap, sym}
+use Rattle.std.proofs.Common.{rules, ◌≤◌, ◌^◌, ◌∙◌, ℕ, length, take, arith, ap, sym}
 use Rattle.std.specs.Fmt.{decimal}
 use Rattle.std.proofs.lemmas.Fmt.{decimal_nonempty, length-decimal-le}
 use Rattle.std.proofs.lemmas.List.{take-take}
