@@ -95,7 +95,7 @@ SHAPES = (
     Shape("bytes that come singly", bytewise, (1 << 8, 1 << 14, 1 << 20), (1 << 8, 1 << 13, 1 << 18), 1 << 22, 1 << 18),
 )
 LONG = "MB of a recording"
-# Of a run of a few milliseconds up to 0.9 MB too little are told.
+# Of a run of a few milliseconds up to 0.9 MB less are told than of a longer one.
 MEGABYTES, QUICK_MEGABYTES = (10, 40, 160), (10, 30, 90)
 
 
