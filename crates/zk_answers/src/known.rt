@@ -14,7 +14,7 @@ ghost use Rattle.zk_answers.specs.Known.{ABodyStands, IsBehindFirst};
 use crate::done_list::{DoneList, done_in, lying};
 use crate::frame::{BodyOf, BodyRef, Failure, OutcomeOf, ReplyOf, ServerFrameOf, ServerRef};
 use crate::multi::is_end;
-use crate::scan::body_ref;
+use crate::borrow::body_ref;
 use zk_asks::Alone;
 use zk_jute::{KnownPayload, known_flagged, known_list, read_ref};
 use zk_records::{MultiHeader, Op, ReplyHeader};

@@ -82,11 +82,5 @@ impl<'a> Asked for Numbered<'a> {
         part_of(*self.numbers.get(j as usize)?)
     }
 
-    fn put_ops<R: Room>(&self, room: &mut R) {
-        for j in 0..self.parts() {
-            room.push(self.part(j).unwrap());
-        }
-    }
-
     ghost lawful = { λ a. a.lawful };
 }

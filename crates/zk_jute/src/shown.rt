@@ -3,7 +3,7 @@ ghost use Rattle.zk_jute.specs.Wired.{ustring, buffer};
 
 use crate::fault::ItemFault;
 use crate::run::{run_at, text_at};
-use crate::source::{PayloadOf, Source};
+use crate::origin::{PayloadOf, Origin};
 use crate::stands::{Form, Stands};
 use crate::value::{BlobRef, BytesRef, CharsRef, TextRef};
 

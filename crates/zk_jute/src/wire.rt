@@ -9,7 +9,7 @@ ghost use Rattle.zk_jute.specs.Once.{HaveOneFault, IsReadFirst, BeginAlike};
 
 use crate::fault::ItemFault;
 use crate::output::{Full, Output, Room};
-use crate::source::Kept;
+use crate::origin::Kept;
 use crate::stands::{Form, Stands};
 use std::alloc::{AllocError, Global};
 
