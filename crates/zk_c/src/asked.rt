@@ -5,7 +5,7 @@ ghost use Rattle.zk_records.specs.declared.op.Op.TheVariants as ops;
 ghost use Rattle.zk_records.specs.declared.op.PartOp.{PartOp};
 ghost use Rattle.zk_c.specs.Asked.{parts_of, AreParts, AreAsked, AreNoneAsked};
 
-use zk_asks::{Asked, Room};
+use zk_asks::Asked;
 use zk_records::{Op, PartOp, Profile, op_of, part_of};
 
 /// An operation, and the numbers of its parts' operations: it takes no memory.
