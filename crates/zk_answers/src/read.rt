@@ -9,8 +9,8 @@ ghost use Rattle.zk_answers.specs.Frames.{IsConnected, IsEvent, IsReplyTo, IsSen
 ghost use Rattle.zk_answers.specs.Frames as sent;
 ghost use Rattle.zk_answers.specs.Faults.{IsConnectedFault, IsHead, IsHeadFault, IsReplyFault, IsEventFault};
 
-use crate::frame::ServerFrame;
 use crate::borrow::{borrow_connected, borrow_event, borrow_reply};
+use crate::frame::ServerFrame;
 use std::alloc::Global;
 use zk_asks::Asked;
 use zk_jute::{ItemFault, int_at, long_at};

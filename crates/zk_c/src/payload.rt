@@ -11,7 +11,7 @@ ghost use Rattle.zk_c.specs.Judged.{payload_answer, TellsFault, IsToldBy, IsConn
 
 use crate::asked::Numbered;
 use crate::number::{MISFIT, RANGE, WELL, reason_number};
-use zk_answers::{reply_head, borrow_connected, borrow_event, borrow_reply};
+use zk_answers::{borrow_connected, borrow_event, borrow_reply, reply_head};
 use zk_asks::{borrow_ask, borrow_first};
 use zk_jute::ItemFault;
 use zk_records::Profile;

@@ -8,8 +8,8 @@ ghost use Rattle.zk_jute.specs.Told.{IsReadAs, IsTold, IsSurelyTold};
 ghost use Rattle.zk_jute.specs.Flagged.{flag_items, flagged, IsFlaggedFault, OneIsFlagged};
 
 use crate::fault::{ItemFault, Reason};
+use crate::origin::{Kept, KnownPayload, Origin, Payload};
 use crate::output::Output;
-use crate::origin::{Kept, KnownPayload, Payload, Origin};
 use crate::stands::{Form, Stands};
 use crate::wire::Spell;
 use std::alloc::Global;

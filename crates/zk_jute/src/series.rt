@@ -12,8 +12,8 @@ ghost use Rattle.zk_jute.specs.Values.{list_items};
 ghost use Rattle.zk_jute.specs.Shown.{AllStand, IsNull, count_of, elements_of, list_at, text_value, text_is_value};
 
 use crate::fault::ItemFault;
+use crate::origin::{KnownPayload, Origin, PayloadOf};
 use crate::run::size_at;
-use crate::origin::{KnownPayload, PayloadOf, Origin};
 use crate::stands::{Form, Stands};
 use crate::value::TextRef;
 use std::marker::{Model, PhantomData};

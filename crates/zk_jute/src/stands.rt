@@ -10,8 +10,8 @@ ghost use Rattle.zk_jute.specs.Standing.{IsPlain, Known, OneStands};
 
 use crate::fault::ItemFault;
 use crate::number::{bool_at, int_at, long_at};
+use crate::origin::{Kept, Origin, Payload};
 use crate::run::{run_at, size_at, text_at};
-use crate::origin::{Kept, Payload, Origin};
 use crate::value::{Blob, Bytes, Chars, Items, List, Text};
 
 /// What stands as items, wherever its texts, blobs and lists lie.

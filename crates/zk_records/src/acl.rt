@@ -5,7 +5,7 @@ ghost use Rattle.zk_records.specs.Shown.{acl_value, acl_is_value};
 
 use crate::fields::{decode, fields};
 use zk_jute::{
-    Element, Form, ItemFault, Output, Series, Origin, Spell, Stands, Text, TextRef, Wire,
+    Element, Form, ItemFault, Origin, Output, Series, Spell, Stands, Text, TextRef, Wire,
 };
 
 /// Who someone is under a scheme: `Id`.

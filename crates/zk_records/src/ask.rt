@@ -6,7 +6,7 @@ ghost use Rattle.zk_records.specs.Records.{create_ask, delete_ask, set_data_ask,
 use crate::acl::{Acl, AclList};
 use crate::fields::{decode, fields};
 use zk_jute::{
-    Blob, BlobRef, Form, ItemFault, List, Output, Origin, Spell, Stands, Text, TextRef, Wire,
+    Blob, BlobRef, Form, ItemFault, List, Origin, Output, Spell, Stands, Text, TextRef, Wire,
 };
 
 /// A node is to be made: `CreateRequest`.

@@ -7,7 +7,7 @@ use crate::acl::{Acl, AclList};
 use crate::fields::{decode, fields};
 use crate::stat::Stat;
 use zk_jute::{
-    Blob, BlobRef, Form, ItemFault, List, Output, Origin, Spell, Stands, Text, TextList, TextRef,
+    Blob, BlobRef, Form, ItemFault, List, Origin, Output, Spell, Stands, Text, TextList, TextRef,
     Wire,
 };
 

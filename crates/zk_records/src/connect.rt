@@ -3,7 +3,7 @@ ghost use Rattle.std.specs.Prelude.{◌≡◌, refl};
 ghost use Rattle.zk_records.specs.Records.{connect_request, connect_response, connect_request_of, connect_response_of};
 
 use crate::fields::{decode, fields};
-use zk_jute::{Blob, BlobRef, Form, ItemFault, Output, Origin, Spell, Stands, Wire};
+use zk_jute::{Blob, BlobRef, Form, ItemFault, Origin, Output, Spell, Stands, Wire};
 
 /// A client asks for a session: `ConnectRequest`.
 #[derive(Debug, Drop)]

@@ -3,7 +3,7 @@ ghost use Rattle.std.specs.Prelude.{◌≡◌, refl};
 ghost use Rattle.zk_records.specs.Records.{watcher_event, watcher_event_of};
 
 use crate::fields::{decode, fields};
-use zk_jute::{Form, ItemFault, Output, Origin, Spell, Stands, Text, TextRef, Wire};
+use zk_jute::{Form, ItemFault, Origin, Output, Spell, Stands, Text, TextRef, Wire};
 
 /// What a watch saw: `WatcherEvent`.
 #[derive(Debug, Drop)]

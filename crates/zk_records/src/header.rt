@@ -4,7 +4,7 @@ ghost use Rattle.std.specs.Prelude.{◌≡◌, refl};
 ghost use Rattle.zk_records.specs.Records.{request_header, reply_header, multi_header};
 
 use crate::fields::{decode, fields};
-use zk_jute::{Form, ItemFault, Output, Origin, Spell, Stands, Wire};
+use zk_jute::{Form, ItemFault, Origin, Output, Spell, Stands, Wire};
 
 /// What stands before each request: `RequestHeader`, 8 bytes.
 #[derive(Debug, Drop)]

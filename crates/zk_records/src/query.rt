@@ -4,7 +4,7 @@ ghost use Rattle.std.specs.Prelude.{◌≡◌, refl};
 ghost use Rattle.zk_records.specs.Records.{watch_ask, path_ask, watch_ask_of, path_ask_of};
 
 use crate::fields::{decode, fields};
-use zk_jute::{Form, ItemFault, Output, Origin, Spell, Stands, Text, TextRef, Wire};
+use zk_jute::{Form, ItemFault, Origin, Output, Spell, Stands, Text, TextRef, Wire};
 
 /// A node is looked at, and may be watched: `ExistsRequest`, `GetDataRequest`, `GetChildrenRequest`
 /// and `GetChildren2Request`.

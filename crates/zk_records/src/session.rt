@@ -4,7 +4,7 @@ ghost use Rattle.zk_records.specs.Records.{auth_ask, set_watches_ask, auth_ask_o
 
 use crate::fields::{decode, fields};
 use zk_jute::{
-    Blob, BlobRef, Form, ItemFault, List, Output, Origin, Spell, Stands, Text, TextList, TextRef,
+    Blob, BlobRef, Form, ItemFault, List, Origin, Output, Spell, Stands, Text, TextList, TextRef,
     Wire,
 };
 

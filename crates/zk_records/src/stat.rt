@@ -3,7 +3,7 @@ ghost use Rattle.std.specs.Prelude.{◌≡◌, refl};
 ghost use Rattle.zk_records.specs.Records.{stat};
 
 use crate::fields::{decode, fields};
-use zk_jute::{Form, ItemFault, Output, Origin, Spell, Stands, Wire};
+use zk_jute::{Form, ItemFault, Origin, Output, Spell, Stands, Wire};
 
 /// What is known of a node: `Stat`, 68 bytes.
 #[derive(Clone, Copy, Debug)]

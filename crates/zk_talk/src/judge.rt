@@ -16,12 +16,12 @@ ghost use Rattle.zk_talk.specs.Judged.{TellsLater, TellsClient, TellsServer, IsI
 
 use std::alloc::Global;
 use zk_answers::{
-    ServerFrame, ServerFrameOf, ServerRef, form_of, front_reply, reply_head, borrow_connected,
-    borrow_event_under, borrow_reply_under,
+    ServerFrame, ServerFrameOf, ServerRef, borrow_connected, borrow_event_under,
+    borrow_reply_under, form_of, front_reply, reply_head,
 };
 use zk_asks::{
-    Asked, ClientFrame, ClientFrameOf, ClientRef, RequestRef, front_ask, front_multi, borrow_ask,
-    borrow_first,
+    Asked, ClientFrame, ClientFrameOf, ClientRef, RequestRef, borrow_ask, borrow_first, front_ask,
+    front_multi,
 };
 use zk_jute::{ItemFault, Reason};
 use zk_records::{Op, Profile, ReplyHeader};
