@@ -199,15 +199,14 @@ def made(folder, library, archive):
     c = next(filter(shutil.which, filter(None, (os.environ.get("CC"), "cc", "gcc", "clang"))), None)
     proxy, nulls, listing, shared = (os.path.join(folder, name) for name in ("proxy", "nulls", "listing", "libzk.so"))
     if c:
-        words = [c, "-O2", "-Wall", "-Wextra", "-Werror", f"-I{HEADER.parent}", "-o", proxy, EXAMPLES / "proxy.c",
-                 library, archive]
-        if subprocess.run([*words, "-fsanitize=address"], stderr=subprocess.DEVNULL).returncode != 0:
-            print("skipped: the example in C is not looked at for memory that isn't given up")
-            subprocess.run(words, check=True)
+        warned = [c, "-O2", "-Wall", "-Wextra", "-Werror", f"-I{HEADER.parent}"]
+        for program, source in ((proxy, EXAMPLES / "proxy.c"), (nulls, TOP / "tests" / "nulls.c")):
+            words = [*warned, "-o", program, source, library, archive]
+            if subprocess.run([*words, "-fsanitize=address"], stderr=subprocess.DEVNULL).returncode != 0:
+                print(f"skipped: {source.name} is not looked at for memory that isn't given up")
+                subprocess.run(words, check=True)
         subprocess.run([c, "-shared", "-o", shared, "-Wl,--whole-archive", library, "-Wl,--no-whole-archive", archive],
                        check=True)
-        subprocess.run([c, "-O2", "-Wall", "-Wextra", "-Werror", f"-I{HEADER.parent}", "-o", nulls, TOP / "tests" / "nulls.c",
-                        library, archive], check=True)
     yield "null pointers", [nulls] if c else None
     yield "C", [proxy] if c else None
     if shutil.which("rustc"):
