@@ -2,14 +2,14 @@
 #![tactic(auto)]
 
 #[cfg(test)]
-mod build_tests;
+mod devices;
 #[cfg(test)]
-mod device_tests;
+mod engines;
 #[cfg(test)]
 mod memory;
 #[cfg(test)]
-mod migrate_tests;
+mod samples;
 #[cfg(test)]
-mod tests;
+mod watching;
 #[cfg(test)]
-mod words_tests;
+mod words;
