@@ -21,6 +21,17 @@ connected - 0000000000007530010000000000000100000010000102030405060708090a0b0c0d
 connected - 0000000000007530010000000000000100000010000102030405060708090a0b0c0d0e0f0000 = Trailing at 37
 event - ffffffffffffffffffffffff000000000000000300000003000000022f61 = Event { zxid: -1, event: WatcherEventOf { kind: 3, state: 3, path: Full(Chars { text: "/a" }) } }
 event - ffffffffffffffffffffffff000000010000000300000003000000022f = EventErr at 12
+reply 0000000100000001000000022f61ffffffffffffffff00000000 00000001000000000000000500000000000000022f61 = Answered(ReplyOf { xid: 1, zxid: 5, outcome: Done(Create { path: Full(Chars { text: "/a" }) }) })
+reply 0000000100000002000000022f61ffffffff 00000001000000000000000500000000 = Answered(ReplyOf { xid: 1, zxid: 5, outcome: Done(Delete) })
+reply 0000000100000006000000022f61 00000001000000000000000500000000000000010000001f00000005776f726c6400000006616e796f6e650000000000000004000000000000000400000000000003e800000000000003e8000000000000000000000000000000000000000000000003000000000000000000000004 = Answered(ReplyOf { xid: 1, zxid: 5, outcome: Done(GetAcl { acl: Full(Items { items: [AclOf { perms: 31, who: IdOf { scheme: Full(Chars { text: "world" }), ident: Full(Chars { text: "anyone" }) } }] }), stat: Stat { czxid: 4, mzxid: 4, ctime: 1000, mtime: 1000, version: 0, cversion: 0, aversion: 0, ephemeral_owner: 0, data_length: 3, num_children: 0, pzxid: 4 } }) })
+reply 0000000100000008000000022f6100 0000000100000000000000050000000000000002000000022f6100000000 = Answered(ReplyOf { xid: 1, zxid: 5, outcome: Done(GetChildren { names: Full(Items { items: [Full(Chars { text: "/a" }), Full(Chars { text: "" })] }) }) })
+reply 0000000100000009000000022f61 00000001000000000000000500000000000000022f61 = Answered(ReplyOf { xid: 1, zxid: 5, outcome: Done(Sync { path: Full(Chars { text: "/a" }) }) })
+reply 000000010000000c000000022f6100 0000000100000000000000050000000000000001000000022f610000000000000004000000000000000400000000000003e800000000000003e8000000000000000000000000000000000000000000000003000000000000000000000004 = Answered(ReplyOf { xid: 1, zxid: 5, outcome: Done(GetChildren2 { names: Full(Items { items: [Full(Chars { text: "/a" })] }), stat: Stat { czxid: 4, mzxid: 4, ctime: 1000, mtime: 1000, version: 0, cversion: 0, aversion: 0, ephemeral_owner: 0, data_length: 3, num_children: 0, pzxid: 4 } }) })
+reply 00000001fffffff5 00000001000000000000000500000000 = Answered(ReplyOf { xid: 1, zxid: 5, outcome: Done(CloseSession) })
+reply fffffffe0000000b fffffffe000000000000000500000000 = Answered(ReplyOf { xid: -2, zxid: 5, outcome: Done(Ping) })
+reply fffffffc0000006400000000ffffffffffffffff fffffffc000000000000000500000000 = Answered(ReplyOf { xid: -4, zxid: 5, outcome: Done(Auth) })
+reply fffffff8000000650000000000000005ffffffffffffffffffffffff fffffff8000000000000000500000000 = Answered(ReplyOf { xid: -8, zxid: 5, outcome: Done(SetWatches) })
+reply 000000010000000e0000000500ffffffff000000022f61ffffffffffffffff0000000d00ffffffff000000022f61ffffffffffffffff01ffffffff 000000010000000000000005000000000000000500000000000000000000000004000000000000000400000000000003e800000000000003e80000000000000000000000000000000000000000000000030000000000000000000000040000000d0000000000ffffffff01ffffffff = Answered(ReplyOf { xid: 1, zxid: 5, outcome: Done(Multi(Items { items: [DataSet(Stat { czxid: 4, mzxid: 4, ctime: 1000, mtime: 1000, version: 0, cversion: 0, aversion: 0, ephemeral_owner: 0, data_length: 3, num_children: 0, pzxid: 4 }), Checked] })) })
 reply 0000000100000003000000022f6101 000000010000000000000005ffffff9b = Answered(ReplyOf { xid: 1, zxid: 5, outcome: Failed(Exists, Failure { number: -101 }) })
 reply 0000000100000003000000022f6101 000000010000000000000005ffffff9b00 = Trailing at 16
 reply 0000000100000003000000022f6101 000000010000000000000005ffffff = Short at 12
@@ -61,7 +72,8 @@ fn form(alloc: Global, digits: &str) -> Result<Form, Fail> {
 
 /// The reply to what left the form, where the payload is no event.
 fn reply(alloc: Global, form: &Form, payload: &[u8]) -> Result<ServerFrame, ItemFault> {
-    if reply_head(payload)?.xid == -1 {
+    let head = reply_head(payload)?;
+    if head.xid == -1 {
         return Err(ItemFault::at(0, Reason::Unasked));
     }
     read_reply(alloc, form, payload)
@@ -79,15 +91,19 @@ fn reply_seen<'a>(form: &Form, payload: &'a [u8]) -> Result<ServerRef<'a>, ItemF
 
 /// Whether the quick way says that the payload is a reply to what left the form.
 fn is_front(form: &Form, payload: &[u8]) -> bool {
-    match reply_head(payload) {
-        Ok(head) => head.xid != -1 && front_reply(form, &head, payload),
-        Err(_) => false,
+    let Ok(head) = reply_head(payload) else {
+        return false;
+    };
+    if head.xid == -1 {
+        return false;
     }
+    front_reply(form, &head, payload)
 }
 
 /// The event, where the payload is one.
 fn event(alloc: Global, payload: &[u8]) -> Result<ServerFrame, ItemFault> {
-    if reply_head(payload)?.xid != -1 {
+    let head = reply_head(payload)?;
+    if head.xid != -1 {
         return Err(ItemFault::at(0, Reason::Unasked));
     }
     read_event(alloc, payload)

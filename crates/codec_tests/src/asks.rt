@@ -1,5 +1,5 @@
 //! Client payloads.
-ghost use Rattle.std.specs.Prelude.{[], refl, IfOk};
+ghost use Rattle.std.specs.Prelude.{[], refl};
 ghost use Rattle.zk_asks.specs.Frames.{MaySend};
 
 use crate::digits::hex;
@@ -26,6 +26,16 @@ first 0000000000000000000000000000753000000000000000000000 = Short at 24
 34 0000000500000065000000000000000500000001000000022f6100000000ffffffff = Ask { xid: 5, ask: SetWatches(SetWatchesAskOf { zxid: 5, data_watches: Full(Items { items: [Full(Chars { text: "/a" })] }), exist_watches: Full(Items { items: [] }), child_watches: Null }) }
 34 fffffffc00000064000000000000000664696765737400000003613a62 = Ask { xid: -4, ask: Auth(AuthAskOf { kind: 0, scheme: Full(Chars { text: "digest" }), auth: Full(Bytes { bytes: [97, 58, 98] }) }) }
 34 0000000100000003000000022f6101 = Ask { xid: 1, ask: Exists(WatchAskOf { path: Full(Chars { text: "/a" }), watch: true }) }
+34 0000000100000001000000022f61ffffffff000000010000001f00000005776f726c6400000006616e796f6e6500000000 = Ask { xid: 1, ask: Create(CreateAskOf { path: Full(Chars { text: "/a" }), blob: Null, acl: Full(Items { items: [AclOf { perms: 31, who: IdOf { scheme: Full(Chars { text: "world" }), ident: Full(Chars { text: "anyone" }) } }] }), flags: 0 }) }
+34 0000000100000002000000022f61ffffffff = Ask { xid: 1, ask: Delete(DeleteAskOf { path: Full(Chars { text: "/a" }), version: -1 }) }
+34 0000000100000004000000022f6100 = Ask { xid: 1, ask: GetData(WatchAskOf { path: Full(Chars { text: "/a" }), watch: false }) }
+34 0000000100000005000000022f610000000161ffffffff = Ask { xid: 1, ask: SetData(SetDataAskOf { path: Full(Chars { text: "/a" }), blob: Full(Bytes { bytes: [97] }), version: -1 }) }
+34 0000000100000006000000022f61 = Ask { xid: 1, ask: GetAcl(PathAskOf { path: Full(Chars { text: "/a" }) }) }
+34 0000000100000007000000022f61000000010000001f00000005776f726c6400000006616e796f6e65ffffffff = Ask { xid: 1, ask: SetAcl(SetAclAskOf { path: Full(Chars { text: "/a" }), acl: Full(Items { items: [AclOf { perms: 31, who: IdOf { scheme: Full(Chars { text: "world" }), ident: Full(Chars { text: "anyone" }) } }] }), version: -1 }) }
+34 0000000100000008000000022f6100 = Ask { xid: 1, ask: GetChildren(WatchAskOf { path: Full(Chars { text: "/a" }), watch: false }) }
+34 0000000100000009000000022f61 = Ask { xid: 1, ask: Sync(PathAskOf { path: Full(Chars { text: "/a" }) }) }
+34 000000010000000c000000022f6101 = Ask { xid: 1, ask: GetChildren2(WatchAskOf { path: Full(Chars { text: "/a" }), watch: true }) }
+34 000000010000000e0000000200ffffffff000000022f61ffffffffffffffff01ffffffff = Ask { xid: 1, ask: Multi(Items { items: [Delete(DeleteAskOf { path: Full(Chars { text: "/a" }), version: -1 })] }) }
 34 fffffffe0000000b = Ask { xid: -2, ask: Ping }
 34 00000007fffffff5 = Ask { xid: 7, ask: CloseSession }
 34 000000010000000effffffff01ffffffff = Ask { xid: 1, ask: Multi(Items { items: [] }) }
@@ -46,16 +56,6 @@ first 0000000000000000000000000000753000000000000000000000 = Short at 24
 34 000000010000000e0000000e00ff = Short at 13
 34 000000010000000e0000000d00ffffffff000000022f610000 = Short at 23
 35 000000010000000e0000000f00ffffffff = BadPart at 8"#;
-
-fn read(alloc: Global, kind: &str, payload: &[u8]) -> Result<ClientFrame, ItemFault>
-    ensures { IfOk result MaySend }
-{
-    match kind {
-        "first" => read_first(alloc, payload),
-        "34" => read_ask(alloc, Profile::V34, payload),
-        _ => read_ask(alloc, Profile::V35, payload),
-    }
-}
 
 /// Whether it is refused where it lies, or for what.
 fn scanned(kind: &str, payload: &[u8]) -> Option<ItemFault> {
@@ -81,12 +81,10 @@ fn written(alloc: Global, frame: &ClientFrame, size: usize) -> Result<Vec<u8>, F
     Ok(out)
 }
 
-/// What stands as the payload, which is written again, or what is wrong with it.
-fn told(alloc: Global, kind: &str, payload: &[u8]) -> Result<String, Fail> {
-    let frame = match read(alloc, kind, payload) {
-        Ok(frame) => frame,
-        Err(fault) => return Ok(fault_told(alloc, &fault)?),
-    };
+/// What the frame is, once it is written again as its payload.
+fn frame_told(alloc: Global, frame: ClientFrame, payload: &[u8]) -> Result<String, Fail>
+    requires { MaySend frame }
+{
     let out = written(alloc, &frame, payload.len())?;
     if out.as_slice() != payload {
         return Err("written otherwise")?;
@@ -94,22 +92,55 @@ fn told(alloc: Global, kind: &str, payload: &[u8]) -> Result<String, Fail> {
     Ok(format!(in alloc; "{frame:?}")?)
 }
 
+/// What the first payload is, or what is wrong with it.
+fn first_told(alloc: Global, payload: &[u8]) -> Result<String, Fail> {
+    match read_first(alloc, payload) {
+        Ok(frame) => frame_told(alloc, frame, payload),
+        Err(fault) => Ok(fault_told(alloc, &fault)?),
+    }
+}
+
+/// What a later payload is, or what is wrong with it.
+fn ask_told(alloc: Global, profile: Profile, payload: &[u8]) -> Result<String, Fail> {
+    match read_ask(alloc, profile, payload) {
+        Ok(frame) => frame_told(alloc, frame, payload),
+        Err(fault) => Ok(fault_told(alloc, &fault)?),
+    }
+}
+
+fn told(alloc: Global, kind: &str, payload: &[u8]) -> Result<String, Fail> {
+    match kind {
+        "first" => first_told(alloc, payload),
+        "34" => ask_told(alloc, Profile::V34, payload),
+        _ => ask_told(alloc, Profile::V35, payload),
+    }
+}
+
+/// A payload is told as it is wanted, and where it lies it is refused for the same.
+fn judged(
+    rt: &impl Abort,
+    alloc: Global,
+    kind: &str,
+    payload: &[u8],
+    want: &str,
+) -> Result<(), Fail> {
+    let told = told(alloc, kind, payload)?;
+    assert_eq!(rt; told.as_str(), want);
+    if let Some(fault) = scanned(kind, payload) {
+        let told = fault_told(alloc, &fault)?;
+        assert_eq!(rt; told.as_str(), want, "where it lies");
+    }
+    Ok(())
+}
+
 #[test]
 fn payloads(rt: HostRuntime) -> Result<(), Fail> {
     for row in PAYLOADS.lines() {
         let (kind, payload, want) = parsed(rt.alloc(), row)?;
-        let told = told(rt.alloc(), kind, &payload)?;
-        assert_eq!(rt; told.as_str(), want, "of {row}");
-        let fault = match scanned(kind, &payload) {
-            None => continue,
-            Some(fault) => fault_told(rt.alloc(), &fault)?,
-        };
-        assert_eq!(rt; fault.as_str(), want, "of {row}, where it lies");
+        judged(&rt, rt.alloc(), kind, &payload, want)?;
     }
-    assert_eq!(rt;
-        (allowed(-2, Op::Ping), allowed(-1, Op::Exists)),
-        (true, false)
-    );
+    let pair = (allowed(-2, Op::Ping), allowed(-1, Op::Exists));
+    assert_eq!(rt; pair, (true, false));
     Ok(())
 }
 

@@ -74,8 +74,11 @@ fn expect_write_failed(
 fn each_in_vain(rt: &impl Abort, alloc: Global, of: &Run<'_>) -> Result<(), Fail> {
     expect_single_bytes(rt, alloc, of)?;
     // What refuses a recording ends the reads.
-    let reads = of.input.len() + usize::from(of.status == 0);
-    for call in 0..reads as u64 {
+    let reads = match of.status {
+        0 => of.input.len() as u64 + 1,
+        _ => of.input.len() as u64,
+    };
+    for call in 0..reads {
         expect_read_failed(rt, alloc, of, call + 1)?;
     }
     for before in 0..of.output.len() {

@@ -54,12 +54,11 @@ impl Source for Watching<'_> {
             self.failed = true;
             return Err(Failed);
         }
-        let Some(byte) = self.bytes.get(self.next) else {
-            return Ok(0);
-        };
-        self.next = self.next.saturating_add(1);
-        buf[0] = *byte;
-        Ok(1)
+        let rest = self.bytes.get(self.next..).unwrap_or(&[]);
+        let count = rest.len().min(buf.len()).min(1);
+        buf[..count].copy_from_slice(&rest[..count]);
+        self.next = self.next.saturating_add(count);
+        Ok(count)
     }
 
     fn reads(&self) -> u64 {
