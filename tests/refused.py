@@ -5,7 +5,7 @@
 
 tests/refused/NAME.txt is the text of a crate over the repository's crates, of which the lines that say
 `// refused: CODE`, and no others, must be refused with that code. tests/refused/NAME.edit changes a crate of the
-repository, as a must-fail edit does, and says in its line `refused: CODE` how the new text, and no other line, must be
+repository, as a must-fail edit does, and says in its lines `refused: CODE` how each new text, and no other line, must be
 refused. It prints what fails and `N passed, M failed`; its status is 1 where one failed.
 """
 import os
@@ -17,7 +17,7 @@ import sys
 import tempfile
 from pathlib import Path
 
-SECONDS = 120
+SECONDS = 300
 ROOT = Path(__file__).resolve().parent.parent
 
 
@@ -59,14 +59,14 @@ def program(top, text):
 
 def edit(top, text):
     """What is refused of a crate that is edited, and what the edit says."""
-    said = dict(re.findall(r"^(crate|file|old|new|refused): (.*)$", text, re.M))
-    crate = top / "crates" / said["crate"]
-    before, old, after = (crate / said["file"]).read_text().partition(said["old"])
-    if not old or said["old"] in after:
-        return [], [("the old text doesn't stand there once", 0, "")]
-    (crate / said["file"]).write_text(before + said["new"] + after)
-    wanted = [(said["file"].removeprefix("src/"), before.count("\n") + 1, said["refused"])]
-    return errors(crate), wanted
+    crate, wanted = top / "crates" / re.search(r"^crate: (.*)$", text, re.M)[1], []
+    for name, old, new, code in re.findall(r"^file: src/(.*)\nold: (.*)\nnew: (.*)\nrefused: (.*)$", text, re.M):
+        before, found, after = (crate / "src" / name).read_text().partition(old)
+        if not found or old in after:
+            return [], [("the old text doesn't stand there once", 0, name)]
+        (crate / "src" / name).write_text(before + new + after)
+        wanted.append((name, before.count("\n") + 1, code))
+    return errors(crate), sorted(wanted)
 
 
 def main():
