@@ -8,7 +8,7 @@ use std::alloc::{AllocError, AllocGlobal, Global};
 use std::process::Abort;
 use std::test::Fail;
 use zk_listings::{FromRead, RunFault, Sink, Source, Status, check_run};
-use zk_runs::{run_settings, settings};
+pub(crate) use zk_runs::run_words;
 use zk_talk::Limits;
 
 /// A connect request and its response, and an exists request of `/a` and its reply, which is NONODE.
@@ -72,23 +72,6 @@ pub(crate) fn words(rt: &impl AllocGlobal, line: &str) -> Result<Vec<String>, Fa
         words.push(String::from_str(rt.alloc(), word)?)?;
     }
     Ok(words)
-}
-
-/// Reads the words, and does what they say.
-pub(crate) fn run_words<R: Source, W: Sink, F: Sink>(
-    alloc: Global,
-    words: Vec<String>,
-    reader: &mut R,
-    writer: &mut W,
-    faults: &mut F,
-) -> u8
-    requires reader { R.has_failed reader.old ≡ false }
-    requires reads { R.read_count reader.old < 2 ^ 62 }
-    requires writer { W.has_failed writer.old ≡ false }
-    requires faults { F.has_failed faults.old ≡ false }
-{
-    let chosen = settings(alloc, words);
-    run_settings(alloc, chosen, reader, writer, faults)
 }
 
 pub(crate) fn text(rt: &impl AllocGlobal, sink: &MemorySink) -> Result<String, Fail> {

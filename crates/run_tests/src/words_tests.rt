@@ -19,38 +19,61 @@ const USUAL: (u32, u32) = (4_194_304, 65_536);
 fn reads_the_words(rt: HostRuntime) -> Result<(), Fail> {
     let (size, count) = USUAL;
     let table = [
-        ("zkdump check", Command::Check, USUAL),
-        ("zkdump show", Command::Show, USUAL),
-        ("zkdump build", Command::Build, USUAL),
+        ("zkdump check", Command::Check, USUAL, false),
+        ("zkdump show", Command::Show, USUAL, false),
+        ("zkdump build", Command::Build, USUAL, false),
         (
             "zkdump build --limit 64 --waiting 2",
             Command::Build,
             (64, 2),
+            false,
         ),
-        ("zkdump migrate", Command::Migrate, USUAL),
-        ("zkdump migrate --waiting=3", Command::Migrate, (size, 3)),
-        ("zkdump check --earliest", Command::CheckEarliest, USUAL),
+        ("zkdump migrate", Command::Migrate, USUAL, false),
+        (
+            "zkdump migrate --waiting=3",
+            Command::Migrate,
+            (size, 3),
+            false,
+        ),
+        ("zkdump check --earliest", Command::Check, USUAL, true),
         (
             "zkdump check --limit 64 --earliest",
-            Command::CheckEarliest,
+            Command::Check,
             (64, count),
+            true,
         ),
-        ("zkdump check --limit 64", Command::Check, (64, count)),
-        ("zkdump check --limit=100", Command::Check, (100, count)),
+        (
+            "zkdump check --limit 64",
+            Command::Check,
+            (64, count),
+            false,
+        ),
+        (
+            "zkdump check --limit=100",
+            Command::Check,
+            (100, count),
+            false,
+        ),
         (
             "zkdump show --waiting 1 --limit 16777216",
             Command::Show,
             (16_777_216, 1),
+            false,
         ),
         (
             "zkdump check --waiting 1048576",
             Command::Check,
             (size, 1_048_576),
+            false,
         ),
     ];
-    for (line, command, (limit, waiting)) in table {
+    for (line, command, (limit, waiting), earliest) in table {
         let limits = Limits::new(limit, limit, waiting).ok_or("limits")?;
-        let want = Settings { command, limits };
+        let want = Settings {
+            command,
+            limits,
+            earliest,
+        };
         assert_eq!(rt; of(&rt, line)?, Ok(want), "at {line}");
     }
     Ok(())

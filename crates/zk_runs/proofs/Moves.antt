@@ -17,7 +17,7 @@ use Rattle.zk_recordings.specs.declared.recording.State.{State}
 use Rattle.zk_recordings.specs.Parts.{number, piece_parts}
 use Rattle.zk_recordings.specs.Recording.{spelled, End, Cut, Bad, end_bytes, Break, IsBreakIn, Head, First, Second, format_of, head_bytes, Piece, IsPiece, piece_bytes, Place, AtLetters, InHead, InPieces, IsPlace, front, Recording, Breaks, Ends, IsRecording, Spells, place_of, begun_of, damage_of, nothing}
 use Rattle.zk_recordings.specs.Reading.{IsAt, IsDecidedBy, IsHeaded, IsBetween, GoesOn, in_head, within, ends, ReadsOn, format_at}
-use Rattle.zk_listings.specs.Outcome.{HasGrownIn}
+use Rattle.zk_listings.specs.Outcome.{IsBroken, HasGrownIn}
 use Rattle.zk_runs.specs.Migrating.{head_of, second, migrated_at, migrated, sent, kept_at, kept, IsHeadedIf, HasMoved, HasMovedIn, HasMovedTo, HasMigrated, HasMigratedSoFar, HasBegunMigrating, answered}
 use Rattle.zk_listings.proofs.Bytes.{Appends-then, Consumes-then}
 use Rattle.zk_recordings.proofs.Walks.{Walk, Walked, Broke, walk}
@@ -295,9 +295,9 @@ found-damage options x block n d head_written begun s before now t decided =
 -- ---- what a run has read and written
 
 pub migrated-so_far : (options : Limits) (unread unread_now : Option (List ℕ)) (x : List ℕ) (head_written : Bool) (begun : List ℕ) (s : State) (before now : Option (List ℕ)) →
-    Consumes unread unread_now x → HasMoved options x head_written begun s before now → HasMigratedSoFar options unread unread_now before now
-migrated-so_far options unread unread_now x head_written begun s before now p t =
-    record { bytes = x; recording = t.recording; reads = reads-by unread unread_now x t.recording p t.at.spells; written = t.written }
+    Consumes unread unread_now x → (t : HasMoved options x head_written begun s before now) → (IsBroken x t.recording → ⊥) → HasMigratedSoFar options unread unread_now before now
+migrated-so_far options unread unread_now x head_written begun s before now p t unbroken =
+    record { bytes = x; recording = t.recording; reads = reads-by unread unread_now x t.recording p t.at.spells; unbroken = unbroken; written = t.written }
 
 pub begun-in : (options : Limits) (unread unread_now : Option (List ℕ)) (x : List ℕ) (before now : Option (List ℕ)) →
     Consumes unread unread_now x → HasMovedIn options x before now → HasBegunMigrating options unread unread_now before now

@@ -53,11 +53,12 @@ pub record HasMigrated (options : Limits) (unread unread_now contents contents_n
   pub written : Appends contents contents_now (migrated options recording)
   pub enough : IsAtEnd unread_now ⊎ IsBroken bytes recording
 
--- what was read was migrated as far as its pieces are whole
+-- what was read was migrated as far as its pieces are whole, and no damage in it stands whatever follows
 pub record HasMigratedSoFar (options : Limits) (unread unread_now contents contents_now : Option (List ℕ)) : Type 0 where
   pub bytes : List ℕ
   pub recording : Recording
   pub reads : Reads unread unread_now bytes recording
+  pub unbroken : IsBroken bytes recording → ⊥
   pub written : Appends contents contents_now (migrated options recording)
 
 -- a front of that was written
