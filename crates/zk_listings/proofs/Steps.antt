@@ -9,7 +9,7 @@ use Rattle.zk_talk.specs.Stands.{TalkState}
 use Rattle.zk_listings.specs.declared.listing.Listing.{Listing}
 use Rattle.zk_recordings.specs.declared.parts.DamageAt.{DamageAt}
 use Rattle.zk_listings.specs.declared.progress.Progress.{Progress}
-use Rattle.zk_recordings.specs.declared.recording.State.{State}
+use Rattle.zk_recordings.specs.Reader.{ReaderState}
 use Rattle.zk_listings.specs.declared.summary.Summary.{Summary}
 use Rattle.zk_listings.specs.declared.summary.Summary.TheVariants.{Ended, Broken}
 use Rattle.zk_listings.specs.Lines.{text_of}
@@ -20,7 +20,7 @@ use Rattle.zk_listings.proofs.Stops.{decides-by_fault, decides-by_damage}
 use Rattle.zk_listings.proofs.Decided.{broken-by}
 use Rattle.zk_listings.proofs.Talking.{Given, given, has-good}
 
-module _ (listing : Listing) (p : Progress) (lines lines_now block : List ℕ) (used : ℕ) (side : Option Side) (state : State) (now_limits : Limits) (refused : Option Fault) (talk : Option TalkState)
+module _ (listing : Listing) (p : Progress) (lines lines_now block : List ℕ) (used : ℕ) (side : Option Side) (state : ReaderState) (now_limits : Limits) (refused : Option Fault) (talk : Option TalkState)
     (reads : (x : List ℕ) (r : Recording) → IsAt p.reader x r → ReadsOn state x r (take used block) side)
     (limits_are : (x : List ℕ) (r : Recording) → IsAt state x r → IsHeaded (place_of r) → now_limits ≡ limits_of p.limits r)
     (gives : Gives now_limits listing p.talk lines (content_of side (take used block)) refused talk lines_now)

@@ -10,7 +10,7 @@ use Rattle.zk_listings.specs.declared.listing.Listing.{Listing}
 use Rattle.zk_listings.specs.declared.progress.Step.{Step}
 use Rattle.zk_listings.specs.declared.progress.Step.TheVariants.{Took, Found}
 use Rattle.zk_listings.specs.declared.progress.Progress.{Progress}
-use Rattle.zk_recordings.specs.declared.recording.State.{State}
+use Rattle.zk_recordings.specs.Reader.{ReaderState}
 use Rattle.zk_listings.specs.declared.summary.Summary.{Summary}
 use Rattle.zk_listings.specs.declared.summary.Summary.TheVariants.{Ended, Broken}
 use Rattle.zk_recordings.specs.Recording.{Place, Recording, Spells, place_of, history_of, limits_of}
@@ -116,6 +116,6 @@ Steps listing p lines block (Took n) now lines_now = Advances listing p lines (t
 Steps listing p lines block (Found summary) now lines_now = Advances listing p lines block (Some summary) now lines_now
 
 -- at least one byte, and no more than there are
-abbrev pub IsWithin : State → List ℕ → Step → State → Type 0
+abbrev pub IsWithin : ReaderState → List ℕ → Step → ReaderState → Type 0
 IsWithin s block (Took n) now = (0 < n) × (n ≤ length block) × (place_in now ≤ place_in s + n)
 IsWithin s block (Found summary) now = Unit {0}

@@ -45,9 +45,13 @@ Answers s unread unread_now contents contents_now exit = exit < 2 → IsDone s u
 abbrev pub Stops : Settings → Option (List ℕ) → Option (List ℕ) → Option (List ℕ) → Option (List ℕ) → ℕ → Type 0
 Stops s unread unread_now contents contents_now exit = 2 ≤ exit → (exit ≡ 3) × IsFailed s unread unread_now contents contents_now
 
--- some settings, whose numbers lie in their ranges, came to their end, or failed
+-- the numbers lie in their ranges
+abbrev pub IsInRange : Settings → Type 0
+IsInRange s = AreLimits s.limits.client s.limits.server s.limits.waiting
+
+-- some settings in range came to their end, or failed
 abbrev pub IsDoneBySome : Option (List ℕ) → Option (List ℕ) → Option (List ℕ) → Option (List ℕ) → ℕ → Type 0
-IsDoneBySome unread unread_now contents contents_now exit = (s : Settings) × AreLimits s.limits.client s.limits.server s.limits.waiting × IsDone s unread unread_now contents contents_now exit
+IsDoneBySome unread unread_now contents contents_now exit = (s : Settings) × IsInRange s × IsDone s unread unread_now contents contents_now exit
 
 abbrev pub IsFailedBySome : Option (List ℕ) → Option (List ℕ) → Option (List ℕ) → Option (List ℕ) → Type 0
-IsFailedBySome unread unread_now contents contents_now = (s : Settings) × AreLimits s.limits.client s.limits.server s.limits.waiting × IsFailed s unread unread_now contents contents_now
+IsFailedBySome unread unread_now contents contents_now = (s : Settings) × IsInRange s × IsFailed s unread unread_now contents contents_now

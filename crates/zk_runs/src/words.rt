@@ -1,8 +1,8 @@
 //! The words of a command line, as settings.
 ghost use Rattle.std.specs.Prelude.{◌≡◌, ◌≢◌, IfOk, MatchOption};
 ghost use Rattle.zk_records.specs.declared.profile.Profile.{Profile};
-ghost use Rattle.zk_talk.specs.Ranges.{AreLimits};
 ghost use Rattle.zk_runs.specs.declared.options.Command.{Command as command};
+ghost use Rattle.zk_runs.specs.Commands.{IsInRange};
 ghost use Rattle.zk_runs.specs.Names.{command_name, profile_name};
 
 use crate::options::{Command, Settings, UsageFault};
@@ -83,7 +83,7 @@ fn profile_of(name: &str) -> Option<Profile>
 /// # Errors
 /// `Memory` where a growth was refused, else `Words`; asking for help is a fault of the words.
 pub fn settings(alloc: Global, words: Vec<String>) -> Result<Settings, UsageFault>
-    ensures { IfOk result (λ s. AreLimits s.limits.client s.limits.server s.limits.waiting) }
+    ensures { IfOk result IsInRange }
 {
     let matches = command_line(alloc)?.try_get_matches_from(words.as_slice())?;
     let (name, options) = matches.subcommand().ok_or(UsageFault::Words)?;
