@@ -1,12 +1,13 @@
 #!/usr/bin/env python3
-"""Shows how the time and the memory of zkdump's check and show grow with the size of what is read.
+"""Shows how the time and the memory of zkdump's commands grow with the size of what is read.
 
     bench/growth.py [--program PATH] [--quick] [--only WORD] [--core N]
 
 Each row is a size of one of these: the parts of one multi; the requests that wait at once, as many as usually may, and
 more; the names of one list; the bytes of one path; the bytes of one frame that come in pieces of one byte; and the
 megabytes of a long recording. All but the last stand in their recording as often as makes the same total, so that
-linear work takes the same time at each size. What the program takes for a recording of no pieces is taken off.
+linear work takes the same time at each size. `build` reads the listing of it. What the program takes for a recording of
+no pieces, and for its listing, is taken off.
 
 It prints a table: the size, and for each command CPU seconds (the least of three runs), nanoseconds for each (part,
 request, name or byte), and the greatest memory. The status is 1 where twice the size takes more than three times the
@@ -28,7 +29,7 @@ import timing
 NOISE = 0.02  # seconds
 GROWTH = math.log2(1.5)  # the power of a size with which the time of each one may grow
 MORE_MEMORY = 1.0  # megabytes
-COMMANDS = ("check", "show")
+COMMANDS = ("check", "show", "build", "migrate")
 STAT = bytes(68)
 
 
@@ -140,17 +141,21 @@ class Growth:
 
     def __init__(self, program, folder):
         self.program, self.recording, self.rows, self.failed = program, folder / "recording", 0, 0
+        self.listing = folder / "listing"
         self.recording.write_bytes(making.HEAD)
+        self.listing.write_bytes(timing.WHOLE)
         self.empty = {command: self.least(command).cpu for command in COMMANDS}
 
     def least(self, *words):
-        return min(timing.run([self.program, *words], self.recording) for _ in range(3))
+        read = self.listing if words[0] == "build" else self.recording
+        return min(timing.run([self.program, *words], read) for _ in range(3))
 
     def series(self, name, sizes, write, words=(), flat=False):
         """The rows of one shape; `write` makes the recording of a size, and tells how many units it has."""
         before = {command: [] for command in COMMANDS}
         for size in sizes:
             units, row, faults = write(self.recording, size), f"| {name} | {size:,} |", []
+            timing.run([self.program, "show", *words], self.recording, self.listing)
             for command in COMMANDS:
                 cost = self.least(command, *words)
                 measured = Measured(size, units, cost._replace(cpu=max(0.0, cost.cpu - self.empty[command])))

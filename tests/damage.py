@@ -8,7 +8,7 @@ The program is crates/zkdump/out/zkdump where none is named. For each conversati
 
 - fronts: each front of its bytes ends as the definitions say: with the fault, where that is decided, else cut or whole,
   by counting frames;
-- cuts: each piece, cut in two at each place, gives the same ending line;
+- cuts: each piece, cut in two at each place, gives the same listing;
 - bytes: with each byte replaced by 00, 01, 7f, 80 and ff it is refused, not before that byte, or cut, or whole, and
   then the listing is built into the bytes that were fed;
 - lengths: with each length and count replaced by 7fffffff, 80000000 and fffffffe it is refused or cut, within 64 MB of
@@ -225,10 +225,12 @@ class Tests:
             self.ends(f"the first {size} bytes", part, self.line if decided else ending(part))
 
     def try_cuts(self):
+        listing = self.run("show", recording(self.pieces))
         for number, (side, data) in enumerate(self.pieces):
             for at in range(1, len(data)):
                 cut = [*self.pieces[:number], (side, data[:at]), (side, data[at:]), *self.pieces[number + 1:]]
-                self.ends(f"piece {number} cut at {at}", cut, self.line)
+                found = self.run("show", recording(cut))
+                self.hold(f"piece {number} cut at {at}", found == listing, "wanted", listing, "found", found)
 
     def try_bytes(self):
         for side, data in zip((b"C", b"S"), sides(self.pieces)):

@@ -10,8 +10,8 @@ has what looks for that; the one in Python says the lines of whole listings agai
 is installed. Payloads of docs/EXAMPLES.md are judged. Null pointers and lengths that no bytes have are refused
 (tests/nulls.c). What is skipped is told.
 
-The library is the one that `rt lib` makes, over what earlier checks kept, where no other is named. It prints what failed
-and one last line. The status is 0 where nothing did.
+Where no other is named, the library is proved and built here, over the libraries below it that `rt ci` left; where it
+left none, `rt lib` proves these too. It prints what failed and one last line. The status is 0 where nothing did.
 """
 
 import argparse
@@ -149,10 +149,49 @@ def compare_header():
                f"number {name}: the crate has {number}, the header {c_numbers.get(name)}")
 
 
-def kit_archive():
-    """The toolchain's archive by which the library asks for memory."""
+def kit():
+    """The toolchain's folder."""
     page = subprocess.run(["rt", "doc"], capture_output=True, text=True, check=True).stdout.strip()
-    return pathlib.Path(page).parent / "c" / "liblibc_c.a"
+    return pathlib.Path(page).parent
+
+
+def below(name):
+    """The libraries that a crate stands on, those of the repository and the toolchain's, by crates.txt."""
+    uses = {}
+    for line in (TOP / "crates.txt").read_text().splitlines():
+        crate, colon, libraries = line.split("#")[0].partition(":")
+        if colon:
+            uses[crate.split()[0]] = libraries.split()
+    own = {one: TOP / "crates" / one / "out" / "rlib" / f"{one}.rlib" for one in uses if one in uses[name]}
+    found, left = {}, list(own)
+    while left:
+        one = left.pop()
+        if one not in found:
+            found[one] = TOP / "crates" / one / "out" / "rlib" / f"{one}.rlib"
+            left += [low for low in uses[one] if low in uses]
+    return own, found, [one for one in uses[name] if one not in uses]
+
+
+def built():
+    """The library, proved and built."""
+    archive, (own, every, others) = CRATE / "out" / "libzk_c.a", below("zk_c")
+    if not all(path.is_dir() for path in every.values()):
+        subprocess.run(["rt", "lib"], cwd=CRATE, check=True, stdout=subprocess.DEVNULL)
+        return archive
+    home = kit()
+    words = [home / "bin" / "rattle", "build", "--crate-name", "zk_c", "src/lib.rt", "--crate-type", "staticlib",
+             "--links", "zk_c=", "--jobs", str(min(4, os.cpu_count() or 1)), "--toolchain", home / "toolchain",
+             "--antt-project", home / "rattle" / "logic" / "antt-project.json", "--logic-built", home / "logic_built",
+             "--backend", "llvm", "-o", archive, "-L", f"dependency={home / 'rlibs'}"]
+    for name in ["std", *others]:
+        words += ["--extern", f"{name}={home / 'rlibs' / name}.rlib"]
+    for name, path in own.items():
+        words += ["--extern", f"{name}={path}"]
+    for path in every.values():
+        words += ["-L", f"dependency={path.parent}"]
+    archive.parent.mkdir(exist_ok=True)
+    subprocess.run(words, cwd=CRATE, check=True, stdout=subprocess.DEVNULL)
+    return archive
 
 
 def made(folder, library, archive):
@@ -160,15 +199,14 @@ def made(folder, library, archive):
     c = next(filter(shutil.which, filter(None, (os.environ.get("CC"), "cc", "gcc", "clang"))), None)
     proxy, nulls, listing, shared = (os.path.join(folder, name) for name in ("proxy", "nulls", "listing", "libzk.so"))
     if c:
-        words = [c, "-O2", "-Wall", "-Wextra", "-Werror", f"-I{HEADER.parent}", "-o", proxy, EXAMPLES / "proxy.c",
-                 library, archive]
-        if subprocess.run([*words, "-fsanitize=address"], stderr=subprocess.DEVNULL).returncode != 0:
-            print("skipped: the example in C is not looked at for memory that isn't given up")
-            subprocess.run(words, check=True)
+        warned = [c, "-O2", "-Wall", "-Wextra", "-Werror", f"-I{HEADER.parent}"]
+        for program, source in ((proxy, EXAMPLES / "proxy.c"), (nulls, TOP / "tests" / "nulls.c")):
+            words = [*warned, "-o", program, source, library, archive]
+            if subprocess.run([*words, "-fsanitize=address"], stderr=subprocess.DEVNULL).returncode != 0:
+                print(f"skipped: {source.name} is not looked at for memory that isn't given up")
+                subprocess.run(words, check=True)
         subprocess.run([c, "-shared", "-o", shared, "-Wl,--whole-archive", library, "-Wl,--no-whole-archive", archive],
                        check=True)
-        subprocess.run([c, "-O2", "-Wall", "-Wextra", "-Werror", f"-I{HEADER.parent}", "-o", nulls, TOP / "tests" / "nulls.c",
-                        library, archive], check=True)
     yield "null pointers", [nulls] if c else None
     yield "C", [proxy] if c else None
     if shutil.which("rustc"):
@@ -247,11 +285,10 @@ def main():
     parser.add_argument("--library", type=pathlib.Path)
     options = parser.parse_args()
     if options.library is None:
-        options.library = CRATE / "out" / "libzk_c.a"
-        subprocess.run(["rt", "lib"], cwd=CRATE, check=True, stdout=subprocess.DEVNULL)
+        options.library = built()
     results = list(compare_header())
     with tempfile.TemporaryDirectory() as folder:
-        for name, words in made(folder, options.library, kit_archive()):
+        for name, words in made(folder, options.library, kit() / "c" / "liblibc_c.a"):
             if words is None:
                 print(f"skipped: there is no compiler for the example in {name}")
                 continue

@@ -7,7 +7,7 @@ tests/refuse.c, which a C compiler makes a library of, stands in the place of th
 are all that a program asks for memory by, and refuses the Nth call of a run. For each worked example (docs/EXAMPLES.md)
 and N counting up from 1 until a run meets no refusal
 
-- show, check, build: over the stored cases, and `build` over the listings of those of show, too, the run does what it
+- show, check, build, migrate: over the stored cases, and `build` over the listings of those of show, too, the run does what it
   does with ample memory; or it ends with status 3, `zkdump: out of memory` on standard error, and a front of the output
   that it has with ample memory;
 - calls: over the recordings of the first format that check is stored with, a test of the library
@@ -36,7 +36,7 @@ from program import BUILT, TOP, Program
 CASES = TOP / "crates" / "zkdump" / "cases"
 TESTS = TOP / "crates" / "talk_tests" / "out" / "talk_tests_tests"
 CALLS = "growth::asked_again"
-KINDS = ("show", "check", "build", "calls")
+KINDS = ("show", "check", "build", "migrate", "calls")
 OUT_OF_MEMORY = b"zkdump: out of memory\n"
 
 
@@ -94,7 +94,7 @@ def content(path):
 
 def runs():
     """What is run: a kind, a name, the words and the standard input."""
-    for kind in ("show", "check", "build"):
+    for kind in ("show", "check", "build", "migrate"):
         for args in sorted((CASES / kind).glob("*.args")):
             yield kind, args.stem, args.read_text().splitlines(), content(args.with_suffix(".in"))
     for args in sorted((CASES / "show").glob("*.args")):

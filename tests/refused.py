@@ -1,11 +1,12 @@
 #!/usr/bin/env python3
-"""Programs that must not compile: tests/refused/NAME.txt is the text of a crate over the repository's
-crates, of which the lines that say `// refused: CODE`, and no others, must be refused with that code.
+"""Programs that must not compile, before any proof.
 
     python3 tests/refused.py
 
-Prints a line a program that fails, and `N passed, M failed`; its status is 1 where one failed. What is
-refused here is refused before any proof, so no library is built.
+tests/refused/NAME.txt is the text of a crate over the repository's crates, of which the lines that say
+`// refused: CODE`, and no others, must be refused with that code. tests/refused/NAME.edit changes a crate of the
+repository, as a must-fail edit does, and says in its line `refused: CODE` how the new text, and no other line, must be
+refused. It prints what fails and `N passed, M failed`; its status is 1 where one failed.
 """
 import os
 import re
@@ -31,32 +32,50 @@ def check(folder):
         return run.communicate()[0]
 
 
-def refused(program):
-    """The lines that are refused, each with its code."""
-    with tempfile.TemporaryDirectory() as temporary:
-        top = Path(temporary)
-        shutil.copytree(ROOT / "crates", top / "crates", ignore=shutil.ignore_patterns("out", "must-fail", "cases"))
-        libraries = " ".join(sorted(set(re.findall(r"^use (\w+)::", program, re.M))))
-        (top / "crates.txt").write_text((ROOT / "crates.txt").read_text() + f"probe: {libraries}\n")
-        source = top / "crates" / "probe" / "src"
-        source.mkdir(parents=True)
-        (source / "lib.rt").write_text(program)
-        said = check(source.parent)
-    return sorted((int(line), code) for line, code in re.findall(r"^src/lib\.rt:(\d+):\d+: error\[([\w-]+)\]", said, re.M))
+def copied(folder):
+    """A copy of the repository's crates."""
+    shutil.copytree(ROOT / "crates", folder / "crates", ignore=shutil.ignore_patterns("out", "must-fail", "cases"))
+    return shutil.copy(ROOT / "crates.txt", folder)
 
 
-def marked(program):
-    """The lines that say that they are refused, each with its code."""
-    lines = enumerate(program.splitlines(), 1)
-    return [(number, code) for number, line in lines for code in re.findall(r"// refused: ([\w-]+)", line)]
+def errors(crate):
+    """The lines of the crate that are refused, each with its file and its code."""
+    said = re.findall(r"^src/([\w/]+\.rt):(\d+):\d+: error\[([\w-]+)\]", check(crate), re.M)
+    return sorted({(name, int(line), code) for name, line, code in said})
+
+
+def program(top, text):
+    """What is refused of a program, and what it says of itself."""
+    libraries = " ".join(sorted(set(re.findall(r"^use (\w+)::", text, re.M))))
+    with open(top / "crates.txt", "a") as crates:
+        crates.write(f"probe: {libraries}\n")
+    source = top / "crates" / "probe" / "src"
+    source.mkdir(parents=True)
+    (source / "lib.rt").write_text(text)
+    lines = enumerate(text.splitlines(), 1)
+    wanted = [("lib.rt", number, code) for number, line in lines for code in re.findall(r"// refused: ([\w-]+)", line)]
+    return errors(source.parent), wanted
+
+
+def edit(top, text):
+    """What is refused of a crate that is edited, and what the edit says."""
+    said = dict(re.findall(r"^(crate|file|old|new|refused): (.*)$", text, re.M))
+    crate = top / "crates" / said["crate"]
+    before, old, after = (crate / said["file"]).read_text().partition(said["old"])
+    if not old or said["old"] in after:
+        return [], [("the old text doesn't stand there once", 0, "")]
+    (crate / said["file"]).write_text(before + said["new"] + after)
+    wanted = [(said["file"].removeprefix("src/"), before.count("\n") + 1, said["refused"])]
+    return errors(crate), wanted
 
 
 def main():
     failed = 0
-    programs = sorted((ROOT / "tests" / "refused").glob("*.txt"))
+    programs = sorted([*(ROOT / "tests" / "refused").glob("*.txt"), *(ROOT / "tests" / "refused").glob("*.edit")])
     for path in programs:
-        program = path.read_text()
-        got, wanted = refused(program), marked(program)
+        with tempfile.TemporaryDirectory() as temporary:
+            copied(Path(temporary))
+            got, wanted = {".txt": program, ".edit": edit}[path.suffix](Path(temporary), path.read_text())
         if not wanted or got != wanted:
             failed += 1
             print(f"{path.name}: refused {got}, and should be {wanted}")

@@ -6,7 +6,7 @@ ghost use Rattle.zk_asks.specs.Frames.{ops_of_ask};
 ghost use Rattle.zk_asks.specs.Rows.{op_of_ask};
 
 use std::alloc::{AllocError, Global};
-use zk_asks::{Ask, Asked, Room};
+use zk_asks::{Ask, Asked};
 use zk_records::{Op, PartOp};
 
 /// The operation of a request, and those of its parts.
@@ -34,12 +34,6 @@ impl Asked for Form {
 
     fn part(&self, j: u32) -> Option<PartOp> {
         self.parts.get(j as usize).copied()
-    }
-
-    fn put_ops<R: Room>(&self, room: &mut R) {
-        for part in self.parts.iter() {
-            room.push(*part);
-        }
     }
 
     ghost lawful = { λ f. f.lawful };

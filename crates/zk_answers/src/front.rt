@@ -47,7 +47,7 @@ fn front_results<F: Asked>(form: &F, payload: &[u8], place: usize) -> bool
     }
 }
 
-/// Whether the payload, which begins with this header, is a reply to what was asked; false says no more: `scan_reply`
+/// Whether the payload, which begins with this header, is a reply to what was asked; false says no more: `borrow_reply`
 /// decides.
 #[inline(always)]
 pub fn front_reply<F: Asked>(form: &F, head: &ReplyHeader, payload: &[u8]) -> bool

@@ -11,10 +11,10 @@ ghost use Rattle.zk_answers.specs.Frames as sent;
 ghost use Rattle.zk_jute.specs.Standing.{OneStands};
 ghost use Rattle.zk_answers.specs.Known.{ABodyStands, IsBehindFirst};
 
+use crate::borrow::body_ref;
 use crate::done_list::{DoneList, done_in, lying};
 use crate::frame::{BodyOf, BodyRef, Failure, OutcomeOf, ReplyOf, ServerFrameOf, ServerRef};
 use crate::multi::is_end;
-use crate::scan::body_ref;
 use zk_asks::Alone;
 use zk_jute::{KnownPayload, known_flagged, known_list, read_ref};
 use zk_records::{MultiHeader, Op, ReplyHeader};

@@ -1,6 +1,7 @@
 //! Server payloads, each read by the request that it answers.
 #![tactic(auto)]
 
+mod borrow;
 mod done_list;
 mod fit;
 mod form;
@@ -15,6 +16,9 @@ mod read;
 mod scan;
 mod write;
 
+pub use borrow::{
+    borrow_connected, borrow_event, borrow_event_under, borrow_reply, borrow_reply_under,
+};
 pub use done_list::{DoneItems, DoneList};
 pub use fit::fits;
 pub use form::{Form, form_of};
@@ -27,5 +31,5 @@ pub use known::{connected_ref, event_ref, reply_ref};
 pub use laws::{connected_laws, event_laws, form_laws, head_laws, opening_laws, reply_laws};
 pub use layout::Layout;
 pub use read::{read_connected, read_event, read_reply, reply_head};
-pub use scan::{scan_connected, scan_event, scan_event_under, scan_reply, scan_reply_under};
+pub use scan::{scan_connected, scan_event, scan_reply};
 pub use write::write_server;

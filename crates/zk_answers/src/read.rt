@@ -9,8 +9,8 @@ ghost use Rattle.zk_answers.specs.Frames.{IsConnected, IsEvent, IsReplyTo, IsSen
 ghost use Rattle.zk_answers.specs.Frames as sent;
 ghost use Rattle.zk_answers.specs.Faults.{IsConnectedFault, IsHead, IsHeadFault, IsReplyFault, IsEventFault};
 
+use crate::borrow::{borrow_connected, borrow_event, borrow_reply};
 use crate::frame::ServerFrame;
-use crate::scan::{scan_connected, scan_event, scan_reply};
 use std::alloc::Global;
 use zk_asks::Asked;
 use zk_jute::{ItemFault, int_at, long_at};
@@ -39,7 +39,7 @@ pub fn read_connected(alloc: Global, payload: &[u8]) -> Result<ServerFrame, Item
     // Else the first case that applies is told, unless memory is wanted.
     ensures fault { IfErr result (λ e. IsTold (IsConnectedFault payload.now) e) }
 {
-    Ok(scan_connected(payload)?.own(alloc)?)
+    Ok(borrow_connected(payload)?.own(alloc)?)
 }
 
 /// A reply to what was asked; its header, where it is whole, has another xid than -1.
@@ -57,7 +57,7 @@ pub fn read_reply<F: Asked>(
     // Else the first case that applies is told, unless memory is wanted.
     ensures fault { IfErr result (λ e. IsTold (IsReplyFault (F.operation form.now) (F.part_ops form.now) payload.now) e) }
 {
-    Ok(scan_reply(form, payload)?.own(alloc)?)
+    Ok(borrow_reply(form, payload)?.own(alloc)?)
 }
 
 /// What a watch saw; its header, where it is whole, has the xid -1.
@@ -71,5 +71,5 @@ pub fn read_event(alloc: Global, payload: &[u8]) -> Result<ServerFrame, ItemFaul
     // Else the first case that applies is told, unless memory is wanted.
     ensures fault { IfErr result (λ e. IsTold (IsEventFault payload.now) e) }
 {
-    Ok(scan_event(payload)?.own(alloc)?)
+    Ok(borrow_event(payload)?.own(alloc)?)
 }

@@ -3,6 +3,7 @@ pub mod First
 pub mod Parts
 pub mod Parted
 pub mod Lying
+mod Copied
 pub mod Counted
 pub mod Asks
 pub mod Later

@@ -40,11 +40,16 @@ pub trait Asked {
     fn part(&self, j: u32) -> Option<PartOp>
         ensures { result ≡ slice_get (part_ops self.now) j };
 
-    /// Puts the operations of all parts behind what is in the room, each in one step.
+    /// Puts the operations of all parts behind what is in the room.
     fn put_ops<R: Room>(&self, room: &mut R)
         requires { length (R.ops room.old) + length (part_ops self.now) ≤ R.room room.old }
         ensures put { R.ops room.new ≡ R.ops room.old ++ part_ops self.now }
-        ensures room { R.room room.new ≡ R.room room.old };
+        ensures room { R.room room.new ≡ R.room room.old }
+    {
+        for j in 0..self.parts() {
+            room.push(self.part(j).unwrap());
+        }
+    }
 
     /// Nothing but a multi has parts.
     ghost lawful: { (x : Self) → operation x ≢ ops.Multi → part_ops x ≡ [] };

@@ -56,7 +56,7 @@ fn asked_head(profile: Profile, payload: &[u8]) -> Option<(i32, Op, usize)>
 }
 
 /// The xid of a later payload of a client, and what it asks, where it is that of a request without parts; None says no
-/// more: `front_multi` and `scan_ask` decide.
+/// more: `front_multi` and `borrow_ask` decide.
 #[inline(always)]
 pub fn front_ask(profile: Profile, payload: &[u8]) -> Option<(i32, Alone)>
     ensures some { IfSome result (λ r. IsAlone profile r.0 r.1.op payload.now) }
@@ -69,7 +69,7 @@ pub fn front_ask(profile: Profile, payload: &[u8]) -> Option<(i32, Alone)>
     Some((xid, Alone { op }))
 }
 
-/// The xid of a later payload of a client, and its parts, where it is that of a multi; None says no more: `scan_ask`
+/// The xid of a later payload of a client, and its parts, where it is that of a multi; None says no more: `borrow_ask`
 /// decides.
 pub fn front_multi<'a>(profile: Profile, payload: &'a [u8]) -> Option<(i32, MultiRef<'a>)>
     ensures some { IfSome result (λ r. IsAsked profile r.0 ops.Multi (map op_of_part r.1.list) payload.now) }

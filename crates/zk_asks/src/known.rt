@@ -4,8 +4,8 @@ ghost use Rattle.zk_asks.specs.Held.{ClientFrame};
 ghost use Rattle.zk_asks.specs.Frames.{IsLater, IsSent, IsTurn};
 ghost use Rattle.zk_asks.specs.Frames as frames;
 
+use crate::borrow::body_ref;
 use crate::frame::{ClientFrameOf, ClientRef};
-use crate::scan::body_ref;
 use zk_jute::{KnownPayload, known_flagged, read_ref};
 use zk_records::{Profile, RequestHeader, op_of};
 

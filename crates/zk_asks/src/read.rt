@@ -6,8 +6,8 @@ ghost use Rattle.zk_asks.specs.Frames as frames;
 ghost use Rattle.zk_asks.specs.Held.{ClientFrame};
 ghost use Rattle.zk_asks.specs.Faults.{IsFirstFault, IsAskFault};
 
+use crate::borrow::{borrow_ask, borrow_first};
 use crate::frame::ClientFrame;
-use crate::scan::{scan_ask, scan_first};
 use std::alloc::Global;
 use zk_jute::ItemFault;
 use zk_records::{Own, Profile};
@@ -25,7 +25,7 @@ pub fn read_first(alloc: Global, payload: &[u8]) -> Result<ClientFrame, ItemFaul
     // Else the first case that applies is told, unless memory is wanted.
     ensures fault { IfErr result (λ e. IsTold (IsFirstFault payload.now) e) }
 {
-    Ok(scan_first(payload)?.own(alloc)?)
+    Ok(borrow_first(payload)?.own(alloc)?)
 }
 
 /// A later payload of a client: a `RequestHeader`, and the record of its operation
@@ -42,5 +42,5 @@ pub fn read_ask(alloc: Global, profile: Profile, payload: &[u8]) -> Result<Clien
     // Else the first case that applies is told, unless memory is wanted.
     ensures fault { IfErr result (λ e. IsTold (IsAskFault profile payload.now) e) }
 {
-    Ok(scan_ask(profile, payload)?.own(alloc)?)
+    Ok(borrow_ask(profile, payload)?.own(alloc)?)
 }

@@ -1,118 +1,84 @@
-//! Client payloads where they lie: what their readers decide, without memory.
-ghost use Rattle.std.specs.Prelude.{◌≡◌, ◌≤◌, Ok, length, IfOk, IfErr};
-ghost use Rattle.zk_jute.specs.declared.fault.Reason.TheVariants.{NoMemory};
-ghost use Rattle.zk_jute.specs.Item.{HaveBytes};
-ghost use Rattle.zk_jute.specs.Told.{StandsAt, IsSurelyTold, IsSurelyToldAt};
+//! What the readers of client payloads decide, without memory.
+ghost use Rattle.std.specs.Prelude.{◌≡◌, ◌<◌, ◌^◌, length, Ok, IsOk, IfOk, IfErr};
+ghost use Rattle.zk_asks.specs.declared.frame.ClientFrameOf.TheVariants as frame;
 ghost use Rattle.zk_asks.specs.Held.{ClientFrame};
-ghost use Rattle.zk_jute.specs.Standing.{Known, OneStands};
-ghost use Rattle.zk_asks.specs.Rows.{row_of, items_in, op_of_ask, body_items};
-ghost use Rattle.zk_asks.specs.Frames.{IsSent, IsFirst, IsLater, IsOfProfile};
+ghost use Rattle.zk_asks.specs.Frames.{IsSent, IsFirst, IsLater, IsOfProfile, ops_of_ask, others_have_none};
 ghost use Rattle.zk_asks.specs.Frames as frames;
-ghost use Rattle.zk_asks.specs.Faults.{IsAskFault, IsBodyFault, IsFirstFault};
+ghost use Rattle.zk_asks.specs.Faults.{IsAskFault, IsFirstFault};
+ghost use Rattle.zk_asks.specs.Rows.{op_of_ask};
+ghost use Rattle.zk_jute.specs.Told.{IsSurelyTold};
 
-use crate::codes::allowed;
-use crate::frame::{AskOf, AskRef, ClientFrameOf, ClientRef};
-use crate::part_list::multi_ref;
-use zk_jute::{ItemFault, Payload, PayloadOf, Reason, read_ref, scan_flagged};
-use zk_records::{
-    AuthAskRef, ConnectRequestRef, CreateAskRef, DeleteAskRef, Op, PathAskRef, Profile,
-    RequestHeader, SetAclAskRef, SetDataAskRef, SetWatchesAskRef, WatchAskRef, op_of,
-};
+use crate::asked::{Asked, Room};
+use crate::borrow::{borrow_ask, borrow_first};
+use crate::frame::{AskRef, ClientFrameOf};
+use crate::request::RequestRef;
+use zk_jute::ItemFault;
+use zk_records::{Op, PartOp, Profile};
 
-/// The record of an operation, judged or known to stand there.
-#[tactic(auto, using(crate::proofs::Lying::fields_lying))]
-// A step asks front.rt first, which makes no record.
-pub(crate) fn body_ref<'a, const KNOWN: bool>(
-    src: &PayloadOf<'a, KNOWN>,
-    place: usize,
-    op: Op,
-) -> Result<(AskRef<'a>, usize), ItemFault>
-    requires place { place ≤ length src.now.bytes.now }
-    requires known { Known KNOWN (OneStands (items_in (row_of op)) src.now.bytes.now place) }
-    ensures found { IfOk result (λ x. (op_of_ask x.0 ≡ op) × HaveBytes (body_items x.0) × StandsAt (body_items x.0) src.now.bytes.now place x.1) }
-    ensures fault { IfErr result (IsSurelyToldAt (IsBodyFault op) src.now.bytes.now place) }
-    ensures within { IfOk result (λ x. x.1 ≤ length src.now.bytes.now) }
-{
-    macro_rules! read {
-        ($record:ty, $ask:path) => {{
-            let (body, end) = read_ref::<_, $record>(src, place)?;
-            Ok(($ask(body), end))
-        }};
-    }
-    match op {
-        Op::Create => read!(CreateAskRef, AskOf::Create),
-        Op::Delete => read!(DeleteAskRef, AskOf::Delete),
-        Op::Exists => read!(WatchAskRef, AskOf::Exists),
-        Op::GetData => read!(WatchAskRef, AskOf::GetData),
-        Op::SetData => read!(SetDataAskRef, AskOf::SetData),
-        Op::GetAcl => read!(PathAskRef, AskOf::GetAcl),
-        Op::SetAcl => read!(SetAclAskRef, AskOf::SetAcl),
-        Op::GetChildren => read!(WatchAskRef, AskOf::GetChildren),
-        Op::Sync => read!(PathAskRef, AskOf::Sync),
-        Op::Ping => Ok((AskOf::Ping, place)),
-        Op::GetChildren2 => read!(WatchAskRef, AskOf::GetChildren2),
-        Op::Multi => {
-            let (parts, end) = multi_ref(src, place)?;
-            Ok((AskOf::Multi(parts), end))
-        }
-        Op::Create2 => read!(CreateAskRef, AskOf::Create2),
-        Op::Auth => read!(AuthAskRef, AskOf::Auth),
-        Op::SetWatches => read!(SetWatchesAskRef, AskOf::SetWatches),
-        Op::CloseSession => Ok((AskOf::CloseSession, place)),
+/// A request that was scanned: its xid, and what its reply is read by.
+#[derive(Drop)]
+pub struct Scan<'a> {
+    pub xid: i32,
+    pub ask: AskRef<'a>,
+    /// At most 4,294,967,295 parts.
+    pub ghost bounded: { length (ops_of_ask ask) < 2 ^ 32 },
+}
+
+impl Scan<'_> {
+    /// The xid of the request.
+    pub fn xid(&self) -> i32
+        ensures { result ≡ self.now.xid }
+    {
+        self.xid
     }
 }
 
-fn ask_ref<'a>(profile: Profile, src: &Payload<'a>) -> Result<ClientRef<'a>, ItemFault>
-    ensures found { IfOk result (λ f. IsLater f × IsOfProfile profile f × IsSent f × (src.now.bytes.now ≡ frames.payload f)) }
-    ensures fault { IfErr result (IsSurelyTold (IsAskFault profile src.now.bytes.now)) }
-{
-    let (header, place) = read_ref::<_, RequestHeader>(src, 0)?;
-    let Some(op) = op_of(profile, header.kind) else {
-        return Err(ItemFault::at(4, Reason::UnknownOp));
-    };
-    if !allowed(header.xid, op) {
-        return Err(ItemFault::at(4, Reason::XidOp));
+impl<'a> Asked for Scan<'a> {
+    ghost operation = { λ s. op_of_ask s.ask };
+
+    ghost part_ops = { λ s. ops_of_ask s.ask };
+
+    fn op(&self) -> Op {
+        self.ask.op()
     }
-    let (ask, place) = body_ref(src, place, op)?;
-    if place < src.bytes.len() {
-        return Err(ItemFault::at(place, Reason::Trailing));
+
+    fn parts(&self) -> u32 {
+        RequestRef::of(&self.ask).parts()
     }
-    Ok(ClientFrameOf::Ask {
-        xid: header.xid,
-        ask,
-    })
+
+    fn part(&self, j: u32) -> Option<PartOp> {
+        RequestRef::of(&self.ask).part(j)
+    }
+
+    fn put_ops<R: Room>(&self, room: &mut R) {
+        RequestRef::of(&self.ask).put_ops(room);
+    }
+
+    ghost lawful = { λ s. others_have_none s.ask };
 }
 
-/// A later payload of a client where it lies: decides as `read_ask` does, takes no memory, and
-/// never answers `NoMemory`.
-pub fn scan_ask<'a>(profile: Profile, payload: &'a [u8]) -> Result<ClientRef<'a>, ItemFault>
-    // What is read has the form, and is the payload's one value.
-    ensures found { IfOk result (λ f. IsLater f × IsOfProfile profile f × IsSent f × (payload.now ≡ frames.payload f)) }
-    // What has the form is read.
-    ensures only { (f : ClientFrame) → IsLater f → IsOfProfile profile f → IsSent f → payload.now ≡ frames.payload f → result ≡ Ok f }
-    // Else the first case that applies is told.
+/// Whether the payload is a client's first: decides as `read_first` does, takes no memory, and never answers
+/// `NoMemory`.
+pub fn scan_first(payload: &[u8]) -> Result<(), ItemFault>
+    ensures found { IfOk result (λ _. (f : ClientFrame) × IsFirst f × IsSent f × (payload.now ≡ frames.payload f)) }
+    ensures only { (f : ClientFrame) → IsFirst f → IsSent f → payload.now ≡ frames.payload f → IsOk result }
+    ensures fault { IfErr result (IsSurelyTold (IsFirstFault payload.now)) }
+{
+    match borrow_first(payload) {
+        Ok(_frame) => Ok(()),
+        Err(fault) => Err(fault),
+    }
+}
+
+/// What a later payload of a client asks: decides as `read_ask` does, takes no memory, and never answers `NoMemory`.
+pub fn scan_ask<'a>(profile: Profile, payload: &'a [u8]) -> Result<Scan<'a>, ItemFault>
+    requires { length payload.now < 2 ^ 32 }
+    ensures found { IfOk result (λ s. IsOfProfile profile (frame.Ask s.xid s.ask) × IsSent (frame.Ask s.xid s.ask) × (payload.now ≡ frames.payload (frame.Ask s.xid s.ask))) }
+    ensures only { (f : ClientFrame) → IsLater f → IsOfProfile profile f → IsSent f → payload.now ≡ frames.payload f → IsOk result }
     ensures fault { IfErr result (IsSurelyTold (IsAskFault profile payload.now)) }
 {
-    ask_ref(profile, &Payload { bytes: payload })
-}
-
-fn first_in<'a>(payload: &'a [u8]) -> Result<ClientRef<'a>, ItemFault>
-    ensures found { IfOk result (λ f. IsFirst f × IsSent f × (payload.now ≡ frames.payload f)) }
-    ensures fault { IfErr result (IsSurelyTold (IsFirstFault payload.now)) }
-{
-    let (hello, read_only) = scan_flagged::<ConnectRequestRef>(payload)?;
-    Ok(ClientFrameOf::Connect { hello, read_only })
-}
-
-/// The first payload of a client where it lies: decides as `read_first` does, takes no memory, and
-/// never answers `NoMemory`.
-pub fn scan_first<'a>(payload: &'a [u8]) -> Result<ClientRef<'a>, ItemFault>
-    // What is read has the form, and is the payload's one value.
-    ensures found { IfOk result (λ f. IsFirst f × IsSent f × (payload.now ≡ frames.payload f)) }
-    // What has the form is read.
-    ensures only { (f : ClientFrame) → IsFirst f → IsSent f → payload.now ≡ frames.payload f → result ≡ Ok f }
-    // Else the first case that applies is told.
-    ensures fault { IfErr result (IsSurelyTold (IsFirstFault payload.now)) }
-{
-    first_in(payload)
+    match borrow_ask(profile, payload)? {
+        ClientFrameOf::Ask { xid, ask } => Ok(Scan { xid, ask }),
+        ClientFrameOf::Connect { .. } => unreachable!(),
+    }
 }

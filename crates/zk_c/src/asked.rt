@@ -5,7 +5,7 @@ ghost use Rattle.zk_records.specs.declared.op.Op.TheVariants as ops;
 ghost use Rattle.zk_records.specs.declared.op.PartOp.{PartOp};
 ghost use Rattle.zk_c.specs.Asked.{parts_of, AreParts, AreAsked, AreNoneAsked};
 
-use zk_asks::{Asked, Room};
+use zk_asks::Asked;
 use zk_records::{Op, PartOp, Profile, op_of, part_of};
 
 /// An operation, and the numbers of its parts' operations: it takes no memory.
@@ -80,12 +80,6 @@ impl<'a> Asked for Numbered<'a> {
 
     fn part(&self, j: u32) -> Option<PartOp> {
         part_of(*self.numbers.get(j as usize)?)
-    }
-
-    fn put_ops<R: Room>(&self, room: &mut R) {
-        for j in 0..self.parts() {
-            room.push(self.part(j).unwrap());
-        }
     }
 
     ghost lawful = { λ a. a.lawful };

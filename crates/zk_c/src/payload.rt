@@ -11,8 +11,8 @@ ghost use Rattle.zk_c.specs.Judged.{payload_answer, TellsFault, IsToldBy, IsConn
 
 use crate::asked::Numbered;
 use crate::number::{MISFIT, RANGE, WELL, reason_number};
-use zk_answers::{reply_head, scan_connected, scan_event, scan_reply};
-use zk_asks::{scan_ask, scan_first};
+use zk_answers::{borrow_connected, borrow_event, borrow_reply, reply_head};
+use zk_asks::{borrow_ask, borrow_first};
 use zk_jute::ItemFault;
 use zk_records::Profile;
 
@@ -53,7 +53,7 @@ pub extern "C" fn zk_judge_first(bytes: &[u8]) -> PayloadAnswer
     // Else the first case that applies is told.
     ensures fault { result.status ≢ 0 → IsToldBy (IsFirstFault bytes.now) result }
 {
-    match scan_first(bytes) {
+    match borrow_first(bytes) {
         Ok(_frame) => PayloadAnswer::none(WELL),
         Err(fault) => PayloadAnswer::refused(fault),
     }
@@ -73,7 +73,7 @@ pub extern "C" fn zk_judge_request(profile: u32, bytes: &[u8]) -> PayloadAnswer
     let Some(profile) = Profile::of_number(profile) else {
         return PayloadAnswer::none(RANGE);
     };
-    match scan_ask(profile, bytes) {
+    match borrow_ask(profile, bytes) {
         Ok(_frame) => PayloadAnswer::none(WELL),
         Err(fault) => PayloadAnswer::refused(fault),
     }
@@ -88,7 +88,7 @@ pub extern "C" fn zk_judge_connected(bytes: &[u8]) -> PayloadAnswer
     // Else the first case that applies is told.
     ensures fault { result.status ≢ 0 → IsToldBy (IsConnectedFault bytes.now) result }
 {
-    match scan_connected(bytes) {
+    match borrow_connected(bytes) {
         Ok(_frame) => PayloadAnswer::none(WELL),
         Err(fault) => PayloadAnswer::refused(fault),
     }
@@ -133,7 +133,7 @@ pub extern "C" fn zk_judge_reply(operation: i32, parts: &[i32], bytes: &[u8]) ->
     if is_of_event(bytes) {
         return PayloadAnswer::none(MISFIT);
     }
-    match scan_reply(&asked, bytes) {
+    match borrow_reply(&asked, bytes) {
         Ok(_frame) => PayloadAnswer::none(WELL),
         Err(fault) => PayloadAnswer::refused(fault),
     }
@@ -153,7 +153,7 @@ pub extern "C" fn zk_judge_event(bytes: &[u8]) -> PayloadAnswer
     if is_of_reply(bytes) {
         return PayloadAnswer::none(MISFIT);
     }
-    match scan_event(bytes) {
+    match borrow_event(bytes) {
         Ok(_frame) => PayloadAnswer::none(WELL),
         Err(fault) => PayloadAnswer::refused(fault),
     }

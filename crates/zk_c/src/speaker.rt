@@ -17,8 +17,8 @@ use std::alloc::Global;
 use std::mem::replace;
 
 /// A speaker that C keeps, or none: all bytes 0.
+// It is not let go of unopened, so what is behind it isn't lost.
 #[repr(C)]
-#[derive(Drop)]
 pub struct SpeakerHandle {
     /// The pointer.
     pub held: VoiceBox,
@@ -50,11 +50,11 @@ impl SpeakerHandle {
         ensures speaker { MatchOption result (self.old.held.value ≡ None) (λ b. self.old.held.value ≡ Some b.value) }
         ensures left { self.new.held.value ≡ None }
     {
-        let taken = replace(self, SpeakerHandle::none());
-        if !taken.live {
+        let SpeakerHandle { held, live } = replace(self, SpeakerHandle::none());
+        if !live {
             return None;
         }
-        Some(taken.held.into_loose(alloc).into_box())
+        Some(held.into_loose(alloc).into_box())
     }
 
     /// Puts a speaker in, where there is none.
@@ -62,7 +62,7 @@ impl SpeakerHandle {
         requires { self.old.held.value ≡ None }
         ensures { self.new.held.value ≡ Some speaker.value }
     {
-        *self = SpeakerHandle::of(speaker);
+        let SpeakerHandle { held: _, live: _ } = replace(self, SpeakerHandle::of(speaker));
     }
 }
 

@@ -19,8 +19,8 @@ use zk_records::Profile;
 use zk_talk::Limits;
 
 /// A talk that C keeps, or none: all bytes 0.
+// It is not let go of unopened, so what is behind it isn't lost.
 #[repr(C)]
-#[derive(Drop)]
 pub struct TalkHandle {
     /// The pointer.
     pub held: TalkBox,
@@ -52,11 +52,11 @@ impl TalkHandle {
         ensures talk { MatchOption result (self.old.held.value ≡ None) (λ b. self.old.held.value ≡ Some b.value) }
         ensures left { self.new.held.value ≡ None }
     {
-        let taken = replace(self, TalkHandle::none());
-        if !taken.live {
+        let TalkHandle { held, live } = replace(self, TalkHandle::none());
+        if !live {
             return None;
         }
-        Some(taken.held.into_loose(alloc).into_box())
+        Some(held.into_loose(alloc).into_box())
     }
 
     /// Puts a talk in, where there is none.
@@ -64,7 +64,7 @@ impl TalkHandle {
         requires { self.old.held.value ≡ None }
         ensures { self.new.held.value ≡ Some talk.value }
     {
-        *self = TalkHandle::of(talk);
+        let TalkHandle { held: _, live: _ } = replace(self, TalkHandle::of(talk));
     }
 }
 

@@ -12,7 +12,7 @@ ghost use Rattle.zk_earliest.specs.Stops.{Reaches, then_among};
 use crate::bodies::{CheckBody, CreateBody, DeleteBody, SetDataBody};
 use crate::sizes::Sizes;
 use crate::stretch::Stretch;
-use zk_records::{PartOp, part_of};
+use zk_records::PartOp;
 
 /// The header of a part.
 fn part_mark(op: PartOp) -> [u8; 9]
@@ -39,13 +39,26 @@ fn least_of(op: PartOp) -> usize
     }
 }
 
+/// The part whose header has this last byte of its type; None where none has.
+fn part_of(number: u8) -> Option<PartOp>
+    ensures { MatchOption result ((op : PartOp) → pos number ≢ codes.part_number op) (λ op. pos number ≡ codes.part_number op) }
+{
+    match number {
+        1 => Some(PartOp::Create),
+        2 => Some(PartOp::Delete),
+        5 => Some(PartOp::SetData),
+        13 => Some(PartOp::Check),
+        _ => None,
+    }
+}
+
 /// The part of this number, where it has room; else one that has, whose header is as long alike.
 fn part_for(number: u8, room: usize) -> PartOp
     requires { 17 ≤ room }
     ensures fits { (part_sizes result).least + 9 ≤ room }
     ensures only { (op : PartOp) → (part_sizes op).least + 9 ≤ room → codes.part_number op ≡ pos number → op ≡ result }
 {
-    match part_of(i32::from(number)) {
+    match part_of(number) {
         Some(op) => {
             if least_of(op) + 9 <= room {
                 op

@@ -4,6 +4,9 @@ ghost use Rattle.std.specs.Prelude.{◌≡◌};
 ghost use Rattle.zk_items.specs.Reasons.{reason_name};
 
 use std::alloc::{AllocError, AllocFailed};
+use std::fmt;
+use std::fmt::Display;
+use thiserror::Error;
 
 /// Why a line is refused.
 #[derive(Clone, Copy, Debug, PartialEq, Eq)]
@@ -28,7 +31,8 @@ pub enum LineReason {
 
 /// The item at which a line is refused. Columns count bytes from 1 and stand still at
 /// 4,294,967,295; that of `NoMemory` is 0.
-#[derive(Clone, Copy, Debug, PartialEq, Eq)]
+#[derive(Clone, Copy, Debug, PartialEq, Eq, Error)]
+#[error("column {column}: {reason}")]
 pub struct LineFault {
     pub column: u32,
     pub reason: LineReason,
@@ -75,5 +79,11 @@ pub fn line_reason_name(reason: &LineReason) -> &'static str
         LineReason::Rest => "Rest",
         LineReason::NoMemory => "NoMemory",
         LineReason::Ending => "Ending",
+    }
+}
+
+impl Display for LineReason {
+    fn fmt<W: fmt::Write>(&self, f: &mut fmt::Formatter<W>) -> fmt::Result {
+        f.write_str(line_reason_name(self))
     }
 }

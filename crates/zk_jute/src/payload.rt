@@ -8,8 +8,8 @@ ghost use Rattle.zk_jute.specs.Told.{IsReadAs, IsTold, IsSurelyTold};
 ghost use Rattle.zk_jute.specs.Flagged.{flag_items, flagged, IsFlaggedFault, OneIsFlagged};
 
 use crate::fault::{ItemFault, Reason};
+use crate::origin::{Kept, KnownPayload, Origin, Payload};
 use crate::output::Output;
-use crate::source::{Kept, KnownPayload, Payload, Source};
 use crate::stands::{Form, Stands};
 use crate::wire::Spell;
 use std::alloc::Global;
@@ -26,7 +26,7 @@ impl Spell for Option<bool> {
 }
 
 #[tactic(auto, using(crate::proofs::Flagged::refusals))]
-fn flagged_of<P: Source, T: Stands<P>>(src: &P) -> Result<(T, Option<bool>), ItemFault>
+fn flagged_of<P: Origin, T: Stands<P>>(src: &P) -> Result<(T, Option<bool>), ItemFault>
     requires { Known P.knows (OneIsFlagged T.wired (P.payload src.now)) }
     ensures found { IfOk result (λ x. HaveBytes (flagged T.wired x.0 x.1) × (P.payload src.now ≡ bytes_of (flagged T.wired x.0 x.1))) }
     ensures fault { IfErr result (λ e. IsTold (IsFlaggedFault T.wired.layout (P.payload src.now)) e) }

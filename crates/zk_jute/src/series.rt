@@ -12,8 +12,8 @@ ghost use Rattle.zk_jute.specs.Values.{list_items};
 ghost use Rattle.zk_jute.specs.Shown.{AllStand, IsNull, count_of, elements_of, list_at, text_value, text_is_value};
 
 use crate::fault::ItemFault;
+use crate::origin::{KnownPayload, Origin, PayloadOf};
 use crate::run::size_at;
-use crate::source::{KnownPayload, PayloadOf, Source};
 use crate::stands::{Form, Stands};
 use crate::value::TextRef;
 use std::marker::{Model, PhantomData};
@@ -169,7 +169,7 @@ pub fn known_list<'a, R: Element>(payload: &'a [u8], place: usize) -> Series<'a,
 
 #[tactic(auto, using(crate::proofs::Loops::scanning_goes_on, crate::proofs::Loops::scanning_ends))]
 /// The place after so many elements.
-fn elements_end<P: Source, R: Stands<P>>(
+fn elements_end<P: Origin, R: Stands<P>>(
     src: &P,
     count: usize,
     place: usize,

@@ -2,8 +2,8 @@
 ghost use Rattle.zk_jute.specs.Wired.{ustring, buffer};
 
 use crate::fault::ItemFault;
+use crate::origin::{Origin, PayloadOf};
 use crate::run::{run_at, text_at};
-use crate::source::{PayloadOf, Source};
 use crate::stands::{Form, Stands};
 use crate::value::{BlobRef, BytesRef, CharsRef, TextRef};
 

@@ -10,8 +10,8 @@ ghost use Rattle.zk_jute.specs.Standing.{IsPlain, Known, OneStands};
 
 use crate::fault::ItemFault;
 use crate::number::{bool_at, int_at, long_at};
+use crate::origin::{Kept, Origin, Payload};
 use crate::run::{run_at, size_at, text_at};
-use crate::source::{Kept, Payload, Source};
 use crate::value::{Blob, Bytes, Chars, Items, List, Text};
 
 /// What stands as items, wherever its texts, blobs and lists lie.
@@ -21,7 +21,7 @@ pub trait Form: Sized + Drop {
 }
 
 /// A value that is read from such a payload.
-pub trait Stands<P: Source>: Form {
+pub trait Stands<P: Origin>: Form {
     /// The step of `read_in` that an impl writes: its fields, one after the other.
     // As in number.rt.
     #[inline(always)]
@@ -57,7 +57,7 @@ pub trait Stands<P: Source>: Form {
 /// What lies at a place of a payload, and the place after it; it takes no memory.
 // As in number.rt.
 #[inline(always)]
-pub fn read_ref<P: Source, T: Stands<P>>(src: &P, place: usize) -> Result<(T, usize), ItemFault>
+pub fn read_ref<P: Origin, T: Stands<P>>(src: &P, place: usize) -> Result<(T, usize), ItemFault>
     requires place { place ≤ length (P.payload src.now) }
     requires borrowed { P.grows ≡ false }
     requires known { Known P.knows (OneStands T.wired.items (P.payload src.now) place) }
@@ -92,7 +92,7 @@ impl Form for i32 {
     ghost wired = { int };
 }
 
-impl<P: Source> Stands<P> for i32 {
+impl<P: Origin> Stands<P> for i32 {
     #[inline(always)]
     fn decode(src: &P, place: usize) -> Result<(Self, usize), ItemFault> {
         P::given(int_at(src.payload(), place))
@@ -103,7 +103,7 @@ impl Form for i64 {
     ghost wired = { long };
 }
 
-impl<P: Source> Stands<P> for i64 {
+impl<P: Origin> Stands<P> for i64 {
     #[inline(always)]
     fn decode(src: &P, place: usize) -> Result<(Self, usize), ItemFault> {
         P::given(long_at(src.payload(), place))
@@ -114,7 +114,7 @@ impl Form for bool {
     ghost wired = { boolean };
 }
 
-impl<P: Source> Stands<P> for bool {
+impl<P: Origin> Stands<P> for bool {
     #[inline(always)]
     fn decode(src: &P, place: usize) -> Result<(Self, usize), ItemFault> {
         P::given(bool_at(src.payload(), place))
@@ -125,7 +125,7 @@ impl<A: Form, B: Form> Form for (A, B) {
     ghost wired = { A.wired and B.wired };
 }
 
-impl<P: Source, A: Stands<P>, B: Stands<P>> Stands<P> for (A, B) {
+impl<P: Origin, A: Stands<P>, B: Stands<P>> Stands<P> for (A, B) {
     #[tactic(auto, using(crate::proofs::Chains::reads))]
     #[inline(always)]
     fn decode(src: &P, place: usize) -> Result<(Self, usize), ItemFault> {

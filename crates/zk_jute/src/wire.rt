@@ -8,8 +8,8 @@ ghost use Rattle.zk_jute.specs.Told.{StandsAt, IsReadAs, IsToldFault, HasSureFau
 ghost use Rattle.zk_jute.specs.Once.{HaveOneFault, IsReadFirst, BeginAlike};
 
 use crate::fault::ItemFault;
+use crate::origin::Kept;
 use crate::output::{Full, Output, Room};
-use crate::source::Kept;
 use crate::stands::{Form, Stands};
 use std::alloc::{AllocError, Global};
 

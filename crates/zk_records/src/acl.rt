@@ -5,7 +5,7 @@ ghost use Rattle.zk_records.specs.Shown.{acl_value, acl_is_value};
 
 use crate::fields::{decode, fields};
 use zk_jute::{
-    Element, Form, ItemFault, Output, Series, Source, Spell, Stands, Text, TextRef, Wire,
+    Element, Form, ItemFault, Origin, Output, Series, Spell, Stands, Text, TextRef, Wire,
 };
 
 /// Who someone is under a scheme: `Id`.
@@ -35,7 +35,7 @@ impl<T: Form> Form for IdOf<T> {
     ghost wired = { id_of T.wired };
 }
 
-impl<P: Source, T: Stands<P>> Stands<P> for IdOf<T> {
+impl<P: Origin, T: Stands<P>> Stands<P> for IdOf<T> {
     fn decode(src: &P, place: usize) -> Result<(Self, usize), ItemFault> {
         decode!(src, place => IdOf { scheme, ident })
     }
@@ -72,7 +72,7 @@ impl<W: Form> Form for AclOf<W> {
     ghost wired = { acl_of W.wired };
 }
 
-impl<P: Source, W: Stands<P>> Stands<P> for AclOf<W> {
+impl<P: Origin, W: Stands<P>> Stands<P> for AclOf<W> {
     fn decode(src: &P, place: usize) -> Result<(Self, usize), ItemFault> {
         decode!(src, place => AclOf { perms, who })
     }

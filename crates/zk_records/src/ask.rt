@@ -6,7 +6,7 @@ ghost use Rattle.zk_records.specs.Records.{create_ask, delete_ask, set_data_ask,
 use crate::acl::{Acl, AclList};
 use crate::fields::{decode, fields};
 use zk_jute::{
-    Blob, BlobRef, Form, ItemFault, List, Output, Source, Spell, Stands, Text, TextRef, Wire,
+    Blob, BlobRef, Form, ItemFault, List, Origin, Output, Spell, Stands, Text, TextRef, Wire,
 };
 
 /// A node is to be made: `CreateRequest`.
@@ -38,7 +38,7 @@ impl<T: Form, B: Form, A: Form> Form for CreateAskOf<T, B, A> {
     ghost wired = { create_ask_of T.wired B.wired A.wired };
 }
 
-impl<P: Source, T: Stands<P>, B: Stands<P>, A: Stands<P>> Stands<P> for CreateAskOf<T, B, A> {
+impl<P: Origin, T: Stands<P>, B: Stands<P>, A: Stands<P>> Stands<P> for CreateAskOf<T, B, A> {
     // Read in registers where only the end is asked for (number.rt of zk_jute).
     #[inline(always)]
     fn decode(src: &P, place: usize) -> Result<(Self, usize), ItemFault> {
@@ -76,7 +76,7 @@ impl<T: Form> Form for DeleteAskOf<T> {
     ghost wired = { delete_ask_of T.wired };
 }
 
-impl<P: Source, T: Stands<P>> Stands<P> for DeleteAskOf<T> {
+impl<P: Origin, T: Stands<P>> Stands<P> for DeleteAskOf<T> {
     #[inline(always)]
     fn decode(src: &P, place: usize) -> Result<(Self, usize), ItemFault> {
         decode!(src, place => DeleteAskOf { path, version })
@@ -115,7 +115,7 @@ impl<T: Form, B: Form> Form for SetDataAskOf<T, B> {
     ghost wired = { set_data_ask_of T.wired B.wired };
 }
 
-impl<P: Source, T: Stands<P>, B: Stands<P>> Stands<P> for SetDataAskOf<T, B> {
+impl<P: Origin, T: Stands<P>, B: Stands<P>> Stands<P> for SetDataAskOf<T, B> {
     #[inline(always)]
     fn decode(src: &P, place: usize) -> Result<(Self, usize), ItemFault> {
         decode!(src, place => SetDataAskOf { path, blob, version })
@@ -153,7 +153,7 @@ impl<T: Form, A: Form> Form for SetAclAskOf<T, A> {
     ghost wired = { set_acl_ask_of T.wired A.wired };
 }
 
-impl<P: Source, T: Stands<P>, A: Stands<P>> Stands<P> for SetAclAskOf<T, A> {
+impl<P: Origin, T: Stands<P>, A: Stands<P>> Stands<P> for SetAclAskOf<T, A> {
     #[inline(always)]
     fn decode(src: &P, place: usize) -> Result<(Self, usize), ItemFault> {
         decode!(src, place => SetAclAskOf { path, acl, version })
@@ -190,7 +190,7 @@ impl<T: Form> Form for CheckAskOf<T> {
     ghost wired = { check_ask_of T.wired };
 }
 
-impl<P: Source, T: Stands<P>> Stands<P> for CheckAskOf<T> {
+impl<P: Origin, T: Stands<P>> Stands<P> for CheckAskOf<T> {
     #[inline(always)]
     fn decode(src: &P, place: usize) -> Result<(Self, usize), ItemFault> {
         decode!(src, place => CheckAskOf { path, version })

@@ -7,7 +7,7 @@ use crate::acl::{Acl, AclList};
 use crate::fields::{decode, fields};
 use crate::stat::Stat;
 use zk_jute::{
-    Blob, BlobRef, Form, ItemFault, List, Output, Source, Spell, Stands, Text, TextList, TextRef,
+    Blob, BlobRef, Form, ItemFault, List, Origin, Output, Spell, Stands, Text, TextList, TextRef,
     Wire,
 };
 
@@ -37,7 +37,7 @@ impl<B: Form> Form for DataBodyOf<B> {
     ghost wired = { data_body_of B.wired };
 }
 
-impl<P: Source, B: Stands<P>> Stands<P> for DataBodyOf<B> {
+impl<P: Origin, B: Stands<P>> Stands<P> for DataBodyOf<B> {
     // Read in registers where only the end is asked for (number.rt of zk_jute).
     #[inline(always)]
     fn decode(src: &P, place: usize) -> Result<(Self, usize), ItemFault> {
@@ -74,7 +74,7 @@ impl<A: Form> Form for AclBodyOf<A> {
     ghost wired = { acl_body_of A.wired };
 }
 
-impl<P: Source, A: Stands<P>> Stands<P> for AclBodyOf<A> {
+impl<P: Origin, A: Stands<P>> Stands<P> for AclBodyOf<A> {
     #[inline(always)]
     fn decode(src: &P, place: usize) -> Result<(Self, usize), ItemFault> {
         decode!(src, place => AclBodyOf { acl, stat })
@@ -111,7 +111,7 @@ impl<L: Form> Form for ChildrenBodyOf<L> {
     ghost wired = { children_body_of L.wired };
 }
 
-impl<P: Source, L: Stands<P>> Stands<P> for ChildrenBodyOf<L> {
+impl<P: Origin, L: Stands<P>> Stands<P> for ChildrenBodyOf<L> {
     #[inline(always)]
     fn decode(src: &P, place: usize) -> Result<(Self, usize), ItemFault> {
         decode!(src, place => ChildrenBodyOf { names, stat })
@@ -147,7 +147,7 @@ impl<T: Form> Form for CreateBodyOf<T> {
     ghost wired = { create_body_of T.wired };
 }
 
-impl<P: Source, T: Stands<P>> Stands<P> for CreateBodyOf<T> {
+impl<P: Origin, T: Stands<P>> Stands<P> for CreateBodyOf<T> {
     #[inline(always)]
     fn decode(src: &P, place: usize) -> Result<(Self, usize), ItemFault> {
         decode!(src, place => CreateBodyOf { path, stat })

@@ -3,7 +3,7 @@ ghost use Rattle.std.specs.Prelude.{◌≡◌, refl};
 ghost use Rattle.zk_records.specs.Records.{connect_request, connect_response, connect_request_of, connect_response_of};
 
 use crate::fields::{decode, fields};
-use zk_jute::{Blob, BlobRef, Form, ItemFault, Output, Source, Spell, Stands, Wire};
+use zk_jute::{Blob, BlobRef, Form, ItemFault, Origin, Output, Spell, Stands, Wire};
 
 /// A client asks for a session: `ConnectRequest`.
 #[derive(Debug, Drop)]
@@ -38,7 +38,7 @@ impl<B: Form> Form for ConnectRequestOf<B> {
     ghost wired = { connect_request_of B.wired };
 }
 
-impl<P: Source, B: Stands<P>> Stands<P> for ConnectRequestOf<B> {
+impl<P: Origin, B: Stands<P>> Stands<P> for ConnectRequestOf<B> {
     fn decode(src: &P, place: usize) -> Result<(Self, usize), ItemFault> {
         decode!(src, place => ConnectRequestOf { protocol_version, last_zxid_seen, time_out, session_id, passwd })
     }
@@ -78,7 +78,7 @@ impl<B: Form> Form for ConnectResponseOf<B> {
     ghost wired = { connect_response_of B.wired };
 }
 
-impl<P: Source, B: Stands<P>> Stands<P> for ConnectResponseOf<B> {
+impl<P: Origin, B: Stands<P>> Stands<P> for ConnectResponseOf<B> {
     fn decode(src: &P, place: usize) -> Result<(Self, usize), ItemFault> {
         decode!(src, place => ConnectResponseOf { protocol_version, time_out, session_id, passwd })
     }

@@ -3,7 +3,7 @@ ghost use Rattle.std.specs.Prelude.{◌≡◌, refl};
 ghost use Rattle.zk_records.specs.Records.{watcher_event, watcher_event_of};
 
 use crate::fields::{decode, fields};
-use zk_jute::{Form, ItemFault, Output, Source, Spell, Stands, Text, TextRef, Wire};
+use zk_jute::{Form, ItemFault, Origin, Output, Spell, Stands, Text, TextRef, Wire};
 
 /// What a watch saw: `WatcherEvent`.
 #[derive(Debug, Drop)]
@@ -33,7 +33,7 @@ impl<T: Form> Form for WatcherEventOf<T> {
     ghost wired = { watcher_event_of T.wired };
 }
 
-impl<P: Source, T: Stands<P>> Stands<P> for WatcherEventOf<T> {
+impl<P: Origin, T: Stands<P>> Stands<P> for WatcherEventOf<T> {
     fn decode(src: &P, place: usize) -> Result<(Self, usize), ItemFault> {
         decode!(src, place => WatcherEventOf { kind, state, path })
     }

@@ -4,7 +4,7 @@ ghost use Rattle.std.specs.Prelude.{◌≡◌, refl};
 ghost use Rattle.zk_records.specs.Records.{request_header, reply_header, multi_header};
 
 use crate::fields::{decode, fields};
-use zk_jute::{Form, ItemFault, Output, Source, Spell, Stands, Wire};
+use zk_jute::{Form, ItemFault, Origin, Output, Spell, Stands, Wire};
 
 /// What stands before each request: `RequestHeader`, 8 bytes.
 #[derive(Debug, Drop)]
@@ -27,7 +27,7 @@ impl Form for RequestHeader {
     ghost wired = { request_header };
 }
 
-impl<P: Source> Stands<P> for RequestHeader {
+impl<P: Origin> Stands<P> for RequestHeader {
     // Read in registers where only the end is asked for (number.rt of zk_jute).
     #[inline(always)]
     fn decode(src: &P, place: usize) -> Result<(Self, usize), ItemFault> {
@@ -62,7 +62,7 @@ impl Form for ReplyHeader {
     ghost wired = { reply_header };
 }
 
-impl<P: Source> Stands<P> for ReplyHeader {
+impl<P: Origin> Stands<P> for ReplyHeader {
     #[inline(always)]
     fn decode(src: &P, place: usize) -> Result<(Self, usize), ItemFault> {
         decode!(src, place => ReplyHeader { xid, zxid, err })
@@ -96,7 +96,7 @@ impl Form for MultiHeader {
     ghost wired = { multi_header };
 }
 
-impl<P: Source> Stands<P> for MultiHeader {
+impl<P: Origin> Stands<P> for MultiHeader {
     #[inline(always)]
     fn decode(src: &P, place: usize) -> Result<(Self, usize), ItemFault> {
         decode!(src, place => MultiHeader { kind, done, err })

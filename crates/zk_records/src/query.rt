@@ -4,7 +4,7 @@ ghost use Rattle.std.specs.Prelude.{◌≡◌, refl};
 ghost use Rattle.zk_records.specs.Records.{watch_ask, path_ask, watch_ask_of, path_ask_of};
 
 use crate::fields::{decode, fields};
-use zk_jute::{Form, ItemFault, Output, Source, Spell, Stands, Text, TextRef, Wire};
+use zk_jute::{Form, ItemFault, Origin, Output, Spell, Stands, Text, TextRef, Wire};
 
 /// A node is looked at, and may be watched: `ExistsRequest`, `GetDataRequest`, `GetChildrenRequest`
 /// and `GetChildren2Request`.
@@ -33,7 +33,7 @@ impl<T: Form> Form for WatchAskOf<T> {
     ghost wired = { watch_ask_of T.wired };
 }
 
-impl<P: Source, T: Stands<P>> Stands<P> for WatchAskOf<T> {
+impl<P: Origin, T: Stands<P>> Stands<P> for WatchAskOf<T> {
     // Read in registers where only the end is asked for (number.rt of zk_jute).
     #[inline(always)]
     fn decode(src: &P, place: usize) -> Result<(Self, usize), ItemFault> {
@@ -69,7 +69,7 @@ impl<T: Form> Form for PathAskOf<T> {
     ghost wired = { path_ask_of T.wired };
 }
 
-impl<P: Source, T: Stands<P>> Stands<P> for PathAskOf<T> {
+impl<P: Origin, T: Stands<P>> Stands<P> for PathAskOf<T> {
     #[inline(always)]
     fn decode(src: &P, place: usize) -> Result<(Self, usize), ItemFault> {
         decode!(src, place => PathAskOf { path })

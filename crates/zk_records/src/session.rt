@@ -4,7 +4,7 @@ ghost use Rattle.zk_records.specs.Records.{auth_ask, set_watches_ask, auth_ask_o
 
 use crate::fields::{decode, fields};
 use zk_jute::{
-    Blob, BlobRef, Form, ItemFault, List, Output, Source, Spell, Stands, Text, TextList, TextRef,
+    Blob, BlobRef, Form, ItemFault, List, Origin, Output, Spell, Stands, Text, TextList, TextRef,
     Wire,
 };
 
@@ -37,7 +37,7 @@ impl<T: Form, B: Form> Form for AuthAskOf<T, B> {
     ghost wired = { auth_ask_of T.wired B.wired };
 }
 
-impl<P: Source, T: Stands<P>, B: Stands<P>> Stands<P> for AuthAskOf<T, B> {
+impl<P: Origin, T: Stands<P>, B: Stands<P>> Stands<P> for AuthAskOf<T, B> {
     fn decode(src: &P, place: usize) -> Result<(Self, usize), ItemFault> {
         decode!(src, place => AuthAskOf { kind, scheme, auth })
     }
@@ -78,7 +78,7 @@ impl<L: Form> Form for SetWatchesAskOf<L> {
     ghost wired = { set_watches_ask_of L.wired };
 }
 
-impl<P: Source, L: Stands<P>> Stands<P> for SetWatchesAskOf<L> {
+impl<P: Origin, L: Stands<P>> Stands<P> for SetWatchesAskOf<L> {
     fn decode(src: &P, place: usize) -> Result<(Self, usize), ItemFault> {
         decode!(src, place => SetWatchesAskOf { zxid, data_watches, exist_watches, child_watches })
     }

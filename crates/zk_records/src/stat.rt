@@ -3,7 +3,7 @@ ghost use Rattle.std.specs.Prelude.{◌≡◌, refl};
 ghost use Rattle.zk_records.specs.Records.{stat};
 
 use crate::fields::{decode, fields};
-use zk_jute::{Form, ItemFault, Output, Source, Spell, Stands, Wire};
+use zk_jute::{Form, ItemFault, Origin, Output, Spell, Stands, Wire};
 
 /// What is known of a node: `Stat`, 68 bytes.
 #[derive(Clone, Copy, Debug)]
@@ -45,7 +45,7 @@ impl Form for Stat {
     ghost wired = { stat };
 }
 
-impl<P: Source> Stands<P> for Stat {
+impl<P: Origin> Stands<P> for Stat {
     // Read in registers where only the end is asked for (number.rt of zk_jute).
     #[inline(always)]
     fn decode(src: &P, place: usize) -> Result<(Self, usize), ItemFault> {

@@ -52,10 +52,6 @@ IsTurnFault profile count p e = (count ≡ 0 → Tells (IsFirstFault p) e) × ((
 abbrev pub IsPutRefusal : ClientFrame → Lanes → ItemFault → Type 0
 IsPutRefusal f old e = (e ≡ no_memory) ⊎ (IsLater f × (e ≡ record { place = 0; reason = QueueFull }) × (old.max < weight_of old + weight f))
 
--- the frame may stand after those of v, and the load is then within what may wait
-abbrev pub IsNextOf : Profile → Lanes → List ℕ → Conversation → ClientFrame → Type 0
-IsNextOf profile old p v f = (client_payload f ≡ p) × ClientMay profile v.client f × (load v.client v.server ≤ old.max → load (v.client ++ f ∷ []) v.server ≤ old.max)
-
 -- there is room for what is to wait for the frame's reply
 abbrev pub HasRoomFor : ClientFrame → Lanes → Type 0
 HasRoomFor (Connect hello read_only) w = Unit {0}

@@ -133,11 +133,6 @@ pub record Says (s : SpeakerState) (messages : List Message) : Type 0 where
 abbrev pub IsUnwritten : ℕ → List Item → SayFault → Type 0
 IsUnwritten limit items e = (e ≡ NoMemory) ⊎ ((e ≡ TooLong) × (Fit limit items → ⊥))
 
--- the frame is a connect message where its side has not spoken, and no other frame
-abbrev pub IsInPlace : Type 0 → Type 0 → Bool → Type 0
-IsInPlace first later true = later
-IsInPlace first later false = first
-
 -- no room, or no memory
 abbrev pub IsUnput : ClientFrame → Lanes → SayFault → Type 0
 IsUnput f old e = (e ≡ NoMemory) ⊎ (IsLater f × (e ≡ QueueFull) × (old.max < weight_of old + weight f))

@@ -16,12 +16,12 @@ ghost use Rattle.zk_talk.specs.Judged.{TellsLater, TellsClient, TellsServer, IsI
 
 use std::alloc::Global;
 use zk_answers::{
-    ServerFrame, ServerFrameOf, ServerRef, form_of, front_reply, reply_head, scan_connected,
-    scan_event_under, scan_reply_under,
+    ServerFrame, ServerFrameOf, ServerRef, borrow_connected, borrow_event_under,
+    borrow_reply_under, form_of, front_reply, reply_head,
 };
 use zk_asks::{
-    Asked, ClientFrame, ClientFrameOf, ClientRef, RequestRef, front_ask, front_multi, scan_ask,
-    scan_first,
+    Asked, ClientFrame, ClientFrameOf, ClientRef, RequestRef, borrow_ask, borrow_first, front_ask,
+    front_multi,
 };
 use zk_jute::{ItemFault, Reason};
 use zk_records::{Op, Profile, ReplyHeader};
@@ -33,9 +33,9 @@ fn seen_client(profile: Profile, count: u64, payload: &[u8]) -> Result<ClientRef
     ensures fault { IfErr result (λ e. (e.reason ≢ NoMemory) × IsTurnFault profile count payload.now e) }
 {
     if count == 0 {
-        scan_first(payload)
+        borrow_first(payload)
     } else {
-        scan_ask(profile, payload)
+        borrow_ask(profile, payload)
     }
 }
 
@@ -158,7 +158,7 @@ fn seen_answer<'a>(
                 let got = head.xid;
                 return Err(ItemFault::at(0, Reason::XidOrder { expected, got }));
             }
-            scan_reply_under(&slot, head, payload)
+            borrow_reply_under(&slot, head, payload)
         }
     }
 }
@@ -179,11 +179,11 @@ pub fn next_server<'a>(
         if asked == 0 {
             return Err(ItemFault::at(0, Reason::Unasked));
         }
-        return scan_connected(payload);
+        return borrow_connected(payload);
     }
     let head = reply_head(payload)?;
     if head.xid == -1 {
-        return scan_event_under(&head, payload);
+        return borrow_event_under(&head, payload);
     }
     seen_answer(&head, waiting, payload)
 }

@@ -10,11 +10,11 @@ use zk_records::Profile;
 /// profile, of which each request's operation is.
 #[derive(Clone, Copy, Debug, PartialEq, Eq)]
 pub struct Limits {
-    client: u32,
-    server: u32,
-    waiting: u32,
-    profile: Profile,
-    ghost in_range: { AreLimits client server waiting },
+    pub client: u32,
+    pub server: u32,
+    pub waiting: u32,
+    pub profile: Profile,
+    pub ghost in_range: { AreLimits client server waiting },
 }
 
 impl Limits {

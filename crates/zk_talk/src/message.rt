@@ -2,6 +2,9 @@
 ghost use Rattle.std.specs.Prelude.{◌≡◌, IfOk};
 
 use std::alloc::{AllocError, Global};
+use std::fmt;
+use std::fmt::Display;
+use thiserror::Error;
 use zk_answers::{ServerFrame, ServerRef};
 use zk_asks::{ClientFrame, ClientRef};
 use zk_jute::Reason;
@@ -12,6 +15,16 @@ use zk_records::Own;
 pub enum Side {
     Client,
     Server,
+}
+
+/// The letter of a side in lines and recordings.
+impl Display for Side {
+    fn fmt<W: fmt::Write>(&self, f: &mut fmt::Formatter<W>) -> fmt::Result {
+        f.write_str(match self {
+            Side::Client => "C",
+            Side::Server => "S",
+        })
+    }
 }
 
 /// What is sent in one frame.
@@ -40,7 +53,8 @@ impl MessageRef<'_> {
 }
 
 /// Why a conversation is refused, and where.
-#[derive(Clone, Copy, Debug, PartialEq, Eq)]
+#[derive(Clone, Copy, Debug, PartialEq, Eq, Error)]
+#[error("side={side} frame={frame} offset={offset} place={place} reason={reason}")]
 pub struct Fault {
     /// Whose byte decided it.
     pub side: Side,

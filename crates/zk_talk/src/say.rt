@@ -15,6 +15,9 @@ ghost use Rattle.zk_talk.specs.Said.{MayAsk, IsUnwritten, IsUnput, FitsNext, IsU
 use crate::judge::{forget, remember};
 use crate::limits::Limits;
 use std::alloc::{AllocError, Global};
+use std::error::Error;
+use std::fmt;
+use std::fmt::Display;
 use zk_answers::{Outcome, Reply, ServerFrame, fits, write_server};
 use zk_asks::{ClientFrame, allowed, write_client};
 use zk_jute::Reason;
@@ -55,6 +58,19 @@ pub fn say_name(fault: &SayFault) -> &'static str
         SayFault::NoMemory => "NoMemory",
     }
 }
+
+/// The fault's name; behind that of `XidOrder` its two xids.
+impl Display for SayFault {
+    fn fmt<W: fmt::Write>(&self, f: &mut fmt::Formatter<W>) -> fmt::Result {
+        f.write_str(say_name(self))?;
+        match self {
+            SayFault::XidOrder { expected, got } => write!(f, " expected={expected} got={got}"),
+            _ => Ok(()),
+        }
+    }
+}
+
+impl Error for SayFault {}
 
 /// Appends the length that stands before a payload.
 fn put_length(size: u32, out: &mut Vec<u8>) -> Result<(), AllocError>

@@ -10,8 +10,8 @@ use Rattle.zk_c.specs.Asked.{parts_of, AreAsked}
 use Rattle.zk_c.proofs.Parts.{one_asked}
 use Rattle.zk_c.proofs.payload.zk_judge_reply.Goals as goal
 
-pub scan_reply-requires : goal.scan_reply-requires
-scan_reply-requires c = λ header rest h e. false≢true (c.if-is_of_event.ensures.1 (header, rest, h, e))
+pub borrow_reply-requires : goal.borrow_reply-requires
+borrow_reply-requires c = λ header rest h e. false≢true (c.if-is_of_event.ensures.1 (header, rest, h, e))
 
 pub returns-in-Ok-clause-found : goal.returns-in-Ok-clause-found
 returns-in-Ok-clause-found c = λ op ops are well.

@@ -6,12 +6,12 @@ use Rattle.zk_jute.proofs.series.elements_end.Goals as goal
 
 pub decode-requires-clause-known : goal.decode-requires-clause-known
 decode-requires-clause-known g c =
-    let at = items_at g.R.Form.wired.layout (g.P.Source.payload c.args.src.now) in
-    next_known g.P.Source.knows at c.args.count c.loop.counter c.loop.after (times_at at c.args.count c.args.place) c.loop-test.true c.loop.invariant.so_far c.requires.known
+    let at = items_at g.R.Form.wired.layout (g.P.Origin.payload c.args.src.now) in
+    next_known g.P.Origin.knows at c.args.count c.loop.counter c.loop.after (times_at at c.args.count c.args.place) c.loop-test.true c.loop.invariant.so_far c.requires.known
 
 pub loop-preserved : goal.loop-preserved
 loop-preserved g c =
-    let at = items_at g.R.Form.wired.layout (g.P.Source.payload c.args.src.now) in
+    let at = items_at g.R.Form.wired.layout (g.P.Origin.payload c.args.src.now) in
     record {
       within = c.in_ok-next.ensures.within;
       so_far = scanning_goes_on at c.args.count c.loop.counter c.loop.after (times_at at c.args.count c.args.place) c.in_ok-next.next c.loop-test.true (ap end_of c.in_ok-next.ensures.exact) c.loop.invariant.so_far;

@@ -39,7 +39,7 @@ returns-else-expected-head-clause-due c =
     let lane : c.lane_of.result ≡ lane_of c.args.head.now.xid = simp to_z-of_z at c.lane_of.ensures in
     let some : slice_get (queue_on (lane_of c.args.head.now.xid) c.args.waiting.now) 0 ≡ Some c.in-Some.slot = sym (ap (λ z. slice_get (queue_on z c.args.waiting.now) 0) lane) ∙ sym c.oldest.ensures.value ∙ c.in-Some.is in
     let fit = (c.in-Some.ensures).fit in
-    IfOk-weaker c.scan_reply_under.result _ _ (λ s x. (J.reply_due c.args.waiting.now c.args.payload.now c.args.head.now h.0 c.in-Some.slot s h.1 some (subst (λ z. IsReplyTo c.in-Some.slot.op z s) fit.parts x.0) x.1 (server_is s c.args.payload.now x.2), x.1, server_is s c.args.payload.now x.2)) c.scan_reply_under.ensures.found
+    IfOk-weaker c.borrow_reply_under.result _ _ (λ s x. (J.reply_due c.args.waiting.now c.args.payload.now c.args.head.now h.0 c.in-Some.slot s h.1 some (subst (λ z. IsReplyTo c.in-Some.slot.op z s) fit.parts x.0) x.1 (server_is s c.args.payload.now x.2), x.1, server_is s c.args.payload.now x.2)) c.borrow_reply_under.ensures.found
 
 pub returns-else-expected-head-clause-may : goal.returns-else-expected-head-clause-may
 returns-else-expected-head-clause-may c =
@@ -49,7 +49,7 @@ returns-else-expected-head-clause-may c =
     let some : slice_get (queue_on (lane_of c.args.head.now.xid) c.args.waiting.now) 0 ≡ Some c.in-Some.slot = sym (ap (λ z. slice_get (queue_on z c.args.waiting.now) 0) lane) ∙ sym c.oldest.ensures.value ∙ c.in-Some.is in
     let same : c.in-Some.slot.xid ≡ c.args.head.now.xid = omega (arith, ints, c.if-expected-head.false, c.xid-expected.ensures) in
     let fit = (c.in-Some.ensures).fit in
-    IfOk-weaker c.scan_reply_under.result _ _ (λ s x n m v y d. J.reply_may n m c.args.waiting.now v d c.args.payload.now c.args.head.now h.0 c.in-Some.slot s y h.1 some same (subst (λ z. IsReplyTo c.in-Some.slot.op z s) fit.parts x.0) x.1 (server_is s c.args.payload.now x.2)) c.scan_reply_under.ensures.found
+    IfOk-weaker c.borrow_reply_under.result _ _ (λ s x n m v y d. J.reply_may n m c.args.waiting.now v d c.args.payload.now c.args.head.now h.0 c.in-Some.slot s y h.1 some same (subst (λ z. IsReplyTo c.in-Some.slot.op z s) fit.parts x.0) x.1 (server_is s c.args.payload.now x.2)) c.borrow_reply_under.ensures.found
 
 pub returns-else-expected-head-clause-fault : goal.returns-else-expected-head-clause-fault
 returns-else-expected-head-clause-fault c =
@@ -59,5 +59,5 @@ returns-else-expected-head-clause-fault c =
     let some : slice_get (queue_on (lane_of c.args.head.now.xid) c.args.waiting.now) 0 ≡ Some c.in-Some.slot = sym (ap (λ z. slice_get (queue_on z c.args.waiting.now) 0) lane) ∙ sym c.oldest.ensures.value ∙ c.in-Some.is in
     let same : c.in-Some.slot.xid ≡ c.args.head.now.xid = omega (arith, ints, c.if-expected-head.false, c.xid-expected.ensures) in
     let fit = (c.in-Some.ensures).fit in
-    IfErr-weaker c.scan_reply_under.result _ _ (λ e f. told_answer c.args.waiting.now _ c.args.payload.now
-    (λ n m v y d place reason x. J.reply_refused n m c.args.waiting.now v d c.args.payload.now place reason c.args.head.now h.0 c.in-Some.slot y h.1 c.requires.reply some same (subst (λ z. IsReplyFault c.in-Some.slot.op z c.args.payload.now place reason) fit.parts x)) e f) c.scan_reply_under.ensures.fault
+    IfErr-weaker c.borrow_reply_under.result _ _ (λ e f. told_answer c.args.waiting.now _ c.args.payload.now
+    (λ n m v y d place reason x. J.reply_refused n m c.args.waiting.now v d c.args.payload.now place reason c.args.head.now h.0 c.in-Some.slot y h.1 c.requires.reply some same (subst (λ z. IsReplyFault c.in-Some.slot.op z c.args.payload.now place reason) fit.parts x)) e f) c.borrow_reply_under.ensures.fault

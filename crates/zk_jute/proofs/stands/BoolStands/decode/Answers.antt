@@ -10,8 +10,8 @@ use Rattle.zk_jute.proofs.stands.BoolStands.decode.Goals as goal
 
 pub given-requires : goal.given-requires
 given-requires g c =
-    let there = subst (λ (src : List ℕ). Known g.P.Source.knows (IsOk (items_at (One Boolean End) src c.args.place))) (sym c.payload.ensures) c.requires.known in
-    bool_known g.P.Source.knows c.payload.result.now c.args.place c.bool_at.result c.bool_at.ensures.exact there
+    let there = subst (λ (src : List ℕ). Known g.P.Origin.knows (IsOk (items_at (One Boolean End) src c.args.place))) (sym c.payload.ensures) c.requires.known in
+    bool_known g.P.Origin.knows c.payload.result.now c.args.place c.bool_at.result c.bool_at.ensures.exact there
 
 pub returns-clause-exact : goal.returns-clause-exact
 returns-clause-exact g c = rw (c.given.ensures, sym c.payload.ensures) (bool_gives c.payload.result.now c.args.place c.bool_at.result c.bool_at.ensures.exact)

@@ -1,0 +1,8 @@
+use Rattle.zk_answers.specs.Frames.{IsEvent}
+use Rattle.zk_answers.specs.Faults.{IsEventFault}
+use Rattle.zk_answers.proofs.Events.{event_injective, event_excludes}
+use Rattle.zk_answers.proofs.Scanned.{only_it}
+use Rattle.zk_answers.proofs.borrow.borrow_event.Goals as goal
+
+pub returns-clause-only : goal.returns-clause-only
+returns-clause-only c = only_it IsEvent IsEventFault c.args.payload.now c.whole_event.result c.whole_event.ensures.found c.whole_event.ensures.fault event_injective event_excludes

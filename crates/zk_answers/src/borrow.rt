@@ -1,0 +1,239 @@
+//! Server payloads where they lie: what their readers decide, without memory.
+ghost use Rattle.std.specs.Prelude.{◌≡◌, ◌≢◌, ◌≤◌, ℕ, List, Ok, length, negsuc, IfOk, IfErr};
+ghost use Rattle.zk_jute.specs.declared.fault.Reason.TheVariants.{NoMemory};
+ghost use Rattle.zk_jute.specs.Told.{IsToldAt, IsSurelyTold, IsSurelyToldAt};
+ghost use Rattle.zk_records.specs.declared.header.ReplyHeader as records;
+ghost use Rattle.zk_jute.specs.Standing.{Known, OneStands};
+ghost use Rattle.zk_answers.specs.Rows.{row_of, items_in};
+ghost use Rattle.zk_answers.specs.Held as held;
+ghost use Rattle.zk_answers.specs.Frames.{IsConnected, IsEvent, IsReplyTo, IsSent};
+ghost use Rattle.zk_answers.specs.Frames as sent;
+ghost use Rattle.zk_answers.specs.Scanned.{IsBodyAt, IsOutcomeAt};
+ghost use Rattle.zk_answers.specs.Faults.{IsShapeFault, body_shape, rest_shape, IsConnectedFault, IsHead, IsReplyFault, IsEventFault};
+
+use crate::done_list::results_ref;
+use crate::frame::{
+    BodyOf, BodyRef, Failure, OutcomeOf, OutcomeRef, ReplyOf, ServerFrameOf, ServerRef,
+};
+use crate::front::HEADER;
+use zk_asks::Asked;
+use zk_jute::{ItemFault, Payload, PayloadOf, Reason, TextList, TextRef, read_ref, scan_flagged};
+use zk_records::{
+    AclBodyOf, AclBodyRef, ChildrenBodyOf, ChildrenBodyRef, ConnectResponseRef, CreateBodyOf,
+    CreateBodyRef, DataBodyOf, DataBodyRef, Op, ReplyHeader, Stat, WatcherEventRef,
+};
+
+/// The body of a reply to what was asked, and the place behind it; it is judged, or known to stand there.
+#[tactic(auto, unfolding(zk_jute::specs::Told::IsToldAt))]
+pub(crate) fn body_ref<'a, F: Asked, const KNOWN: bool>(
+    src: &PayloadOf<'a, KNOWN>,
+    place: usize,
+    form: &F,
+) -> Result<(BodyRef<'a>, usize), ItemFault>
+    requires place { place ≤ length src.now.bytes.now }
+    requires known { Known KNOWN (OneStands (items_in (row_of (F.operation form.now))) src.now.bytes.now place) }
+    ensures found { IfOk result (λ x. IsBodyAt (F.operation form.now) (F.part_ops form.now) x.0 src.now.bytes.now place x.1) }
+    ensures fault { IfErr result (IsSurelyToldAt (IsShapeFault (body_shape (F.operation form.now) (F.part_ops form.now))) src.now.bytes.now place) }
+    ensures within { IfOk result (λ x. x.1 ≤ length src.now.bytes.now) }
+{
+    macro_rules! body {
+        ($read:ty, $value:pat => $body:expr) => {{
+            let ($value, end) = read_ref::<_, $read>(src, place)?;
+            Ok(($body, end))
+        }};
+    }
+    match form.op() {
+        Op::Create => body!(TextRef, path => BodyOf::Create { path }),
+        Op::Delete => Ok((BodyOf::Delete, place)),
+        Op::Exists => body!(Stat, stat => BodyOf::Exists { stat }),
+        Op::GetData => {
+            body!(DataBodyRef, DataBodyOf { blob, stat } => BodyOf::GetData { blob, stat })
+        }
+        Op::SetData => body!(Stat, stat => BodyOf::SetData { stat }),
+        Op::GetAcl => body!(AclBodyRef, AclBodyOf { acl, stat } => BodyOf::GetAcl { acl, stat }),
+        Op::SetAcl => body!(Stat, stat => BodyOf::SetAcl { stat }),
+        Op::GetChildren => body!(TextList, names => BodyOf::GetChildren { names }),
+        Op::Sync => body!(TextRef, path => BodyOf::Sync { path }),
+        Op::Ping => Ok((BodyOf::Ping, place)),
+        Op::GetChildren2 => {
+            body!(ChildrenBodyRef, ChildrenBodyOf { names, stat } => BodyOf::GetChildren2 { names, stat })
+        }
+        Op::Multi => {
+            let (dones, end) = results_ref(&Payload { bytes: src.bytes }, place, form)?;
+            Ok((BodyOf::Multi(dones), end))
+        }
+        Op::Create2 => {
+            body!(CreateBodyRef, CreateBodyOf { path, stat } => BodyOf::Create2 { path, stat })
+        }
+        Op::Auth => Ok((BodyOf::Auth, place)),
+        Op::SetWatches => Ok((BodyOf::SetWatches, place)),
+        Op::CloseSession => Ok((BodyOf::CloseSession, place)),
+    }
+}
+
+/// What a header with this err leaves: a failure and no more, or the body.
+fn outcome_ref<'a, F: Asked>(
+    src: &Payload<'a>,
+    place: usize,
+    form: &F,
+    err: i32,
+) -> Result<(OutcomeRef<'a>, usize), ItemFault>
+    requires { place ≤ length src.now.bytes.now }
+    ensures found { IfOk result (λ x. IsOutcomeAt (F.operation form.now) (F.part_ops form.now) err x.0 src.now.bytes.now place x.1) }
+    ensures fault { IfErr result (IsSurelyToldAt (IsShapeFault (rest_shape (F.operation form.now) (F.part_ops form.now) err)) src.now.bytes.now place) }
+    ensures within { IfOk result (λ x. x.1 ≤ length src.now.bytes.now) }
+{
+    match Failure::new(err) {
+        Some(failure) => Ok((OutcomeOf::Failed(form.op(), failure), place)),
+        None => {
+            let (body, end) = body_ref(src, place, form)?;
+            Ok((OutcomeOf::Done(body), end))
+        }
+    }
+}
+
+fn connected_in<'a>(payload: &'a [u8]) -> Result<ServerRef<'a>, ItemFault>
+    ensures found { IfOk result (λ s. IsConnected s × IsSent s × (payload.now ≡ sent.payload s)) }
+    ensures fault { IfErr result (IsSurelyTold (IsConnectedFault payload.now)) }
+{
+    let (hello, read_only) = scan_flagged::<ConnectResponseRef>(payload)?;
+    Ok(ServerFrameOf::Connected { hello, read_only })
+}
+
+/// The answer to the connect request, where it lies: decides as `read_connected` does, takes no
+/// memory, and never answers `NoMemory`.
+pub fn borrow_connected<'a>(payload: &'a [u8]) -> Result<ServerRef<'a>, ItemFault>
+    // What is read has the form, and is the payload's one value.
+    ensures found { IfOk result (λ s. IsConnected s × IsSent s × (payload.now ≡ sent.payload s)) }
+    // What has the form is read.
+    ensures only { (s : held.ServerFrame) → IsConnected s → IsSent s → payload.now ≡ sent.payload s → result ≡ Ok s }
+    // Else the first case that applies is told.
+    ensures fault { IfErr result (IsSurelyTold (IsConnectedFault payload.now)) }
+{
+    connected_in(payload)
+}
+
+/// The reply under this header to what was asked: what stands behind the header is judged.
+fn reply_in<'a, F: Asked>(
+    form: &F,
+    head: &ReplyHeader,
+    src: &Payload<'a>,
+) -> Result<ServerRef<'a>, ItemFault>
+    requires head { (rest : List ℕ) × IsHead src.now.bytes.now head.now rest }
+    requires reply { head.now.xid ≢ negsuc 0 }
+    ensures found { IfOk result (λ s. IsReplyTo (F.operation form.now) (F.part_ops form.now) s × IsSent s × (src.now.bytes.now ≡ sent.payload s)) }
+    ensures fault { IfErr result (IsSurelyTold (IsReplyFault (F.operation form.now) (F.part_ops form.now) src.now.bytes.now)) }
+{
+    let (outcome, place) = outcome_ref(src, HEADER, form, head.err)?;
+    if place < src.bytes.len() {
+        return Err(ItemFault::at(place, Reason::Trailing));
+    }
+    Ok(ServerFrameOf::Answered(ReplyOf {
+        xid: head.xid,
+        zxid: head.zxid,
+        outcome,
+    }))
+}
+
+/// The reply under this header, which was read of the payload, to what was asked, where it lies: decides as `borrow_reply`
+/// does, and reads the header no second time.
+pub fn borrow_reply_under<'a, F: Asked>(
+    form: &F,
+    head: &ReplyHeader,
+    payload: &'a [u8],
+) -> Result<ServerRef<'a>, ItemFault>
+    requires head { (rest : List ℕ) × IsHead payload.now head.now rest }
+    requires reply { head.now.xid ≢ negsuc 0 }
+    // What is read has the form that the request fixes, and is the payload's one value.
+    ensures found { IfOk result (λ s. IsReplyTo (F.operation form.now) (F.part_ops form.now) s × IsSent s × (payload.now ≡ sent.payload s)) }
+    // What has the form is read.
+    ensures only { (s : held.ServerFrame) → IsReplyTo (F.operation form.now) (F.part_ops form.now) s → IsSent s → payload.now ≡ sent.payload s → result ≡ Ok s }
+    // Else the first case that applies is told.
+    ensures fault { IfErr result (IsSurelyTold (IsReplyFault (F.operation form.now) (F.part_ops form.now) payload.now)) }
+{
+    reply_in(form, head, &Payload { bytes: payload })
+}
+
+fn whole_reply<'a, F: Asked>(form: &F, src: &Payload<'a>) -> Result<ServerRef<'a>, ItemFault>
+    requires { (header : records.ReplyHeader) (rest : List ℕ) → IsHead src.now.bytes.now header rest → header.xid ≢ negsuc 0 }
+    ensures found { IfOk result (λ s. IsReplyTo (F.operation form.now) (F.part_ops form.now) s × IsSent s × (src.now.bytes.now ≡ sent.payload s)) }
+    ensures fault { IfErr result (IsSurelyTold (IsReplyFault (F.operation form.now) (F.part_ops form.now) src.now.bytes.now)) }
+{
+    let (head, _) = read_ref::<_, ReplyHeader>(src, 0)?;
+    reply_in(form, &head, src)
+}
+
+/// A reply to what was asked, where it lies: decides as `read_reply` does, takes no memory, and
+/// never answers `NoMemory`. Its header, where it is whole, has another xid than -1.
+pub fn borrow_reply<'a, F: Asked>(form: &F, payload: &'a [u8]) -> Result<ServerRef<'a>, ItemFault>
+    requires { (header : records.ReplyHeader) (rest : List ℕ) → IsHead payload.now header rest → header.xid ≢ negsuc 0 }
+    // What is read has the form that the request fixes, and is the payload's one value.
+    ensures found { IfOk result (λ s. IsReplyTo (F.operation form.now) (F.part_ops form.now) s × IsSent s × (payload.now ≡ sent.payload s)) }
+    // What has the form is read.
+    ensures only { (s : held.ServerFrame) → IsReplyTo (F.operation form.now) (F.part_ops form.now) s → IsSent s → payload.now ≡ sent.payload s → result ≡ Ok s }
+    // Else the first case that applies is told.
+    ensures fault { IfErr result (IsSurelyTold (IsReplyFault (F.operation form.now) (F.part_ops form.now) payload.now)) }
+{
+    whole_reply(form, &Payload { bytes: payload })
+}
+
+/// The event under this header: what stands behind the header is judged.
+fn event_in<'a>(head: &ReplyHeader, src: &Payload<'a>) -> Result<ServerRef<'a>, ItemFault>
+    requires head { (rest : List ℕ) × IsHead src.now.bytes.now head.now rest }
+    requires event { head.now.xid ≡ negsuc 0 }
+    ensures found { IfOk result (λ s. IsEvent s × IsSent s × (src.now.bytes.now ≡ sent.payload s)) }
+    ensures fault { IfErr result (IsSurelyTold (IsEventFault src.now.bytes.now)) }
+{
+    if head.err != 0 {
+        return Err(ItemFault::at(12, Reason::EventErr));
+    }
+    let (event, place) = read_ref::<_, WatcherEventRef>(src, HEADER)?;
+    if place < src.bytes.len() {
+        return Err(ItemFault::at(place, Reason::Trailing));
+    }
+    Ok(ServerFrameOf::Event {
+        zxid: head.zxid,
+        event,
+    })
+}
+
+/// What a watch saw, under this header, which was read of the payload, where it lies: decides as `borrow_event` does, and
+/// reads the header no second time.
+pub fn borrow_event_under<'a>(
+    head: &ReplyHeader,
+    payload: &'a [u8],
+) -> Result<ServerRef<'a>, ItemFault>
+    requires head { (rest : List ℕ) × IsHead payload.now head.now rest }
+    requires event { head.now.xid ≡ negsuc 0 }
+    // What is read has the form, and is the payload's one value.
+    ensures found { IfOk result (λ s. IsEvent s × IsSent s × (payload.now ≡ sent.payload s)) }
+    // What has the form is read.
+    ensures only { (s : held.ServerFrame) → IsEvent s → IsSent s → payload.now ≡ sent.payload s → result ≡ Ok s }
+    // Else the first case that applies is told.
+    ensures fault { IfErr result (IsSurelyTold (IsEventFault payload.now)) }
+{
+    event_in(head, &Payload { bytes: payload })
+}
+
+fn whole_event<'a>(src: &Payload<'a>) -> Result<ServerRef<'a>, ItemFault>
+    requires { (header : records.ReplyHeader) (rest : List ℕ) → IsHead src.now.bytes.now header rest → header.xid ≡ negsuc 0 }
+    ensures found { IfOk result (λ s. IsEvent s × IsSent s × (src.now.bytes.now ≡ sent.payload s)) }
+    ensures fault { IfErr result (IsSurelyTold (IsEventFault src.now.bytes.now)) }
+{
+    let (head, _) = read_ref::<_, ReplyHeader>(src, 0)?;
+    event_in(&head, src)
+}
+
+/// What a watch saw, where it lies: decides as `read_event` does, takes no memory, and never
+/// answers `NoMemory`. Its header, where it is whole, has the xid -1.
+pub fn borrow_event<'a>(payload: &'a [u8]) -> Result<ServerRef<'a>, ItemFault>
+    requires { (header : records.ReplyHeader) (rest : List ℕ) → IsHead payload.now header rest → header.xid ≡ negsuc 0 }
+    // What is read has the form, and is the payload's one value.
+    ensures found { IfOk result (λ s. IsEvent s × IsSent s × (payload.now ≡ sent.payload s)) }
+    // What has the form is read.
+    ensures only { (s : held.ServerFrame) → IsEvent s → IsSent s → payload.now ≡ sent.payload s → result ≡ Ok s }
+    // Else the first case that applies is told.
+    ensures fault { IfErr result (IsSurelyTold (IsEventFault payload.now)) }
+{
+    whole_event(&Payload { bytes: payload })
+}

@@ -1,0 +1,68 @@
+//! Where a value ends that lies at a place of a payload; and values that are known to stand at one.
+ghost use Rattle.std.specs.Prelude.{◌≡◌, ◌≤◌, ℕ, length, IfOk, IfErr};
+ghost use Rattle.zk_jute.specs.Held.{Text, Blob, Vector};
+ghost use Rattle.zk_jute.specs.Item.{HaveBytes};
+ghost use Rattle.zk_jute.specs.Layout.{IsValueOf};
+ghost use Rattle.zk_jute.specs.Told.{StandsAt, HasSureFault};
+ghost use Rattle.zk_jute.specs.Standing.{OneStands};
+ghost use Rattle.zk_jute.specs.Values.{text_items, blob_items, list_items};
+
+use crate::fault::ItemFault;
+use crate::origin::{KnownPayload, Payload};
+use crate::series::TextList;
+use crate::stands::Stands;
+use crate::value::{BlobRef, TextRef};
+
+/// The place after the value that lies at `place`; else the first fault from the left, its place counted from the
+/// beginning of `src`. It decides as `Wire::read` does, and takes no memory: it is asked of what is borrowed.
+pub fn scan<'a, T: Stands<Payload<'a>>>(src: &'a [u8], place: usize) -> Result<usize, ItemFault>
+    requires { place ≤ length src.now }
+    ensures found { IfOk result (λ end. (x : T) × HaveBytes (T.wired.items x) × StandsAt (T.wired.items x) src.now place end) }
+    ensures fault { IfErr result (HasSureFault (IsValueOf T.wired.layout) src.now place) }
+    ensures within { IfOk result (λ end. end ≤ length src.now) }
+{
+    let (_, end) = T::read_in(&Payload { bytes: src }, place)?;
+    Ok(end)
+}
+
+/// The value that is known to stand at `place`, and the place after it. It isn't judged again.
+pub fn known_at<'a, T: Stands<KnownPayload<'a>>>(src: &'a [u8], place: usize) -> (T, usize)
+    requires place { place ≤ length src.now }
+    requires stands { OneStands T.wired.items src.now place }
+    ensures { (v : T) (end : ℕ) → HaveBytes (T.wired.items v) → StandsAt (T.wired.items v) src.now place end → result ≡ (v, end) }
+{
+    T::read_in(&KnownPayload { bytes: src }, place).unwrap()
+}
+
+impl<'a> TextRef<'a> {
+    /// The text that is known to stand at `place`, and the place after it.
+    pub fn at(src: &'a [u8], place: usize) -> (Self, usize)
+        requires place { place ≤ length src.now }
+        requires stands { OneStands text_items src.now place }
+        ensures { (v : Text) (end : ℕ) → HaveBytes (text_items v) → StandsAt (text_items v) src.now place end → result ≡ (v, end) }
+    {
+        known_at(src, place)
+    }
+}
+
+impl<'a> BlobRef<'a> {
+    /// The blob that is known to stand at `place`, and the place after it.
+    pub fn at(src: &'a [u8], place: usize) -> (Self, usize)
+        requires place { place ≤ length src.now }
+        requires stands { OneStands blob_items src.now place }
+        ensures { (v : Blob) (end : ℕ) → HaveBytes (blob_items v) → StandsAt (blob_items v) src.now place end → result ≡ (v, end) }
+    {
+        known_at(src, place)
+    }
+}
+
+impl<'a> TextList<'a> {
+    /// The list that is known to stand at `place`, and the place after it.
+    pub fn at(src: &'a [u8], place: usize) -> (Self, usize)
+        requires place { place ≤ length src.now }
+        requires stands { OneStands (list_items text_items) src.now place }
+        ensures { (v : Vector Text) (end : ℕ) → HaveBytes (list_items text_items v) → StandsAt (list_items text_items v) src.now place end → result ≡ (v, end) }
+    {
+        known_at(src, place)
+    }
+}

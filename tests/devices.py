@@ -1,0 +1,135 @@
+#!/usr/bin/env python3
+"""Runs the proved program over the worked examples, on a standard input and output that give and take few bytes, or fail.
+
+    devices.py [--only WORD] [--program PATH]
+
+tests/device.c, which a C compiler makes a library of, stands in the place of the C library's read and write. For each
+stored case of show, check, build and migrate (crates/zkdump/cases)
+
+- steps: with reads and writes of 1 and of 7 bytes the run does what it does with all at once;
+- reads: where a read fails, with an input or output error or as interrupted, behind a front of the input, the run ends
+  with status 3 and `zkdump: read failed`, and what it wrote is a front of what it writes otherwise; `show` has
+  written the line of each message that is whole in that front, and no more, and `build` and `migrate` the pieces; where
+  the front decides all, the run is as ever;
+- writes: where a write fails, or takes no byte, behind a front of the output, the run ends with status 3 and
+  `zkdump: write failed`, and that front stands written.
+
+It prints what is otherwise and one last line. The status is 0 where nothing is. Where there is no C compiler it says so,
+and runs nothing.
+"""
+
+import argparse
+import errno
+import os
+import pathlib
+import shutil
+import subprocess
+import sys
+import tempfile
+
+from program import BUILT, TOP, Program
+
+CASES = TOP / "crates" / "zkdump" / "cases"
+READ_FAILED, WRITE_FAILED = b"zkdump: read failed\n", b"zkdump: write failed\n"
+TRIES = 8  # fronts of a case that are tried
+ERRORS = (errno.EIO, errno.EINTR)
+
+
+def compiled(folder):
+    """The library of device.c, or None where there is no C compiler."""
+    for compiler in filter(None, (os.environ.get("CC"), "cc", "gcc", "clang")):
+        if shutil.which(compiler):
+            library = os.path.join(folder, "device.so")
+            source = pathlib.Path(__file__).with_name("device.c")
+            subprocess.run([compiler, "-O2", "-Wall", "-Wextra", "-Werror", "-shared", "-fPIC", "-o", library, source],
+                           check=True)
+            return library
+    return None
+
+
+def content(path):
+    return path.read_bytes() if path.exists() else b""
+
+
+def fronts(size):
+    """How long some fronts of so many bytes are, none of them all, the shortest and the longest among them."""
+    return sorted({*range(0, size, max(1, size // TRIES)), size - 1} - {-1})
+
+
+class Devices:
+    """The runs of one program, and what was found of them."""
+
+    def __init__(self, program, library):
+        self.program, self.library = Program(program), library
+        self.passed, self.failures = 0, []
+
+    def run(self, words, data, **device):
+        self.program.environment = {"LD_PRELOAD": self.library, **{name: str(value) for name, value in device.items()}}
+        return self.program.run(words, data)
+
+    def hold(self, name, found, right):
+        self.passed += bool(right)
+        if not right:
+            self.failures.append(f"{name}: {found}")
+
+    def steps(self, name, words, data, ample):
+        for most in (1, 7):
+            found = self.run(words, data, READ_MOST=most, WRITE_MOST=most)
+            self.hold(f"{name}, {most} at a time", found, found == ample)
+
+    def reads(self, name, words, data, ample):
+        for size in fronts(len(data)):
+            # (the last line of `build` may lack its line feed where the input ends, and nowhere else)
+            part = self.run(words, data[:data.rfind(b"\n", 0, size) + 1 if words[0] == "build" else size])
+            for error in ERRORS:
+                found = self.run(words, data, READ_ROOM=size, READ_ERROR=error)
+                output, errors, status = found
+                if (errors, status) == (READ_FAILED, 3):
+                    right = ample[0].startswith(output) and output == self.written(words[0], part[0])
+                else:
+                    # (the front decides all)
+                    right = found == ample
+                self.hold(f"{name}, a failed read behind {size} bytes", found, right)
+
+    @staticmethod
+    def written(command, output):
+        """What stands written of a front, when its next read fails, given what a run over the front alone writes."""
+        if command == "show":
+            # (the line of the ending isn't)
+            return output[:output.rstrip(b"\n").rfind(b"\n") + 1]
+        return b"" if command == "check" else output
+
+    def writes(self, name, words, data, ample):
+        for size in fronts(len(ample[0])):
+            for error in (0, *ERRORS):
+                found = self.run(words, data, WRITE_ROOM=size, WRITE_ERROR=error)
+                self.hold(f"{name}, a failed write behind {size} bytes", found, found == (ample[0][:size], WRITE_FAILED, 3))
+
+
+def main():
+    parser = argparse.ArgumentParser(description="Few bytes at a time, and reads and writes that fail.")
+    parser.add_argument("--only", default="", help="the cases that have this word in their name")
+    parser.add_argument("--program", default=str(BUILT))
+    options = parser.parse_args()
+    if not os.access(options.program, os.X_OK):
+        parser.error(f"{options.program} is no program; ./zkdump builds it")
+    with tempfile.TemporaryDirectory() as folder:
+        library = compiled(folder)
+        if library is None:
+            print("skipped: there is no C compiler for tests/device.c\n0 passed, 0 failed")
+            return 0
+        devices = Devices(options.program, library)
+        for args in sorted(CASES.glob("*/*.args")):
+            name, words, data = f"{args.parent.name}/{args.stem}", args.read_text().splitlines(), content(args.with_suffix(".in"))
+            if options.only in name:
+                ample = devices.run(words, data)
+                if ample[2] != 2:
+                    for look in (devices.steps, devices.reads, devices.writes):
+                        look(name, words, data, ample)
+    print("\n".join(devices.failures[:30]), end="\n" if devices.failures else "")
+    print(f"{devices.passed} passed, {len(devices.failures)} failed")
+    return 1 if devices.failures else 0
+
+
+if __name__ == "__main__":
+    sys.exit(main())
