@@ -21,58 +21,42 @@ TEXTS = ("list", ("text",))
 PARTS = ((1, CREATE), (2, DELETE), (5, SET_DATA), (13, CHECK))
 
 LAYOUTS = {
-    "connections": {
-        "Connect": ("int", "long", "int", "long", "blob"),
-        "ConnectRo": ("int", "long", "int", "long", "blob", "bool"),
-        "Connected": ("int", "int", "long", "blob"),
-        "ConnectedRo": ("int", "int", "long", "blob", "bool"),
-    },
-    "event_and_auth": {
-        "Event": ("int", "int", "text"),
-        "Asked(Op::Auth)": ("int", "text", "blob"),
-        "Asked(Op::SetWatches)": ("long", TEXTS, TEXTS, TEXTS),
-    },
-    "writes": {
-        "Asked(Op::Create)": CREATE,
-        "Asked(Op::Create2)": CREATE,
-        "Asked(Op::Delete)": DELETE,
-        "Asked(Op::SetData)": SET_DATA,
-        "Asked(Op::SetAcl)": ("text", ("list", ACL), "int"),
-    },
-    "parts": {"Asked(Op::Multi)": ("multi",)},
-    "reads": {
-        "Asked(Op::Exists)": WATCH,
-        "Asked(Op::GetData)": WATCH,
-        "Asked(Op::GetChildren)": WATCH,
-        "Asked(Op::GetChildren2)": WATCH,
-        "Asked(Op::GetAcl)": ("text",),
-        "Asked(Op::Sync)": ("text",),
-    },
-    "nothing": {
-        "Asked(Op::Ping)": (),
-        "Asked(Op::CloseSession)": (),
-        "Answered(Op::Delete)": (),
-        "Answered(Op::Ping)": (),
-        "Answered(Op::Auth)": (),
-        "Answered(Op::SetWatches)": (),
-        "Answered(Op::CloseSession)": (),
-    },
-    "paths_and_names": {
-        "Answered(Op::Create)": ("text",),
-        "Answered(Op::Sync)": ("text",),
-        "Answered(Op::GetChildren)": (TEXTS,),
-    },
-    "stats": {
-        "Answered(Op::Exists)": STAT,
-        "Answered(Op::SetData)": STAT,
-        "Answered(Op::SetAcl)": STAT,
-    },
-    "with_stats": {
-        "Answered(Op::Create2)": ("text",) + STAT,
-        "Answered(Op::GetData)": ("blob",) + STAT,
-        "Answered(Op::GetAcl)": (("list", ACL),) + STAT,
-        "Answered(Op::GetChildren2)": (TEXTS,) + STAT,
-    },
+    "Connect": ("int", "long", "int", "long", "blob"),
+    "ConnectRo": ("int", "long", "int", "long", "blob", "bool"),
+    "Connected": ("int", "int", "long", "blob"),
+    "ConnectedRo": ("int", "int", "long", "blob", "bool"),
+    "Event": ("int", "int", "text"),
+    "Asked(Op::Auth)": ("int", "text", "blob"),
+    "Asked(Op::SetWatches)": ("long", TEXTS, TEXTS, TEXTS),
+    "Asked(Op::Create)": CREATE,
+    "Asked(Op::Create2)": CREATE,
+    "Asked(Op::Delete)": DELETE,
+    "Asked(Op::SetData)": SET_DATA,
+    "Asked(Op::SetAcl)": ("text", ("list", ACL), "int"),
+    "Asked(Op::Multi)": ("multi",),
+    "Asked(Op::Exists)": WATCH,
+    "Asked(Op::GetData)": WATCH,
+    "Asked(Op::GetChildren)": WATCH,
+    "Asked(Op::GetChildren2)": WATCH,
+    "Asked(Op::GetAcl)": ("text",),
+    "Asked(Op::Sync)": ("text",),
+    "Asked(Op::Ping)": (),
+    "Asked(Op::CloseSession)": (),
+    "Answered(Op::Delete)": (),
+    "Answered(Op::Ping)": (),
+    "Answered(Op::Auth)": (),
+    "Answered(Op::SetWatches)": (),
+    "Answered(Op::CloseSession)": (),
+    "Answered(Op::Create)": ("text",),
+    "Answered(Op::Sync)": ("text",),
+    "Answered(Op::GetChildren)": (TEXTS,),
+    "Answered(Op::Exists)": STAT,
+    "Answered(Op::SetData)": STAT,
+    "Answered(Op::SetAcl)": STAT,
+    "Answered(Op::Create2)": ("text",) + STAT,
+    "Answered(Op::GetData)": ("blob",) + STAT,
+    "Answered(Op::GetAcl)": (("list", ACL),) + STAT,
+    "Answered(Op::GetChildren2)": (TEXTS,) + STAT,
 }
 
 
@@ -243,33 +227,19 @@ def rows(items, wanted, chance):
 # ---- the file
 
 
-def literal(body):
-    out = ""
-    for at, byte in enumerate(body):
-        digit_next = at + 1 < len(body) and chr(body[at + 1]).isdigit()
-        if byte == 0 and not digit_next:
-            out += "\\0"
-        elif 32 < byte < 127 and byte not in b'"\\':
-            out += chr(byte)
-        else:
-            out += f"\\x{byte:02x}"
-    return f'b"{out}"'
-
-
 def main():
     print("//! Bodies of every layout: written by make_bodies.py.")
-    print("use super::{Rows, all_told};\nuse std::test::Fail;\nuse zk_answers::Layout;\nuse zk_records::Op;")
-    for name, layouts in LAYOUTS.items():
-        print(f"\nconst {name.upper()}: [Rows; {len(layouts)}] = [")
-        for layout, items in layouts.items():
-            wanted = 20 if items == ("multi",) else 2 if items == () else 6
-            # A seed of its own, so that a further layout changes no other's bodies.
-            print(f"    (Layout::{layout}, &[")
-            for body, answer in rows(items, wanted, random.Random(layout)):
-                told = "None" if answer is None else f"Some({answer})"
-                print(f"        ({literal(body)}, {told}),")
-            print("    ]),")
-        print(f"];\n\n#[test]\nfn {name}(rt: HostRuntime) -> Result<(), Fail> {{\n    all_told(&rt, &{name.upper()})\n}}")
+    print("use zk_answers::Layout;\nuse zk_records::Op;\n")
+    print("/// Bodies of each layout: what is answered to one, and its bytes.")
+    print("pub(crate) const BODIES: &[(Layout, &str)] = &[")
+    for layout, items in LAYOUTS.items():
+        wanted = 20 if items == ("multi",) else 2 if items == () else 6
+        # A seed of its own, so that a further layout changes no other's bodies.
+        found = rows(items, wanted, random.Random(layout))
+        told = ("None" if answer is None else f"Some({answer})" for _, answer in found)
+        lines = "\n".join(f"{answer} {body.hex()}" for answer, (body, _) in zip(told, found))
+        print(f'    (\n        Layout::{layout},\n        "{lines}",\n    ),')
+    print("];")
 
 
 if __name__ == "__main__":

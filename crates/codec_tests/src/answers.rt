@@ -1,415 +1,236 @@
 //! Server payloads.
-ghost use Rattle.std.specs.Prelude.{◌<◌, ◌≤◌, ◌^◌, length};
-ghost use Rattle.zk_asks.specs.Frames.{parts_of_ask};
-
+use crate::digits::hex;
+use crate::values::fault_told;
 use std::alloc::Global;
 use std::process::Abort;
 use std::test::Fail;
 use zk_answers::{
-    Body, Failure, Form, Outcome, PartDone, ServerFrame, fits, form_of, read_connected, read_event,
-    read_reply, reply_head, write_server,
+    Form, ServerFrame, ServerRef, borrow_event_under, borrow_reply_under, fits, form_of,
+    front_reply, read_connected, read_event, read_reply, reply_head, scan_connected, scan_event,
+    scan_reply, write_server,
 };
-use zk_asks::{Ask, Part};
-use zk_jute::{Blob, ItemFault, Items, List, Reason, Text};
-use zk_records::{CheckAsk, CreateAsk, DeleteAsk, Op, PartOp, SetAclAsk, SetDataAsk, WatchAsk};
+use zk_asks::{Ask, ClientFrame, read_ask};
+use zk_jute::{ItemFault, Reason};
+use zk_records::{Op, Profile};
 
-/// A connect response of time-out 30,000 and sixteen bytes of password, 37 bytes with its boolean.
-const HELLO: &[u8] =
-    b"\0\0\0\0\0\0\x75\x30\x01\0\0\0\0\0\0\x01\0\0\0\x10\0\x01\x02\x03\x04\x05\x06\x07\x08\x09\x0a\x0b\x0c\x0d\x0e\x0f\0";
+/// Payloads, each behind the call that reads it and the request that it answers; what each is, or what is wrong with it.
+const PAYLOADS: &str =
+    r#"connected - 0000000000007530010000000000000100000010000102030405060708090a0b0c0d0e0f00 = Connected { hello: ConnectResponseOf { protocol_version: 0, time_out: 30000, session_id: 72057594037927937, passwd: Full(Bytes { bytes: [0, 1, 2, 3, 4, 5, 6, 7, 8, 9, 10, 11, 12, 13, 14, 15] }) }, read_only: Some(false) }
+connected - 0000000000007530010000000000000100000010000102030405060708090a0b0c0d0e0f = Connected { hello: ConnectResponseOf { protocol_version: 0, time_out: 30000, session_id: 72057594037927937, passwd: Full(Bytes { bytes: [0, 1, 2, 3, 4, 5, 6, 7, 8, 9, 10, 11, 12, 13, 14, 15] }) }, read_only: None }
+connected - 0000000000007530010000000000000100000010000102030405060708090a0b0c0d0e0f02 = BadBool at 36
+connected - 0000000000007530010000000000000100000010000102030405060708090a0b0c0d0e0f0000 = Trailing at 37
+event - ffffffffffffffffffffffff000000000000000300000003000000022f61 = Event { zxid: -1, event: WatcherEventOf { kind: 3, state: 3, path: Full(Chars { text: "/a" }) } }
+event - ffffffffffffffffffffffff000000010000000300000003000000022f = EventErr at 12
+reply 0000000100000001000000022f61ffffffffffffffff00000000 00000001000000000000000500000000000000022f61 = Answered(ReplyOf { xid: 1, zxid: 5, outcome: Done(Create { path: Full(Chars { text: "/a" }) }) })
+reply 0000000100000002000000022f61ffffffff 00000001000000000000000500000000 = Answered(ReplyOf { xid: 1, zxid: 5, outcome: Done(Delete) })
+reply 0000000100000006000000022f61 00000001000000000000000500000000000000010000001f00000005776f726c6400000006616e796f6e650000000000000004000000000000000400000000000003e800000000000003e8000000000000000000000000000000000000000000000003000000000000000000000004 = Answered(ReplyOf { xid: 1, zxid: 5, outcome: Done(GetAcl { acl: Full(Items { items: [AclOf { perms: 31, who: IdOf { scheme: Full(Chars { text: "world" }), ident: Full(Chars { text: "anyone" }) } }] }), stat: Stat { czxid: 4, mzxid: 4, ctime: 1000, mtime: 1000, version: 0, cversion: 0, aversion: 0, ephemeral_owner: 0, data_length: 3, num_children: 0, pzxid: 4 } }) })
+reply 0000000100000008000000022f6100 0000000100000000000000050000000000000002000000022f6100000000 = Answered(ReplyOf { xid: 1, zxid: 5, outcome: Done(GetChildren { names: Full(Items { items: [Full(Chars { text: "/a" }), Full(Chars { text: "" })] }) }) })
+reply 0000000100000009000000022f61 00000001000000000000000500000000000000022f61 = Answered(ReplyOf { xid: 1, zxid: 5, outcome: Done(Sync { path: Full(Chars { text: "/a" }) }) })
+reply 000000010000000c000000022f6100 0000000100000000000000050000000000000001000000022f610000000000000004000000000000000400000000000003e800000000000003e8000000000000000000000000000000000000000000000003000000000000000000000004 = Answered(ReplyOf { xid: 1, zxid: 5, outcome: Done(GetChildren2 { names: Full(Items { items: [Full(Chars { text: "/a" })] }), stat: Stat { czxid: 4, mzxid: 4, ctime: 1000, mtime: 1000, version: 0, cversion: 0, aversion: 0, ephemeral_owner: 0, data_length: 3, num_children: 0, pzxid: 4 } }) })
+reply 00000001fffffff5 00000001000000000000000500000000 = Answered(ReplyOf { xid: 1, zxid: 5, outcome: Done(CloseSession) })
+reply fffffffe0000000b fffffffe000000000000000500000000 = Answered(ReplyOf { xid: -2, zxid: 5, outcome: Done(Ping) })
+reply fffffffc0000006400000000ffffffffffffffff fffffffc000000000000000500000000 = Answered(ReplyOf { xid: -4, zxid: 5, outcome: Done(Auth) })
+reply fffffff8000000650000000000000005ffffffffffffffffffffffff fffffff8000000000000000500000000 = Answered(ReplyOf { xid: -8, zxid: 5, outcome: Done(SetWatches) })
+reply 000000010000000e0000000500ffffffff000000022f61ffffffffffffffff0000000d00ffffffff000000022f61ffffffffffffffff01ffffffff 000000010000000000000005000000000000000500000000000000000000000004000000000000000400000000000003e800000000000003e80000000000000000000000000000000000000000000000030000000000000000000000040000000d0000000000ffffffff01ffffffff = Answered(ReplyOf { xid: 1, zxid: 5, outcome: Done(Multi(Items { items: [DataSet(Stat { czxid: 4, mzxid: 4, ctime: 1000, mtime: 1000, version: 0, cversion: 0, aversion: 0, ephemeral_owner: 0, data_length: 3, num_children: 0, pzxid: 4 }), Checked] })) })
+reply 0000000100000003000000022f6101 000000010000000000000005ffffff9b = Answered(ReplyOf { xid: 1, zxid: 5, outcome: Failed(Exists, Failure { number: -101 }) })
+reply 0000000100000003000000022f6101 000000010000000000000005ffffff9b00 = Trailing at 16
+reply 0000000100000003000000022f6101 000000010000000000000005ffffff = Short at 12
+reply 0000000100000004000000022f6101 00000001000000000000000500000000ffffffff0000000000000004000000000000000400000000000003e800000000000003e8000000000000000000000000000000000000000000000003000000000000000000000004 = Answered(ReplyOf { xid: 1, zxid: 5, outcome: Done(GetData { blob: Null, stat: Stat { czxid: 4, mzxid: 4, ctime: 1000, mtime: 1000, version: 0, cversion: 0, aversion: 0, ephemeral_owner: 0, data_length: 3, num_children: 0, pzxid: 4 } }) })
+reply 0000000100000003000000022f6101 000000010000000000000005000000000000000000000004000000000000000400000000000003e800000000000003e8000000000000000000000000000000000000000000000003000000000000000000000004 = Answered(ReplyOf { xid: 1, zxid: 5, outcome: Done(Exists { stat: Stat { czxid: 4, mzxid: 4, ctime: 1000, mtime: 1000, version: 0, cversion: 0, aversion: 0, ephemeral_owner: 0, data_length: 3, num_children: 0, pzxid: 4 } }) })
+reply 0000000100000005000000022f61ffffffffffffffff 000000010000000000000005000000000000000000000004000000000000000400000000000003e800000000000003e8000000000000000000000000000000000000000000000003000000000000000000000004 = Answered(ReplyOf { xid: 1, zxid: 5, outcome: Done(SetData { stat: Stat { czxid: 4, mzxid: 4, ctime: 1000, mtime: 1000, version: 0, cversion: 0, aversion: 0, ephemeral_owner: 0, data_length: 3, num_children: 0, pzxid: 4 } }) })
+reply 0000000100000007000000022f61ffffffffffffffff 000000010000000000000005000000000000000000000004000000000000000400000000000003e800000000000003e8000000000000000000000000000000000000000000000003000000000000000000000004 = Answered(ReplyOf { xid: 1, zxid: 5, outcome: Done(SetAcl { stat: Stat { czxid: 4, mzxid: 4, ctime: 1000, mtime: 1000, version: 0, cversion: 0, aversion: 0, ephemeral_owner: 0, data_length: 3, num_children: 0, pzxid: 4 } }) })
+reply 0000000100000002000000022f61ffffffff 000000010000000000000005000000000000000000000004000000000000000400000000000003e800000000000003e8000000000000000000000000000000000000000000000003000000000000000000000004 = Trailing at 16
+reply 0000000100000001000000022f61ffffffffffffffff00000000 000000010000000000000005000000000000000000000004000000000000000400000000000003e800000000000003e8000000000000000000000000000000000000000000000003000000000000000000000004 = Trailing at 20
+reply 000000010000000f000000022f61ffffffffffffffff00000000 00000001000000000000000600000000000000022f610000000000000004000000000000000400000000000003e800000000000003e8000000000000000000000000000000000000000000000003000000000000000000000004 = Answered(ReplyOf { xid: 1, zxid: 6, outcome: Done(Create2 { path: Full(Chars { text: "/a" }), stat: Stat { czxid: 4, mzxid: 4, ctime: 1000, mtime: 1000, version: 0, cversion: 0, aversion: 0, ephemeral_owner: 0, data_length: 3, num_children: 0, pzxid: 4 } }) })
+reply 0000000100000001000000022f61ffffffffffffffff00000000 00000001000000000000000600000000000000022f610000000000000004000000000000000400000000000003e800000000000003e8000000000000000000000000000000000000000000000003000000000000000000000004 = Trailing at 22
+reply 000000010000000f000000022f61ffffffffffffffff00000000 00000001000000000000000600000000000000022f61 = Short at 22
+reply 000000010000000effffffff01ffffffff 00000001000000000000000500000000ffffffff01ffffffff = Answered(ReplyOf { xid: 1, zxid: 5, outcome: Done(Multi(Items { items: [] })) })
+reply 000000010000000e0000000100ffffffffffffffffffffffffffffffff000000000000000200ffffffffffffffffffffffffffffffff01ffffffff 00000001000000000000000600000000000000010000000000000000022f61000000020000000000ffffffff01ffffffff = Answered(ReplyOf { xid: 1, zxid: 6, outcome: Done(Multi(Items { items: [Created(Full(Chars { text: "/a" })), Deleted] })) })
+reply 000000010000000e0000000100ffffffffffffffffffffffffffffffff000000000000000d00ffffffffffffffffffffffff0000000500ffffffffffffffffffffffffffffffffffffffff01ffffffff 00000001000000000000000500000000ffffffff000000000000000000ffffffff00ffffff99ffffff99ffffffff00fffffffefffffffeffffffff01ffffffff = Answered(ReplyOf { xid: 1, zxid: 5, outcome: Done(Multi(Items { items: [PartFailed(0), PartFailed(-103), PartFailed(-2)] })) })
+reply 000000010000000e0000000200ffffffffffffffffffffffff0000000100ffffffffffffffffffffffffffffffff00000000ffffffff01ffffffff 00000001000000000000000600000000000000010000000000000000022f61000000020000000000ffffffff01ffffffff = BadPart at 16
+reply 000000010000000e0000000100ffffffffffffffffffffffffffffffff00000000ffffffff01ffffffff 00000001000000000000000600000000000000010000000000000000022f61000000020000000000ffffffff01ffffffff = BadPart at 31
+reply 000000010000000e0000000100ffffffffffffffffffffffffffffffff000000000000000200ffffffffffffffffffffffff0000000d00ffffffffffffffffffffffffffffffff01ffffffff 00000001000000000000000600000000000000010000000000000000022f61000000020000000000ffffffff01ffffffff = BadPart at 40
+reply 000000010000000e0000000100ffffffffffffffffffffffffffffffff000000000000000d00ffffffffffffffffffffffff0000000500ffffffffffffffffffffffffffffffffffffffff01ffffffff 00000001000000000000000500000000ffffffff000000000000000000ffffffff00ffffff99ffffff99ffffffff01ffffffff = BadPart at 42
+reply 000000010000000e0000000d00ffffffffffffffffffffffffffffffff01ffffffff 00000001000000000000000600000000ffffffff00ffffff99ffffff9bffffffff01ffffffff = BadPart at 16"#;
 
-/// A reply's header with err 0, and a Stat of 68 bytes.
-const STAT: &[u8] =
-    b"\0\0\0\x01\0\0\0\0\0\0\0\x05\0\0\0\0\0\0\0\0\0\0\0\x04\0\0\0\0\0\0\0\x04\0\0\0\0\0\0\x03\xe8\0\0\0\0\0\0\x03\xe8\0\0\0\0\0\0\0\0\0\0\0\0\0\0\0\0\0\0\0\0\0\0\0\x03\0\0\0\0\0\0\0\0\0\0\0\x04";
-
-/// The same with a null blob between the two.
-const DATA: &[u8] =
-    b"\0\0\0\x01\0\0\0\0\0\0\0\x05\0\0\0\0\xff\xff\xff\xff\0\0\0\0\0\0\0\x04\0\0\0\0\0\0\0\x04\0\0\0\0\0\0\x03\xe8\0\0\0\0\0\0\x03\xe8\0\0\0\0\0\0\0\0\0\0\0\0\0\0\0\0\0\0\0\0\0\0\0\x03\0\0\0\0\0\0\0\0\0\0\0\x04";
-
-/// A reply's header with err 0, a path and a Stat.
-const CREATED: &[u8] =
-    b"\0\0\0\x01\0\0\0\0\0\0\0\x06\0\0\0\0\0\0\0\x02/a\0\0\0\0\0\0\0\x04\0\0\0\0\0\0\0\x04\0\0\0\0\0\0\x03\xe8\0\0\0\0\0\0\x03\xe8\0\0\0\0\0\0\0\0\0\0\0\0\0\0\0\0\0\0\0\0\0\0\0\x03\0\0\0\0\0\0\0\0\0\0\0\x04";
-
-/// A node's data has changed.
-const EVENT: &[u8] =
-    b"\xff\xff\xff\xff\xff\xff\xff\xff\xff\xff\xff\xff\0\0\0\0\0\0\0\x03\0\0\0\x03\0\0\0\x02/a";
-
-/// A multi's reply with a created path and a deletion.
-const TWO: &[u8] =
-    b"\0\0\0\x01\0\0\0\0\0\0\0\x06\0\0\0\0\0\0\0\x01\0\0\0\0\0\0\0\0\x02/a\0\0\0\x02\0\0\0\0\0\xff\xff\xff\xff\x01\xff\xff\xff\xff";
-
-/// A multi's reply with three errors.
-const THREE: &[u8] =
-    b"\0\0\0\x01\0\0\0\0\0\0\0\x05\0\0\0\0\xff\xff\xff\xff\0\0\0\0\0\0\0\0\0\xff\xff\xff\xff\0\xff\xff\xff\x99\xff\xff\xff\x99\xff\xff\xff\xff\0\xff\xff\xff\xfe\xff\xff\xff\xfe\xff\xff\xff\xff\x01\xff\xff\xff\xff";
-
-/// The frame is written again as its payload.
-fn written(
-    rt: &impl Abort,
-    alloc: Global,
-    frame: &ServerFrame,
-    payload: &[u8],
-) -> Result<(), Fail> {
-    let Some(size) = frame.size_within(i32::MAX as u32) else {
-        return Err("no size")?;
-    };
-    assert_eq!(rt; size as usize, payload.len());
-    let less = frame.size_within(size.saturating_sub(1));
-    assert_eq!(rt; (frame.size_within(size), less), (Some(size), None));
-    if let ServerFrame::Answered(reply) = frame {
-        assert!(rt; reply.xid != -1);
+/// What the request leaves.
+fn left(alloc: Global, ask: &Ask) -> Result<Form, Fail> {
+    if ask.parts().len() > 9 {
+        return Err("too many parts")?;
     }
-    let mut out = Vec::new(alloc);
-    write_server(frame, &mut out)?;
-    assert_eq!(rt; out.as_slice(), payload);
-    Ok(())
+    Ok(form_of(alloc, ask)?)
 }
 
-fn again(
-    rt: &impl Abort,
-    alloc: Global,
-    frame: ServerFrame,
-    payload: &[u8],
-) -> Result<ServerFrame, Fail> {
-    written(rt, alloc, &frame, payload)?;
-    Ok(frame)
-}
-
-/// What a request leaves.
-fn left(alloc: Global, ask: Ask) -> Result<Form, Fail>
-    requires { length (parts_of_ask ask) < 2 ^ 32 }
-{
-    Ok(form_of(alloc, &ask)?)
-}
-
-/// What a multi of these parts leaves.
-fn multi(alloc: Global, ops: &[PartOp]) -> Result<Form, Fail> {
-    let mut parts = Vec::new(alloc);
-    for op in ops {
-        parts.push(part(*op))?;
-    }
-    if parts.len() > 9 {
-        return Err("too many")?;
-    }
-    left(alloc, Ask::Multi(Items::new(parts)))
-}
-
-fn part(op: PartOp) -> Part {
-    let path = Text::Null;
-    match op {
-        PartOp::Create => Part::Create(CreateAsk {
-            path,
-            blob: Blob::Null,
-            acl: List::Null,
-            flags: 0,
-        }),
-        PartOp::Delete => Part::Delete(DeleteAsk { path, version: -1 }),
-        PartOp::SetData => Part::SetData(SetDataAsk {
-            path,
-            blob: Blob::Null,
-            version: -1,
-        }),
-        PartOp::Check => Part::Check(CheckAsk { path, version: -1 }),
+/// What the request that has this payload leaves.
+fn form(alloc: Global, digits: &str) -> Result<Form, Fail> {
+    let request = hex(alloc, digits)?;
+    match read_ask(alloc, Profile::V35, &request) {
+        Ok(ClientFrame::Ask { ask, .. }) => left(alloc, &ask),
+        _ => Err("no request")?,
     }
 }
 
 /// The reply to what left the form, where the payload is no event.
-fn read(alloc: Global, form: &Form, payload: &[u8]) -> Result<ServerFrame, ItemFault> {
-    let header = reply_head(payload)?;
-    if header.xid == -1 {
+fn reply(alloc: Global, form: &Form, payload: &[u8]) -> Result<ServerFrame, ItemFault> {
+    let head = reply_head(payload)?;
+    if head.xid == -1 {
         return Err(ItemFault::at(0, Reason::Unasked));
     }
     read_reply(alloc, form, payload)
 }
 
-/// The reply, written again as its payload, which fits the form and not the other one.
-fn answered(
-    rt: &impl Abort,
-    alloc: Global,
-    form: &Form,
-    other: &Form,
-    payload: &[u8],
-) -> Result<Outcome, Fail> {
-    let frame = read(alloc, form, payload)?;
-    let ServerFrame::Answered(reply) = again(rt, alloc, frame, payload)? else {
-        return Err("no reply")?;
+/// The same where it lies.
+fn reply_seen<'a>(form: &Form, payload: &'a [u8]) -> Result<ServerRef<'a>, ItemFault> {
+    let head = reply_head(payload)?;
+    if head.xid == -1 {
+        return Err(ItemFault::at(0, Reason::Unasked));
+    }
+    scan_reply(form, payload)?;
+    borrow_reply_under(form, &head, payload)
+}
+
+/// Whether the quick way says that the payload is a reply to what left the form.
+fn is_front(form: &Form, payload: &[u8]) -> bool {
+    let Ok(head) = reply_head(payload) else {
+        return false;
     };
-    assert_eq!(rt; (reply.xid, reply.op()), (1, form.op));
-    assert_eq!(rt; (fits(form, &reply), fits(other, &reply)), (true, false));
-    Ok(reply.outcome)
-}
-
-fn refused(
-    rt: &impl Abort,
-    answer: Result<ServerFrame, ItemFault>,
-    place: u32,
-    reason: Reason,
-) -> Result<(), Fail> {
-    assert_eq!(rt; answer.err().ok_or("read")?, ItemFault { place, reason });
-    Ok(())
-}
-
-/// The bytes, without so many at their end and with others behind.
-fn changed(alloc: Global, bytes: &[u8], less: usize, more: &[u8]) -> Result<Vec<u8>, Fail>
-    requires { less ≤ length bytes.now }
-{
-    let mut out = Vec::new(alloc);
-    out.extend_from_slice(&bytes[..bytes.len() - less])?;
-    out.extend_from_slice(more)?;
-    Ok(out)
-}
-
-/// Whether the server that the payload comes from is read-only.
-fn opened(rt: &impl Abort, alloc: Global, payload: &[u8]) -> Result<Option<bool>, Fail> {
-    let frame = read_connected(alloc, payload)?;
-    match again(rt, alloc, frame, payload)? {
-        ServerFrame::Connected { read_only, .. } => Ok(read_only),
-        _ => Err("no connect response")?,
+    if head.xid == -1 {
+        return false;
     }
-}
-
-#[test]
-fn connected(rt: HostRuntime) -> Result<(), Fail> {
-    let alloc = rt.alloc();
-    assert_eq!(rt; opened(&rt, alloc, HELLO)?, Some(false));
-    assert_eq!(rt; opened(&rt, alloc, &HELLO[..36])?, None);
-    for (more, place, reason) in [
-        (b"\x02".as_slice(), 36, Reason::BadBool),
-        (b"\0\0".as_slice(), 37, Reason::Trailing),
-    ] {
-        let payload = changed(alloc, HELLO, 1, more)?;
-        let answer = read_connected(alloc, payload.as_slice());
-        refused(&rt, answer, place, reason)?;
-    }
-    Ok(())
-}
-
-#[test]
-fn events(rt: HostRuntime) -> Result<(), Fail> {
-    let alloc = rt.alloc();
-    let seen = again(&rt, alloc, event(alloc, EVENT)?, EVENT)?;
-    assert!(rt; matches!(&seen, ServerFrame::Event { zxid: -1, .. }));
-    Ok(())
-}
-
-#[test]
-fn failed_events(rt: HostRuntime) -> Result<(), Fail> {
-    let failed =
-        b"\xff\xff\xff\xff\xff\xff\xff\xff\xff\xff\xff\xff\0\0\0\x01\0\0\0\x03\0\0\0\x03\0\0\0\x02/";
-    let answer = event(rt.alloc(), failed.as_slice());
-    refused(&rt, answer, 12, Reason::EventErr)
+    front_reply(form, &head, payload)
 }
 
 /// The event, where the payload is one.
 fn event(alloc: Global, payload: &[u8]) -> Result<ServerFrame, ItemFault> {
-    let header = reply_head(payload)?;
-    if header.xid != -1 {
+    let head = reply_head(payload)?;
+    if head.xid != -1 {
         return Err(ItemFault::at(0, Reason::Unasked));
     }
     read_event(alloc, payload)
 }
 
-/// What a request of the operation leaves.
-fn left_by(alloc: Global, op: Op) -> Result<Form, Fail> {
-    let path = Text::Null;
-    match op {
-        Op::Exists => left(alloc, Ask::Exists(WatchAsk { path, watch: true })),
-        Op::GetData => left(alloc, Ask::GetData(WatchAsk { path, watch: true })),
-        Op::SetData => left(
-            alloc,
-            Ask::SetData(SetDataAsk {
-                path,
-                blob: Blob::Null,
-                version: -1,
-            }),
-        ),
-        Op::SetAcl => left(
-            alloc,
-            Ask::SetAcl(SetAclAsk {
-                path,
-                acl: List::Null,
-                version: -1,
-            }),
-        ),
-        Op::Delete => left(alloc, Ask::Delete(DeleteAsk { path, version: -1 })),
-        Op::Create => left(alloc, Ask::Create(creation(path))),
-        Op::Create2 => left(alloc, Ask::Create2(creation(path))),
-        Op::Ping => left(alloc, Ask::Ping),
-        _ => Err("no such request")?,
+/// The same where it lies.
+fn event_seen(payload: &[u8]) -> Result<ServerRef<'_>, ItemFault> {
+    let head = reply_head(payload)?;
+    if head.xid != -1 {
+        return Err(ItemFault::at(0, Reason::Unasked));
+    }
+    scan_event(payload)?;
+    borrow_event_under(&head, payload)
+}
+
+/// The frame by the call of this name, of a reply with what its request left.
+fn read(alloc: Global, call: &str, form: &Form, payload: &[u8]) -> Result<ServerFrame, ItemFault> {
+    match call {
+        "connected" => read_connected(alloc, payload),
+        "event" => event(alloc, payload),
+        _ => reply(alloc, form, payload),
     }
 }
 
-fn creation(path: Text) -> CreateAsk {
-    CreateAsk {
-        path,
-        blob: Blob::Null,
-        acl: List::Null,
-        flags: 0,
+/// Whether it is refused where it lies, or for what.
+fn scanned(call: &str, form: &Form, payload: &[u8]) -> Option<ItemFault> {
+    match call {
+        "connected" => scan_connected(payload).err(),
+        "event" => event_seen(payload).err(),
+        _ => reply_seen(form, payload).err(),
     }
 }
 
-/// The reply to a request of the operation, which answers none of the other one.
-fn reply_to(
-    rt: &impl Abort,
-    alloc: Global,
-    op: Op,
-    other: Op,
-    payload: &[u8],
-) -> Result<Outcome, Fail> {
-    let form = left_by(alloc, op)?;
-    let other = left_by(alloc, other)?;
-    answered(rt, alloc, &form, &other, payload)
-}
-
-/// The payload is refused as a reply to a request of the operation.
-fn no_reply_to(
-    rt: &impl Abort,
-    alloc: Global,
-    op: Op,
-    payload: &[u8],
-    place: u32,
-    reason: Reason,
-) -> Result<(), Fail> {
-    let form = left_by(alloc, op)?;
-    refused(rt, read(alloc, &form, payload), place, reason)
-}
-
-#[test]
-fn failures(rt: HostRuntime) -> Result<(), Fail> {
-    let alloc = rt.alloc();
-    assert!(rt; Failure::new(0).is_none());
-    let payload = b"\0\0\0\x01\0\0\0\0\0\0\0\x05\xff\xff\xff\x9b".as_slice();
-    let Outcome::Failed(op, failure) = reply_to(&rt, alloc, Op::Exists, Op::Ping, payload)? else {
-        return Err("done")?;
+/// The frame's payload, where it has so many bytes and no fewer.
+fn written(alloc: Global, frame: &ServerFrame, size: usize) -> Result<Vec<u8>, Fail> {
+    let Some(most) = frame.size_within(i32::MAX as u32) else {
+        return Err("no size")?;
     };
-    assert_eq!(rt; (op, failure.number()), (Op::Exists, -101));
-    let longer = changed(alloc, payload, 0, &[0])?;
-    no_reply_to(&rt, alloc, Op::Exists, &longer, 16, Reason::Trailing)?;
-    no_reply_to(&rt, alloc, Op::Exists, &payload[..15], 12, Reason::Short)
-}
-
-/// The Stat of the payloads above.
-const STATED: &str =
-    "Stat { czxid: 4, mzxid: 4, ctime: 1000, mtime: 1000, version: 0, cversion: 0, aversion: 0, ephemeral_owner: 0, data_length: 3, num_children: 0, pzxid: 4 }";
-
-/// The reply has a body of this kind, with the Stat at its end.
-fn stated(
-    rt: &impl Abort,
-    alloc: Global,
-    op: Op,
-    other: Op,
-    payload: &[u8],
-    kind: &str,
-) -> Result<(), Fail> {
-    let outcome = reply_to(rt, alloc, op, other, payload)?;
-    let told = format!(in alloc; "{outcome:?}")?;
-    let wanted = format!(in alloc; "Done({}stat: {} }})", kind, STATED)?;
-    assert_eq!(rt; told.as_str(), wanted.as_str());
-    Ok(())
-}
-
-#[test]
-fn stats(rt: HostRuntime) -> Result<(), Fail> {
-    let alloc = rt.alloc();
-    for (op, other, payload, kind) in [
-        (Op::GetData, Op::Exists, DATA, "GetData { blob: Null, "),
-        (Op::Exists, Op::SetData, STAT, "Exists { "),
-        (Op::SetData, Op::SetAcl, STAT, "SetData { "),
-        (Op::SetAcl, Op::Exists, STAT, "SetAcl { "),
-    ] {
-        stated(&rt, alloc, op, other, payload, kind)?;
+    if most as usize != size || frame.size_within(most.saturating_sub(1)).is_some() {
+        return Err("another size")?;
     }
-    no_reply_to(&rt, alloc, Op::Delete, STAT, 16, Reason::Trailing)?;
-    no_reply_to(&rt, alloc, Op::Create, STAT, 20, Reason::Trailing)
+    if let ServerFrame::Answered(reply) = frame {
+        if reply.xid == -1 {
+            return Err("the xid of events")?;
+        }
+    }
+    let mut out = Vec::new(alloc);
+    write_server(frame, &mut out)?;
+    Ok(out)
 }
 
-/// A create2 is answered with a Stat behind the path, a create with the path alone.
-#[test]
-fn created(rt: HostRuntime) -> Result<(), Fail> {
-    let alloc = rt.alloc();
-    let kind = r#"Create2 { path: Full(Chars { text: "/a" }), "#;
-    stated(&rt, alloc, Op::Create2, Op::Create, CREATED, kind)?;
-    no_reply_to(&rt, alloc, Op::Create, CREATED, 22, Reason::Trailing)?;
-    no_reply_to(&rt, alloc, Op::Create2, &CREATED[..22], 22, Reason::Short)
+/// What stands as the payload, which is written again, or what is wrong with it.
+fn told(alloc: Global, call: &str, form: &Form, payload: &[u8]) -> Result<String, Fail> {
+    let frame = match read(alloc, call, form, payload) {
+        Ok(frame) => frame,
+        Err(fault) => return Ok(fault_told(alloc, &fault)?),
+    };
+    let out = written(alloc, &frame, payload.len())?;
+    if out.as_slice() != payload {
+        return Err("written otherwise")?;
+    }
+    Ok(format!(in alloc; "{frame:?}")?)
 }
 
-/// The reply to a multi of these parts, which answers none of the others, has these results.
-fn results(
+/// A payload is told as it is wanted; where it lies, and by the quick way, it is judged alike.
+fn judged(
     rt: &impl Abort,
     alloc: Global,
-    ops: &[PartOp],
-    others: &[PartOp],
+    (call, form): (&str, &Form),
     payload: &[u8],
     want: &str,
 ) -> Result<(), Fail> {
-    let form = multi(alloc, ops)?;
-    let other = multi(alloc, others)?;
-    let outcome = answered(rt, alloc, &form, &other, payload)?;
-    let told = format!(in alloc; "{outcome:?}")?;
-    assert_eq!(rt; told.as_str(), want);
-    Ok(())
-}
-
-/// The payload is refused as a reply to a multi of these parts.
-fn no_results(
-    rt: &impl Abort,
-    alloc: Global,
-    ops: &[PartOp],
-    payload: &[u8],
-    place: u32,
-) -> Result<(), Fail> {
-    let form = multi(alloc, ops)?;
-    refused(rt, read(alloc, &form, payload), place, Reason::BadPart)
-}
-
-/// The parts that the payload of three errors answers.
-const FAILED: &[PartOp] = &[PartOp::Create, PartOp::Check, PartOp::SetData];
-
-#[test]
-fn multis(rt: HostRuntime) -> Result<(), Fail> {
-    let empty = b"\0\0\0\x01\0\0\0\0\0\0\0\x05\0\0\0\0\xff\xff\xff\xff\x01\xff\xff\xff\xff";
-    let two = [PartOp::Create, PartOp::Delete].as_slice();
-    for (ops, others, payload, want) in [
-        (
-            [].as_slice(),
-            two,
-            empty.as_slice(),
-            "Done(Multi(Items { items: [] }))",
-        ),
-        (
-            two,
-            [PartOp::Check].as_slice(),
-            TWO,
-            r#"Done(Multi(Items { items: [Created(Full(Chars { text: "/a" })), Deleted] }))"#,
-        ),
-        (
-            FAILED,
-            two,
-            THREE,
-            "Done(Multi(Items { items: [PartFailed(0), PartFailed(-103), PartFailed(-2)] }))",
-        ),
-    ] {
-        results(&rt, rt.alloc(), ops, others, payload, want)?;
-    }
+    let answer = told(alloc, call, form, payload)?;
+    assert_eq!(rt; answer.as_str(), want);
+    let fault = match scanned(call, form, payload) {
+        None => String::new(alloc),
+        Some(fault) => fault_told(alloc, &fault)?,
+    };
+    let is_well = fault.as_str().is_empty();
+    assert!(rt;
+        is_well || fault.as_str() == want,
+        "{fault}, and not {want}"
+    );
+    assert_eq!(rt;
+        is_front(form, payload),
+        is_well && call == "reply",
+        "of {want}"
+    );
     Ok(())
 }
 
 #[test]
-fn multi_refusals(rt: HostRuntime) -> Result<(), Fail> {
-    let alloc = rt.alloc();
-    let early = changed(alloc, THREE, 22, &THREE[THREE.len() - 9..])?;
-    no_results(&rt, alloc, FAILED, &early, 42)?;
-    let differs =
-        b"\0\0\0\x01\0\0\0\0\0\0\0\x06\0\0\0\0\xff\xff\xff\xff\0\xff\xff\xff\x99\xff\xff\xff\x9b\xff\xff\xff\xff\x01\xff\xff\xff\xff";
-    for (ops, payload, place) in [
-        ([PartOp::Delete, PartOp::Create].as_slice(), TWO, 16),
-        ([PartOp::Create].as_slice(), TWO, 31),
-        (
-            [PartOp::Create, PartOp::Delete, PartOp::Check].as_slice(),
-            TWO,
-            40,
-        ),
-        ([PartOp::Check].as_slice(), differs.as_slice(), 16),
-    ] {
-        no_results(&rt, alloc, ops, payload, place)?;
+fn payloads(rt: HostRuntime) -> Result<(), Fail> {
+    for row in PAYLOADS.lines() {
+        let (asked, want) = row.split_once(" = ").ok_or("no row")?;
+        let (call, rest) = asked.split_once(' ').ok_or("no call")?;
+        let (request, digits) = rest.split_once(' ').ok_or("no request")?;
+        let form = match request {
+            "-" => form(rt.alloc(), "fffffffe0000000b")?,
+            _ => form(rt.alloc(), request)?,
+        };
+        let payload = hex(rt.alloc(), digits)?;
+        judged(&rt, rt.alloc(), (call, &form), &payload, want)?;
     }
+    Ok(())
+}
+
+/// Whether the reply to an exists request fits a request of the operation.
+fn fits_one(alloc: Global, payload: &[u8], op: Op) -> Result<bool, Fail> {
+    let parts = Vec::new(alloc);
+    let exists = Form {
+        op: Op::Exists,
+        parts: Vec::new(alloc),
+    };
+    let ServerFrame::Answered(answer) = reply(alloc, &exists, payload)? else {
+        return Err("no reply")?;
+    };
+    if op == Op::Multi {
+        return Err("a multi")?;
+    }
+    Ok(fits(&Form { op, parts }, &answer))
+}
+
+#[test]
+fn replies_fit_their_requests(rt: HostRuntime) -> Result<(), Fail> {
+    let no_node = hex(rt.alloc(), "000000010000000000000005ffffff9b")?;
+    assert!(rt; fits_one(rt.alloc(), &no_node, Op::Exists)?);
+    assert!(rt; !fits_one(rt.alloc(), &no_node, Op::SetData)?);
     Ok(())
 }

@@ -1,290 +1,177 @@
 //! Client payloads.
+ghost use Rattle.std.specs.Prelude.{[], refl};
 ghost use Rattle.zk_asks.specs.Frames.{MaySend};
 
+use crate::digits::hex;
+use crate::values::{fault_told, parsed};
 use std::alloc::Global;
 use std::process::Abort;
 use std::test::Fail;
 use zk_asks::{
-    Ask, Asked, ClientFrame, Room, allowed, ask_laws, asked_laws, first_laws, form_laws,
-    opening_laws, read_ask, read_first, write_client,
+    Asked, ClientFrame, allowed, ask_laws, asked_laws, first_laws, form_laws, front_ask,
+    front_multi, opening_laws, read_ask, read_first, scan_ask, scan_first, write_client,
 };
-use zk_jute::{Blob, ItemFault, List, Reason};
+use zk_jute::ItemFault;
 use zk_records::{Op, PartOp, Profile};
 
-/// A connect request of time-out 30,000 and a password of sixteen zeros, 45 bytes with its boolean.
-const HELLO: &[u8] =
-    b"\0\0\0\0\0\0\0\0\0\0\0\0\0\0\x75\x30\0\0\0\0\0\0\0\0\0\0\0\x10\0\0\0\0\0\0\0\0\0\0\0\0\0\0\0\0\0";
+/// Payloads, each behind the profile that it is read under, or that it is the first; what each is, or what is wrong
+/// with it.
+const PAYLOADS: &str =
+    r#"first 000000000000000000000000000075300000000000000000000000100000000000000000000000000000000000 = Connect { hello: ConnectRequestOf { protocol_version: 0, last_zxid_seen: 0, time_out: 30000, session_id: 0, passwd: Full(Bytes { bytes: [0, 0, 0, 0, 0, 0, 0, 0, 0, 0, 0, 0, 0, 0, 0, 0] }) }, read_only: Some(false) }
+first 0000000000000000000000000000753000000000000000000000001000000000000000000000000000000000 = Connect { hello: ConnectRequestOf { protocol_version: 0, last_zxid_seen: 0, time_out: 30000, session_id: 0, passwd: Full(Bytes { bytes: [0, 0, 0, 0, 0, 0, 0, 0, 0, 0, 0, 0, 0, 0, 0, 0] }) }, read_only: None }
+first 000000000000000000000000000075300000000000000000000000100000000000000000000000000000000002 = BadBool at 44
+first 00000000000000000000000000007530000000000000000000000010000000000000000000000000000000000000 = Trailing at 45
+first 0000000000000000000000000000753000000000000000000000 = Short at 24
+34 fffffff800000065000000000000000500000001000000022f6100000000ffffffff = Ask { xid: -8, ask: SetWatches(SetWatchesAskOf { zxid: 5, data_watches: Full(Items { items: [Full(Chars { text: "/a" })] }), exist_watches: Full(Items { items: [] }), child_watches: Null }) }
+34 0000000500000065000000000000000500000001000000022f6100000000ffffffff = Ask { xid: 5, ask: SetWatches(SetWatchesAskOf { zxid: 5, data_watches: Full(Items { items: [Full(Chars { text: "/a" })] }), exist_watches: Full(Items { items: [] }), child_watches: Null }) }
+34 fffffffc00000064000000000000000664696765737400000003613a62 = Ask { xid: -4, ask: Auth(AuthAskOf { kind: 0, scheme: Full(Chars { text: "digest" }), auth: Full(Bytes { bytes: [97, 58, 98] }) }) }
+34 0000000100000003000000022f6101 = Ask { xid: 1, ask: Exists(WatchAskOf { path: Full(Chars { text: "/a" }), watch: true }) }
+34 0000000100000001000000022f61ffffffff000000010000001f00000005776f726c6400000006616e796f6e6500000000 = Ask { xid: 1, ask: Create(CreateAskOf { path: Full(Chars { text: "/a" }), blob: Null, acl: Full(Items { items: [AclOf { perms: 31, who: IdOf { scheme: Full(Chars { text: "world" }), ident: Full(Chars { text: "anyone" }) } }] }), flags: 0 }) }
+34 0000000100000002000000022f61ffffffff = Ask { xid: 1, ask: Delete(DeleteAskOf { path: Full(Chars { text: "/a" }), version: -1 }) }
+34 0000000100000004000000022f6100 = Ask { xid: 1, ask: GetData(WatchAskOf { path: Full(Chars { text: "/a" }), watch: false }) }
+34 0000000100000005000000022f610000000161ffffffff = Ask { xid: 1, ask: SetData(SetDataAskOf { path: Full(Chars { text: "/a" }), blob: Full(Bytes { bytes: [97] }), version: -1 }) }
+34 0000000100000006000000022f61 = Ask { xid: 1, ask: GetAcl(PathAskOf { path: Full(Chars { text: "/a" }) }) }
+34 0000000100000007000000022f61000000010000001f00000005776f726c6400000006616e796f6e65ffffffff = Ask { xid: 1, ask: SetAcl(SetAclAskOf { path: Full(Chars { text: "/a" }), acl: Full(Items { items: [AclOf { perms: 31, who: IdOf { scheme: Full(Chars { text: "world" }), ident: Full(Chars { text: "anyone" }) } }] }), version: -1 }) }
+34 0000000100000008000000022f6100 = Ask { xid: 1, ask: GetChildren(WatchAskOf { path: Full(Chars { text: "/a" }), watch: false }) }
+34 0000000100000009000000022f61 = Ask { xid: 1, ask: Sync(PathAskOf { path: Full(Chars { text: "/a" }) }) }
+34 000000010000000c000000022f6101 = Ask { xid: 1, ask: GetChildren2(WatchAskOf { path: Full(Chars { text: "/a" }), watch: true }) }
+34 000000010000000e0000000200ffffffff000000022f61ffffffffffffffff01ffffffff = Ask { xid: 1, ask: Multi(Items { items: [Delete(DeleteAskOf { path: Full(Chars { text: "/a" }), version: -1 })] }) }
+34 fffffffe0000000b = Ask { xid: -2, ask: Ping }
+34 00000007fffffff5 = Ask { xid: 7, ask: CloseSession }
+34 000000010000000effffffff01ffffffff = Ask { xid: 1, ask: Multi(Items { items: [] }) }
+34 000000010000000e0000000100ffffffff000000022f6100000000000000010000001f00000005776f726c6400000006616e796f6e65000000000000000d00ffffffff000000022f61000000030000000500ffffffff000000022f61000000016100000003ffffffff01ffffffff = Ask { xid: 1, ask: Multi(Items { items: [Create(CreateAskOf { path: Full(Chars { text: "/a" }), blob: Full(Bytes { bytes: [] }), acl: Full(Items { items: [AclOf { perms: 31, who: IdOf { scheme: Full(Chars { text: "world" }), ident: Full(Chars { text: "anyone" }) } }] }), flags: 0 }), Check(CheckAskOf { path: Full(Chars { text: "/a" }), version: 3 }), SetData(SetDataAskOf { path: Full(Chars { text: "/a" }), blob: Full(Bytes { bytes: [97] }), version: 3 })] }) }
+35 000000010000000f000000022f61ffffffff000000010000001f00000005776f726c6400000006616e796f6e6500000000 = Ask { xid: 1, ask: Create2(CreateAskOf { path: Full(Chars { text: "/a" }), blob: Null, acl: Full(Items { items: [AclOf { perms: 31, who: IdOf { scheme: Full(Chars { text: "world" }), ident: Full(Chars { text: "anyone" }) } }] }), flags: 0 }) }
+34 000000010000000f000000022f61ffffffff000000010000001f00000005776f726c6400000006616e796f6e6500000000 = UnknownOp at 4
+34 ffffffff00000003000000022f6101 = XidOp at 4
+34 fffffff800000003000000022f6101 = XidOp at 4
+34 ffffffff0000000d000000022f6101 = UnknownOp at 4
+34 0000000100000003000000022f6102 = BadBool at 14
+34 0000000100000003000000022f610100 = Trailing at 15
+34 000000010000000d000000022f61ffffffff = UnknownOp at 4
+34 000000010000000b = XidOp at 4
+34 0000000100000003000000022fc300 = BadText at 13
+34 ffffffff0000 = Short at 4
+34 000000010000000e0000000e00ffffffffffffffff01ffffffff = BadPart at 8
+34 000000010000000e0000000e02 = BadBool at 12
+34 000000010000000e0000000e00ff = Short at 13
+34 000000010000000e0000000d00ffffffff000000022f610000 = Short at 23
+35 000000010000000e0000000f00ffffffff = BadPart at 8"#;
 
-/// A multi of create, check and setData.
-const THREE: &[u8] =
-    b"\0\0\0\x01\0\0\0\x0e\0\0\0\x01\0\xff\xff\xff\xff\0\0\0\x02/a\0\0\0\0\0\0\0\x01\0\0\0\x1f\0\0\0\x05world\0\0\0\x06anyone\0\0\0\0\0\0\0\x0d\0\xff\xff\xff\xff\0\0\0\x02/a\0\0\0\x03\0\0\0\x05\0\xff\xff\xff\xff\0\0\0\x02/a\0\0\0\x01a\0\0\0\x03\xff\xff\xff\xff\x01\xff\xff\xff\xff";
+/// Whether it is refused where it lies, or for what.
+fn scanned(kind: &str, payload: &[u8]) -> Option<ItemFault> {
+    let profile = match kind {
+        "first" => return scan_first(payload).err(),
+        "34" => Profile::V34,
+        _ => Profile::V35,
+    };
+    if payload.len() > 1_000 {
+        return None;
+    }
+    scan_ask(profile, payload).err()
+}
 
-/// A create2 of `/a`.
-const CREATE2: &[u8] =
-    b"\0\0\0\x01\0\0\0\x0f\0\0\0\x02/a\xff\xff\xff\xff\0\0\0\x01\0\0\0\x1f\0\0\0\x05world\0\0\0\x06anyone\0\0\0\0";
-
-/// The frame is written again as its payload.
-fn written(rt: &impl Abort, alloc: Global, frame: &ClientFrame, payload: &[u8]) -> Result<(), Fail>
+/// The frame's payload, where it has so many bytes and no fewer.
+fn written(alloc: Global, frame: &ClientFrame, size: usize) -> Result<Vec<u8>, Fail>
     requires { MaySend frame.now }
 {
-    let Some(size) = frame.size_within(i32::MAX as u32) else {
+    let Some(most) = frame.size_within(i32::MAX as u32) else {
         return Err("no size")?;
     };
-    assert_eq!(rt; size as usize, payload.len());
-    let less = frame.size_within(size.saturating_sub(1));
-    assert_eq!(rt; (frame.size_within(size), less), (Some(size), None));
+    if most as usize != size || frame.size_within(most.saturating_sub(1)).is_some() {
+        return Err("another size")?;
+    }
     let mut out = Vec::new(alloc);
     write_client(frame, &mut out)?;
-    assert_eq!(rt; out.as_slice(), payload);
-    Ok(())
+    Ok(out)
 }
 
-fn again(
-    rt: &impl Abort,
-    alloc: Global,
-    frame: ClientFrame,
-    payload: &[u8],
-) -> Result<ClientFrame, Fail>
+/// What the frame is, once it is written again as its payload.
+fn frame_told(alloc: Global, frame: ClientFrame, payload: &[u8]) -> Result<String, Fail>
     requires { MaySend frame }
 {
-    written(rt, alloc, &frame, payload)?;
-    Ok(frame)
+    let out = written(alloc, &frame, payload.len())?;
+    if out.as_slice() != payload {
+        return Err("written otherwise")?;
+    }
+    Ok(format!(in alloc; "{frame:?}")?)
 }
 
-/// What a later payload asks, and its xid.
-fn asked(rt: &impl Abort, alloc: Global, payload: &[u8]) -> Result<(i32, Ask), Fail> {
-    asked_under(rt, alloc, Profile::V34, payload)
+/// What the first payload is, or what is wrong with it.
+fn first_told(alloc: Global, payload: &[u8]) -> Result<String, Fail> {
+    match read_first(alloc, payload) {
+        Ok(frame) => frame_told(alloc, frame, payload),
+        Err(fault) => Ok(fault_told(alloc, &fault)?),
+    }
 }
 
-fn asked_under(
+/// What a later payload is, or what is wrong with it.
+fn ask_told(alloc: Global, profile: Profile, payload: &[u8]) -> Result<String, Fail> {
+    match read_ask(alloc, profile, payload) {
+        Ok(frame) => frame_told(alloc, frame, payload),
+        Err(fault) => Ok(fault_told(alloc, &fault)?),
+    }
+}
+
+fn told(alloc: Global, kind: &str, payload: &[u8]) -> Result<String, Fail> {
+    match kind {
+        "first" => first_told(alloc, payload),
+        "34" => ask_told(alloc, Profile::V34, payload),
+        _ => ask_told(alloc, Profile::V35, payload),
+    }
+}
+
+/// A payload is told as it is wanted, and where it lies it is refused for the same.
+fn judged(
     rt: &impl Abort,
     alloc: Global,
-    profile: Profile,
+    kind: &str,
     payload: &[u8],
-) -> Result<(i32, Ask), Fail> {
-    let frame = read_ask(alloc, profile, payload)?;
-    match again(rt, alloc, frame, payload)? {
-        ClientFrame::Ask { xid, ask } => Ok((xid, ask)),
-        ClientFrame::Connect { .. } => Err("a connect request")?,
-    }
-}
-
-/// Whether a connect request asks for a read-only server.
-fn opened(rt: &impl Abort, alloc: Global, payload: &[u8]) -> Result<Option<bool>, Fail> {
-    let frame = read_first(alloc, payload)?;
-    match again(rt, alloc, frame, payload)? {
-        ClientFrame::Connect { hello, read_only } => {
-            assert_eq!(rt; hello.time_out, 30000);
-            Ok(read_only)
-        }
-        ClientFrame::Ask { .. } => Err("a request")?,
-    }
-}
-
-fn refused(
-    rt: &impl Abort,
-    answer: Result<ClientFrame, ItemFault>,
-    place: u32,
-    reason: Reason,
+    want: &str,
 ) -> Result<(), Fail> {
-    assert_eq!(rt; answer.err().ok_or("read")?, ItemFault { place, reason });
+    let told = told(alloc, kind, payload)?;
+    assert_eq!(rt; told.as_str(), want);
+    if let Some(fault) = scanned(kind, payload) {
+        let told = fault_told(alloc, &fault)?;
+        assert_eq!(rt; told.as_str(), want, "where it lies");
+    }
     Ok(())
 }
 
 #[test]
-fn first_payloads(rt: HostRuntime) -> Result<(), Fail> {
-    let alloc = rt.alloc();
-    assert_eq!(rt; opened(&rt, alloc, HELLO)?, Some(false));
-    assert_eq!(rt; opened(&rt, alloc, &HELLO[..44])?, None);
-    let mut other = Vec::new(alloc);
-    other.extend_from_slice(&HELLO[..44])?;
-    other.push(2)?;
-    refused(
-        &rt,
-        read_first(alloc, other.as_slice()),
-        44,
-        Reason::BadBool,
-    )?;
-    other.truncate(44);
-    other.extend_from_slice(&[0, 0])?;
-    refused(
-        &rt,
-        read_first(alloc, other.as_slice()),
-        45,
-        Reason::Trailing,
-    )
-}
-
-/// How many nodes are watched until they exist, and whether the list of children is null.
-fn watched(ask: &Ask) -> Option<(usize, bool)> {
-    let Ask::SetWatches(watches) = ask else {
-        return None;
-    };
-    let List::Full(nodes) = &watches.exist_watches else {
-        return None;
-    };
-    let null = matches!(&watches.child_watches, List::Null);
-    Some((nodes.as_slice().len(), null))
-}
-
-#[test]
-fn set_watches(rt: HostRuntime) -> Result<(), Fail> {
-    let alloc = rt.alloc();
-    let own =
-        b"\xff\xff\xff\xf8\0\0\0\x65\0\0\0\0\0\0\0\x05\0\0\0\x01\0\0\0\x02/a\0\0\0\0\xff\xff\xff\xff";
-    let other =
-        b"\0\0\0\x05\0\0\0\x65\0\0\0\0\0\0\0\x05\0\0\0\x01\0\0\0\x02/a\0\0\0\0\xff\xff\xff\xff";
-    let (xid, ask) = asked(&rt, alloc, own)?;
-    assert_eq!(rt; (xid, watched(&ask)), (-8, Some((0, true))));
-    let (xid, ask) = asked(&rt, alloc, other)?;
-    assert_eq!(rt; (xid, ask.op()), (5, Op::SetWatches));
-    Ok(())
-}
-
-#[test]
-fn requests(rt: HostRuntime) -> Result<(), Fail> {
-    let alloc = rt.alloc();
-    let rows: [(&[u8], i32, Op); 4] = [
-        (
-            b"\xff\xff\xff\xfc\0\0\0\x64\0\0\0\0\0\0\0\x06digest\0\0\0\x03a:b",
-            -4,
-            Op::Auth,
-        ),
-        (b"\0\0\0\x01\0\0\0\x03\0\0\0\x02/a\x01", 1, Op::Exists),
-        (b"\xff\xff\xff\xfe\0\0\0\x0b", -2, Op::Ping),
-        (b"\0\0\0\x07\xff\xff\xff\xf5", 7, Op::CloseSession),
-    ];
-    for (payload, number, op) in rows {
-        let (xid, ask) = asked(&rt, alloc, payload)?;
-        assert_eq!(rt; (xid, ask.op(), ask.parts().len()), (number, op, 0));
+fn payloads(rt: HostRuntime) -> Result<(), Fail> {
+    for row in PAYLOADS.lines() {
+        let (kind, payload, want) = parsed(rt.alloc(), row)?;
+        judged(&rt, rt.alloc(), kind, &payload, want)?;
     }
     let pair = (allowed(-2, Op::Ping), allowed(-1, Op::Exists));
     assert_eq!(rt; pair, (true, false));
     Ok(())
 }
 
+/// A multi of a deletion and a check of `/a`.
+const TWO: &str =
+    "000000010000000e0000000200ffffffff000000022f61ffffffff0000000d00ffffffff000000022f6100000003ffffffff01ffffffff";
+
+/// The quick ways say something.
 #[test]
-fn refusals(rt: HostRuntime) -> Result<(), Fail> {
-    let alloc = rt.alloc();
-    let rows: [(&[u8], u32, Reason); 9] = [
-        (
-            b"\xff\xff\xff\xff\0\0\0\x03\0\0\0\x02/a\x01",
-            4,
-            Reason::XidOp,
-        ),
-        (
-            b"\xff\xff\xff\xf8\0\0\0\x03\0\0\0\x02/a\x01",
-            4,
-            Reason::XidOp,
-        ),
-        (
-            b"\xff\xff\xff\xff\0\0\0\x0d\0\0\0\x02/a\x01",
-            4,
-            Reason::UnknownOp,
-        ),
-        (b"\0\0\0\x01\0\0\0\x03\0\0\0\x02/a\x02", 14, Reason::BadBool),
-        (
-            b"\0\0\0\x01\0\0\0\x03\0\0\0\x02/a\x01\0",
-            15,
-            Reason::Trailing,
-        ),
-        (
-            b"\0\0\0\x01\0\0\0\x0d\0\0\0\x02/a\xff\xff\xff\xff",
-            4,
-            Reason::UnknownOp,
-        ),
-        (b"\0\0\0\x01\0\0\0\x0b", 4, Reason::XidOp),
-        (
-            b"\0\0\0\x01\0\0\0\x03\0\0\0\x02/\xc3\0",
-            13,
-            Reason::BadText,
-        ),
-        (b"\xff\xff\xff\xff\0\0", 4, Reason::Short),
-    ];
-    for (payload, place, reason) in rows {
-        refused(&rt, read_ask(alloc, Profile::V34, payload), place, reason)?;
-    }
+fn fronts(rt: HostRuntime) -> Result<(), Fail> {
+    let exists = hex(rt.alloc(), "0000000100000003000000022f6101")?;
+    let front = front_ask(Profile::V34, &exists).ok_or("no request")?;
+    assert_eq!(rt; (front.0, front.1.op), (1, Op::Exists));
+    let two = hex(rt.alloc(), TWO)?;
+    let (xid, multi) = front_multi(Profile::V34, &two).ok_or("no multi")?;
+    assert_eq!(rt; (xid, multi.op(), multi.parts()), (1, Op::Multi, 2));
+    let parts = (multi.part(0), multi.part(1), multi.part(2));
+    assert_eq!(rt; parts, (Some(PartOp::Delete), Some(PartOp::Check), None));
     Ok(())
 }
 
-#[test]
-fn empty_multi(rt: HostRuntime) -> Result<(), Fail> {
-    let none = b"\0\0\0\x01\0\0\0\x0e\xff\xff\xff\xff\x01\xff\xff\xff\xff";
-    let (_, ask) = asked(&rt, rt.alloc(), none)?;
-    assert_eq!(rt; (ask.op(), ask.parts().len()), (Op::Multi, 0));
-    Ok(())
-}
-
-#[test]
-fn three_parts(rt: HostRuntime) -> Result<(), Fail> {
-    let (_, ask) = asked(&rt, rt.alloc(), THREE)?;
-    let mut ops = Vec::new(rt.alloc());
-    for part in ask.parts() {
-        ops.push(part.op())?;
-    }
-    let wanted = [PartOp::Create, PartOp::Check, PartOp::SetData];
-    assert_eq!(rt; ops.as_slice(), wanted.as_slice());
-    Ok(())
-}
-
-#[test]
-fn multi_refusals(rt: HostRuntime) -> Result<(), Fail> {
-    let alloc = rt.alloc();
-    // A multi within a multi.
-    let nested =
-        b"\0\0\0\x01\0\0\0\x0e\0\0\0\x0e\0\xff\xff\xff\xff\xff\xff\xff\xff\x01\xff\xff\xff\xff";
-    refused(
-        &rt,
-        read_ask(alloc, Profile::V34, nested),
-        8,
-        Reason::BadPart,
-    )?;
-    // A header that can't be one of a part is still read to its end.
-    let flag = b"\0\0\0\x01\0\0\0\x0e\0\0\0\x0e\x02";
-    refused(
-        &rt,
-        read_ask(alloc, Profile::V34, flag),
-        12,
-        Reason::BadBool,
-    )?;
-    let cut = b"\0\0\0\x01\0\0\0\x0e\0\0\0\x0e\0\xff";
-    refused(&rt, read_ask(alloc, Profile::V34, cut), 13, Reason::Short)?;
-    let record = b"\0\0\0\x01\0\0\0\x0e\0\0\0\x0d\0\xff\xff\xff\xff\0\0\0\x02/a\0\0";
-    refused(
-        &rt,
-        read_ask(alloc, Profile::V34, record),
-        23,
-        Reason::Short,
-    )
-}
-
-/// A create2 is read under 3.5 alone, and never as a part.
-#[test]
-fn create2(rt: HostRuntime) -> Result<(), Fail> {
-    let alloc = rt.alloc();
-    let (xid, ask) = asked_under(&rt, alloc, Profile::V35, CREATE2)?;
-    let null = matches!(&ask, Ask::Create2(body) if matches!(&body.blob, Blob::Null));
-    assert_eq!(rt; (xid, null), (1, true));
-    Ok(())
-}
-
-#[test]
-fn no_create2(rt: HostRuntime) -> Result<(), Fail> {
-    let alloc = rt.alloc();
-    let older = read_ask(alloc, Profile::V34, CREATE2);
-    refused(&rt, older, 4, Reason::UnknownOp)?;
-    let part = b"\0\0\0\x01\0\0\0\x0e\0\0\0\x0f\0\xff\xff\xff\xff";
-    refused(&rt, read_ask(alloc, Profile::V35, part), 8, Reason::BadPart)
-}
-
-/// A request for an operation, and for the parts of its multi.
+/// A request for an operation.
 struct Wanted {
     op: Op,
 }
 
 impl Asked for Wanted {
-    ghost use Rattle.std.specs.Prelude.{[], refl};
-
     ghost operation = { λ x. x.op };
 
     ghost part_ops = { λ x. [] };
@@ -301,8 +188,6 @@ impl Asked for Wanted {
         None
     }
 
-    fn put_ops<R: Room>(&self, _room: &mut R) {}
-
     ghost lawful = { λ x other. refl };
 }
 
@@ -311,12 +196,32 @@ fn part_of<T: Asked>(asked: &T) -> (Op, u32, Option<PartOp>) {
 }
 
 #[test]
-fn what_was_asked(rt: HostRuntime) -> Result<(), Fail> {
+fn what_was_asked(rt: HostRuntime) {
+    assert_eq!(rt; part_of(&Wanted { op: Op::Sync }), (Op::Sync, 0, None));
+}
+
+/// What a request leaves, where it lies: an exists, and a multi of one delete.
+#[test]
+fn what_was_scanned(rt: HostRuntime) -> Result<(), Fail> {
+    let exists = scan_ask(Profile::V34, b"\0\0\0\x07\0\0\0\x03\0\0\0\x02/a\x01")?;
+    assert_eq!(rt;
+        (exists.xid(), part_of(&exists)),
+        (7, (Op::Exists, 0, None))
+    );
+    let multi = scan_ask(
+        Profile::V34,
+        b"\0\0\0\x08\0\0\0\x0e\0\0\0\x02\0\xff\xff\xff\xff\0\0\0\x02/a\0\0\0\0\xff\xff\xff\xff\x01\xff\xff\xff\xff",
+    )?;
+    let delete = (Op::Multi, 1, Some(PartOp::Delete));
+    assert_eq!(rt; (multi.xid(), part_of(&multi)), (8, delete));
+    Ok(())
+}
+
+#[test]
+fn laws(_rt: HostRuntime) {
     asked_laws::<Wanted>();
     first_laws();
     ask_laws();
     form_laws();
     opening_laws();
-    assert_eq!(rt; part_of(&Wanted { op: Op::Sync }), (Op::Sync, 0, None));
-    Ok(())
 }

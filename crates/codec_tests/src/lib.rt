@@ -4,16 +4,18 @@
 #[cfg(test)]
 mod answers;
 #[cfg(test)]
-mod answers_scanned;
-#[cfg(test)]
 mod asks;
 #[cfg(test)]
-mod asks_scanned;
+mod digits;
 #[cfg(test)]
 mod frames;
 #[cfg(test)]
 mod jute;
 #[cfg(test)]
 mod records;
+#[cfg(test)]
+mod samples;
+#[cfg(test)]
+mod values;
 #[cfg(test)]
 mod waiting;

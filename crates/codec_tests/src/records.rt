@@ -1,71 +1,151 @@
-//! Records, and the tables of operations, errors and events.
+//! The tables of operations, errors and events.
 use std::process::Abort;
 use std::test::Fail;
-use zk_jute::{ItemFault, Payload, Reason, Spell, Stands, Text, TextRef, Wire, read_flagged};
 use zk_records::{
-    ConnectRequest, CreateBody, CreateBodyRef, Op, PartOp, PathAsk, Profile, Stat, code_name,
-    event_name, number_laws, op_name, op_number, op_of, part_name, part_number, part_of,
+    Profile, code_name, event_name, number_laws, op_name, op_number, op_of, part_name, part_number,
+    part_of,
 };
 
-mod vectors;
+/// Numbers and the names of their operations, and numbers of none; create2 is of the newer profile alone.
+const OPERATIONS: &str = "\
+1 create
+2 delete
+3 exists
+4 getData
+5 setData
+6 getACL
+7 setACL
+8 getChildren
+9 sync
+11 ping
+12 getChildren2
+14 multi
+15 create2
+100 auth
+101 setWatches
+-11 closeSession
+13 -
+10 -
+16 -
+0 -
+-1 -
+-10 -
+102 -";
 
-/// A value's size, to the byte.
+/// The operation's number and name.
+fn op_told(profile: Profile, number: i32) -> Option<(i32, &'static str)> {
+    match op_of(profile, number) {
+        Some(op) => Some((op_number(op), op_name(op))),
+        None => None,
+    }
+}
+
 #[test]
-fn sizes(rt: HostRuntime) -> Result<(), Fail> {
-    let bytes =
-        b"\0\0\0\0\0\0\0\x04\0\0\0\0\0\0\0\x04\0\0\0\0\0\0\x03\xe8\0\0\0\0\0\0\x03\xe8\0\0\0\0\0\0\0\0\0\0\0\0\0\0\0\0\0\0\0\0\0\0\0\x03\0\0\0\0\0\0\0\0\0\0\0\x04";
-    let (stat, end) = Stat::read(rt.alloc(), bytes, 0)?;
-    assert_eq!(rt; (end, stat.data_length, stat.pzxid), (68, 3, 4));
-    assert_eq!(rt; stat.size_within(68), Some(68));
-    assert_eq!(rt; stat.size_within(67), None);
-    // Four bytes in UTF-8, and not two surrogates of three bytes each.
-    let fault = PathAsk::read(rt.alloc(), b"\0\0\0\x07/\xed\xa0\xbd\xed\xb8\x80", 0)
-        .err()
-        .ok_or("read")?;
-    assert_eq!(rt;
-        fault,
-        ItemFault {
-            place: 5,
-            reason: Reason::BadText
-        }
-    );
+fn operations(rt: HostRuntime) -> Result<(), Fail> {
+    for row in OPERATIONS.lines() {
+        let (digits, name) = row.split_once(' ').ok_or("no row")?;
+        let number: i32 = digits.parse()?;
+        let want = match name {
+            "-" => None,
+            _ => Some((number, name)),
+        };
+        let older = match number {
+            15 => None,
+            _ => want,
+        };
+        assert_eq!(rt; op_told(Profile::V35, number), want, "of {row}");
+        assert_eq!(rt; op_told(Profile::V34, number), older, "of {row}");
+    }
     Ok(())
 }
 
-/// The operation by its number under both profiles, and its number and name.
-fn is_op(rt: &impl Abort, number: i32, op: Op, name: &str) {
-    let older = (number != 15).then_some(op);
-    let read = (op_of(Profile::V35, number), op_of(Profile::V34, number));
-    assert_eq!(rt; read, (Some(op), older));
-    assert_eq!(rt; (op_number(op), op_name(op)), (number, name));
+/// The same of the parts of a multi.
+const PARTS: &str = "\
+1 create
+2 delete
+5 setData
+13 check
+0 -
+-1 -
+3 -
+4 -
+14 -";
+
+/// The part's number and name.
+fn part_told(number: i32) -> Option<(i32, &'static str)> {
+    match part_of(number) {
+        Some(op) => Some((part_number(op), part_name(op))),
+        None => None,
+    }
 }
 
 #[test]
-fn operations(rt: HostRuntime) {
-    for (number, op, name) in [
-        (1, Op::Create, "create"),
-        (2, Op::Delete, "delete"),
-        (3, Op::Exists, "exists"),
-        (4, Op::GetData, "getData"),
-        (5, Op::SetData, "setData"),
-        (6, Op::GetAcl, "getACL"),
-        (7, Op::SetAcl, "setACL"),
-        (8, Op::GetChildren, "getChildren"),
-        (9, Op::Sync, "sync"),
-        (11, Op::Ping, "ping"),
-        (12, Op::GetChildren2, "getChildren2"),
-        (14, Op::Multi, "multi"),
-        (15, Op::Create2, "create2"),
-        (100, Op::Auth, "auth"),
-        (101, Op::SetWatches, "setWatches"),
-        (-11, Op::CloseSession, "closeSession"),
-    ] {
-        is_op(&rt, number, op, name);
+fn operations_of_parts(rt: HostRuntime) -> Result<(), Fail> {
+    for row in PARTS.lines() {
+        let (digits, name) = row.split_once(' ').ok_or("no row")?;
+        let number: i32 = digits.parse()?;
+        let want = match name {
+            "-" => None,
+            _ => Some((number, name)),
+        };
+        assert_eq!(rt; part_told(number), want, "of {row}");
     }
-    for number in [13, 10, 16, 0, -1, -10, 102] {
-        let read = (op_of(Profile::V34, number), op_of(Profile::V35, number));
-        assert_eq!(rt; read, (None, None));
+    Ok(())
+}
+
+/// Errors and events by their numbers, and numbers of none.
+const NAMES: &str = "\
+error 0 OK
+error -1 SYSTEMERROR
+error -2 RUNTIMEINCONSISTENCY
+error -3 DATAINCONSISTENCY
+error -4 CONNECTIONLOSS
+error -5 MARSHALLINGERROR
+error -6 UNIMPLEMENTED
+error -7 OPERATIONTIMEOUT
+error -8 BADARGUMENTS
+error -100 APIERROR
+error -101 NONODE
+error -102 NOAUTH
+error -103 BADVERSION
+error -108 NOCHILDRENFOREPHEMERALS
+error -110 NODEEXISTS
+error -111 NOTEMPTY
+error -112 SESSIONEXPIRED
+error -113 INVALIDCALLBACK
+error -114 INVALIDACL
+error -115 AUTHFAILED
+error -118 SESSIONMOVED
+error -119 NOTREADONLY
+error 1 -
+error -9 -
+error -104 -
+error -120 -
+event -1 None
+event 1 NodeCreated
+event 2 NodeDeleted
+event 3 NodeDataChanged
+event 4 NodeChildrenChanged
+event 0 -
+event 5 -";
+
+/// The name of a number of this kind.
+fn name_told(kind: &str, number: i32) -> &'static str {
+    let name = match kind {
+        "error" => code_name(number),
+        _ => event_name(number),
+    };
+    name.unwrap_or("-")
+}
+
+#[test]
+fn names(rt: HostRuntime) -> Result<(), Fail> {
+    for row in NAMES.lines() {
+        let (kind, rest) = row.split_once(' ').ok_or("no row")?;
+        let (digits, name) = rest.split_once(' ').ok_or("no number")?;
+        assert_eq!(rt; name_told(kind, digits.parse()?), name, "of {row}");
     }
+    Ok(())
 }
 
 #[test]
@@ -80,97 +160,6 @@ fn profiles(rt: HostRuntime) {
 }
 
 #[test]
-fn operations_of_parts(rt: HostRuntime) {
-    for (number, op, name) in [
-        (1, PartOp::Create, "create"),
-        (2, PartOp::Delete, "delete"),
-        (5, PartOp::SetData, "setData"),
-        (13, PartOp::Check, "check"),
-    ] {
-        let told = (part_of(number), part_number(op), part_name(op));
-        assert_eq!(rt; told, (Some(op), number, name));
-    }
-    for number in [0, -1, 3, 4, 14] {
-        assert_eq!(rt; part_of(number), None);
-    }
+fn law(_rt: HostRuntime) {
     number_laws();
-}
-
-/// Errors and events by their numbers.
-#[test]
-fn names(rt: HostRuntime) {
-    for (code, name) in [
-        (0, Some("OK")),
-        (-1, Some("SYSTEMERROR")),
-        (-4, Some("CONNECTIONLOSS")),
-        (-8, Some("BADARGUMENTS")),
-        (-101, Some("NONODE")),
-        (-103, Some("BADVERSION")),
-        (-110, Some("NODEEXISTS")),
-        (-119, Some("NOTREADONLY")),
-        (1, None),
-        (-9, None),
-        (-104, None),
-        (-120, None),
-    ] {
-        assert_eq!(rt; code_name(code), name);
-    }
-    for (kind, name) in [
-        (-1, Some("None")),
-        (0, None),
-        (1, Some("NodeCreated")),
-        (2, Some("NodeDeleted")),
-        (3, Some("NodeDataChanged")),
-        (4, Some("NodeChildrenChanged")),
-        (5, None),
-    ] {
-        assert_eq!(rt; event_name(kind), name);
-    }
-}
-
-/// A connect request and its boolean.
-#[test]
-fn read_only(rt: HostRuntime) -> Result<(), Fail> {
-    for (bytes, want) in [
-        (
-            b"\0\0\0\x1fA<\x17\xcc\xeaU\xa1\x9b\xdac\x14Z\xd7\x1a5}\xd0\xff\x83N\xff\xff\xff\xff\0".as_slice(),
-            false,
-        ),
-        (
-            b"\0\0\x03\xe8\x7f\xff\xff\xff\xff\xff\xff\xff\xff\xff\xff\x9b\x01\0\0\0\0\0\0\x01\0\0\0\x02\x8e\xa8\x01".as_slice(),
-            true,
-        ),
-    ] {
-        let (hello, flag) = read_flagged::<ConnectRequest>(rt.alloc(), bytes)?;
-        assert_eq!(rt; flag, Some(want));
-        let mut out = Vec::new(rt.alloc());
-        if (&hello, &flag).size_within(i32::MAX as u32).is_none() {
-            return Err("no size")?;
-        }
-        (&hello, &flag).write(&mut out)?;
-        assert_eq!(rt; out.as_slice(), bytes);
-    }
-    Ok(())
-}
-
-/// A created node's name and its `Stat`.
-#[test]
-fn created(rt: HostRuntime) -> Result<(), Fail> {
-    let bytes =
-        b"\0\0\0\x02/a\0\0\0\0\0\0\0\x04\0\0\0\0\0\0\0\x04\0\0\0\0\0\0\x03\xe8\0\0\0\0\0\0\x03\xe8\0\0\0\0\0\0\0\0\0\0\0\0\0\0\0\0\0\0\0\0\0\0\0\x03\0\0\0\0\0\0\0\0\0\0\0\x04";
-    let (body, end) = CreateBody::read(rt.alloc(), bytes, 0)?;
-    let (shown, after) = CreateBodyRef::read_in(&Payload { bytes }, 0)?;
-    assert_eq!(rt; (end, after), (74, 74));
-    assert_eq!(rt;
-        (
-            matches!(&shown.path, TextRef::Full(_)),
-            shown.stat.data_length
-        ),
-        (true, 3)
-    );
-    let Text::Full(path) = &body.path else {
-        return Err("null")?;
-    };
-    assert_eq!(rt; (path.as_str(), body.stat.data_length), ("/a", 3));
-    Ok(())
 }

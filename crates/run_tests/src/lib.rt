@@ -2,16 +2,16 @@
 #![tactic(auto)]
 
 #[cfg(test)]
-mod adapter_tests;
+mod adapters;
 #[cfg(test)]
-mod build_tests;
+mod devices;
 #[cfg(test)]
-mod device_tests;
+mod engines;
 #[cfg(test)]
 mod memory;
 #[cfg(test)]
-mod migrate_tests;
+mod samples;
 #[cfg(test)]
-mod tests;
+mod watching;
 #[cfg(test)]
-mod words_tests;
+mod words;

@@ -1,8 +1,7 @@
 //! The library's calls where a growth is refused: what then wants memory is called again, and answers as with ample
 //! memory, and a step wants none. tests/refusals.py runs the test over each worked example, which stands on its
 //! standard input, and refuses one growth a run; with no input it goes over the first example that has a reply.
-use crate::conversations::{CONNECT, CONNECTED, EXISTS, NO_NODE, steps};
-use crate::profiles::newer;
+use crate::frames::{CONNECT, CONNECTED, EXISTS, NO_NODE, newer};
 use std::alloc::{AllocError, Global};
 use std::io::Read;
 use std::process::Abort;
@@ -166,6 +165,14 @@ fn shows(
     let again = line_again(alloc, line)?;
     assert_eq!(rt; again.as_slice(), line);
     Ok(())
+}
+
+/// How much of the piece a step uses, and whether a frame is whole.
+fn steps(talk: &mut Talk, side: Side, piece: &[u8]) -> Option<(usize, bool)> {
+    match talk.step(side, piece) {
+        Ok(stepped) => Some((stepped.used, stepped.whole)),
+        Err(_) => None,
+    }
 }
 
 /// A step uses as much as was taken, and its frame shows the message of this line; with no line it

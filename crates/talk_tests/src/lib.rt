@@ -2,9 +2,11 @@
 #![tactic(auto)]
 
 #[cfg(test)]
-mod conversations;
+mod calls;
 #[cfg(test)]
 mod earliest;
+#[cfg(test)]
+mod frames;
 #[cfg(test)]
 mod growth;
 #[cfg(test)]
@@ -12,18 +14,6 @@ mod library;
 #[cfg(test)]
 mod lines;
 #[cfg(test)]
-mod lines_seen;
-#[cfg(test)]
-mod profiles;
-#[cfg(test)]
-mod refusals;
-#[cfg(test)]
-mod refused_bodies;
-#[cfg(test)]
-mod replies;
-#[cfg(test)]
 mod samples;
 #[cfg(test)]
 mod speaker;
-#[cfg(test)]
-mod tables;

@@ -1,10 +1,12 @@
 //! The library as README shows it: a conversation that is read, message by message or where they lie, and one that is said.
-use crate::conversations::{CONNECT, CONNECTED, EXISTS};
-use crate::speaker::{connect, ping};
+use crate::frames::{CONNECT, CONNECTED, EXISTS};
 use std::process::Abort;
 use std::test::Fail;
+use zk_asks::{Ask, ClientFrame};
+use zk_jute::Blob;
 use zk_lines::put_line_ref;
-use zk_talk::{Ending, Limits, Side, Speaker, Talk};
+use zk_records::ConnectRequest;
+use zk_talk::{Ending, Limits, Message, Side, Speaker, Talk};
 
 /// The lines of the three messages, as docs/EXAMPLES.md has them.
 const LINES: &[u8] =
@@ -49,6 +51,26 @@ fn messages_are_seen_where_they_lie(rt: HostRuntime) -> Result<(), Fail> {
     }
     assert_eq!(rt; lines.as_slice(), LINES);
     Ok(())
+}
+
+fn connect() -> Message {
+    Message::Client(ClientFrame::Connect {
+        hello: ConnectRequest {
+            protocol_version: 0,
+            last_zxid_seen: 0,
+            time_out: 30000,
+            session_id: 0,
+            passwd: Blob::Null,
+        },
+        read_only: None,
+    })
+}
+
+fn ping(xid: i32) -> Message {
+    Message::Client(ClientFrame::Ask {
+        xid,
+        ask: Ask::Ping,
+    })
 }
 
 #[test]

@@ -1,26 +1,27 @@
 //! Lines of messages and of endings, and back.
 use crate::samples::{FAULTS, LINES};
-use std::alloc::{AllocError, Global};
+use std::alloc::Global;
 use std::process::Abort;
 use std::test::Fail;
-use zk_asks::{Ask, ClientFrame};
-use zk_jute::{Chars, Reason, Text};
+use zk_jute::Reason;
 use zk_lines::{
     LineFault, LineReason, ending_laws, ending_line, line_laws, line_of, line_reason_name,
     put_line, read_line,
 };
-use zk_records::PathAsk;
-use zk_talk::{Ending, Fault, Message, Side};
+use zk_talk::{Ending, Fault, SayFault, Side};
 
-/// The message's line.
-fn shown(alloc: Global, message: Message) -> Result<Vec<u8>, AllocError> {
-    line_of(alloc, &message)
+/// The line of the message that the line is read as, behind what stands in `lines`.
+fn put_again(lines: &mut Vec<u8>, alloc: Global, line: &[u8]) -> Result<(), Fail> {
+    match read_line(alloc, line) {
+        Ok(message) => Ok(put_line(lines, &message)?),
+        Err(_) => Err("not read")?,
+    }
 }
 
-/// The line of the message that the line is read as.
+/// The same by `line_of`.
 fn again(alloc: Global, line: &[u8]) -> Result<Vec<u8>, Fail> {
     match read_line(alloc, line) {
-        Ok(message) => Ok(shown(alloc, message)?),
+        Ok(message) => Ok(line_of(alloc, &message)?),
         Err(_) => Err("not read")?,
     }
 }
@@ -33,95 +34,103 @@ fn back_and_forth(rt: &impl Abort, alloc: Global, line: &[u8]) -> Result<(), Fai
 
 #[test]
 fn lines(rt: HostRuntime) -> Result<(), Fail> {
-    for line in LINES {
-        back_and_forth(&rt, rt.alloc(), line)?;
+    for line in LINES.lines() {
+        back_and_forth(&rt, rt.alloc(), line.as_bytes())?;
     }
     Ok(())
-}
-
-/// Why the line is refused.
-fn fault_of(alloc: Global, line: &[u8]) -> Option<LineFault> {
-    read_line(alloc, line).err()
-}
-
-#[test]
-fn faults(rt: HostRuntime) -> Result<(), Fail> {
-    for (line, column, reason) in FAULTS {
-        let fault = LineFault { column, reason };
-        assert_eq!(rt; fault_of(rt.alloc(), line), Some(fault));
-    }
-    Ok(())
-}
-
-/// A sync of a path.
-fn sync(path: String) -> Message {
-    let path = Text::Full(Chars::new(path));
-    Message::Client(ClientFrame::Ask {
-        xid: 1,
-        ask: Ask::Sync(PathAsk { path }),
-    })
-}
-
-/// The message's line behind others.
-fn append(lines: &mut Vec<u8>, message: Message) -> Result<(), AllocError> {
-    put_line(lines, &message)
 }
 
 #[test]
 fn line_behind_another(rt: HostRuntime) -> Result<(), Fail> {
     let mut lines = Vec::from_slice(rt.alloc(), b"one\n")?;
-    append(&mut lines, sync(String::from_str(rt.alloc(), "/a")?))?;
+    put_again(&mut lines, rt.alloc(), b"C 1 sync path=\"/a\"")?;
     assert_eq!(rt; lines.as_slice(), b"one\nC 1 sync path=\"/a\"".as_slice());
     Ok(())
 }
 
+/// The column and the reason of what is wrong with the line.
+fn fault_of(alloc: Global, line: &[u8]) -> Option<(u32, LineReason)> {
+    match read_line(alloc, line) {
+        Ok(_) => None,
+        Err(fault) => Some((fault.column, fault.reason)),
+    }
+}
+
 #[test]
-fn every_byte_of_a_text(rt: HostRuntime) -> Result<(), Fail> {
-    for byte in 0..128u8 {
-        let mut path = String::new(rt.alloc());
-        path.push(char::from(byte))?;
-        let line = shown(rt.alloc(), sync(path))?;
-        let spelled = match byte {
-            b'"' => format!(in rt.alloc(); "\\22")?,
-            b'\\' => format!(in rt.alloc(); "\\5c")?,
-            32..=126 => format!(in rt.alloc(); "{}", char::from(byte))?,
-            _ => format!(in rt.alloc(); "\\{byte:02x}")?,
-        };
-        let wanted = format!(in rt.alloc(); "C 1 sync path=\"{spelled}\"")?;
-        assert_eq!(rt; line.as_slice(), wanted.as_bytes());
+fn faults(rt: HostRuntime) -> Result<(), Fail> {
+    for row in FAULTS.lines() {
+        let (column, rest) = row.split_once(' ').ok_or("no column")?;
+        let (name, line) = rest.split_once(' ').ok_or("no reason")?;
+        let (at, reason) = fault_of(rt.alloc(), line.as_bytes()).ok_or("read")?;
+        let told = format!(in rt.alloc(); "{at}")?;
+        assert_eq!(rt;
+            (told.as_str(), line_reason_name(&reason)),
+            (column, name),
+            "of {line}"
+        );
+    }
+    Ok(())
+}
+
+/// Lines of four megabytes: a path and data.
+#[test]
+fn long_lines(rt: HostRuntime) -> Result<(), Fail> {
+    let rows: [(&[u8], u8, &[u8]); 2] = [
+        (b"C 1 sync path=\"", b'a', b"\""),
+        (b"C 1 setData path=~ blob=#", b'7', b" version=0"),
+    ];
+    for (front, byte, back) in rows {
+        let mut line = Vec::from_slice(rt.alloc(), front)?;
+        line.resize(front.len() + 4_000_000, byte)?;
+        line.extend_from_slice(back)?;
         back_and_forth(&rt, rt.alloc(), line.as_slice())?;
     }
     Ok(())
 }
 
+/// Faults in words.
 #[test]
-fn lines_of_four_megabytes(rt: HostRuntime) -> Result<(), Fail> {
-    let mut text = Vec::from_slice(rt.alloc(), b"C 1 sync path=\"")?;
-    text.resize(4_000_000, b'a')?;
-    text.push(b'"')?;
-    back_and_forth(&rt, rt.alloc(), text.as_slice())?;
-    let mut blob = Vec::from_slice(rt.alloc(), b"C 1 setData path=~ blob=#")?;
-    blob.resize(4_000_025, b'7')?;
-    blob.extend_from_slice(b" version=0")?;
-    back_and_forth(&rt, rt.alloc(), blob.as_slice())
-}
-
-fn refused(place: u32, reason: Reason) -> Ending {
-    Ending::Refused(Fault {
-        side: Side::Server,
-        frame: 1,
-        offset: 61,
-        place,
-        reason,
-    })
-}
-
-#[test]
-fn endings(rt: HostRuntime) -> Result<(), Fail> {
-    let order = Reason::XidOrder {
+fn faults_in_words(rt: HostRuntime) -> Result<(), Fail> {
+    let fault = Fault {
+        side: Side::Client,
+        frame: 2,
+        offset: 87,
+        place: 0,
+        reason: Reason::QueueFull,
+    };
+    let told = format!(in rt.alloc(); "{fault}")?;
+    assert_eq!(rt;
+        told.as_str(),
+        "side=C frame=2 offset=87 place=0 reason=QueueFull"
+    );
+    let order = SayFault::XidOrder {
         expected: 1,
         got: -2,
     };
+    let told = format!(in rt.alloc(); "{order}")?;
+    assert_eq!(rt; told.as_str(), "XidOrder expected=1 got=-2");
+    let word = LineFault {
+        column: 28,
+        reason: LineReason::Word,
+    };
+    let told = format!(in rt.alloc(); "{word}")?;
+    assert_eq!(rt; told.as_str(), "column 28: Word");
+    Ok(())
+}
+
+/// Endings with the greatest numbers, and one with a number below 0.
+#[test]
+fn endings(rt: HostRuntime) -> Result<(), Fail> {
+    let order = Ending::Refused(Fault {
+        side: Side::Server,
+        frame: 1,
+        offset: 61,
+        place: 0,
+        reason: Reason::XidOrder {
+            expected: 1,
+            got: -2,
+        },
+    });
     let cut = Ending::Cut {
         side: Side::Client,
         frame: u64::MAX,
@@ -136,22 +145,19 @@ fn endings(rt: HostRuntime) -> Result<(), Fail> {
         ),
         (cut, ". cut side=C frame=18446744073709551615 got=3"),
         (
-            refused(12, Reason::EventErr),
-            ". refused side=S frame=1 offset=61 place=12 reason=EventErr",
-        ),
-        (
-            refused(0, order),
+            order,
             ". refused side=S frame=1 offset=61 place=0 reason=XidOrder expected=1 got=-2",
         ),
     ];
     for (ending, line) in rows {
-        assert_eq!(rt;
-            ending_line(rt.alloc(), &ending)?.as_slice(),
-            line.as_bytes()
-        );
+        let told = ending_line(rt.alloc(), &ending)?;
+        assert_eq!(rt; told.as_slice(), line.as_bytes());
     }
+    Ok(())
+}
+
+#[test]
+fn laws(_rt: HostRuntime) {
     line_laws();
     ending_laws();
-    assert_eq!(rt; line_reason_name(&LineReason::Ending), "Ending");
-    Ok(())
 }

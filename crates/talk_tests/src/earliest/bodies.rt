@@ -1,659 +1,303 @@
 //! Bodies of every layout: written by make_bodies.py.
-use super::{Rows, all_told};
-use std::test::Fail;
 use zk_answers::Layout;
 use zk_records::Op;
 
-const CONNECTIONS: [Rows; 4] = [
+/// Bodies of each layout: what is answered to one, and its bytes.
+pub(crate) const BODIES: &[(Layout, &str)] = &[
     (
         Layout::Connect,
-        &[
-            (
-                b"\0\0\0\x01\0\0\0\0\0\0\x01\0\0\0\0\0\0\0\x06\0\0\0\0",
-                None,
-            ),
-            (
-                b"\xff\xff\xff\xff\0\0\0\0\0\0\x03\x08\0\0\0\x01\0\0\0\0\0\0\0\x03\xff\xff\xff\xff",
-                Some(28),
-            ),
-            (
-                b"\0\0\0\0\0\0\0\0\0\0\0\x06\0\0\0\x01\0\0\0\0\x05\0\0\0\x03\xe2\x82\xac",
-                Some(24),
-            ),
-            (
-                b"\0\0\0\x1f\0\0\0\0\0\0\0\x01\0\0\0\x01\0\0\0\0\0\x03\0\0\0\x02/a",
-                Some(25),
-            ),
-            (
-                b"\0\0\0\0\0\0\0\0\0\0\x07\xff\xff\xff\xff\0\0\0\0\0\0\0\x03\0\0\0\x02/",
-                Some(26),
-            ),
-            (
-                b"\xff\xff\xff\xff\0\0\0\0\0\0\0\x07\0\0\0\0\0\x08\0\0\0\0\0\x08\0\0\0\x03\xe2\x82",
-                Some(27),
-            ),
-        ],
+        "None 0000000100000000000001000000000000000600000000
+Some(28) ffffffff0000000000000308000000010000000000000003ffffffff
+Some(24) 00000000000000000000000600000001000000000500000003e282ac
+Some(25) 0000001f000000000000000100000001000000000003000000022f61
+Some(26) 0000000000000000000007ffffffff0000000000000003000000022f
+Some(27) ffffffff000000000000000700000000000800000000000800000003e282",
     ),
     (
         Layout::ConnectRo,
-        &[
-            (
-                b"\0\0\0\x1f\0\0\0\0\0\0\0\x05\xff\0\0\0\0\x09\0\0\0\x02/a\0",
-                None,
-            ),
-            (
-                b"\xff\xff\xff\xff\0\0\0\0\0\0\0\x04\0\0\0\0\0\0\0\0\0\0\0\x06\xff\xff\xff\xff\0",
-                Some(29),
-            ),
-            (
-                b"\xff\xff\xff\xff\0\0\0\0\0\0\0\x07\xff\xff\xff\xff\0\0\0\0\0\0\0\0\x03/\xc3\xa9\0",
-                Some(24),
-            ),
-            (
-                b"\0\0\0\x1f\0\0\0\0\0\0\0\x09\xff\xff\x01\xff\0\0\0\0\0\0\0\x07\0\xff\0\0\x01",
-                Some(25),
-            ),
-            (
-                b"\0\0\0\x1f\0\0\0\0\0\0\0\x03\0\0\0\0\0\0\0\0\0\0\x09\0\0\0\x08/a\x01",
-                Some(26),
-            ),
-            (
-                b"\0\0\0\x01\0\0\0\0\0\0\0\x08\0\0\0\x1f\0\0\0\0\0\0\0\x05\0\0\0\x05/\xf0\x9d\x84\x9e",
-                Some(27),
-            ),
-        ],
+        "None 0000001f0000000000000005ff0000000009000000022f6100
+Some(29) ffffffff0000000000000004000000000000000000000006ffffffff00
+Some(24) ffffffff0000000000000007ffffffff0000000000000000032fc3a900
+Some(25) 0000001f0000000000000009ffff01ff000000000000000700ff000001
+Some(26) 0000001f00000000000000030000000000000000000009000000082f6101
+Some(27) 0000000100000000000000080000001f0000000000000005000000052ff09d849e",
     ),
     (
         Layout::Connected,
-        &[
-            (b"\xff\xff\xff\xff\0\0\0\x01\0\0\0\0\x04\0\0\0\0", None),
-            (
-                b"\0\0\0\x01\0\0\0\x1f\0\0\0\0\0\0\0\x09\xff\xff\xff\xff",
-                Some(20),
-            ),
-            (b"\0\0\0\0\x01\0\0\0\0\0\0\0\0\0\0\0\x03/\xc3\xa9", Some(16)),
-            (
-                b"\0\0\0\0\xff\xff\xff\xff\0\0\0\0\x07\0\0\0\0\x02/a",
-                Some(17),
-            ),
-            (
-                b"\xff\xff\xff\xff\xff\xff\xff\xff\0\0\0\0\0\0\0\0\0\0\x02/a",
-                Some(18),
-            ),
-            (
-                b"\xff\xff\xff\xff\xff\xff\xff\xff\x80\0\0\0\0\0\0\x04\0\0\0\0\0",
-                Some(19),
-            ),
-        ],
+        "None ffffffff00000001000000000400000000
+Some(20) 000000010000001f0000000000000009ffffffff
+Some(16) 00000000010000000000000000000000032fc3a9
+Some(17) 00000000ffffffff000000000700000000022f61
+Some(18) ffffffffffffffff00000000000000000000022f61
+Some(19) ffffffffffffffff80000000000000040000000000",
     ),
     (
         Layout::ConnectedRo,
-        &[
-            (b"\0\0\0\x1f\xff\0\0\0\0\0\0\0\x08\xff\xff\xff", None),
-            (
-                b"\0\0\0\0\0\0\0\x01\0\0\0\0\0\0\0\x01\xff\xff\xff\xff\x01",
-                Some(21),
-            ),
-            (
-                b"\xff\xff\xff\xff\xff\xff\xff\0\0\0\0\0\0\0\0\0\x03\xe2\x82\xac\0",
-                Some(16),
-            ),
-            (b"\0\0\0\x01\0\0\0\0\0\0\0\0\0\0\0\0\0\xff/a\0", Some(17)),
-            (
-                b"\xff\xff\xff\xff\0\0\0\0\0\0\0\0\0\0\0\x06\0\0\xe2\0\0\0",
-                Some(18),
-            ),
-            (
-                b"\0\0\0\x1f\xff\xff\xff\xff\0\0\0\0\0\0\0\x07\0\0\0\x03\0",
-                Some(19),
-            ),
-        ],
+        "None 0000001fff0000000000000008ffffff
+Some(21) 00000000000000010000000000000001ffffffff01
+Some(16) ffffffffffffff00000000000000000003e282ac00
+Some(17) 0000000100000000000000000000000000ff2f6100
+Some(18) ffffffff0000000000000000000000060000e2000000
+Some(19) 0000001fffffffff00000000000000070000000300",
     ),
-];
-
-#[test]
-fn connections(rt: HostRuntime) -> Result<(), Fail> {
-    all_told(&rt, &CONNECTIONS)
-}
-
-const EVENT_AND_AUTH: [Rows; 3] = [
     (
         Layout::Event,
-        &[
-            (b"\0\0\0\x1f\xff\0\0\0", None),
-            (b"\0\0\x80\x01\0\0\0\0\xff\xff\xff\xff", Some(12)),
-            (b"\0\0\0\xff\xff\0\0\0\x03\xe2\x82\xac", Some(8)),
-            (b"\0\0\0\x01\0\0\0\x01\xff\x01\xff\xff", Some(9)),
-            (b"\0\0\0\x1f\0\0\0\x01\0\0/a", Some(10)),
-            (b"\0\0\0\x1f\0\0\0\x01\xff\xff\xff\0", Some(11)),
-        ],
+        "None 0000001fff000000
+Some(12) 0000800100000000ffffffff
+Some(8) 000000ffff00000003e282ac
+Some(9) 0000000100000001ff01ffff
+Some(10) 0000001f0000000100002f61
+Some(11) 0000001f00000001ffffff00",
     ),
     (
         Layout::Asked(Op::Auth),
-        &[
-            (b"\0\0\0\0\0\0\0\0\0\0", None),
-            (b"\0\0\0\0\0\0\0\0\0\0\0\0", Some(12)),
-            (b"\xff\0\0\0\x03\xe2\x82\xac\xff\xff\xff\xff", Some(4)),
-            (b"\xff\xff\xff\xff\xff\xff\xff\x0d\0\0\0\x02/a", Some(7)),
-            (b"\0\0\0\x1f\0\0\0\x02/a\x02\0\0\x03\xe2\x82\x0d", Some(10)),
-            (
-                b"\xff\xff\xff\xff\0\0\0\x03/\xc3\xa9\0\0\x03/\xc3\xa9",
-                Some(13),
-            ),
-        ],
+        "None 00000000000000000000
+Some(12) 000000000000000000000000
+Some(4) ff00000003e282acffffffff
+Some(7) ffffffffffffff0d000000022f61
+Some(10) 0000001f000000022f6102000003e2820d
+Some(13) ffffffff000000032fc3a90000032fc3a9",
     ),
     (
         Layout::Asked(Op::SetWatches),
-        &[
-            (b"\0\0\0\0\0\0\0\0\0\0\0\0\0\0\0\0\0", None),
-            (
-                b"\0\x0d\0\0\0\0\0\0\xff\xff\xff\xff\xff\xff\xff\xff\xff\xff\xff\xff",
-                Some(20),
-            ),
-            (
-                b"\xe2\0\0\0\0\0\0\0\x07\xff\xff\xff\xff\0\0\0\0\0\0\0\x01\xff\xff\xff\xff",
-                Some(8),
-            ),
-            (
-                b"\0\0\0\0\0\0\0\x08\xff\xff\xff\xff\0\0\x01\0\xff\xff\xff\xff",
-                Some(14),
-            ),
-            (
-                b"\0\0\0\0\0\0\0\x09\0\0\0\0\0\0\0\x01\xff\xff\xff\xffa\0\0\0\x02\xff\xff\xff\xff\0\0\x03\x03\xe2\x82\xac",
-                Some(20),
-            ),
-            (
-                b"\0\0\0\0\0\0\0\x06\xff\xff\xff\xff\0\0\0\0\0\0\0\x01\0\0\0\x03\xe2\x82\x0d",
-                Some(26),
-            ),
-        ],
+        "None 0000000000000000000000000000000000
+Some(20) 000d000000000000ffffffffffffffffffffffff
+Some(8) e20000000000000007ffffffff0000000000000001ffffffff
+Some(14) 0000000000000008ffffffff00000100ffffffff
+Some(20) 00000000000000090000000000000001ffffffff6100000002ffffffff00000303e282ac
+Some(26) 0000000000000006ffffffff000000000000000100000003e2820d",
     ),
-];
-
-#[test]
-fn event_and_auth(rt: HostRuntime) -> Result<(), Fail> {
-    all_told(&rt, &EVENT_AND_AUTH)
-}
-
-const WRITES: [Rows; 5] = [
     (
         Layout::Asked(Op::Create),
-        &[
-            (b"\0\0\0\0\0\xff\xff\xff\xff\0\0\0\0\0\0", None),
-            (
-                b"\xff\xff\xff\xff\xff\xff\xff\xff\xff\xff\xff\xff\xff\xff\xff\xff",
-                Some(16),
-            ),
-            (
-                b"a\xff\xff\xff\xff\0\x01\0\0\x02/a\xff\xff\xff\xff\xff\xff\xff\xff",
-                Some(0),
-            ),
-            (b"\0\0\0\0\0\0\0\x03\xe2\0\0\0\xff\xff\x03\xff", Some(7)),
-            (
-                b"\0\0\0\x03\xe2\x82\xac\0\0\0\x03/\xc3\xa9\0\0\0\0\0\x1f\0\0\0\x03/\xc3\xa9\0\0\0\x03\xe2\x82\xac\0\0\0\0",
-                Some(17),
-            ),
-            (
-                b"\xff\xff\xff\xff\0\0\0\x03/\xc3\xa9\0\0\0\x01\xff\xff\xff\xff\xff\xff\xff\xff\0\0\0\x03/\xc3\xa9\0\0\0\x01\x01",
-                Some(26),
-            ),
-        ],
+        "None 0000000000ffffffff000000000000
+Some(16) ffffffffffffffffffffffffffffffff
+Some(0) 61ffffffff00010000022f61ffffffffffffffff
+Some(7) 0000000000000003e2000000ffff03ff
+Some(17) 00000003e282ac000000032fc3a900000000001f000000032fc3a900000003e282ac00000000
+Some(26) ffffffff000000032fc3a900000001ffffffffffffffff000000032fc3a90000000101",
     ),
     (
         Layout::Asked(Op::Create2),
-        &[
-            (b"\xff\0\0a\0\0\0\0\xff\xff\xff\xff", None),
-            (
-                b"\xff\xff\xff\xff\xff\xff\xff\xff\0\0\0\0\0\0\0\x1f",
-                Some(16),
-            ),
-            (
-                b"\xc3\0\0\0\0\0\0\x03\xe2\x82\xac\0\0\0\0\xff\xff\xff\xff",
-                Some(0),
-            ),
-            (
-                b"\0\0\0\x05\xf0\x9d\x84\x9e\xed\0\0\x02/a\0\0\0\0\0\0\0\x1f",
-                Some(8),
-            ),
-            (
-                b"\xff\xff\xff\xff\0\0\0\x02/a\0\0\0\x01\0\0\0\0\x05/\xf0\x9d\x84\x9e\0\0\0\0\xff\xff\xff\xff",
-                Some(18),
-            ),
-            (
-                b"\0\0\0\x02/a\0\0\0\x03\xe2\x82\xac\0\0\0\x01\0\0\0\x1f\xff\xff\xff\xff\0\0\0\x05/\xf0\x9d\x84\x9e\x01\0\0\0\x1f",
-                Some(28),
-            ),
-        ],
+        "None ff00006100000000ffffffff
+Some(16) ffffffffffffffff000000000000001f
+Some(0) c300000000000003e282ac00000000ffffffff
+Some(8) 00000005f09d849eed0000022f61000000000000001f
+Some(18) ffffffff000000022f610000000100000000052ff09d849e00000000ffffffff
+Some(28) 000000022f6100000003e282ac000000010000001fffffffff000000052ff09d849e010000001f",
     ),
     (
         Layout::Asked(Op::Delete),
-        &[
-            (b"\xff\0\0\0\x01", None),
-            (b"\0\0\0\0\0\x01\0\x01", Some(8)),
-            (b"\x03/\xc3\xa9\0\0\0\0", Some(0)),
-            (b"\0\x80\0a\xff\xff\xff\xff", Some(1)),
-            (b"\0\0\x01\0\xff\xff\xff\xff", Some(2)),
-            (b"\0\0\0\x01\0\0\0\0", Some(3)),
-        ],
+        "None ff00000001
+Some(8) 0000000000010001
+Some(0) 032fc3a900000000
+Some(1) 00800061ffffffff
+Some(2) 00000100ffffffff
+Some(3) 0000000100000000",
     ),
     (
         Layout::Asked(Op::SetData),
-        &[
-            (b"\0\xff\xff\xff\xff\xff\xff\xff\xff", None),
-            (b"\xff\xff\xff\xff\0\0\0\0\0\0\0\x01", Some(12)),
-            (b"a\0\0\0\0\xff\xff\xff\xff\0\0\0\0", Some(0)),
-            (
-                b"\xff\xff\xff\0\0\x80\x03\xe2\x82\xac\xff\xff\xff\xff",
-                Some(3),
-            ),
-            (b"\xff\xff\xff\xff\0\0a\0\x03\xe2\x82\xac\0\0\0\0", Some(6)),
-            (b"\0\0\0\x02/a\0\0\0a\0\0\0\x1f", Some(9)),
-        ],
+        "None 00ffffffffffffffff
+Some(12) ffffffff0000000000000001
+Some(0) 6100000000ffffffff00000000
+Some(3) ffffff00008003e282acffffffff
+Some(6) ffffffff0000610003e282ac00000000
+Some(9) 000000022f61000000610000001f",
     ),
     (
         Layout::Asked(Op::SetAcl),
-        &[
-            (b"\0\0\xff\xff\xff\xff\0\0\0\x01", None),
-            (b"\xff\xff\xff\xff\0\0\0\0\0\0\0\0", Some(12)),
-            (b"\x02\xff\xff\xff\0\0\0\0\0\0\0\x01", Some(0)),
-            (
-                b"\0\0\0\x03\xe2\x82\0\0\x01\0\0\0\x01\0/\xf0\x9d\x84\x9e\xff\xff\xff\xff\0\0\0\x1f",
-                Some(6),
-            ),
-            (
-                b"\0\0\0\x02/a\0\0\0\x01\x02\0\0\0\x01\0\0\0\x03\xe2\x82\xac\0\0\0\x03\xe2\x82\xac\0\0\0\x1f\0\0\0\x03\xe2\x82\xac\0\0\0\x03/\xc3\xa9\xff\xff\xff\xff",
-                Some(14),
-            ),
-            (
-                b"\xff\xff\xff\xff\0\0\0\x01\0\0\0\x01\0\0\0\x05/\xf0\x9d\x84\x05\xff\xff\xff\xff\xff\xff\xff\xff",
-                Some(20),
-            ),
-        ],
+        "None 0000ffffffff00000001
+Some(12) ffffffff0000000000000000
+Some(0) 02ffffff0000000000000001
+Some(6) 00000003e28200000100000001002ff09d849effffffff0000001f
+Some(14) 000000022f6100000001020000000100000003e282ac00000003e282ac0000001f00000003e282ac000000032fc3a9ffffffff
+Some(20) ffffffff0000000100000001000000052ff09d8405ffffffffffffffff",
     ),
-];
-
-#[test]
-fn writes(rt: HostRuntime) -> Result<(), Fail> {
-    all_told(&rt, &WRITES)
-}
-
-const PARTS: [Rows; 1] = [(
-    Layout::Asked(Op::Multi),
-    &[
-        (b"\xff\x01\xff\xff", None),
-        (b"\xff\xff\xff\xff\x01\xff\xff\xff\xff", Some(9)),
-        (b"\0\xff\xff\xff\x01\xff\xff\xff\xff", Some(0)),
-        (b"\xff\xff\x05\xff\x01\xff\xff\xff\xff", Some(2)),
-        (b"\xff\xff\xff\xff\x02\xff\xff\xff\xff", Some(4)),
-        (
-            b"\0\0\0\x05\0\xff\x01\xff\xff\xff\xff\xff\xff\0\0\0\x02/a\xff\xff\xff\xff\xff\xff\xff\xff\xc3\xff\xff\xff\xff",
-            Some(6),
-        ),
-        (b"\xff\xff\xff\xff\x01\xff\xff\xff\x80", Some(8)),
-        (
-            b"\0\0\0\x05\0\xff\xff\xff\xff\xff\0\xff\xff\xff\0\0\0\x02/a\0\0\0\0\xff\xff\xff\xff\x01\xff\xff\xff\xff",
-            Some(10),
-        ),
-        (
-            b"\0\0\0\x02\0\xff\xff\xff\xff\0\0\0\x02/a\0\0\x01\xff\xff\xff\xff\x01\xff\xff\xff\xff",
-            Some(12),
-        ),
-        (
-            b"\0\0\0\x0d\0\xff\xff\xff\xff\0\0\0\x03/\xff\xa9\0\0\0\0\xff\xff\xff\xff\x01\xff\xff\xff\xff",
-            Some(14),
-        ),
-        (
-            b"\0\0\0\x02\0\xff\xff\xff\xff\xff\xff\xff\xff\0\0\0\x01\xc3\xff\xff\xff\x01\xff\xff\xff\xff",
-            Some(17),
-        ),
-        (
-            b"\0\0\0\x01\0\xff\xff\xff\xff\0\0\0\x03\xe2\x82\xac\0\0\0\0\xff\xff\xff\xff\0\0\0\x01\xff\xff\xff\xff\xe2\x01\xff\xff\x05\xff",
-            Some(19),
-        ),
-        (
-            b"\0\0\0\x05\0\xff\xff\xff\xff\0\0\0\x05/\xf0\x9d\x84\x9e\0\0\0\x02/\0\0\x1f\xff\xff\xff\x0d\x01\xff\xff\xff\xff",
-            Some(21),
-        ),
-        (
-            b"\0\0\0\x02\0\xff\xff\xff\xff\xff\xff\xff\xff\0\0\0\x01\0\0\0\x0d\0\xff\x02\xff\xff\0\0\0\x03/\xc3\xa9\0\0\0\x1f\xff\xff\xff\xff\x01\xff\xff\xff\xff",
-            Some(23),
-        ),
-        (
-            b"\0\0\0\x02\0\xff\xff\xff\xff\xff\xff\xff\xff\0\0\0\0\0\0\0\x05\0\xff\xff\xff\0\0\0\x03\xe2\x82\xac\0\0\0\x03\xe2\x82\xac\xff\xff\xff\xff\xff\x01\xff\xff\xff\xff",
-            Some(25),
-        ),
-        (
-            b"\0\0\0\x0d\0\xff\xff\xff\xff\0\0\0\x05/\xf0\x9d\x84\x9e\0\0\0\0\0\0\0\x05\0\xff\x01\xff\xff\xff\0\0\0\0\0\0\0\x05/\xf0\x9d\x84\x9e\0\0\0\x1f\xff\xff\xff\xff\x01\xff\xff\xff\xff",
-            Some(28),
-        ),
-        (
-            b"\0\0\0\x02\0\xff\xff\xff\xff\0\0\0\x03/\xc3\xa9\0\0\0\x01\0\0\0\x05\0\xff\xff\xff\xff\0\x7f\0\x03/\xc3\xa9\0\0\0\x05/\xf0\x9d\x84\x9e\0\0\0\0\xff\xff\xff\xff\x01\xff\xff",
-            Some(30),
-        ),
-        (
-            b"\0\0\0\x01\0\xff\xff\xff\xff\xff\xff\xff\xff\0\0\0\x03\xe2\x82\xac\0\0\0\0\0\0\0\x1f\0\0\0\x0d\0\xff\xff\x03\xff\0\0\0\x02/a\0\0\0\x01\xff\xff\xff\xff\x08\xff\xff\xff\xff",
-            Some(35),
-        ),
-        (
-            b"\0\0\0\x01\0\xff\xff\xff\xff\0\0\0\x02/a\0\0\0\x02/a\0\0\0\x01\0\0\0\x1f\0\0\0\x03\xe2\x82\xac\0a\0\0\x02/a\0\0\0\x01\xff\xff\xff\xff\x01\xff\xff\xff\xff",
-            Some(37),
-        ),
-        (
-            b"\0\0\0\x02\0\xff\xff\xff\xff\0\0\0\x03\xe2\x82\xac\xff\xff\xff\xff\0\0\0\x02\0\xff\xff\xff\xff\0\0\0\x02/a\0\0\0\x1f\xff\xff\xff\xff\x08\xff\xff\xff\xff",
-            Some(43),
-        ),
-    ],
-)];
-
-#[test]
-fn parts(rt: HostRuntime) -> Result<(), Fail> {
-    all_told(&rt, &PARTS)
-}
-
-const READS: [Rows; 6] = [
+    (
+        Layout::Asked(Op::Multi),
+        "None ff01ffff
+Some(9) ffffffff01ffffffff
+Some(0) 00ffffff01ffffffff
+Some(2) ffff05ff01ffffffff
+Some(4) ffffffff02ffffffff
+Some(6) 0000000500ff01ffffffffffff000000022f61ffffffffffffffffc3ffffffff
+Some(8) ffffffff01ffffff80
+Some(10) 0000000500ffffffffff00ffffff000000022f6100000000ffffffff01ffffffff
+Some(12) 0000000200ffffffff000000022f61000001ffffffff01ffffffff
+Some(14) 0000000d00ffffffff000000032fffa900000000ffffffff01ffffffff
+Some(17) 0000000200ffffffffffffffff00000001c3ffffff01ffffffff
+Some(19) 0000000100ffffffff00000003e282ac00000000ffffffff00000001ffffffffe201ffff05ff
+Some(21) 0000000500ffffffff000000052ff09d849e000000022f00001fffffff0d01ffffffff
+Some(23) 0000000200ffffffffffffffff000000010000000d00ff02ffff000000032fc3a90000001fffffffff01ffffffff
+Some(25) 0000000200ffffffffffffffff000000000000000500ffffff00000003e282ac00000003e282acffffffffff01ffffffff
+Some(28) 0000000d00ffffffff000000052ff09d849e000000000000000500ff01ffffff00000000000000052ff09d849e0000001fffffffff01ffffffff
+Some(30) 0000000200ffffffff000000032fc3a9000000010000000500ffffffff007f00032fc3a9000000052ff09d849e00000000ffffffff01ffff
+Some(35) 0000000100ffffffffffffffff00000003e282ac000000000000001f0000000d00ffff03ff000000022f6100000001ffffffff08ffffffff
+Some(37) 0000000100ffffffff000000022f61000000022f61000000010000001f00000003e282ac00610000022f6100000001ffffffff01ffffffff
+Some(43) 0000000200ffffffff00000003e282acffffffff0000000200ffffffff000000022f610000001fffffffff08ffffffff",
+    ),
     (
         Layout::Asked(Op::Exists),
-        &[
-            (b"\xff\x05", None),
-            (b"\xff\xff\xff\xff\0", Some(5)),
-            (b"\x0d\0\0\0\0", Some(0)),
-            (b"\0/\0a\x01", Some(1)),
-            (b"\0\0\x01\0\0", Some(2)),
-            (b"\0\0\0a\x01", Some(3)),
-        ],
+        "None ff05
+Some(5) ffffffff00
+Some(0) 0d00000000
+Some(1) 002f006101
+Some(2) 0000010000
+Some(3) 0000006101",
     ),
     (
         Layout::Asked(Op::GetData),
-        &[
-            (b"\xff\xff", None),
-            (b"\xff\xff\xff\xff\x01", Some(5)),
-            (b"\xff\xe2\xff\xff\xff\0", Some(0)),
-            (b"\0\x01\0\0\x01", Some(1)),
-            (b"\0\0\xc3\xa9\0", Some(2)),
-            (b"\0\0\0\x03\x01", Some(3)),
-        ],
+        "None ffff
+Some(5) ffffffff01
+Some(0) ffe2ffffff00
+Some(1) 0001000001
+Some(2) 0000c3a900
+Some(3) 0000000301",
     ),
     (
         Layout::Asked(Op::GetChildren),
-        &[
-            (b"\0\0", None),
-            (b"\xff\xff\xff\xff\0", Some(5)),
-            (b"\x7f\xff\xff\xff\0", Some(0)),
-            (b"\xff\xff\x7f\xff\0", Some(2)),
-            (b"\0\0\0\0\x80", Some(4)),
-            (b"\0\0\0\x03/\xc3\xa9\x02", Some(7)),
-        ],
+        "None 0000
+Some(5) ffffffff00
+Some(0) 7fffffff00
+Some(2) ffff7fff00
+Some(4) 0000000080
+Some(7) 000000032fc3a902",
     ),
     (
         Layout::Asked(Op::GetChildren2),
-        &[
-            (b"\0\x01", None),
-            (b"\xff\xff\xff\xff\0", Some(5)),
-            (b"\x7f\xff\xff\xff\x01", Some(0)),
-            (b"\0\0\x0d\0\x01", Some(2)),
-            (b"\xff\xff\xff\xff\xe2", Some(4)),
-            (b"\0\0\0\x02/a\xff", Some(6)),
-        ],
+        "None 0001
+Some(5) ffffffff00
+Some(0) 7fffffff01
+Some(2) 00000d0001
+Some(4) ffffffffe2
+Some(6) 000000022f61ff",
     ),
     (
         Layout::Asked(Op::GetAcl),
-        &[
-            (b"", None),
-            (b"\xff\xff\xff\xff", Some(4)),
-            (b"\x03\0\0\0", Some(0)),
-            (b"\0/\xc3\xa9", Some(1)),
-            (b"\0\0\xed\0", Some(2)),
-            (b"\0\0\0\x03", Some(3)),
-        ],
+        "None 
+Some(4) ffffffff
+Some(0) 03000000
+Some(1) 002fc3a9
+Some(2) 0000ed00
+Some(3) 00000003",
     ),
     (
         Layout::Asked(Op::Sync),
-        &[
-            (b"\xff", None),
-            (b"\xff\xff\xff\xff", Some(4)),
-            (b"\x0d\0\0\0", Some(0)),
-            (b"\xff\0\xff\xff", Some(1)),
-            (b"\0\0\xc3\xa9", Some(2)),
-            (b"\0\0\0\xa9", Some(3)),
-        ],
+        "None ff
+Some(4) ffffffff
+Some(0) 0d000000
+Some(1) ff00ffff
+Some(2) 0000c3a9
+Some(3) 000000a9",
     ),
-];
-
-#[test]
-fn reads(rt: HostRuntime) -> Result<(), Fail> {
-    all_told(&rt, &READS)
-}
-
-const NOTHING: [Rows; 7] = [
-    (Layout::Asked(Op::Ping), &[(b"\x01", None), (b"", Some(0))]),
+    (
+        Layout::Asked(Op::Ping),
+        "None 01
+Some(0) ",
+    ),
     (
         Layout::Asked(Op::CloseSession),
-        &[(b"\x7f", None), (b"", Some(0))],
+        "None 7f
+Some(0) ",
     ),
     (
         Layout::Answered(Op::Delete),
-        &[(b"\xe2", None), (b"", Some(0))],
+        "None e2
+Some(0) ",
     ),
-    (Layout::Answered(Op::Ping), &[(b"a", None), (b"", Some(0))]),
+    (
+        Layout::Answered(Op::Ping),
+        "None 61
+Some(0) ",
+    ),
     (
         Layout::Answered(Op::Auth),
-        &[(b"\x05", None), (b"", Some(0))],
+        "None 05
+Some(0) ",
     ),
     (
         Layout::Answered(Op::SetWatches),
-        &[(b"\x80", None), (b"", Some(0))],
+        "None 80
+Some(0) ",
     ),
     (
         Layout::Answered(Op::CloseSession),
-        &[(b"\x05", None), (b"", Some(0))],
+        "None 05
+Some(0) ",
     ),
-];
-
-#[test]
-fn nothing(rt: HostRuntime) -> Result<(), Fail> {
-    all_told(&rt, &NOTHING)
-}
-
-const PATHS_AND_NAMES: [Rows; 3] = [
     (
         Layout::Answered(Op::Create),
-        &[
-            (b"", None),
-            (b"\xff\xff\xff\xff", Some(4)),
-            (b"\x03/\xc3\xa9", Some(0)),
-            (b"\xff\xed\xff\xff", Some(1)),
-            (b"\0\0\x01\xa9", Some(2)),
-            (b"\xff\xff\xff\xed", Some(3)),
-        ],
+        "None 
+Some(4) ffffffff
+Some(0) 032fc3a9
+Some(1) ffedffff
+Some(2) 000001a9
+Some(3) ffffffed",
     ),
     (
         Layout::Answered(Op::Sync),
-        &[
-            (b"\0", None),
-            (b"\xff\xff\xff\xff", Some(4)),
-            (b"\x80\0\0\0", Some(0)),
-            (b"\0\xe2\0a", Some(1)),
-            (b"\xff\xff\x7f\xff", Some(2)),
-            (b"\0\0\0\xe2", Some(3)),
-        ],
+        "None 00
+Some(4) ffffffff
+Some(0) 80000000
+Some(1) 00e20061
+Some(2) ffff7fff
+Some(3) 000000e2",
     ),
     (
         Layout::Answered(Op::GetChildren),
-        &[
-            (b"\0", None),
-            (b"\xff\xff\xff\xff", Some(4)),
-            (b"\x80\xff\x7f\xff", Some(0)),
-            (b"\0\0\x80\0", Some(2)),
-            (b"\0\0\0\x01\x05\x03\xe2\x82\xac", Some(4)),
-            (b"\0\0\0\x01\0\0\0\x02a/a", Some(7)),
-        ],
+        "None 00
+Some(4) ffffffff
+Some(0) 80ff7fff
+Some(2) 00008000
+Some(4) 000000010503e282ac
+Some(7) 0000000100000002612f61",
     ),
-];
-
-#[test]
-fn paths_and_names(rt: HostRuntime) -> Result<(), Fail> {
-    all_told(&rt, &PATHS_AND_NAMES)
-}
-
-const STATS: [Rows; 3] = [
     (
         Layout::Answered(Op::Exists),
-        &[
-            (
-                b"\0\0\0\0\0\0\0\x07\0\0\0\0\0\0\0\x02\0\0\0\0\0\0\0\x01\0\0\0\0\0\0\0\x02\0\0\0\x01\xff\xff\xff\xff\0\0\0\x01\0\0\0\0\0\0\0\x01\0\0\0\0\0\0\0\x1f\0\0\0\0\x02",
-                None,
-            ),
-            (
-                b"\0\0\0\0\0\0\0\x01\0\0\0\0\0\0\0\x05\0\0\0\0\0\0\0\x01\0\0\0\0\0\0\0\x04\0\0\0\x01\xff\xff\xff\xff\x02\xff\xff\xff\0\0\0\0\0\0\0\0\xff\xff\xff\xff\0\0\0\0\0\0\0\0\0\0\0\x01",
-                Some(68),
-            ),
-        ],
+        "None 000000000000000700000000000000020000000000000001000000000000000200000001ffffffff000000010000000000000001000000000000001f0000000002
+Some(68) 000000000000000100000000000000050000000000000001000000000000000400000001ffffffff02ffffff0000000000000000ffffffff000000000000000000000001",
     ),
     (
         Layout::Answered(Op::SetData),
-        &[
-            (
-                b"\0\0\0\0\0\0\0\0\0\0\0\0\x03\0\0\0\0\0\x06\0\0\0\0\0\0\0\x03\xff\xff\xff\xff\0\0\0\0\xff\xff\xff\xff\0\0\0\0\0\0\0\x03\0\0\0\x1f\0\0\0\x1f\0\0\0\0\0\0\0\x07",
-                None,
-            ),
-            (
-                b"\0\0\0\0\0\0\0\x03\0\0\0\0\0\0\0\x01\0\0\0\0\0\0\0\x08\0\0\0\0\0\0\0\x03\xff\xff\xff\xff\xff\0\0\x01\0\0\0\0\0\0\0\0\0\0\0\x03\0\0\0\x1f\0\0\0\x1f\0\0\0\0\0\0\0\x07",
-                Some(68),
-            ),
-        ],
+        "None 000000000000000000000000030000000000060000000000000003ffffffff00000000ffffffff00000000000000030000001f0000001f0000000000000007
+Some(68) 0000000000000003000000000000000100000000000000080000000000000003ffffffffff0000010000000000000000000000030000001f0000001f0000000000000007",
     ),
     (
         Layout::Answered(Op::SetAcl),
-        &[
-            (
-                b"\0\0\0\0\0\0\0\x09\0\0\0\0\0\0\0\0\0\0\0\0\x08\0\0\0\0\0\0\0\x02\0\0\0\0\xff\xff\xff\xff\0\0\0\x01\0\0\0\0\0\0\0\0\x01\xff\xff\xff\xff\0\0\0\0\0\0\0\x02",
-                None,
-            ),
-            (
-                b"\0\0\0\0\0\0\0\x03\0\0\0\0\0\0\0\x03\0\0\0\0\0\0\0\x08\0\0\0\0\0\0\0\x03\xff\xff\xff\xff\xff\xff\xff\xff\0\0\0\x01\0\0\0\0\0\0\0\x09\0\0\0\x1f\xff\xff\xff\xff\0\0\0\0\0\0\0\x03",
-                Some(68),
-            ),
-        ],
+        "None 000000000000000900000000000000000000000008000000000000000200000000ffffffff00000001000000000000000001ffffffff0000000000000002
+Some(68) 0000000000000003000000000000000300000000000000080000000000000003ffffffffffffffff0000000100000000000000090000001fffffffff0000000000000003",
     ),
-];
-
-#[test]
-fn stats(rt: HostRuntime) -> Result<(), Fail> {
-    all_told(&rt, &STATS)
-}
-
-const WITH_STATS: [Rows; 4] = [
     (
         Layout::Answered(Op::Create2),
-        &[
-            (
-                b"\0\0\0\0\0\0\0\0\0\0\0\x04\0\0\0\0\0\0\0\x07\0\0\0\0\0\0\0\0\0\0\0\0\x07\0\0\0\0\0\0\x1f\0\0\0\0\0\0\0\0\0\0\0\x08\0\0\0\x01\0\0\0\x1f\0\0\0\0\0\0\0\x09",
-                None,
-            ),
-            (
-                b"\xff\xff\xff\xff\0\0\0\0\0\0\0\x01\0\0\0\0\0\0\0\x09\0\0\0\0\0\0\0\x08\0\0\0\0\0\0\0\0\xff\xff\xff\xff\0\0\0\x01\xff\xff\xff\xff\0\0\0\0\0\0\0\0\0\0\0\x01\0\0\0\0\0\0\0\0\0\0\0\x04",
-                Some(72),
-            ),
-            (
-                b"\xff\xff\xff\xff\0\0\0\0\0\0\0\0\0\0\0\0\0\0\0\x03\0\0\0\0\0\0\0\x07\0\0\0\0\0\0\0\x05\xff\xff\xff\xff\0\0\0\0\0\0\0\x1f\0\0\0\0\0\0\0\0\x09\0\0\0\0\0\0\0\x01\0\0\0\0\0\0\0\x01",
-                Some(0),
-            ),
-            (
-                b"\0\0\0\x02/a\0\0\0\0\0\0\0\x03\0\0\0\0\0\0\0\0\0\0\0\0\0\0\0\x05\0\0\0\0\0\0\0\x03\0\0\0\x1f\0\0\0\0\xff\x03\xff\xff\0\0\0\0\0\0\0\x09\0\0\0\xff\xff\xff\0\0\0\0\0\0\0\x03",
-                Some(3),
-            ),
-        ],
+        "None 0000000000000000000000040000000000000007000000000000000000000000070000000000001f000000000000000000000008000000010000001f0000000000000009
+Some(72) ffffffff0000000000000001000000000000000900000000000000080000000000000000ffffffff00000001ffffffff000000000000000000000001000000000000000000000004
+Some(0) ffffffff0000000000000000000000000000000300000000000000070000000000000005ffffffff000000000000001f00000000000000000900000000000000010000000000000001
+Some(3) 000000022f6100000000000000030000000000000000000000000000000500000000000000030000001f00000000ff03ffff0000000000000009000000ffffff0000000000000003",
     ),
     (
         Layout::Answered(Op::GetData),
-        &[
-            (
-                b"\0\0\0\0\0\0\0\0\0\0\0\x03\0\0\0\0\0\0\0\x01\0\0\0\0\0\0\0\x05\0\0\0\0\0\0\0\x09\x1f\0\0\0\x1f\0\0\0\x01\0\0\0\0\0\0\0\x04\0\0\0\x01\0\0\0\x1f\0\0\0\0\0\0\0\x08",
-                None,
-            ),
-            (
-                b"\0\0\0\0\0\0\0\0\0\0\0\x01\0\0\0\0\0\0\0\x06\0\0\0\0\0\0\0\x09\0\0\0\0\0\0\0\x09\0\0\0\x01\xff\xff\xff\xff\0\0\0\0\0\0\0\0\0\0\0\x08\0\0\0\x1f\xff\xff\xff\xff\0\0\0\0\x08\0\0\x07",
-                Some(72),
-            ),
-            (
-                b"\xff\xff\xff\xff\0\0\0\0\0\0\0\x02\0\0\0\0\0\0\0\x06\0\0\0\0\0\0\0\x05\0\0\0\0\0\0\0\x04\0\x01\0\0\x01\0\0\0\x1f\0\0\0\0\0\0\0\0\0\0\0\x06\xff\xff\xff\xff\0\0\0\x1f\0\0\0\0\0\0\0\x03",
-                Some(0),
-            ),
-            (
-                b"\0\x03/\xa9\0\0\0\0\0\0\0\x05\0\0\0\0\0\0\0\x01\0\0\0\0\0\0\0\x01\0\0\0\0\0\0\0\x09\0\0\0\0\0\0\0\x1f\0\0\0\x1f\0\0\0\0\0\0\0\x05\xff\xff\xff\xff\xff\xff\xff\xff\0\0\0\0\0\0\0\x04",
-                Some(1),
-            ),
-            (
-                b"\0\0\x02/a\0\0\0\0\0\0\0\x06\0\0\0\0\0\0\0\0\0\0\0\0\0\0\0\x04\0\0\0\0\0\0\0\x03\0\0\0\x1f\0\0\0\x1f\xff\xff\xff\xff\0\0\0\0\0\0\0\x07\0\0\0\x01\0\0\0\x01\0\0\0\0\0\0\0",
-                Some(2),
-            ),
-            (
-                b"\0\0\0\x02/a\0\0\0\0\0\0\0\x05\0\0\0\0\0\0\0\x09\0\0\0\0\0\0\0\x05\0\0\0\0\0\0\0\x06\0\x1f\xff\xff\xff\xff\0\0\0\x1f\0\0\0\0\0\0\0\0\0\0\0\x01\xff\xff\xff\xff\0\0\0\0\0\0\0\0",
-                Some(3),
-            ),
-        ],
+        "None 0000000000000000000000030000000000000001000000000000000500000000000000091f0000001f000000010000000000000004000000010000001f0000000000000008
+Some(72) 00000000000000000000000100000000000000060000000000000009000000000000000900000001ffffffff0000000000000000000000080000001fffffffff0000000008000007
+Some(0) ffffffff000000000000000200000000000000060000000000000005000000000000000400010000010000001f000000000000000000000006ffffffff0000001f0000000000000003
+Some(1) 00032fa90000000000000005000000000000000100000000000000010000000000000009000000000000001f0000001f0000000000000005ffffffffffffffff0000000000000004
+Some(2) 0000022f6100000000000000060000000000000000000000000000000400000000000000030000001f0000001fffffffff0000000000000007000000010000000100000000000000
+Some(3) 000000022f610000000000000005000000000000000900000000000000050000000000000006001fffffffff0000001f000000000000000000000001ffffffff0000000000000000",
     ),
     (
         Layout::Answered(Op::GetAcl),
-        &[
-            (
-                b"\0\0\0\0\0\0\0\0\0\x09\0\0\0\0\0\0\0\x04\0\0\0\0\0\0\0\x09\0\0\0\0\0\0\0\x07\0\0\0\x1f\0\0\0\x01\xff\xff\xff\xff\0\0\0\0\0\0\0\x02\0\0\0\x1f\0\0\0\0\0\0\0\0\0\x04",
-                None,
-            ),
-            (
-                b"\0\0\0\0\0\0\0\0\0\0\0\x04\0\0\0\0\0\0\0\x05\0\0\0\0\0\0\0\x02\0\0\0\0\0\0\0\x03\0\0\x02\x1f\0\0\0\x01\0\0\0\x1f\0\0\0\x80\0\0\0\x01\0\0\0\0\0\0\0\x1f\0\0\0\0\0\0\0\x02",
-                Some(72),
-            ),
-            (
-                b"\xc3\xff\xff\xff\0\0\0\0\0\0\0\x05\0\0\0\0\0\0\0\x03\0\0\0\0\0\0\0\x06\0\0\0\0\0\0\0\x06\0\0\0\x1f\0\0\0\x1f\xff\xff\xff\xff\0\0\0\0\0\0\0\x09\0\0\0\x1f\xff\xff\xff\xff\0\0\0\0\0\0\0\x06",
-                Some(0),
-            ),
-            (
-                b"\0\0\0\x02\0\0\0\x01\0\0\0\x03\xe2\x82\xac\0\0\0\x03\xe2\x82\xac\0\0\0\0\xff\xff\xff\xff\xff\xff\xff\xff\0\0\0\0\0\0\0\x06\0\0\0\0\0\0\0\x06\0\0\0\0\0\0\0\x07\0\0\0\0\0\0\0\x06\xff\xff\xff\xff\0\0\0\0\xff\xff\xff\xff\0\0\0\0\0\0\0\0\0\0\0\x1f\0\0\0\x01\0\0\0\0",
-                Some(11),
-            ),
-            (
-                b"\0\0\0\x02\xff\xff\xff\xff\xff\xff\xff\xff\0\0\0\x03\xac\0\0\0\x1f\0\0\0\0\0\0\0\x05/\xf0\x9d\x84\x9e\0\0\0\0\0\0\0\x02\0\0\0\0\0\0\0\x03\0\0\0\0\0\0\0\x02\0\0\0\0\0\0\0\0\0\0\0\0\0\0\0\x1f\0\0\0\0\0\0\0\0\0\0\0\x01\0\0\0\x1f\0\0\0\x01\0\0\0\0\0\0\0\x08",
-                Some(16),
-            ),
-            (
-                b"\0\0\0\x02\0\0\0\0\xff\xff\xff\xff\0\0\0\x02/a\xff\xff\xff\xff\xffa\xff\xff\xff\0\0\0\x02/a\0\0\0\0\0\0\0\x05\0\0\0\0\0\0\0\x01\0\0\0\0\0\0\0\x09\0\0\0\0\0\0\0\x08\0\0\0\0\0\0\0\x1f\xff\xff\xff\xff\0\0\0\0\x03\0\0\x08\0\0\0\x1f\0\0\0\0\0\0\0\0\0\0\0\x09",
-                Some(23),
-            ),
-        ],
+        "None 000000000000000000090000000000000004000000000000000900000000000000070000001f00000001ffffffff00000000000000020000001f00000000000000000004
+Some(72) 0000000000000000000000040000000000000005000000000000000200000000000000030000021f000000010000001f0000008000000001000000000000001f0000000000000002
+Some(0) c3ffffff00000000000000050000000000000003000000000000000600000000000000060000001f0000001fffffffff00000000000000090000001fffffffff0000000000000006
+Some(11) 000000020000000100000003e282ac00000003e282ac00000000ffffffffffffffff0000000000000006000000000000000600000000000000070000000000000006ffffffff00000000ffffffff00000000000000000000001f0000000100000000
+Some(16) 00000002ffffffffffffffff00000003ac0000001f00000000000000052ff09d849e0000000000000002000000000000000300000000000000020000000000000000000000000000001f0000000000000000000000010000001f000000010000000000000008
+Some(23) 0000000200000000ffffffff000000022f61ffffffffff61ffffff000000022f610000000000000005000000000000000100000000000000090000000000000008000000000000001fffffffff00000000030000080000001f000000000000000000000009",
     ),
     (
         Layout::Answered(Op::GetChildren2),
-        &[
-            (
-                b"\xff\xff\xff\xff\0\0\0\0\0\0\0\x03\0\0\0\0\0\0\0\x03\0\0\0\0\x03\0\0\0\0\0\0\0\0\0\0\0\0\x01\0\0\0\x01\0\0\0\0\0\0\0\x03\0\0\0\0\0\0\0\x1f\0\0\0\0\0\0\0\0",
-                None,
-            ),
-            (
-                b"\xff\xff\xff\xff\0\0\0\0\0\0\0\x09\0\0\0\0\0\0\0\x02\0\0\0\0\0\0\0\x06\0\0\0\0\0\0\0\x08\0\0\0\x01\xff\xff\xff\xff\xff\xff\xff\xff\0\0\0\0\0\0\0\x06\xff\xff\xff\xff\xff\xff\xff\xff\0\0\0\0\0\0\0\x02",
-                Some(72),
-            ),
-            (
-                b"\0\xff\xff\xff\xff\0\0\0\x03\xe2\x82\xac\0\0\0\0\0\0\0\x06\0\0\0\0\0\0\0\x02\0\0\0\0\0\0\0\x09\0\0\0\0\0\0\0\0\0\0\0\0\0\0\x01\0\0\0\0\0\0\0\0\0\0\0\x04\0\0\0\x01\0\0\0\x1f\0\0\0\0\0\0\0\x07",
-                Some(1),
-            ),
-            (
-                b"\0\0\0\x01\xff\xff\xff\xff\0\0\0\0\0\0\0\x05\0\0\0\0\0\0\0\x06\0\0\0\0\0\0\0\x07\0\0\0\0\0\0\0\x02\0\0\0\0\0\0\0\x1f\0\0\0\x1f\0\0\0\0\0\0\0\x01\0\0\0\x01\0\0\0\x1f\0\0\0\0\0\0\x01\0\x09",
-                Some(4),
-            ),
-            (
-                b"\0\0\0\x02\xff\xff\xff\xff\x05\0\0\x05/\xf0\x9d\x84\x9e\0\0\0\0\0\0\0\x06\0\0\0\0\0\0\0\0\0\0\0\0\0\0\x04\0\0\0\0\0\0\0\x04\0\0\0\x1f\0\0\0\x01\xff\xff\xff\xff\0\0\0\0\0\0\0\x07\0\0\0\0\0\0\0\x1f\0\0\0\0\0\0\0\x07",
-                Some(8),
-            ),
-            (
-                b"\0\0\0\x02\0\0\0\x03\xe2\x82\xac\0\0\0\x05/\xf0\x9d\x84\x9e\0\0\0\0\0\0\0\x01\0\0\0\0\0\0\0\x01\0\0\0\0\0\0\0\x08\0\0\0\0\0\0\0\0\0\0\xff\xff\xff\xff\0\0\0\x1f\0\0\0\0\0\0\0\x09\0\0\0\0\0\0\0\x1f\0\0\0\0\0\0\0\x07",
-                Some(14),
-            ),
-        ],
+        "None ffffffff00000000000000030000000000000003000000000300000000000000000000000001000000010000000000000003000000000000001f0000000000000000
+Some(72) ffffffff000000000000000900000000000000020000000000000006000000000000000800000001ffffffffffffffff0000000000000006ffffffffffffffff0000000000000002
+Some(1) 00ffffffff00000003e282ac000000000000000600000000000000020000000000000009000000000000000000000000000001000000000000000000000004000000010000001f0000000000000007
+Some(4) 00000001ffffffff0000000000000005000000000000000600000000000000070000000000000002000000000000001f0000001f0000000000000001000000010000001f000000000000010009
+Some(8) 00000002ffffffff050000052ff09d849e000000000000000600000000000000000000000000000400000000000000040000001f00000001ffffffff0000000000000007000000000000001f0000000000000007
+Some(14) 0000000200000003e282ac000000052ff09d849e00000000000000010000000000000001000000000000000800000000000000000000ffffffff0000001f0000000000000009000000000000001f0000000000000007",
     ),
 ];
-
-#[test]
-fn with_stats(rt: HostRuntime) -> Result<(), Fail> {
-    all_told(&rt, &WITH_STATS)
-}

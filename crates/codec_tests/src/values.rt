@@ -1,0 +1,151 @@
+//! Values of jute and records: each is read, told, and written again.
+use crate::digits::hex;
+use crate::samples::{FLAGGED, VALUES, VECTORS};
+use std::alloc::{AllocError, Global};
+use std::fmt::Debug;
+use std::process::Abort;
+use std::test::Fail;
+use zk_jute::{
+    Blob, ItemFault, Kept, List, Spell, Stands, Text, Wire, laws, read_flagged, reason_name,
+};
+use zk_records::{
+    Acl, AclBody, AuthAsk, CheckAsk, ChildrenBody, ConnectRequest, ConnectResponse, CreateAsk,
+    CreateBody, DataBody, DeleteAsk, Id, MultiHeader, PathAsk, ReplyHeader, RequestHeader,
+    SetAclAsk, SetDataAsk, SetWatchesAsk, Stat, WatchAsk, WatcherEvent,
+};
+
+/// The fault in words.
+pub(crate) fn fault_told(alloc: Global, fault: &ItemFault) -> Result<String, AllocError> {
+    format!(in alloc; "{} at {}", reason_name(&fault.reason), fault.place)
+}
+
+/// The value's bytes, where it has so many and no fewer.
+fn spelled<T: Spell>(alloc: Global, value: &T, size: usize) -> Result<Vec<u8>, Fail> {
+    let mut out = Vec::new(alloc);
+    let Some(most) = value.size_within(i32::MAX as u32) else {
+        return Err("no size")?;
+    };
+    if most as usize != size || value.size_within(most.saturating_sub(1)).is_some() {
+        return Err("another size")?;
+    }
+    value.write(&mut out)?;
+    Ok(out)
+}
+
+/// What stands as the bytes: the value, which is written again as they are, or what is wrong with them.
+fn told<'a, T: Wire + Stands<Kept<'a>> + Debug>(
+    alloc: Global,
+    bytes: &'a [u8],
+) -> Result<String, Fail> {
+    let (value, end) = match T::read(alloc, bytes, 0) {
+        Ok(read) => read,
+        Err(fault) => return Ok(fault_told(alloc, &fault)?),
+    };
+    let written = spelled(alloc, &value, end)?;
+    if written.as_slice() != bytes {
+        return Err("written otherwise")?;
+    }
+    Ok(format!(in alloc; "{value:?}")?)
+}
+
+/// The same of a value of the type of this name.
+fn value_told(alloc: Global, name: &str, bytes: &[u8]) -> Result<String, Fail> {
+    match name {
+        "i32" => told::<i32>(alloc, bytes),
+        "i64" => told::<i64>(alloc, bytes),
+        "bool" => told::<bool>(alloc, bytes),
+        "Text" => told::<Text>(alloc, bytes),
+        "Blob" => told::<Blob>(alloc, bytes),
+        "List" => told::<List<Text>>(alloc, bytes),
+        "CreateBody" => told::<CreateBody>(alloc, bytes),
+        "DataBody" => told::<DataBody>(alloc, bytes),
+        "AclBody" => told::<AclBody>(alloc, bytes),
+        "ChildrenBody" => told::<ChildrenBody>(alloc, bytes),
+        "WatcherEvent" => told::<WatcherEvent>(alloc, bytes),
+        "Stat" => told::<Stat>(alloc, bytes),
+        "ConnectResponse" => told::<ConnectResponse>(alloc, bytes),
+        "ReplyHeader" => told::<ReplyHeader>(alloc, bytes),
+        "MultiHeader" => told::<MultiHeader>(alloc, bytes),
+        _ => ask_told(alloc, name, bytes),
+    }
+}
+
+/// The same of a record of requests.
+fn ask_told(alloc: Global, name: &str, bytes: &[u8]) -> Result<String, Fail> {
+    match name {
+        "Id" => told::<Id>(alloc, bytes),
+        "Acl" => told::<Acl>(alloc, bytes),
+        "ConnectRequest" => told::<ConnectRequest>(alloc, bytes),
+        "RequestHeader" => told::<RequestHeader>(alloc, bytes),
+        "CreateAsk" => told::<CreateAsk>(alloc, bytes),
+        "DeleteAsk" => told::<DeleteAsk>(alloc, bytes),
+        "SetDataAsk" => told::<SetDataAsk>(alloc, bytes),
+        "SetAclAsk" => told::<SetAclAsk>(alloc, bytes),
+        "CheckAsk" => told::<CheckAsk>(alloc, bytes),
+        "WatchAsk" => told::<WatchAsk>(alloc, bytes),
+        "PathAsk" => told::<PathAsk>(alloc, bytes),
+        "AuthAsk" => told::<AuthAsk>(alloc, bytes),
+        "SetWatchesAsk" => told::<SetWatchesAsk>(alloc, bytes),
+        _ => Err("no such type")?,
+    }
+}
+
+/// What stands as the bytes: a value and its boolean, or what is wrong with them.
+fn flagged_told<'a, T: Wire + Stands<Kept<'a>> + Debug>(
+    alloc: Global,
+    bytes: &'a [u8],
+) -> Result<String, Fail> {
+    let (value, flag) = match read_flagged::<T>(alloc, bytes) {
+        Ok(read) => read,
+        Err(fault) => return Ok(fault_told(alloc, &fault)?),
+    };
+    let written = spelled(alloc, &(&value, &flag), bytes.len())?;
+    if written.as_slice() != bytes {
+        return Err("written otherwise")?;
+    }
+    Ok(format!(in alloc; "({value:?}, {flag:?})")?)
+}
+
+/// A row's name, its bytes, and what is told of them.
+pub(crate) fn parsed<'a>(alloc: Global, row: &'a str) -> Result<(&'a str, Vec<u8>, &'a str), Fail> {
+    let (asked, want) = row.split_once(" = ").ok_or("no row")?;
+    let (name, digits) = asked.split_once(' ').ok_or("no name")?;
+    Ok((name, hex(alloc, digits)?, want))
+}
+
+fn are_told(rt: &impl Abort, alloc: Global, rows: &str) -> Result<(), Fail> {
+    for row in rows.lines() {
+        let (name, bytes, want) = parsed(alloc, row)?;
+        let told = value_told(alloc, name, &bytes)?;
+        assert_eq!(rt; told.as_str(), want, "of {row}");
+    }
+    Ok(())
+}
+
+#[test]
+fn values(rt: HostRuntime) -> Result<(), Fail> {
+    are_told(&rt, rt.alloc(), VALUES)
+}
+
+#[test]
+fn vectors(rt: HostRuntime) -> Result<(), Fail> {
+    are_told(&rt, rt.alloc(), VECTORS)
+}
+
+#[test]
+fn flagged(rt: HostRuntime) -> Result<(), Fail> {
+    for row in FLAGGED.lines() {
+        let (name, bytes, want) = parsed(rt.alloc(), row)?;
+        let told = match name {
+            "Text" => flagged_told::<Text>(rt.alloc(), &bytes)?,
+            _ => flagged_told::<ConnectRequest>(rt.alloc(), &bytes)?,
+        };
+        assert_eq!(rt; told.as_str(), want, "of {row}");
+    }
+    Ok(())
+}
+
+#[test]
+fn law(_rt: HostRuntime) {
+    laws::<Text>();
+}

@@ -1,0 +1,100 @@
+//! What a talk answers, call by call, and what its sides then hold.
+use crate::frames::hex;
+use std::alloc::Global;
+use std::process::Abort;
+use std::test::Fail;
+use zk_records::Profile;
+use zk_talk::{Fault, Limits, Side, Talk};
+
+/// How much of the piece is used, and whether a message came.
+fn called(talk: &mut Talk, call: &str, side: Side, piece: &[u8]) -> Result<(usize, bool), Fault> {
+    if call == "take" {
+        let taken = talk.take(side, piece)?;
+        return Ok((taken.used, taken.message.is_some()));
+    }
+    let stepped = talk.step(side, piece)?;
+    Ok((stepped.used, stepped.whole))
+}
+
+/// What the call of a row answers, how much is then held of the client and of the server, what waits, and whether a
+/// message of either is shown.
+fn told(alloc: Global, talk: &mut Talk, asked: &str) -> Result<String, Fail> {
+    let (call, rest) = asked.split_once(' ').ok_or("no call")?;
+    let (letter, digits) = rest.split_once(' ').ok_or("no side")?;
+    let side = match letter {
+        "C" => Side::Client,
+        _ => Side::Server,
+    };
+    let answer = called(talk, call, side, &hex(alloc, digits)?);
+    let shown = (
+        talk.view(Side::Client).is_some(),
+        talk.view(Side::Server).is_some(),
+    );
+    let held = (talk.held(Side::Client), talk.held(Side::Server));
+    let waiting = talk.waiting();
+    Ok(format!(in alloc; "{answer:?} held {held:?} waiting {waiting} shown {shown:?}")?)
+}
+
+/// Each call of the rows answers as its row says.
+fn goes(rt: &impl Abort, alloc: Global, rows: &str) -> Result<(), Fail> {
+    let limits = Limits::new(4_194_304, 4_194_304, 65_536).ok_or("no limits")?;
+    let mut talk = Talk::new(alloc, limits)?;
+    for row in rows.lines() {
+        let (asked, want) = row.split_once(" = ").ok_or("no row")?;
+        let told = told(alloc, &mut talk, asked)?;
+        assert!(rt; told.starts_with(want), "{asked} = {told}");
+    }
+    Ok(())
+}
+
+/// Within a request and behind it, by `take`, which keeps no frame.
+const TAKEN: &str = "\
+take C 0000002d000000000000000000000000000075300000000000000000000000100000000000000000000000000000000000 = Ok((49, true)) held (0, 0) waiting 0 shown (false, false)
+take C 0000000f0000000100000003000000022f61 = Ok((18, false)) held (18, 0) waiting 0 shown (false, false)
+take C 01 = Ok((1, true)) held (0, 0) waiting 1 shown (false, false)";
+
+#[test]
+fn held_and_waiting(rt: HostRuntime) -> Result<(), Fail> {
+    goes(&rt, rt.alloc(), TAKEN)
+}
+
+/// A frame that a step made whole is held, and shown, until the side's next call.
+const STEPPED: &str = "\
+take C 0000002d000000000000000000000000000075300000000000000000000000100000000000000000000000000000000000 = Ok((49, true)) held (0, 0) waiting 0 shown (false, false)
+take S 000000250000000000007530010000000000000100000010000102030405060708090a0b0c0d0e0f00 = Ok((41, true)) held (0, 0) waiting 0 shown (false, false)
+step C 0000000f0000000100000003000000022f6101 = Ok((19, true)) held (19, 0) waiting 1 shown (true, false)
+step C  = Ok((0, false)) held (0, 0) waiting 1 shown (false, false)
+step S 00000010000000010000000000000005ffffff9b = Ok((20, true)) held (0, 20) waiting 0 shown (false, true)
+step C 0000000f0000000100000003000000022f61 = Ok((18, false)) held (18, 20) waiting 0 shown (false, true)
+take S  = Ok((0, false)) held (18, 0) waiting 0 shown (false, false)";
+
+#[test]
+fn frame_is_kept(rt: HostRuntime) -> Result<(), Fail> {
+    goes(&rt, rt.alloc(), STEPPED)
+}
+
+/// A fault is answered for good, on both sides, and no byte is used.
+const REFUSED: &str = "\
+take C 0000002d000000000000000000000000000075300000000000000000000000100000000000000000000000000000000000 = Ok((49, true))
+take S 000000250000000000007530010000000000000100000010000102030405060708090a0b0c0d0e0f00 = Ok((41, true))
+take C 0000000f0000000100000003000000022f6101 = Ok((19, true))
+take S 00000010000000020000000000000005ffffff9b = Err(Fault { side: Server, frame: 1, offset: 61, place: 0, reason: XidOrder { expected: 1, got: 2 } })
+take C  = Err(Fault { side: Server, frame: 1, offset: 61, place: 0, reason: XidOrder { expected: 1, got: 2 } })
+take S  = Err(Fault { side: Server, frame: 1, offset: 61, place: 0, reason: XidOrder { expected: 1, got: 2 } })
+step C 00 = Err(Fault { side: Server, frame: 1, offset: 61, place: 0, reason: XidOrder { expected: 1, got: 2 } })
+step S 00 = Err(Fault { side: Server, frame: 1, offset: 61, place: 0, reason: XidOrder { expected: 1, got: 2 } })";
+
+#[test]
+fn fault_is_kept(rt: HostRuntime) -> Result<(), Fail> {
+    goes(&rt, rt.alloc(), REFUSED)
+}
+
+#[test]
+fn limits_with_a_profile(rt: HostRuntime) -> Result<(), Fail> {
+    let limits = Limits::new(64, 65, 66).ok_or("no limits")?;
+    assert_eq!(rt; limits.profile(), Profile::V34);
+    let newer = limits.with_profile(Profile::V35);
+    let numbers = (newer.client(), newer.server(), newer.waiting());
+    assert_eq!(rt; (numbers, newer.profile()), ((64, 65, 66), Profile::V35));
+    Ok(())
+}

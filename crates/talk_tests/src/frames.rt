@@ -1,0 +1,30 @@
+//! Frames that the tests share, and limits.
+use std::alloc::Global;
+use std::test::Fail;
+use zk_records::Profile;
+use zk_talk::Limits;
+
+/// A connect request.
+pub(crate) const CONNECT: &[u8] =
+    b"\0\0\0-\0\0\0\0\0\0\0\0\0\0\0\0\0\0u0\0\0\0\0\0\0\0\0\0\0\0\x10\0\0\0\0\0\0\0\0\0\0\0\0\0\0\0\0\0";
+
+/// Its response.
+pub(crate) const CONNECTED: &[u8] =
+    b"\0\0\0%\0\0\0\0\0\0u0\x01\0\0\0\0\0\0\x01\0\0\0\x10\0\x01\x02\x03\x04\x05\x06\x07\x08\x09\x0a\x0b\x0c\x0d\x0e\x0f\0";
+
+/// An exists request of `/a`, under xid 1.
+pub(crate) const EXISTS: &[u8] = b"\0\0\0\x0f\0\0\0\x01\0\0\0\x03\0\0\0\x02/a\x01";
+
+/// Its reply: there is no such node.
+pub(crate) const NO_NODE: &[u8] = b"\0\0\0\x10\0\0\0\x01\0\0\0\0\0\0\0\x05\xff\xff\xff\x9b";
+
+/// The usual limits, with the newer profile.
+pub(crate) fn newer() -> Result<Limits, Fail> {
+    let limits = Limits::new(4_194_304, 4_194_304, 65_536).ok_or("no limits")?;
+    Ok(limits.with_profile(Profile::V35))
+}
+
+/// The bytes of hexadecimal digits.
+pub(crate) fn hex(alloc: Global, digits: &str) -> Result<Vec<u8>, Fail> {
+    Ok(hex::decode(alloc, digits)?)
+}
