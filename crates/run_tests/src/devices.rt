@@ -1,9 +1,10 @@
 //! Runs of each command over a standard input, output and error that fail.
 use crate::memory::{MemorySink, MemorySource};
-use crate::samples::{MESSAGES, MIGRATED, RECORDING, WHOLE, hex, run, run_words, words};
+use crate::samples::{MESSAGES, MIGRATED, RECORDING, WHOLE, hex, run, words};
 use std::alloc::Global;
 use std::process::Abort;
 use std::test::Fail;
+use zk_runs::run_words;
 
 /// A command over bytes, its output and its status; and how much of the output stands before the read behind the last
 /// byte.

@@ -5,7 +5,7 @@ use crate::memory::MemorySink;
 use std::alloc::Global;
 use std::test::Fail;
 use zk_listings::{Sink, Source};
-use zk_runs::{run_settings, settings};
+use zk_runs::run_words;
 
 /// A recording of a connect request and its response, and of an exists request of `/a` and its reply, which is NONODE.
 pub(crate) const RECORDING: &str = "\
@@ -51,23 +51,6 @@ pub(crate) fn words(alloc: Global, line: &str) -> Result<Vec<String>, Fail> {
         words.push(String::from_str(alloc, word)?)?;
     }
     Ok(words)
-}
-
-/// Reads the words, and does what they say.
-pub(crate) fn run_words<R: Source, W: Sink, F: Sink>(
-    alloc: Global,
-    words: Vec<String>,
-    reader: &mut R,
-    writer: &mut W,
-    faults: &mut F,
-) -> u8
-    requires reader { R.has_failed reader.old ≡ false }
-    requires reads { R.read_count reader.old < 2 ^ 62 }
-    requires writer { W.has_failed writer.old ≡ false }
-    requires faults { F.has_failed faults.old ≡ false }
-{
-    let chosen = settings(alloc, words);
-    run_settings(alloc, chosen, reader, writer, faults)
 }
 
 /// Runs the program: its status, and what it says of faults.

@@ -10,7 +10,8 @@ fn of(alloc: Global, line: &str) -> Result<Result<Settings, UsageFault>, Fail> {
     Ok(settings(alloc, words))
 }
 
-/// Command lines, and the command, the greatest sizes of messages, how many requests may wait, and the profile.
+/// Command lines, and the command, the greatest sizes of messages, how many requests may wait, the profile, and whether
+/// the first impossible byte is to be told.
 const READ: &str = "\
 check = Check 4194304 4194304 65536 V34
 show = Show 4194304 4194304 65536 V34
@@ -18,8 +19,8 @@ build = Build 4194304 4194304 65536 V34
 build --limit 64 --waiting 2 = Build 64 64 2 V34
 migrate = Migrate 4194304 4194304 65536 V34
 migrate --waiting=3 = Migrate 4194304 4194304 3 V34
-check --earliest = CheckEarliest 4194304 4194304 65536 V34
-check --limit 64 --earliest = CheckEarliest 64 64 65536 V34
+check --earliest = Check 4194304 4194304 65536 V34 earliest
+check --limit 64 --earliest = Check 64 64 65536 V34 earliest
 check --limit 64 = Check 64 64 65536 V34
 check --limit=100 = Check 100 100 65536 V34
 show --waiting 1 --limit 16777216 = Show 16777216 16777216 1 V34
@@ -34,7 +35,8 @@ fn told(alloc: Global, chosen: &Settings) -> Result<String, Fail> {
     let limits = chosen.limits;
     let (client, server, waiting) = (limits.client(), limits.server(), limits.waiting());
     let (command, profile) = (chosen.command, limits.profile());
-    Ok(format!(in alloc; "{command:?} {client} {server} {waiting} {profile:?}")?)
+    let earliest = if chosen.earliest { " earliest" } else { "" };
+    Ok(format!(in alloc; "{command:?} {client} {server} {waiting} {profile:?}{earliest}")?)
 }
 
 #[test]

@@ -47,6 +47,7 @@ running limits before after x messages now p i =
       bytes = x;
       recording = r;
       reads = reads before after x r p i.at.spells;
+      unbroken = i.unbroken;
       good = good;
       only = λ others summary o. outcome-good limits r messages others summary good o;
     }

@@ -9,7 +9,7 @@ use Rattle.zk_talk.specs.Stands.{TalkState}
 use Rattle.zk_listings.specs.declared.listing.Listing.{Listing}
 use Rattle.zk_recordings.specs.declared.parts.DamageAt.{DamageAt}
 use Rattle.zk_listings.specs.declared.progress.Progress.{Progress}
-use Rattle.zk_recordings.specs.declared.recording.State.{State}
+use Rattle.zk_recordings.specs.Reader.{ReaderState}
 use Rattle.zk_listings.specs.declared.summary.Summary.{Summary}
 use Rattle.zk_listings.specs.declared.summary.Summary.TheVariants.{Ended, Broken}
 use Rattle.zk_listings.specs.Lines.{text_of}
@@ -17,9 +17,10 @@ use Rattle.zk_recordings.specs.Recording.{Recording, place_of, history_of, limit
 use Rattle.zk_recordings.specs.Reading.{IsAt, IsDecidedBy, IsHeaded, ReadsOn, content_of}
 use Rattle.zk_listings.specs.Following.{Follows, Talks, Gives, Decides, Advances}
 use Rattle.zk_listings.proofs.Stops.{decides-by_fault, decides-by_damage}
+use Rattle.zk_listings.proofs.Decided.{broken-by}
 use Rattle.zk_listings.proofs.Talking.{Given, given, has-good}
 
-module _ (listing : Listing) (p : Progress) (lines lines_now block : List ℕ) (used : ℕ) (side : Option Side) (state : State) (now_limits : Limits) (refused : Option Fault) (talk : Option TalkState)
+module _ (listing : Listing) (p : Progress) (lines lines_now block : List ℕ) (used : ℕ) (side : Option Side) (state : ReaderState) (now_limits : Limits) (refused : Option Fault) (talk : Option TalkState)
     (reads : (x : List ℕ) (r : Recording) → IsAt p.reader x r → ReadsOn state x r (take used block) side)
     (limits_are : (x : List ℕ) (r : Recording) → IsAt state x r → IsHeaded (place_of r) → now_limits ≡ limits_of p.limits r)
     (gives : Gives now_limits listing p.talk lines (content_of side (take used block)) refused talk lines_now)
@@ -49,8 +50,8 @@ module _ (listing : Listing) (p : Progress) (lines lines_now block : List ℕ) (
       let g = comes limits x messages i None e in
       (g.0, decides-by_damage limits x block used r.new (messages ++ g.0) talk d r.is.spells (damaged _ r.new r.is) (has-good (limits_of limits r.new) talk (history_of r.new) (messages ++ g.0) g.1.has), g.2)
 
-  pub steps-on : refused ≡ None → (now : Progress) → now.limits ≡ p.limits → now.reader ≡ state → now.talk ≡ talk → Advances listing p lines (take used block) None now lines_now
-  steps-on e now options reader talk_is = λ limits x messages i.
+  pub steps-on : refused ≡ None → ((x : List ℕ) (r : Recording) (d : DamageAt) → IsAt state x r → IsDecidedBy d x r → ⊥) → (now : Progress) → now.limits ≡ p.limits → now.reader ≡ state → now.talk ≡ talk → Advances listing p lines (take used block) None now lines_now
+  steps-on e undamaged now options reader talk_is = λ limits x messages i.
       let r = reads x i.recording i.at in
       let g = comes limits x messages i None e in (
         g.0,
@@ -58,6 +59,7 @@ module _ (listing : Listing) (p : Progress) (lines lines_now block : List ℕ) (
           options = options ∙ i.options;
           recording = r.new;
           at = subst (λ s. IsAt s (x ++ take used block) r.new) (sym reader) r.is;
+          unbroken = λ b. undamaged _ r.new b.damage r.is (broken-by r.new _ b r.is.spells);
           talks = subst (Talks limits r.new (messages ++ g.0)) (sym talk_is) g.1;
         },
         g.2,

@@ -10,13 +10,13 @@ use Rattle.zk_listings.specs.declared.listing.Listing.{Listing}
 use Rattle.zk_listings.specs.declared.progress.Step.{Step}
 use Rattle.zk_listings.specs.declared.progress.Step.TheVariants.{Took, Found}
 use Rattle.zk_listings.specs.declared.progress.Progress.{Progress}
-use Rattle.zk_recordings.specs.declared.recording.State.{State}
+use Rattle.zk_recordings.specs.Reader.{ReaderState}
 use Rattle.zk_listings.specs.declared.summary.Summary.{Summary}
 use Rattle.zk_listings.specs.declared.summary.Summary.TheVariants.{Ended, Broken}
 use Rattle.zk_recordings.specs.Recording.{Place, Recording, Spells, place_of, history_of, limits_of}
 use Rattle.zk_recordings.specs.Reading.{IsAt, IsHeaded, place_in}
 use Rattle.zk_listings.specs.Lines.{text_of}
-use Rattle.zk_listings.specs.Outcome.{IsGoodWith, IsOutcome, IsDecided}
+use Rattle.zk_listings.specs.Outcome.{IsGoodWith, IsOutcome, IsBroken, IsDecided}
 
 -- the history of a talk: none, where no content has come
 abbrev pub Has : Limits → Option TalkState → History → List Message → Type 0
@@ -32,11 +32,12 @@ pub record Talks (limits : Limits) (r : Recording) (messages : List Message) (ta
   pub headed : IsHeadedBy talk (place_of r)
   pub has : Has (limits_of limits r) talk (history_of r) messages
 
--- the bytes x were read, the messages in them are these, and no fault stands in them
+-- the bytes x were read, the messages in them are these, and no fault stands in them, nor a damage whatever follows
 pub record Follows (limits : Limits) (x : List ℕ) (messages : List Message) (p : Progress) : Type 0 where
   pub options : p.limits ≡ limits
   pub recording : Recording
   pub at : IsAt p.reader x recording
+  pub unbroken : IsBroken x recording → ⊥
   pub talks : Talks limits recording messages p.talk
 
 -- a talk that refused a history keeps the fault
@@ -115,6 +116,6 @@ Steps listing p lines block (Took n) now lines_now = Advances listing p lines (t
 Steps listing p lines block (Found summary) now lines_now = Advances listing p lines block (Some summary) now lines_now
 
 -- at least one byte, and no more than there are
-abbrev pub IsWithin : State → List ℕ → Step → State → Type 0
+abbrev pub IsWithin : ReaderState → List ℕ → Step → ReaderState → Type 0
 IsWithin s block (Took n) now = (0 < n) × (n ≤ length block) × (place_in now ≤ place_in s + n)
 IsWithin s block (Found summary) now = Unit {0}

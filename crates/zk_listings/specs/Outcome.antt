@@ -75,11 +75,12 @@ pub record IsFound (limits : Limits) (before after : Option (List ℕ)) (message
   pub only : (others : List Message) (other : Summary) → IsOutcome limits recording others other → (others ≡ messages) × (other ≡ summary)
   pub enough : IsAtEnd after ⊎ IsDecided limits bytes recording
 
--- what was read has these messages and no others, and no fault
+-- what was read has these messages and no others, no fault, and no damage that stands whatever follows
 pub record IsRunning (limits : Limits) (before after : Option (List ℕ)) (messages : List Message) : Type 0 where
   pub bytes : List ℕ
   pub recording : Recording
   pub reads : Reads before after bytes recording
+  pub unbroken : IsBroken bytes recording → ⊥
   pub good : IsGoodWith (limits_of limits recording) (history_of recording) messages
   pub only : (others : List Message) (summary : Summary) → IsOutcome limits recording others summary → others ≡ messages
 

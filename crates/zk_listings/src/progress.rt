@@ -132,7 +132,7 @@ fn give(
 
 /// A recording as far as it was read, and the conversation in it.
 #[derive(Drop)]
-pub struct Progress {
+pub(crate) struct Progress {
     alloc: Global,
     /// Those of a recording that has none.
     limits: Limits,

@@ -4,6 +4,7 @@ ghost use Rattle.std.specs.Io.KnownBytes.{Appends, ReadConsumes, WriteAppends};
 ghost use Rattle.zk_listings.specs.Streams.{takes_none};
 
 use std::io::{Read, Write};
+use std::marker::Model;
 
 /// A read or a write that failed.
 #[derive(Clone, Copy, Debug, PartialEq, Eq)]
@@ -64,6 +65,14 @@ pub struct FromRead<R> {
     failed: bool,
 }
 
+impl<R> Model for FromRead<R> {
+    ghost use Rattle.zk_listings.specs.Streams.{Reading};
+
+    ghost Value = { Reading R };
+
+    ghost view = { λ s. record { reader = s.reader; reads = s.reads; failed = s.failed } };
+}
+
 impl<R: Read> FromRead<R> {
     /// A source of what the reader has left.
     pub fn new(reader: R) -> Self
@@ -107,6 +116,14 @@ impl<R: Read> Source for FromRead<R> {
 pub struct FromWrite<W> {
     writer: W,
     failed: bool,
+}
+
+impl<W> Model for FromWrite<W> {
+    ghost use Rattle.zk_listings.specs.Streams.{Writing};
+
+    ghost Value = { Writing W };
+
+    ghost view = { λ s. record { writer = s.writer; failed = s.failed } };
 }
 
 impl<W: Write> FromWrite<W> {

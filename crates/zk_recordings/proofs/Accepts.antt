@@ -14,8 +14,7 @@ use Rattle.zk_recordings.specs.declared.parts.Format.{Format}
 use Rattle.zk_recordings.specs.declared.parts.Format.TheVariants.{Zkr1, Zkr2}
 use Rattle.zk_recordings.specs.declared.parts.Part.{Part}
 use Rattle.zk_recordings.specs.declared.parts.Part.TheVariants.{Letters, ClientLimit, ServerLimit, Waiting, Profile, SideByte, Time, Size}
-use Rattle.zk_recordings.specs.declared.recording.Stage.TheVariants.{Content}
-use Rattle.zk_recordings.specs.declared.recording.State.{State}
+use Rattle.zk_recordings.specs.Reader.{Content, ReaderState}
 use Rattle.zk_recordings.specs.Parts.{number, width, is_good, is_within, letters, head_parts, piece_parts}
 use Rattle.zk_recordings.specs.HeadLimits.{limits_or, limits_by, profile_by, are_or_not}
 use Rattle.zk_recordings.specs.Recording.{IsValue, AreValues, spelled, End, Cut, IsBreakIn, IsBreak, Head, First, Second, format_of, IsHead, head_bytes, head_limits, Piece, piece_values, IsTimed, piece_bytes, side_byte, no_time, Place, AtLetters, InHead, InPieces, parts_at, IsPlace, front, Recording, Breaks, Ends, Spells, place_of, behind, nothing}
@@ -29,14 +28,14 @@ cut_in place before part begun = Breaks place (record { before = before; part = 
 
 -- ---- letters
 
-module _ (s : State) (before : List (List ℕ)) (begun v : List ℕ) (b : ℕ) (x : List ℕ) (i : Spells x (cut_in AtLetters before Letters begun)) (again : begun ++ b ∷ [] ≡ v) (none : before ≡ []) (at' : s.at ≡ behind AtLetters before) where
+module _ (s : ReaderState) (before : List (List ℕ)) (begun v : List ℕ) (b : ℕ) (x : List ℕ) (i : Spells x (cut_in AtLetters before Letters begun)) (again : begun ++ b ∷ [] ≡ v) (none : before ≡ []) (at' : s.at ≡ behind AtLetters before) where
   read-letters : x ++ b ∷ [] ≡ v
   read-letters = ap (λ l. l ++ b ∷ []) (i.is ∙ ap (λ l. spelled l begun) none) ∙ again
 
   at-nought : s.at ≡ 0
   at-nought = at' ∙ ap (behind AtLetters) none
 
-  pub accept-first : (t : State) → v ≡ letters Zkr1 → t ≡ then_at (record s { format = Zkr1; limits = None }) SideByte 4 → ReadsOn t x (cut_in AtLetters before Letters begun) (b ∷ []) None
+  pub accept-first : (t : ReaderState) → v ≡ letters Zkr1 → t ≡ then_at (record s { format = Zkr1; limits = None }) SideByte 4 → ReadsOn t x (cut_in AtLetters before Letters begun) (b ∷ []) None
   accept-first t e f = subst (λ u. ReadsOn u x (cut_in AtLetters before Letters begun) (b ∷ []) None) (sym f) (record {
     new = Breaks (InPieces First []) nothing;
     is = record {
@@ -59,7 +58,7 @@ module _ (s : State) (before : List (List ℕ)) (begun v : List ℕ) (b : ℕ) (
     goes_on = in_head (λ is. is) refl refl refl refl;
   })
 
-  pub accept-second : (t : State) → v ≡ letters Zkr2 → t ≡ then_at (record s { format = Zkr2; limits = None }) ClientLimit 4 → ReadsOn t x (cut_in AtLetters before Letters begun) (b ∷ []) None
+  pub accept-second : (t : ReaderState) → v ≡ letters Zkr2 → t ≡ then_at (record s { format = Zkr2; limits = None }) ClientLimit 4 → ReadsOn t x (cut_in AtLetters before Letters begun) (b ∷ []) None
   accept-second t e f = subst (λ u. ReadsOn u x (cut_in AtLetters before Letters begun) (b ∷ []) None) (sym f) (record {
     new = cut_in (InHead Zkr2) [] ClientLimit [];
     is = record {
@@ -98,20 +97,20 @@ next-waiting (c ∷ k ∷ l ∷ before) v a d end e br is = cc
 one-more : (before : List (List ℕ)) (v : List ℕ) (numbers : List ℕ) → map number before ≡ numbers → map number (before ++ v ∷ []) ≡ numbers ++ number v ∷ []
 one-more before v numbers e = map-append number before (v ∷ []) ∙ ap (λ l. l ++ number v ∷ []) e
 
-module _ (s : State) (before : List (List ℕ)) (begun v : List ℕ) (b : ℕ) (x : List ℕ) (again : begun ++ b ∷ [] ≡ v) (at' : s.at ≡ behind (InHead Zkr2) before) (has : s.format ≡ Zkr2) where
-  pub accept-client : Spells x (cut_in (InHead Zkr2) before ClientLimit begun) → map number before ≡ [] → IsValue ClientLimit v → (t : State) → t ≡ then_at (record s { client = number v }) ServerLimit 4 →
+module _ (s : ReaderState) (before : List (List ℕ)) (begun v : List ℕ) (b : ℕ) (x : List ℕ) (again : begun ++ b ∷ [] ≡ v) (at' : s.at ≡ behind (InHead Zkr2) before) (has : s.format ≡ Zkr2) where
+  pub accept-client : Spells x (cut_in (InHead Zkr2) before ClientLimit begun) → map number before ≡ [] → IsValue ClientLimit v → (t : ReaderState) → t ≡ then_at (record s { client = number v }) ServerLimit 4 →
       ReadsOn t x (cut_in (InHead Zkr2) before ClientLimit begun) (b ∷ []) None
   accept-client i e is t f =
       to-next (record s { client = number v }) (InHead Zkr2) before ClientLimit begun v b x i again at' is.wide t ServerLimit f has
       (next-client before v e is) (refl, one-more before v [] e)
 
-  pub accept-server : Spells x (cut_in (InHead Zkr2) before ServerLimit begun) → map number before ≡ s.client ∷ [] → IsValue ServerLimit v → (t : State) → t ≡ then_at (record s { server = number v }) Waiting 4 →
+  pub accept-server : Spells x (cut_in (InHead Zkr2) before ServerLimit begun) → map number before ≡ s.client ∷ [] → IsValue ServerLimit v → (t : ReaderState) → t ≡ then_at (record s { server = number v }) Waiting 4 →
       ReadsOn t x (cut_in (InHead Zkr2) before ServerLimit begun) (b ∷ []) None
   accept-server i e is t f =
       to-next (record s { server = number v }) (InHead Zkr2) before ServerLimit begun v b x i again at' is.wide t Waiting f has
       (next-server before v s.client (Cut begun) e i.sound.breaks is) (refl, one-more before v (s.client ∷ []) e)
 
-  pub accept-waiting : Spells x (cut_in (InHead Zkr2) before Waiting begun) → map number before ≡ s.client ∷ s.server ∷ [] → IsValue Waiting v → (t : State) → t ≡ then_at (record s { waiting = number v }) Profile 4 →
+  pub accept-waiting : Spells x (cut_in (InHead Zkr2) before Waiting begun) → map number before ≡ s.client ∷ s.server ∷ [] → IsValue Waiting v → (t : ReaderState) → t ≡ then_at (record s { waiting = number v }) Profile 4 →
       ReadsOn t x (cut_in (InHead Zkr2) before Waiting begun) (b ∷ []) None
   accept-waiting i e is t f =
       to-next (record s { waiting = number v }) (InHead Zkr2) before Waiting begun v b x i again at' is.wide t Profile f has
@@ -183,9 +182,9 @@ has-numbers (c ∷ k ∷ l ∷ []) v a d e end f br is =
     }
 has-numbers (c ∷ k ∷ l ∷ m ∷ before) v a d e end f br is = cc
 
-module _ (s : State) (before : List (List ℕ)) (begun v : List ℕ) (b : ℕ) (x : List ℕ) (again : begun ++ b ∷ [] ≡ v) (at' : s.at ≡ behind (InHead Zkr2) before) (has : s.format ≡ Zkr2) where
+module _ (s : ReaderState) (before : List (List ℕ)) (begun v : List ℕ) (b : ℕ) (x : List ℕ) (again : begun ++ b ∷ [] ≡ v) (at' : s.at ≡ behind (InHead Zkr2) before) (has : s.format ≡ Zkr2) where
   pub accept-profile : Spells x (cut_in (InHead Zkr2) before Profile begun) → map number before ≡ s.client ∷ s.server ∷ s.waiting ∷ [] → IsValue Profile v → (o : Option Limits) →
-      ((options : Limits) → chosen o options ≡ limits_or options s.client s.server s.waiting (profile_by (number v))) → (t : State) → t ≡ then_at (record s { limits = o }) SideByte 4 → ReadsOn t x (cut_in (InHead Zkr2) before Profile begun) (b ∷ []) None
+      ((options : Limits) → chosen o options ≡ limits_or options s.client s.server s.waiting (profile_by (number v))) → (t : ReaderState) → t ≡ then_at (record s { limits = o }) SideByte 4 → ReadsOn t x (cut_in (InHead Zkr2) before Profile begun) (b ∷ []) None
   accept-profile i e is o limits_are t f =
       let n = has-numbers before v s.client s.server s.waiting (Cut begun) e i.sound.breaks is in
       let bytes = next-bytes s (InHead Zkr2) before Profile begun v b x i again at' is.wide in
@@ -214,7 +213,7 @@ module _ (s : State) (before : List (List ℕ)) (begun v : List ℕ) (b : ℕ) (
 
 -- ---- parts of a piece
 
-module _ (s : State) (place : Place) (head : Head) (pieces : List Piece) (e : place ≡ InPieces head pieces) (begun v : List ℕ) (b : ℕ) (x : List ℕ) (again : begun ++ b ∷ [] ≡ v) (has : HasHeadAt s place) where
+module _ (s : ReaderState) (place : Place) (head : Head) (pieces : List Piece) (e : place ≡ InPieces head pieces) (begun v : List ℕ) (b : ℕ) (x : List ℕ) (again : begun ++ b ∷ [] ≡ v) (has : HasHeadAt s place) where
   has-head : HasHead s head
   has-head = subst (HasHeadAt s) e has
 
@@ -225,7 +224,7 @@ module _ (s : State) (place : Place) (head : Head) (pieces : List Piece) (e : pl
   by-parts f g before part end is = subst (λ h. IsBreakIn (piece_parts h) before part end) g (subst (λ q. IsBreakIn (parts_at q) before part end) e is)
 
   module _ (before : List (List ℕ)) (at' : s.at ≡ behind place before) where
-    pub accept-side : (side : Side) → before ≡ [] → v ≡ side_byte side ∷ [] → Spells x (cut_in place before SideByte begun) → IsValue SideByte v → (t : State) →
+    pub accept-side : (side : Side) → before ≡ [] → v ≡ side_byte side ∷ [] → Spells x (cut_in place before SideByte begun) → IsValue SideByte v → (t : ReaderState) →
         (s.format ≡ Zkr1 → t ≡ then_at (record s { side = side }) Size 1) → (s.format ≡ Zkr2 → t ≡ then_at (record s { side = side }) Time 1) →
         ReadsOn t x (cut_in place before SideByte begun) (b ∷ []) None
     accept-side side none byte i is t first second = go s.format refl
@@ -250,7 +249,7 @@ module _ (s : State) (place : Place) (head : Head) (pieces : List Piece) (e : pl
             (parts-by Zkr2 g (before ++ v ∷ []) Time (Cut []) (subst (λ l. IsBreakIn (piece_parts Zkr2) (l ++ v ∷ []) Time (Cut [])) (sym none) (is, (refl, omega arith))))
             (record { within = record { head = head; pieces = pieces; is = e }; second = g; values = values })
 
-    pub accept-time : format_of head ≡ Zkr2 → before ≡ (side_byte s.side ∷ []) ∷ [] → Spells x (cut_in place before Time begun) → IsValue Time v → (t : State) → t ≡ then_at s Size 8 →
+    pub accept-time : format_of head ≡ Zkr2 → before ≡ (side_byte s.side ∷ []) ∷ [] → Spells x (cut_in place before Time begun) → IsValue Time v → (t : ReaderState) → t ≡ then_at s Size 8 →
         ReadsOn t x (cut_in place before Time begun) (b ∷ []) None
     accept-time g values i is t f =
         let br = subst (λ l. IsBreakIn (piece_parts Zkr2) l Time (Cut begun)) values (by-parts Zkr2 g before Time (Cut begun) i.sound.breaks) in
@@ -277,7 +276,7 @@ module _ (s : State) (place : Place) (head : Head) (pieces : List Piece) (e : pl
         let j = subst (λ l. IsBreakIn (piece_parts Zkr2) l Size (Cut begun)) values (by-parts Zkr2 g before Size (Cut begun) br) in
         ((j.0, (j.1.0, (is, tt))), tt, ap (λ l. l ++ v ∷ []) (sym values))
 
-    pub accept-size : (time : List ℕ) → HasTime (format_of head) time → before ≡ before_size (format_of head) s.side time → (i : Spells x (cut_in place before Size begun)) → IsValue Size v → (t : State) →
+    pub accept-size : (time : List ℕ) → HasTime (format_of head) time → before ≡ before_size (format_of head) s.side time → (i : Spells x (cut_in place before Size begun)) → IsValue Size v → (t : ReaderState) →
         t ≡ record s { at = s.at + 4; size = number v; stage = Content 0 } → ReadsOn t x (cut_in place before Size begun) (b ∷ []) None
     accept-size time timed values i is t f =
         let cut : Piece = record { side = s.side; time = time; size = v; content = [] } in
@@ -323,7 +322,7 @@ width-most Size = omega arith
 pub is-value : (part : Part) (bytes : List ℕ) → length bytes ≡ 8 → is_good part (take (width part) bytes) ≡ true → IsValue part (take (width part) bytes)
 is-value part bytes eight good = record { wide = omega (arith, length-take (width part) bytes, width-most part, eight); good = good }
 
-module _ (s : State) (begun v : List ℕ) (b : ℕ) (x : List ℕ) (r : Recording) (again : begun ++ b ∷ [] ≡ v) (i : Spells x r) (has : HasHeadAt s (place_of r)) (t : State) where
+module _ (s : ReaderState) (begun v : List ℕ) (b : ℕ) (x : List ℕ) (r : Recording) (again : begun ++ b ∷ [] ≡ v) (i : Spells x r) (has : HasHeadAt s (place_of r)) (t : ReaderState) where
   -- it is this one
   module _ (part : Part) (p : AtPart s part begun r) where
     here : (place : Place) → p.place ≡ place → r ≡ cut_in place p.before part begun

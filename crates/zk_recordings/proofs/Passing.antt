@@ -8,7 +8,7 @@ use Rattle.zk_talk.specs.declared.message.Side.TheVariants.{Client, Server}
 use Rattle.zk_recordings.specs.declared.parts.Format.{Format}
 use Rattle.zk_recordings.specs.declared.parts.Format.TheVariants.{Zkr1, Zkr2}
 use Rattle.zk_recordings.specs.declared.parts.Part.TheVariants.{SideByte, Time, Size}
-use Rattle.zk_recordings.specs.declared.recording.State.{State}
+use Rattle.zk_recordings.specs.Reader.{ReaderState}
 use Rattle.zk_recordings.specs.Parts.{number, is_within, piece_parts}
 use Rattle.zk_recordings.specs.Recording.{IsValue, AreValues, Cut, format_of, Piece, piece_values, IsTimed, piece_bytes, side_byte, no_time, InPieces, Recording, Breaks, Ends, Spells, place_of, front, behind, nothing}
 use Rattle.zk_recordings.specs.Heads.{IsTimeIn, PassesHead}
@@ -26,7 +26,7 @@ side-good : (side : Side) → IsValue SideByte (side_byte side ∷ [])
 side-good Client = record { wide = refl; good = refl }
 side-good Server = record { wide = refl; good = refl }
 
-module _ (s : State) (block : List ℕ) (used : ℕ) (t : State) (p : PassesHead s block used t) where
+module _ (s : ReaderState) (block : List ℕ) (used : ℕ) (t : ReaderState) (p : PassesHead s block used t) where
   abbrev size : List ℕ
   size = take 4 (drop p.at block)
 

@@ -8,9 +8,7 @@ use Rattle.zk_recordings.specs.declared.parts.DamageAt.{DamageAt}
 use Rattle.zk_recordings.specs.declared.parts.Format.TheVariants.{Zkr1, Zkr2}
 use Rattle.zk_recordings.specs.declared.parts.Part.{Part}
 use Rattle.zk_recordings.specs.declared.parts.Part.TheVariants.{Letters, ClientLimit, ServerLimit, Waiting, Profile, SideByte, Time, Size}
-use Rattle.zk_recordings.specs.declared.recording.Stage.{Stage}
-use Rattle.zk_recordings.specs.declared.recording.Stage.TheVariants.{Fixed, Content, Damaged}
-use Rattle.zk_recordings.specs.declared.recording.State.{State}
+use Rattle.zk_recordings.specs.Reader.{Content, Damaged, Fixed, ReaderStage, ReaderState}
 use Rattle.zk_recordings.specs.Parts.{width, is_good, damage_bad, piece_parts}
 use Rattle.zk_recordings.specs.Recording.{spelled, End, Cut, Bad, IsEnd, end_bytes, Break, IsBreakIn, IsBreak, Head, First, Second, format_of, Piece, piece_values, IsPiece, piece_bytes, piece_history, Place, AtLetters, InHead, InPieces, parts_at, front, Recording, Breaks, Ends, Spells, place_of, begun_of, begun_history, damage_of, behind, nothing}
 use Rattle.zk_recordings.specs.Reading.{chosen, HasHead, HasHeadAt, Knows, AtPart, AtFixed, AtContent, IsDecidedBy, AtStage, IsAt, then_at, MayHold, within, ends, ReadsOn}
@@ -19,12 +17,12 @@ use Rattle.zk_recordings.proofs.Walks.{spelled-append, length-spelled}
 
 -- ---- what stays as the reader goes on
 
-pub has-same : (s t : State) (place : Place) → t.format ≡ s.format → t.limits ≡ s.limits → HasHeadAt s place → HasHeadAt t place
+pub has-same : (s t : ReaderState) (place : Place) → t.format ≡ s.format → t.limits ≡ s.limits → HasHeadAt s place → HasHeadAt t place
 has-same s t AtLetters f l has = tt
 has-same s t (InHead format) f l has = f ∙ has
 has-same s t (InPieces head pieces) f l has = record { format_is = f ∙ has.format_is; limits_are = λ options. ap (λ o. chosen o options) l ∙ has.limits_are options }
 
-knows-same : (s : State) (stage : Stage) (place : Place) (before : List (List ℕ)) (part : Part) → Knows s place before part → Knows (record s { stage = stage }) place before part
+knows-same : (s : ReaderState) (stage : ReaderStage) (place : Place) (before : List (List ℕ)) (part : Part) → Knows s place before part → Knows (record s { stage = stage }) place before part
 knows-same s stage place before Letters k = k
 knows-same s stage place before ClientLimit k = k
 knows-same s stage place before ServerLimit k = k
@@ -70,7 +68,7 @@ module _ (x more : List ℕ) (place : Place) (before : List (List ℕ)) (part : 
 -- ---- a byte of a part
 
 -- one more byte, and the part isn't whole
-pub part-more : (s : State) (part : Part) (bytes : List ℕ) (got b : ℕ) (x : List ℕ) (r : Recording) → got + 1 < width part → width part ≤ 8 →
+pub part-more : (s : ReaderState) (part : Part) (bytes : List ℕ) (got b : ℕ) (x : List ℕ) (r : Recording) → got + 1 < width part → width part ≤ 8 →
     Spells x r → HasHeadAt s (place_of r) → AtFixed s part bytes got r → ReadsOn (record s { stage = Fixed part (set bytes got b) (got + 1) }) x r (b ∷ []) None
 part-more s part bytes got b x r less most i has at' =
     let p = at'.part_at in
@@ -114,7 +112,7 @@ bad-read (InHead Zkr2) before part v is = omega arith
 bad-read (InPieces First pieces) before part v is = omega arith
 bad-read (InPieces (Second c s w p) pieces) before part v is = omega arith
 
-pub part-bad : (s : State) (part : Part) (begun v : List ℕ) (b : ℕ) (x : List ℕ) (r : Recording) → begun ++ b ∷ [] ≡ v → length v ≡ width part → is_good part v ≡ false →
+pub part-bad : (s : ReaderState) (part : Part) (begun v : List ℕ) (b : ℕ) (x : List ℕ) (r : Recording) → begun ++ b ∷ [] ≡ v → length v ≡ width part → is_good part v ≡ false →
     Spells x r → HasHeadAt s (place_of r) → AtPart s part begun r → ReadsOn (record s { stage = Damaged (record { offset = s.at; reason = damage_bad part }) }) x r (b ∷ []) None
 part-bad s part begun v b x r again wide bad i has p =
     let j = subst (Spells x) p.is i in
@@ -144,12 +142,12 @@ part-bad s part begun v b x r again wide bad i has p =
 -- ---- a good value
 
 -- the next part of a head's numbers, or of a piece
-module _ (s : State) (place : Place) (before : List (List ℕ)) (part : Part) (begun v : List ℕ) (b : ℕ) (x : List ℕ)
+module _ (s : ReaderState) (place : Place) (before : List (List ℕ)) (part : Part) (begun v : List ℕ) (b : ℕ) (x : List ℕ)
     (i : Spells x (Breaks place (record { before = before; part = part; end = Cut begun }))) (again : begun ++ b ∷ [] ≡ v) (at' : s.at ≡ behind place before) (wide : length v ≡ width part) where
   pub next-bytes : spelled (before ++ v ∷ []) [] ≡ spelled before begun ++ b ∷ []
   next-bytes = spelled-snoc before v [] ∙ ap (spelled before) (append-nil v ∙ sym again) ∙ sym (spelled-append before begun (b ∷ []))
 
-  pub to-next : (t : State) (next : Part) → t ≡ then_at s next (width part) → HasHeadAt s place → IsBreak (parts_at place) (record { before = before ++ v ∷ []; part = next; end = Cut [] }) →
+  pub to-next : (t : ReaderState) (next : Part) → t ≡ then_at s next (width part) → HasHeadAt s place → IsBreak (parts_at place) (record { before = before ++ v ∷ []; part = next; end = Cut [] }) →
       Knows (then_at s next (width part)) place (before ++ v ∷ []) next → ReadsOn t x (Breaks place (record { before = before; part = part; end = Cut begun })) (b ∷ []) None
   to-next t next e has breaks knows = subst (λ u. ReadsOn u x (Breaks place (record { before = before; part = part; end = Cut begun })) (b ∷ []) None) (sym e) (record {
     new = Breaks place (record { before = before ++ v ∷ []; part = next; end = Cut [] });
@@ -175,7 +173,7 @@ module _ (s : State) (place : Place) (before : List (List ℕ)) (part : Part) (b
 
 -- ---- content
 
-module _ (s : State) (got : ℕ) (x part : List ℕ) (r : Recording) (i : Spells x r) (has : HasHeadAt s (place_of r)) (c : AtContent s got r) where
+module _ (s : ReaderState) (got : ℕ) (x part : List ℕ) (r : Recording) (i : Spells x r) (has : HasHeadAt s (place_of r)) (c : AtContent s got r) where
   begun : Spells x (Ends c.head c.pieces c.cut)
   begun = subst (Spells x) c.is i
 
@@ -312,7 +310,7 @@ damaged-more d x more r s i =
       no-content r i.place _ i.is,
     )
 
-pub damaged-on : (s : State) (d : DamageAt) (x more : List ℕ) (r : Recording) → s.stage ≡ Damaged d → IsAt s x r → ReadsOn s x r more None
+pub damaged-on : (s : ReaderState) (d : DamageAt) (x more : List ℕ) (r : Recording) → s.stage ≡ Damaged d → IsAt s x r → ReadsOn s x r more None
 damaged-on s d x more r e i =
     let m = damaged-more d x more r i.spells (subst (λ q. AtStage s q x r) e i.stands) in
     record {

@@ -4,8 +4,7 @@ use Rattle.zk_talk.specs.declared.message.Side.{Side}
 use Rattle.zk_recordings.specs.declared.parts.Format.{Format}
 use Rattle.zk_recordings.specs.declared.parts.Format.TheVariants.{Zkr1, Zkr2}
 use Rattle.zk_recordings.specs.declared.parts.Part.TheVariants.{Time, Size}
-use Rattle.zk_recordings.specs.declared.recording.Stage.TheVariants.{Content}
-use Rattle.zk_recordings.specs.declared.recording.State.{State}
+use Rattle.zk_recordings.specs.Reader.{Content, ReaderState}
 use Rattle.zk_recordings.specs.Parts.{number, is_good}
 use Rattle.zk_recordings.specs.Recording.{side_byte}
 
@@ -15,7 +14,7 @@ IsTimeIn Zkr1 block at = at ≡ 1
 IsTimeIn Zkr2 block at = (at ≡ 9) × (is_good Time (take 8 (drop 1 block)) ≡ true)
 
 -- the block begins with the whole head of a piece, each part of it good, and this state stands behind it
-pub record PassesHead (s : State) (block : List ℕ) (used : ℕ) (new : State) : Type 0 where
+pub record PassesHead (s : ReaderState) (block : List ℕ) (used : ℕ) (new : ReaderState) : Type 0 where
   pub side : Side
   pub at : ℕ
   pub named : take 1 block ≡ side_byte side ∷ []

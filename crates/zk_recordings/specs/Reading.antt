@@ -9,9 +9,7 @@ use Rattle.zk_recordings.specs.declared.parts.Format.{Format}
 use Rattle.zk_recordings.specs.declared.parts.Format.TheVariants.{Zkr1, Zkr2}
 use Rattle.zk_recordings.specs.declared.parts.Part.{Part}
 use Rattle.zk_recordings.specs.declared.parts.Part.TheVariants.{Letters, ClientLimit, ServerLimit, Waiting, Profile, SideByte, Time, Size}
-use Rattle.zk_recordings.specs.declared.recording.Stage.{Stage}
-use Rattle.zk_recordings.specs.declared.recording.Stage.TheVariants.{Fixed, Content, Damaged}
-use Rattle.zk_recordings.specs.declared.recording.State.{State}
+use Rattle.zk_recordings.specs.Reader.{Content, Damaged, Fixed, ReaderStage, ReaderState}
 use Rattle.zk_recordings.specs.Parts.{number, width}
 use Rattle.zk_recordings.specs.Recording.{Head, format_of, head_limits, Piece, piece_values, piece_bytes, piece_history, side_byte, no_time, Place, AtLetters, InHead, InPieces, Cut, Bad, Recording, Breaks, Ends, Spells, place_of, begun_of, begun_history, damage_of, behind, nothing}
 
@@ -21,11 +19,11 @@ chosen None options = options
 chosen (Some limits) options = limits
 
 -- the reader has this head
-pub record HasHead (s : State) (head : Head) : Type 0 where
+pub record HasHead (s : ReaderState) (head : Head) : Type 0 where
   pub format_is : s.format ≡ format_of head
   pub limits_are : (options : Limits) → chosen s.limits options ≡ head_limits options head
 
-abbrev pub HasHeadAt : State → Place → Type 0
+abbrev pub HasHeadAt : ReaderState → Place → Type 0
 HasHeadAt s AtLetters = Unit {0}
 HasHeadAt s (InHead format) = s.format ≡ format
 HasHeadAt s (InPieces head pieces) = HasHead s head
@@ -44,19 +42,19 @@ pub record InPiece (place : Place) : Type 0 where
   pub pieces : List Piece
   pub is : place ≡ InPieces head pieces
 
-pub record BeforeTime (s : State) (place : Place) (before : List (List ℕ)) : Type 0 where
+pub record BeforeTime (s : ReaderState) (place : Place) (before : List (List ℕ)) : Type 0 where
   pub within : InPiece place
   pub second : format_of within.head ≡ Zkr2
   pub values : before ≡ (side_byte s.side ∷ []) ∷ []
 
-pub record BeforeSize (s : State) (place : Place) (before : List (List ℕ)) : Type 0 where
+pub record BeforeSize (s : ReaderState) (place : Place) (before : List (List ℕ)) : Type 0 where
   pub within : InPiece place
   pub time : List ℕ
   pub timed : HasTime (format_of within.head) time
   pub values : before ≡ before_size (format_of within.head) s.side time
 
 -- what stands before a part, as far as the reader keeps it
-abbrev pub Knows : State → Place → List (List ℕ) → Part → Type 0
+abbrev pub Knows : ReaderState → Place → List (List ℕ) → Part → Type 0
 Knows s place before Letters = (place ≡ AtLetters) × (before ≡ [])
 Knows s place before ClientLimit = (place ≡ InHead Zkr2) × (map number before ≡ [])
 Knows s place before ServerLimit = (place ≡ InHead Zkr2) × (map number before ≡ s.client ∷ [])
@@ -66,14 +64,14 @@ Knows s place before SideByte = InPiece place × (before ≡ [])
 Knows s place before Time = BeforeTime s place before
 Knows s place before Size = BeforeSize s place before
 
-pub record AtPart (s : State) (part : Part) (begun : List ℕ) (r : Recording) : Type 0 where
+pub record AtPart (s : ReaderState) (part : Part) (begun : List ℕ) (r : Recording) : Type 0 where
   pub place : Place
   pub before : List (List ℕ)
   pub is : r ≡ Breaks place (record { before = before; part = part; end = Cut begun })
   pub at : s.at ≡ behind place before
   pub knows : Knows s place before part
 
-pub record AtContent (s : State) (got : ℕ) (r : Recording) : Type 0 where
+pub record AtContent (s : ReaderState) (got : ℕ) (r : Recording) : Type 0 where
   pub head : Head
   pub pieces : List Piece
   pub cut : Piece
@@ -95,17 +93,17 @@ pub record IsDecidedBy (d : DamageAt) (x : List ℕ) (r : Recording) : Type 0 wh
   pub decided : d.reason ≢ Short
   pub head_read : 4 ≤ length x
 
-pub record AtFixed (s : State) (part : Part) (bytes : List ℕ) (got : ℕ) (r : Recording) : Type 0 where
+pub record AtFixed (s : ReaderState) (part : Part) (bytes : List ℕ) (got : ℕ) (r : Recording) : Type 0 where
   pub eight : length bytes ≡ 8
   pub part_at : AtPart s part (take got bytes) r
 
-abbrev pub AtStage : State → Stage → List ℕ → Recording → Type 0
+abbrev pub AtStage : ReaderState → ReaderStage → List ℕ → Recording → Type 0
 AtStage s (Fixed part bytes got) x r = AtFixed s part bytes got r
 AtStage s (Content got) x r = AtContent s got r
 AtStage s (Damaged d) x r = IsDecidedBy d x r
 
 -- what the reader has read is this recording
-pub record IsAt (s : State) (x : List ℕ) (r : Recording) : Type 0 where
+pub record IsAt (s : ReaderState) (x : List ℕ) (r : Recording) : Type 0 where
   pub spells : Spells x r
   pub has : HasHeadAt s (place_of r)
   pub stands : AtStage s s.stage x r
@@ -114,25 +112,25 @@ pub record InRange (size got : ℕ) : Type 0 where
   pub left : got < size
   pub most : size ≤ 16777220
 
-abbrev pub IsSoundAt : State → Stage → Type 0
+abbrev pub IsSoundAt : ReaderState → ReaderStage → Type 0
 IsSoundAt s (Fixed part bytes got) = (got < width part) × (length bytes ≡ 8)
 IsSoundAt s (Content got) = InRange s.size got
 IsSoundAt s (Damaged d) = Unit {0}
 
-abbrev pub IsSound : State → Type 0
+abbrev pub IsSound : ReaderState → Type 0
 IsSound s = IsSoundAt s s.stage
 
-abbrev pub place_by : State → Stage → ℕ
+abbrev pub place_by : ReaderState → ReaderStage → ℕ
 place_by s (Fixed part bytes got) = s.at + got
 place_by s (Content got) = s.at + got
 place_by s (Damaged d) = 0
 
 -- how many bytes were read, until a damage
-abbrev pub place_in : State → ℕ
+abbrev pub place_in : ReaderState → ℕ
 place_in s = place_by s s.stage
 
 -- behind so many bytes a part begins
-abbrev pub then_at : State → Part → ℕ → State
+abbrev pub then_at : ReaderState → Part → ℕ → ReaderState
 then_at s part wide = record s { at = s.at + wide; stage = Fixed part no_time 0 }
 
 abbrev pub content_of : Option Side → List ℕ → History
@@ -173,30 +171,30 @@ pub data GoesOn (old : Recording) (used : List ℕ) (side : Option Side) (new : 
       piece_bytes (format_of head) piece ≡ begun_of old ++ used → piece_history piece ≡ begun_history old ++ content_of side used → GoesOn old used side new
 
 -- the reader, having read this recording, reads on
-pub record ReadsOn (s : State) (x : List ℕ) (old : Recording) (used : List ℕ) (side : Option Side) : Type 0 where
+pub record ReadsOn (s : ReaderState) (x : List ℕ) (old : Recording) (used : List ℕ) (side : Option Side) : Type 0 where
   pub new : Recording
   pub is : IsAt s (x ++ used) new
   pub goes_on : GoesOn old used side new
 
 -- whatever was read before, the last of these bytes makes the part whole, and this state stands behind it
-abbrev pub Accepts : State → Part → List ℕ → State → Type 0
+abbrev pub Accepts : ReaderState → Part → List ℕ → ReaderState → Type 0
 Accepts s part bytes new = (x begun : List ℕ) (byte : ℕ) (r : Recording) →
     begun ++ byte ∷ [] ≡ bytes → Spells x r → HasHeadAt s (place_of r) → AtPart s part begun r → ReadsOn new x r (byte ∷ []) None
 
 -- whatever was read before a part and of it, these bytes are read on, and this state stands behind them
-abbrev pub GoesOnFrom : State → Part → List ℕ → ℕ → List ℕ → State → Type 0
+abbrev pub GoesOnFrom : ReaderState → Part → List ℕ → ℕ → List ℕ → ReaderState → Type 0
 GoesOnFrom s part bytes got used new = (x : List ℕ) (r : Recording) → Spells x r → HasHeadAt s (place_of r) → AtFixed s part bytes got r → ReadsOn new x r used None
 
 -- the reader stands behind a head or a whole piece of this format, and nothing is begun; or it does not
-abbrev pub IsBetweenOf : State → Format → Type 0
+abbrev pub IsBetweenOf : ReaderState → Format → Type 0
 IsBetweenOf s format = (x : List ℕ) (r : Recording) → IsAt s x r → IsBetween r × (format_at (place_of r) ≡ Some format)
 
-abbrev pub IsNeverBetween : State → Type 0
+abbrev pub IsNeverBetween : ReaderState → Type 0
 IsNeverBetween s = (x : List ℕ) (r : Recording) → IsAt s x r → IsBetween r → ⊥
 
 -- what was read has this damage, whatever follows; or it has none
-abbrev pub IsDamagedBy : State → DamageAt → Type 0
+abbrev pub IsDamagedBy : ReaderState → DamageAt → Type 0
 IsDamagedBy s d = (x : List ℕ) (r : Recording) → IsAt s x r → IsDecidedBy d x r
 
-abbrev pub IsUndamaged : State → Type 0
+abbrev pub IsUndamaged : ReaderState → Type 0
 IsUndamaged s = (x : List ℕ) (r : Recording) (d : DamageAt) → IsAt s x r → IsDecidedBy d x r → ⊥

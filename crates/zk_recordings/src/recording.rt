@@ -3,9 +3,9 @@ ghost use Rattle.std.specs.Prelude.{◌≡◌, ◌+◌, ◌^◌, ◌<◌, ◌≤
 ghost use Rattle.zk_recordings.specs.declared.parts.DamageAt.{DamageAt};
 ghost use Rattle.zk_recordings.specs.declared.parts.Format.TheVariants.{Zkr1, Zkr2};
 ghost use Rattle.zk_recordings.specs.declared.parts.Part.TheVariants.{Letters, ClientLimit, SideByte, Time, Size};
-ghost use Rattle.zk_recordings.specs.declared.recording.Stage.TheVariants.{Content};
 ghost use Rattle.zk_recordings.specs.HeadLimits.{limits_or, profile_by};
 ghost use Rattle.zk_recordings.specs.Parts as parts;
+ghost use Rattle.zk_recordings.specs.Reader.{Content, state_of};
 ghost use Rattle.zk_recordings.specs.Recording.{Recording, Breaks, AtLetters, Cut, damage_of, limits_of, place_of, side_byte};
 ghost use Rattle.zk_recordings.specs.Heads.{PassesHead};
 ghost use Rattle.zk_recordings.specs.Reading.{GoesOnFrom, Accepts, IsAt, IsBetweenOf, IsNeverBetween, IsDamagedBy, IsUndamaged, IsHeaded, IsSound, ReadsOn, chosen, place_in, then_at};
@@ -60,14 +60,14 @@ pub struct RecordingReader {
 }
 
 impl Model for RecordingReader {
+    ghost use Rattle.zk_recordings.specs.Reader.{ReaderState, state_of};
     ghost use Rattle.zk_recordings.specs.Reading.{IsSound};
-    ghost use Rattle.zk_recordings.specs.declared.recording.State.{State};
 
-    ghost Value = { State };
+    ghost Value = { ReaderState };
 
-    ghost view = { λ r. r.state };
+    ghost view = { λ r. state_of r.state };
 
-    ghost invariant = { λ r. IsSound r.state };
+    ghost invariant = { λ r. IsSound (state_of r.state) };
 }
 
 /// The side that a good byte names.
@@ -104,7 +104,7 @@ impl State {
     /// At a part, behind one that is so wide.
     fn then(self, part: Part, wide: u64) -> State
         requires { self.at + wide < 2 ^ 64 }
-        ensures { result ≡ then_at self part wide }
+        ensures { state_of result ≡ then_at (state_of self) part wide }
     {
         State {
             at: self.at + wide,
@@ -120,8 +120,8 @@ impl State {
     /// Behind the letters of a format.
     fn headed(self, letters: [u8; 4]) -> State
         requires { self.at + 4 < 2 ^ 64 }
-        ensures first { letters ≡ parts.letters Zkr1 → result ≡ then_at (record self { format = Zkr1; limits = None }) SideByte 4 }
-        ensures second { letters ≡ parts.letters Zkr2 → result ≡ then_at (record self { format = Zkr2; limits = None }) ClientLimit 4 }
+        ensures first { letters ≡ parts.letters Zkr1 → state_of result ≡ then_at (record (state_of self) { format = Zkr1; limits = None }) SideByte 4 }
+        ensures second { letters ≡ parts.letters Zkr2 → state_of result ≡ then_at (record (state_of self) { format = Zkr2; limits = None }) ClientLimit 4 }
     {
         if letters == Format::Zkr1.letters() {
             State {
@@ -143,8 +143,8 @@ impl State {
     /// Behind a side's byte.
     fn sided(self, side: Side) -> State
         requires { self.at + 1 < 2 ^ 64 }
-        ensures first { self.format ≡ Zkr1 → result ≡ then_at (record self { side = side }) Size 1 }
-        ensures second { self.format ≡ Zkr2 → result ≡ then_at (record self { side = side }) Time 1 }
+        ensures first { self.format ≡ Zkr1 → state_of result ≡ then_at (record (state_of self) { side = side }) Size 1 }
+        ensures second { self.format ≡ Zkr2 → state_of result ≡ then_at (record (state_of self) { side = side }) Time 1 }
     {
         let state = State { side, ..self };
         match self.format {
@@ -158,9 +158,9 @@ impl State {
         requires room { self.at + parts.width part < 2 ^ 64 }
         requires eight { length bytes ≡ 8 }
         requires good { parts.is_good part (take (parts.width part) bytes) ≡ true }
-        ensures sound { IsSound result }
-        ensures place { place_in result ≤ self.at + parts.width part }
-        ensures reads { Accepts self part (take (parts.width part) bytes) result }
+        ensures sound { IsSound (state_of result) }
+        ensures place { place_in (state_of result) ≤ self.at + parts.width part }
+        ensures reads { Accepts (state_of self) part (take (parts.width part) bytes) (state_of result) }
     {
         match part {
             Part::Letters => self.headed(word(bytes)),
@@ -197,9 +197,9 @@ impl State {
         requires got { got < parts.width part }
         requires eight { length bytes ≡ 8 }
         requires room { self.at + got + 1 < 2 ^ 64 }
-        ensures sound { IsSound result }
-        ensures place { place_in result ≤ self.at + got + 1 }
-        ensures reads { GoesOnFrom self part bytes got (byte ∷ []) result }
+        ensures sound { IsSound (state_of result) }
+        ensures place { place_in (state_of result) ≤ self.at + got + 1 }
+        ensures reads { GoesOnFrom (state_of self) part bytes got (byte ∷ []) (state_of result) }
     {
         bytes[got] = byte;
         if got + 1 < part.width() {
@@ -225,7 +225,7 @@ impl State {
     // byte by byte.
     fn pass_head(self, block: &[u8]) -> Option<(State, usize)>
         requires { self.at + length block.now < 2 ^ 64 }
-        ensures { IfSome result (λ x. PassesHead self block.now x.1 x.0) }
+        ensures { IfSome result (λ x. PassesHead (state_of self) block.now x.1 (state_of x.0)) }
     {
         let side = side_named(*block.first()?)?;
         let at = behind_time(self.format, block)?;
@@ -247,11 +247,11 @@ impl State {
         requires got { got < parts.width part }
         requires eight { length bytes ≡ 8 }
         requires room { self.at + got + length block.now < 2 ^ 64 }
-        ensures sound { IsSound result.0 }
+        ensures sound { IsSound (state_of result.0) }
         ensures progress { 0 < result.1 }
         ensures used { result.1 ≤ length block.now }
-        ensures place { place_in result.0 ≤ self.at + got + result.1 }
-        ensures reads { GoesOnFrom self part bytes got (take result.1 block.now) result.0 }
+        ensures place { place_in (state_of result.0) ≤ self.at + got + result.1 }
+        ensures reads { GoesOnFrom (state_of self) part bytes got (take result.1 block.now) (state_of result.0) }
     {
         if let Part::SideByte = part {
             if let Some(passed) = self.pass_head(block) {
@@ -263,7 +263,7 @@ impl State {
 
     /// So many more bytes of a content, which isn't whole with them.
     fn within(self, got: u32) -> State
-        ensures { result ≡ record self { stage = Content got } }
+        ensures { state_of result ≡ record (state_of self) { stage = Content got } }
     {
         State {
             stage: Stage::Content { got },

@@ -9,3 +9,4 @@ pub mod Answered
 pub mod Spared
 pub mod Moves
 pub mod Migrates
+pub mod Chosen

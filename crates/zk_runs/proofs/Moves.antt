@@ -13,11 +13,11 @@ use Rattle.zk_recordings.specs.declared.parts.Format.{Format}
 use Rattle.zk_recordings.specs.declared.parts.Format.TheVariants.{Zkr1, Zkr2}
 use Rattle.zk_recordings.specs.declared.parts.Part.{Part}
 use Rattle.zk_recordings.specs.declared.parts.Part.TheVariants.{SideByte}
-use Rattle.zk_recordings.specs.declared.recording.State.{State}
+use Rattle.zk_recordings.specs.Reader.{ReaderState}
 use Rattle.zk_recordings.specs.Parts.{number, piece_parts}
 use Rattle.zk_recordings.specs.Recording.{spelled, End, Cut, Bad, end_bytes, Break, IsBreakIn, Head, First, Second, format_of, head_bytes, Piece, IsPiece, piece_bytes, Place, AtLetters, InHead, InPieces, IsPlace, front, Recording, Breaks, Ends, IsRecording, Spells, place_of, begun_of, damage_of, nothing}
 use Rattle.zk_recordings.specs.Reading.{IsAt, IsDecidedBy, IsHeaded, IsBetween, GoesOn, in_head, within, ends, ReadsOn, format_at}
-use Rattle.zk_listings.specs.Outcome.{HasGrownIn}
+use Rattle.zk_listings.specs.Outcome.{IsBroken, HasGrownIn}
 use Rattle.zk_runs.specs.Migrating.{head_of, second, migrated_at, migrated, sent, kept_at, kept, IsHeadedIf, HasMoved, HasMovedIn, HasMovedTo, HasMigrated, HasMigratedSoFar, HasBegunMigrating, answered}
 use Rattle.zk_listings.proofs.Bytes.{Appends-then, Consumes-then}
 use Rattle.zk_recordings.proofs.Walks.{Walk, Walked, Broke, walk}
@@ -231,13 +231,13 @@ moved-further options x more r before now i grown =
 
 -- ---- one step
 
-pub stop-here : (options : Limits) (x block : List ℕ) (head_written : Bool) (begun : List ℕ) (s : State) (before now : Option (List ℕ)) →
+pub stop-here : (options : Limits) (x block : List ℕ) (head_written : Bool) (begun : List ℕ) (s : ReaderState) (before now : Option (List ℕ)) →
     HasMoved options x head_written begun s before now → HasMovedIn options (x ++ block) before now
 stop-here options x block head_written begun s before now t =
     moved-further options x block t.recording before now t.at.spells (grown-whole before now (migrated options t.recording) t.written)
 
-module _ (options : Limits) (x block : List ℕ) (n : ℕ) (head_written : Bool) (begun : List ℕ) (s : State) (before mid : Option (List ℕ)) (t : HasMoved options x head_written begun s before mid)
-    (state : State) (side : Option Side) (reads : (y : List ℕ) (r : Recording) → IsAt s y r → ReadsOn state y r (take n block) side) where
+module _ (options : Limits) (x block : List ℕ) (n : ℕ) (head_written : Bool) (begun : List ℕ) (s : ReaderState) (before mid : Option (List ℕ)) (t : HasMoved options x head_written begun s before mid)
+    (state : ReaderState) (side : Option Side) (reads : (y : List ℕ) (r : Recording) → IsAt s y r → ReadsOn state y r (take n block) side) where
   on : ReadsOn state x t.recording (take n block) side
   on = reads x t.recording t.at
 
@@ -281,7 +281,7 @@ module _ (options : Limits) (x block : List ℕ) (n : ℕ) (head_written : Bool)
 pub joined : (x block : List ℕ) (at' used : ℕ) → (x ++ take at' block) ++ take used (drop at' block) ≡ x ++ take (at' + used) block
 joined x block at' used = append_assoc x (take at' block) (take used (drop at' block)) ∙ ap (λ l. x ++ l) (sym (take-add at' used block))
 
-pub found-damage : (options : Limits) (x block : List ℕ) (n : ℕ) (d : DamageAt) (head_written : Bool) (begun : List ℕ) (s : State) (before now : Option (List ℕ)) →
+pub found-damage : (options : Limits) (x block : List ℕ) (n : ℕ) (d : DamageAt) (head_written : Bool) (begun : List ℕ) (s : ReaderState) (before now : Option (List ℕ)) →
     HasMoved options (x ++ take n block) head_written begun s before now → ((y : List ℕ) (r : Recording) → IsAt s y r → IsDecidedBy d y r) → HasMovedTo options (x ++ block) d before now
 found-damage options x block n d head_written begun s before now t decided =
     let m = damaged-more d (x ++ take n block) (drop n block) t.recording t.at.spells (decided _ t.recording t.at) in
@@ -294,22 +294,22 @@ found-damage options x block n d head_written begun s before now t decided =
 
 -- ---- what a run has read and written
 
-pub migrated-so_far : (options : Limits) (unread unread_now : Option (List ℕ)) (x : List ℕ) (head_written : Bool) (begun : List ℕ) (s : State) (before now : Option (List ℕ)) →
-    Consumes unread unread_now x → HasMoved options x head_written begun s before now → HasMigratedSoFar options unread unread_now before now
-migrated-so_far options unread unread_now x head_written begun s before now p t =
-    record { bytes = x; recording = t.recording; reads = reads-by unread unread_now x t.recording p t.at.spells; written = t.written }
+pub migrated-so_far : (options : Limits) (unread unread_now : Option (List ℕ)) (x : List ℕ) (head_written : Bool) (begun : List ℕ) (s : ReaderState) (before now : Option (List ℕ)) →
+    Consumes unread unread_now x → (t : HasMoved options x head_written begun s before now) → (IsBroken x t.recording → ⊥) → HasMigratedSoFar options unread unread_now before now
+migrated-so_far options unread unread_now x head_written begun s before now p t unbroken =
+    record { bytes = x; recording = t.recording; reads = reads-by unread unread_now x t.recording p t.at.spells; unbroken = unbroken; written = t.written }
 
 pub begun-in : (options : Limits) (unread unread_now : Option (List ℕ)) (x : List ℕ) (before now : Option (List ℕ)) →
     Consumes unread unread_now x → HasMovedIn options x before now → HasBegunMigrating options unread unread_now before now
 begun-in options unread unread_now x before now p t =
     record { bytes = x; recording = t.recording; reads = reads-by unread unread_now x t.recording p t.spells; written = t.written }
 
-pub begun-so_far : (options : Limits) (unread unread_now : Option (List ℕ)) (x : List ℕ) (head_written : Bool) (begun : List ℕ) (s : State) (before now : Option (List ℕ)) →
+pub begun-so_far : (options : Limits) (unread unread_now : Option (List ℕ)) (x : List ℕ) (head_written : Bool) (begun : List ℕ) (s : ReaderState) (before now : Option (List ℕ)) →
     Consumes unread unread_now x → HasMoved options x head_written begun s before now → HasBegunMigrating options unread unread_now before now
 begun-so_far options unread unread_now x head_written begun s before now p t =
     record { bytes = x; recording = t.recording; reads = reads-by unread unread_now x t.recording p t.at.spells; written = grown-whole before now (migrated options t.recording) t.written }
 
-pub migrated-at_end : (options : Limits) (unread mid unread_now : Option (List ℕ)) (x none : List ℕ) (head_written : Bool) (begun : List ℕ) (s : State) (before now : Option (List ℕ)) (damage : Option DamageAt) →
+pub migrated-at_end : (options : Limits) (unread mid unread_now : Option (List ℕ)) (x none : List ℕ) (head_written : Bool) (begun : List ℕ) (s : ReaderState) (before now : Option (List ℕ)) (damage : Option DamageAt) →
     Consumes unread mid x → Consumes mid unread_now none → none ≡ [] → IsAtEnd unread_now → HasMoved options x head_written begun s before now →
     ((y : List ℕ) (r : Recording) → IsAt s y r → damage_of r ≡ damage) → (answer : Migrated) → answer ≡ answered damage → HasMigrated options unread unread_now before now answer
 migrated-at_end options unread mid unread_now x none head_written begun s before now damage p q nothing end t is answer e = record {

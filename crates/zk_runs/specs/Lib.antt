@@ -1,7 +1,7 @@
 pub mod Rebuilding
 pub mod Exits
 pub mod Migrating
-pub mod Profiles
+pub mod Names
 pub mod Building
 pub mod Accepting
 pub mod Stepping

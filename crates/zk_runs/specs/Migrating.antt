@@ -12,7 +12,7 @@ use Rattle.zk_runs.specs.declared.migrate.Migrated.TheVariants.{Whole, Damaged}
 use Rattle.zk_recordings.specs.declared.parts.DamageAt.{DamageAt}
 use Rattle.zk_recordings.specs.declared.parts.Format.{Format}
 use Rattle.zk_recordings.specs.declared.parts.Format.TheVariants.{Zkr1, Zkr2}
-use Rattle.zk_recordings.specs.declared.recording.State.{State}
+use Rattle.zk_recordings.specs.Reader.{ReaderState}
 use Rattle.zk_listings.specs.declared.summary.Summary.{Summary}
 use Rattle.zk_recordings.specs.Recording.{Head, First, Second, format_of, head_bytes, no_time, Place, AtLetters, InHead, InPieces, front, Recording, Spells, place_of, begun_of, damage_of}
 use Rattle.zk_recordings.specs.Reading.{IsAt, IsDecidedBy, IsHeaded}
@@ -53,11 +53,12 @@ pub record HasMigrated (options : Limits) (unread unread_now contents contents_n
   pub written : Appends contents contents_now (migrated options recording)
   pub enough : IsAtEnd unread_now ⊎ IsBroken bytes recording
 
--- what was read was migrated as far as its pieces are whole
+-- what was read was migrated as far as its pieces are whole, and no damage in it stands whatever follows
 pub record HasMigratedSoFar (options : Limits) (unread unread_now contents contents_now : Option (List ℕ)) : Type 0 where
   pub bytes : List ℕ
   pub recording : Recording
   pub reads : Reads unread unread_now bytes recording
+  pub unbroken : IsBroken bytes recording → ⊥
   pub written : Appends contents contents_now (migrated options recording)
 
 -- a front of that was written
@@ -92,7 +93,7 @@ IsHeadedIf true place = IsHeaded place
 IsHeadedIf false place = IsHeaded place → ⊥
 
 -- the bytes x were read, and the whole pieces in them were written
-pub record HasMoved (options : Limits) (x : List ℕ) (head_written : Bool) (begun : List ℕ) (s : State) (before now : Option (List ℕ)) : Type 0 where
+pub record HasMoved (options : Limits) (x : List ℕ) (head_written : Bool) (begun : List ℕ) (s : ReaderState) (before now : Option (List ℕ)) : Type 0 where
   pub recording : Recording
   pub at : IsAt s x recording
   pub head_is : IsHeadedIf head_written (place_of recording)
@@ -113,7 +114,7 @@ pub record HasMovedTo (options : Limits) (x : List ℕ) (d : DamageAt) (before n
   pub written : Appends before now (migrated options recording)
 
 -- these bytes were read, and no damage stands in them, or this one
-abbrev pub HasMovedBy : Limits → List ℕ → Bool → List ℕ → State → Option (List ℕ) → Option (List ℕ) → Option DamageAt → Type 0
+abbrev pub HasMovedBy : Limits → List ℕ → Bool → List ℕ → ReaderState → Option (List ℕ) → Option (List ℕ) → Option DamageAt → Type 0
 HasMovedBy options x head_written begun s before now None = HasMoved options x head_written begun s before now
 HasMovedBy options x head_written begun s before now (Some d) = HasMovedTo options x d before now
 

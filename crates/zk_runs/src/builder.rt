@@ -29,7 +29,7 @@ const NO_ENDING: LineFault = LineFault {
 
 /// Why no more lines are taken: one is refused, or the run fails.
 #[derive(Clone, Copy)]
-pub enum Halt {
+pub(crate) enum Halt {
     Refused(Built),
     Fails(RunFault),
 }
@@ -138,7 +138,7 @@ fn piece_of(alloc: Global, side: Side, content: &[u8]) -> Result<Vec<u8>, AllocE
 
 /// What was said of the lines so far, and the bytes behind the last line feed.
 #[derive(Drop)]
-pub struct Builder {
+pub(crate) struct Builder {
     speaker: Speaker,
     begun: Vec<u8>,
     lines: u64,

@@ -18,5 +18,10 @@ pub use laws::{
 };
 pub use migrate::{Migrated, migrate_run};
 pub use options::{Command, Settings, UsageFault};
-pub use run::run_settings;
+pub use run::{refuse, run_settings, run_words};
 pub use words::settings;
+pub use zk_listings::{
+    Failed, FromRead, FromWrite, RunFault, Sink, Source, Status, check_earliest_run, check_run,
+    show_run,
+};
+pub use zk_recordings::Damage;

@@ -3,7 +3,7 @@ ghost use Rattle.std.specs.Prelude.{◌≡◌, ◌+◌, ◌^◌, ◌<◌, ◌≤
 ghost use Rattle.zk_talk.specs.declared.limits.Limits.{Limits};
 ghost use Rattle.zk_runs.specs.Migrating as migrating;
 ghost use Rattle.zk_runs.specs.Migrating.{HasBegunMigrating, HasMigrated, HasMigratedSoFar, HasMoved, MovesOn, MovesBy, MovesIn};
-ghost use Rattle.zk_recordings.specs.Reading.{IsAt, place_in};
+ghost use Rattle.zk_recordings.specs.Reading.{IsAt, IsUndamaged, place_in};
 ghost use Rattle.zk_recordings.specs.Recording.{Recording, damage_of, head_bytes, no_time};
 ghost use Rattle.zk_listings.specs.Running.{IsSpent, OnRead};
 
@@ -153,9 +153,11 @@ impl Migrator {
         block: &[u8],
         writer: &mut W,
     ) -> Result<Option<DamageAt>, RunFault>
+        requires some { 0 < length block.now }
         requires room { place_in self.old.reader + length block.now < 2 ^ 64 }
         requires live { W.has_failed writer.old ≡ false }
         ensures place { IfOk result (λ found. found ≡ None → place_in self.new.reader ≤ place_in self.old.reader + length block.now) }
+        ensures undamaged { IfOk result (λ found. found ≡ None → IsUndamaged self.new.reader) }
         ensures goes_on { IfOk result (MovesBy limits self.old self.new block.now (W.contents writer.old) (W.contents writer.new)) }
         ensures stops { OnErr result (MovesIn limits self.old block.now (W.contents writer.old) (W.contents writer.new)) }
         ensures live { IfOk result (λ _. W.has_failed writer.new ≡ false) }

@@ -16,8 +16,6 @@ pub enum Command {
     Show,
     /// To write its last line.
     Check,
-    /// To write its last line, and the line of the first impossible byte.
-    CheckEarliest,
     /// To write the recording that a listing shows.
     Build,
     /// To write the recording of the second format that a recording makes.
@@ -29,6 +27,8 @@ pub enum Command {
 pub struct Settings {
     pub command: Command,
     pub limits: Limits,
+    /// Whether `check` writes the line of the first impossible byte too. The other commands do not look at it.
+    pub earliest: bool,
 }
 
 /// Why the words of a command line give no settings.

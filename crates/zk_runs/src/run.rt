@@ -1,12 +1,13 @@
 //! The whole program, over a reader and two writers.
-ghost use Rattle.std.specs.Prelude.{◌≡◌, ◌^◌, ◌<◌, ◌≤◌, false, IfOk, IfErr, OnErr};
-ghost use Rattle.zk_runs.specs.Commands.{IsDone, IsFailed, Answers, Stops};
+ghost use Rattle.std.specs.Prelude.{◌≡◌, ◌+◌, ◌^◌, ◌<◌, ◌≤◌, ◌⊎◌, false, IfOk, IfErr, OnErr};
+ghost use Rattle.zk_runs.specs.Commands.{IsDone, IsFailed, Answers, Stops, IsDoneBySome, IsFailedBySome};
 ghost use Rattle.zk_runs.specs.Exits.{exit_of, exit_of_built, exit_of_migrated, refusal_of};
 
 use crate::build::build_run;
 use crate::built::Built;
 use crate::migrate::{Migrated, migrate_run};
 use crate::options::{Command, Settings, UsageFault};
+use crate::words::settings;
 use std::alloc::Global;
 use std::fmt;
 use std::fmt::{Display, Write};
@@ -39,7 +40,7 @@ fn tell<F: Sink>(faults: &mut F, fault: &(impl Display)) {
 }
 
 /// Tells why a command line is refused, and gives the status for it.
-fn refuse<F: Sink>(fault: UsageFault, faults: &mut F) -> u8
+pub fn refuse<F: Sink>(fault: UsageFault, faults: &mut F) -> u8
     ensures { result ≡ refusal_of fault }
 {
     tell(faults, &fault);
@@ -101,14 +102,17 @@ fn obey<R: Source, W: Sink, F: Sink>(
     ensures ok { IfOk result (IsDone chosen (R.remaining reader.old) (R.remaining reader.new) (W.contents writer.old) (W.contents writer.new)) }
     ensures small { IfOk result (λ exit. exit < 2) }
     ensures err { OnErr result (IsFailed chosen (R.remaining reader.old) (R.remaining reader.new) (W.contents writer.old) (W.contents writer.new)) }
+    ensures alive { IfOk result (λ _. R.has_failed reader.new ≡ false) }
+    ensures open { IfOk result (λ _. W.has_failed writer.new ≡ false) }
+    ensures bound { R.read_count reader.new ≤ R.read_count reader.old + 4294967296 }
 {
     match chosen.command {
         Command::Show => Ok(exit_code(show_run(alloc, chosen.limits, reader, writer)?)),
-        Command::Check => Ok(exit_code(check_run(alloc, chosen.limits, reader, writer)?)),
-        Command::CheckEarliest => {
+        Command::Check if chosen.earliest => {
             let status = check_earliest_run(alloc, chosen.limits, reader, writer)?;
             Ok(exit_code(status))
         }
+        Command::Check => Ok(exit_code(check_run(alloc, chosen.limits, reader, writer)?)),
         Command::Build => Ok(report(build_run(alloc, chosen.limits, reader, writer)?, faults)),
         Command::Migrate => {
             let migrated = migrate_run(alloc, chosen.limits, reader, writer)?;
@@ -128,7 +132,6 @@ pub fn run_settings<R: Source, W: Sink, F: Sink>(
     requires reader { R.has_failed reader.old ≡ false }
     requires reads { R.read_count reader.old < 2 ^ 62 }
     requires writer { W.has_failed writer.old ≡ false }
-    requires faults { F.has_failed faults.old ≡ false }
     ensures known { result ≤ 3 }
 
     // The command that was chosen is done, under its limits: what was read is listed, or made a recording.
@@ -139,6 +142,11 @@ pub fn run_settings<R: Source, W: Sink, F: Sink>(
 
     // A failure comes after a front of what the command writes.
     ensures stopped { IfOk chosen (λ s. Stops s (R.remaining reader.old) (R.remaining reader.new) (W.contents writer.old) (W.contents writer.new) result) }
+
+    // A failed read or write is never passed over, and no more is read than that often.
+    ensures alive { result < 2 → R.has_failed reader.new ≡ false }
+    ensures open { result < 2 → W.has_failed writer.new ≡ false }
+    ensures bound { R.read_count reader.new ≤ R.read_count reader.old + 4294967296 }
 {
     let chosen = match chosen {
         Ok(chosen) => chosen,
@@ -151,4 +159,35 @@ pub fn run_settings<R: Source, W: Sink, F: Sink>(
             3
         }
     }
+}
+
+/// The whole program: reads the words of a command line, the first of which is the program's name, does what they say,
+/// and gives the status of the process. What it says of faults is lost where their writer fails, and changes nothing.
+pub fn run_words<R: Source, W: Sink, F: Sink>(
+    alloc: Global,
+    words: Vec<String>,
+    reader: &mut R,
+    writer: &mut W,
+    faults: &mut F,
+) -> u8
+    requires reader { R.has_failed reader.old ≡ false }
+    requires reads { R.read_count reader.old < 2 ^ 62 }
+    requires writer { W.has_failed writer.old ≡ false }
+    ensures known { result ≤ 3 }
+
+    // Below 2, the words are a command line, and its command is done: what was read is listed, or made a recording.
+    ensures done { result < 2 → IsDoneBySome (R.remaining reader.old) (R.remaining reader.new) (W.contents writer.old) (W.contents writer.new) result }
+
+    // Words that are refused leave everything unread and unwritten.
+    ensures refused { result ≡ 2 → (reader.new ≡ reader.old) × (writer.new ≡ writer.old) }
+
+    // So does want of memory for the words; every other failure comes after a front of what the command writes.
+    ensures stopped { result ≡ 3 → ((reader.new ≡ reader.old) × (writer.new ≡ writer.old)) ⊎ IsFailedBySome (R.remaining reader.old) (R.remaining reader.new) (W.contents writer.old) (W.contents writer.new) }
+
+    // A failed read or write is never passed over, and no more is read than that often.
+    ensures alive { result < 2 → R.has_failed reader.new ≡ false }
+    ensures open { result < 2 → W.has_failed writer.new ≡ false }
+    ensures bound { R.read_count reader.new ≤ R.read_count reader.old + 4294967296 }
+{
+    run_settings(alloc, settings(alloc, words), reader, writer, faults)
 }

@@ -1,8 +1,9 @@
 //! The words of a command line, as settings.
 ghost use Rattle.std.specs.Prelude.{◌≡◌, ◌≢◌, IfOk, MatchOption};
 ghost use Rattle.zk_records.specs.declared.profile.Profile.{Profile};
-ghost use Rattle.zk_talk.specs.Ranges.{AreLimits};
-ghost use Rattle.zk_runs.specs.Profiles.{profile_name};
+ghost use Rattle.zk_runs.specs.declared.options.Command.{Command as command};
+ghost use Rattle.zk_runs.specs.Commands.{IsInRange};
+ghost use Rattle.zk_runs.specs.Names.{command_name, profile_name};
 
 use crate::options::{Command, Settings, UsageFault};
 use clap::{Arg, ArgAction, value_parser};
@@ -51,10 +52,12 @@ fn command_line<'a>(alloc: Global) -> Result<clap::Command<'a>, AllocError> {
         .subcommand(subcommand(alloc, "migrate")?)
 }
 
-fn command_of(name: &str, earliest: bool) -> Option<Command> {
+/// The command of a name.
+fn command_of(name: &str) -> Option<Command>
+    ensures { MatchOption result ((c : command) → name.now ≢ command_name c) (λ c. name.now ≡ command_name c) }
+{
     match name {
         "show" => Some(Command::Show),
-        "check" if earliest => Some(Command::CheckEarliest),
         "check" => Some(Command::Check),
         "build" => Some(Command::Build),
         "migrate" => Some(Command::Migrate),
@@ -80,17 +83,21 @@ fn profile_of(name: &str) -> Option<Profile>
 /// # Errors
 /// `Memory` where a growth was refused, else `Words`; asking for help is a fault of the words.
 pub fn settings(alloc: Global, words: Vec<String>) -> Result<Settings, UsageFault>
-    ensures { IfOk result (λ s. AreLimits s.limits.client s.limits.server s.limits.waiting) }
+    ensures { IfOk result IsInRange }
 {
     let matches = command_line(alloc)?.try_get_matches_from(words.as_slice())?;
     let (name, options) = matches.subcommand().ok_or(UsageFault::Words)?;
     let earliest = options.get_flag("earliest");
-    let command = command_of(name, earliest).ok_or(UsageFault::Words)?;
+    let command = command_of(name).ok_or(UsageFault::Words)?;
     let limit = options.get_one::<u32>("limit").unwrap_or(USUAL_LIMIT);
     let waiting = options.get_one::<u32>("waiting").unwrap_or(USUAL_WAITING);
     let profile = options.get_str("profile").unwrap_or(USUAL_PROFILE);
     let profile = profile_of(profile).ok_or(UsageFault::Words)?;
     let limits = Limits::new(limit, limit, waiting).ok_or(UsageFault::Words)?;
     let limits = limits.with_profile(profile);
-    Ok(Settings { command, limits })
+    Ok(Settings {
+        command,
+        limits,
+        earliest,
+    })
 }

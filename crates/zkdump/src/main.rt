@@ -1,13 +1,13 @@
 //! `zkdump show` reads a recorded conversation from standard input, and writes a line for each message and how the
 //! recording ends; `zkdump check` writes how it ends alone. `zkdump build` reads such lines, and writes the recording
-//! of their messages, one piece a message, up to the first line that is refused.
+//! of their messages, one piece a message, up to the first line that is refused. `zkdump migrate` reads a recording,
+//! and writes it in the second format.
 #![tactic(auto)]
 
 use std::process::ExitCode;
 use std::rt::Env;
 use std::{env, io};
-use zk_listings::{FromRead, FromWrite};
-use zk_runs::{Settings, UsageFault, run_settings, settings};
+use zk_runs::{FromRead, FromWrite, UsageFault, refuse, run_words};
 
 /// The words of the command line.
 fn arguments(rt: &(impl Env + AllocGlobal)) -> Result<Vec<String>, UsageFault> {
@@ -20,16 +20,13 @@ fn arguments(rt: &(impl Env + AllocGlobal)) -> Result<Vec<String>, UsageFault> {
     }
 }
 
-/// What they ask for.
-fn chosen(rt: &(impl Env + AllocGlobal)) -> Result<Settings, UsageFault> {
-    settings(rt.alloc(), arguments(rt)?)
-}
-
 fn main(rt: HostRuntime) -> ExitCode {
     let mut reader = FromRead::new(rt.stdin());
     let mut writer = FromWrite::new(rt.stdout());
     let mut faults = FromWrite::new(rt.stderr());
-    let chosen = chosen(&rt);
-    let status = run_settings(rt.alloc(), chosen, &mut reader, &mut writer, &mut faults);
+    let status = match arguments(&rt) {
+        Ok(words) => run_words(rt.alloc(), words, &mut reader, &mut writer, &mut faults),
+        Err(fault) => refuse(fault, &mut faults),
+    };
     ExitCode::from(status)
 }

@@ -1,6 +1,7 @@
 use Rattle.std.proofs.Common.{◌≡◌, ◌+◌, ◌*◌, ◌≤◌, List, ℕ, false, length}
 use Rattle.std.specs.Io.KnownBytes.{Consumes}
 use Rattle.zk_recordings.specs.Reading.{place_in}
+use Rattle.zk_listings.specs.Outcome.{IsBroken}
 use Rattle.zk_runs.specs.Migrating.{HasMoved}
 use Rattle.zk_runs.proofs.migrate.migrate_run.Given as goal
 
@@ -12,5 +13,5 @@ invariant-loop-turn g l = record {
   count : g.R.Source.read_count l.reader ≡ g.R.Source.read_count l.initial.reader + l._turn;
   place : place_in l.migrator.reader ≤ 65536 * l._turn;
   moved : (x : List ℕ) × Consumes (g.R.Source.remaining l.initial.reader) (g.R.Source.remaining l.reader) x
-      × HasMoved l.fn.limits x l.migrator.headed l.migrator.begun.items l.migrator.reader (g.W.Sink.contents l.initial.writer) (g.W.Sink.contents l.writer);
+      × (m : HasMoved l.fn.limits x l.migrator.headed l.migrator.begun.items l.migrator.reader (g.W.Sink.contents l.initial.writer) (g.W.Sink.contents l.writer)) × (IsBroken x m.recording → ⊥);
 }

@@ -15,4 +15,4 @@ returns-in-Some-damage-clause-steps c =
 pub returns-in-None-damage-clause-steps : goal.returns-in-None-damage-clause-steps
 returns-in-None-damage-clause-steps c =
     steps-on c.args.listing c.args.self.now c.args.lines.now.items _ c.args.block.now _ _ c.next-run.new.self _ _ _ c.next-run.ensures.reads c.limits-limits.ensures c.in_ok-refused.ensures.gives c.in_ok-refused.ensures.same
-    c.in-None.is _ refl refl refl
+    c.in-None.is c.in-None-damage.ensures _ refl refl refl

@@ -1,4 +1,4 @@
-use Rattle.std.proofs.Common.{refl}
+use Rattle.std.proofs.Common.{refl, arith}
 use Rattle.zk_listings.proofs.progress.Progress.new.Goals as goal
 
 pub returns-clause-start : goal.returns-clause-start
@@ -6,5 +6,6 @@ returns-clause-start c = record {
   options = refl;
   recording = _;
   at = c.new.ensures.start;
+  unbroken = λ b. absurd (omega (arith, b.head_read));
   talks = record { headed = tt; has = (refl, refl) };
 }

@@ -1,6 +1,7 @@
 use Rattle.std.proofs.Common.{◌≡◌, ◌<◌, subst, arith}
 use Rattle.zk_recordings.specs.declared.parts.Part.TheVariants.{SideByte}
 use Rattle.zk_recordings.specs.Parts.{width}
+use Rattle.zk_recordings.specs.Reader.{state_of}
 use Rattle.zk_recordings.specs.Reading.{AtFixed}
 use Rattle.zk_recordings.proofs.Passing.{passes-head}
 use Rattle.zk_recordings.proofs.recording.State.in_part.Goals as goal
@@ -8,5 +9,5 @@ use Rattle.zk_recordings.proofs.recording.State.in_part.Goals as goal
 pub returns-in-Some-clause-reads : goal.returns-in-Some-clause-reads
 returns-in-Some-clause-reads c = λ x r i has a.
     let none : c.args.got ≡ 0 = omega (arith, subst (λ q. c.args.got < width q) c.in-SideByte.is c.requires.got) in
-    let side = subst (λ q. AtFixed c.args.self q c.args.bytes c.args.got r) c.in-SideByte.is a in
-    passes-head c.args.self c.args.block.now c.in-Some.passed.1 c.in-Some.passed.0 c.in-Some.ensures c.args.bytes x r i has (subst (λ n. AtFixed c.args.self SideByte c.args.bytes n r) none side)
+    let side = subst (λ q. AtFixed (state_of c.args.self) q c.args.bytes c.args.got r) c.in-SideByte.is a in
+    passes-head (state_of c.args.self) c.args.block.now c.in-Some.passed.1 (state_of c.in-Some.passed.0) c.in-Some.ensures c.args.bytes x r i has (subst (λ n. AtFixed (state_of c.args.self) SideByte c.args.bytes n r) none side)

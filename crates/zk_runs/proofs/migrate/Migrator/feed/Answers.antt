@@ -43,5 +43,6 @@ loop-at-preserved g c =
           subst (λ y. HasMoved c.args.limits y new.headed new.begun.items new.reader before now) (joined x block at' used)
           (subst (λ b. HasMoved c.args.limits ((x ++ take at' block) ++ take used b) new.headed new.begun.items new.reader before now) c.rest.ensures
           (c.in_ok-at.ensures.goes_on (x ++ take at' block) before (c.loop-at.invariant.moved x before t)));
+      undamaged = λ _. c.in_default.ensures;
       live = c.in_ok-at.ensures.live;
     }
