@@ -2,8 +2,8 @@
 
 use std::fmt;
 use std::fmt::Display;
-use zk_lines::{LineFault, line_reason_name};
-use zk_talk::{SayFault, say_name};
+use zk_lines::LineFault;
+use zk_talk::SayFault;
 
 /// What lines come to: the recording of all of their messages, or the first line that is refused, counted from 1.
 #[derive(Clone, Copy, Debug, PartialEq, Eq)]
@@ -16,27 +16,13 @@ pub enum Built {
     SayRefused { line: u64, fault: SayFault },
 }
 
-/// The two xids of an order that isn't kept.
-fn write_order<W: fmt::Write>(fault: SayFault, f: &mut fmt::Formatter<W>) -> fmt::Result {
-    match fault {
-        SayFault::XidOrder { expected, got } => write!(f, " expected={expected} got={got}"),
-        _ => Ok(()),
-    }
-}
-
 /// Which line is refused and why, in one line; nothing where none is.
 impl Display for Built {
     fn fmt<W: fmt::Write>(&self, f: &mut fmt::Formatter<W>) -> fmt::Result {
         match self {
             Built::Whole => Ok(()),
-            Built::LineRefused { line, fault } => {
-                let reason = line_reason_name(&fault.reason);
-                write!(f, "line {line}: column {}: {reason}", fault.column)
-            }
-            Built::SayRefused { line, fault } => {
-                write!(f, "line {line}: {}", say_name(fault))?;
-                write_order(*fault, f)
-            }
+            Built::LineRefused { line, fault } => write!(f, "line {line}: {fault}"),
+            Built::SayRefused { line, fault } => write!(f, "line {line}: {fault}"),
         }
     }
 }
