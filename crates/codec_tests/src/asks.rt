@@ -86,10 +86,10 @@ fn written(alloc: Global, frame: &ClientFrame, size: usize) -> Result<Vec<u8>, F
 }
 
 /// What the frame is, once it is written again as its payload.
-fn frame_told(alloc: Global, frame: ClientFrame, payload: &[u8]) -> Result<String, Fail>
-    requires { MaySend frame }
+fn frame_told(alloc: Global, frame: &ClientFrame, payload: &[u8]) -> Result<String, Fail>
+    requires { MaySend frame.now }
 {
-    let out = written(alloc, &frame, payload.len())?;
+    let out = written(alloc, frame, payload.len())?;
     if out.as_slice() != payload {
         return Err("written otherwise")?;
     }
@@ -99,7 +99,7 @@ fn frame_told(alloc: Global, frame: ClientFrame, payload: &[u8]) -> Result<Strin
 /// What the first payload is, or what is wrong with it.
 fn first_told(alloc: Global, payload: &[u8]) -> Result<String, Fail> {
     match read_first(alloc, payload) {
-        Ok(frame) => frame_told(alloc, frame, payload),
+        Ok(frame) => frame_told(alloc, &frame, payload),
         Err(fault) => Ok(fault_told(alloc, &fault)?),
     }
 }
@@ -107,7 +107,7 @@ fn first_told(alloc: Global, payload: &[u8]) -> Result<String, Fail> {
 /// What a later payload is, or what is wrong with it.
 fn ask_told(alloc: Global, profile: Profile, payload: &[u8]) -> Result<String, Fail> {
     match read_ask(alloc, profile, payload) {
-        Ok(frame) => frame_told(alloc, frame, payload),
+        Ok(frame) => frame_told(alloc, &frame, payload),
         Err(fault) => Ok(fault_told(alloc, &fault)?),
     }
 }
