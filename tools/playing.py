@@ -101,7 +101,7 @@ class Play:
                 self.zxid = part[8:16]
             left = self.before_the_end(at, len(part))
             is_end = left is not None
-            said += self.flipped(at, part)[:left]
+            said += self.flipped(at, part[:left])
             if is_end:
                 at.offset += left
                 break
@@ -145,11 +145,16 @@ class Play:
         """Waits, and answers pings meanwhile."""
         until = time.monotonic() + seconds
         while (left := until - time.monotonic()) > 0:
-            if self.has_ended or len(self.heard) > BLOCK:
+            if self.may_ping() and self.heard.startswith(PING):
+                self.answer_ping()
+            elif self.has_ended or len(self.heard) > BLOCK:
                 time.sleep(left)
-            elif not self.take(until) and self.own == zkr.SERVER and self.at[self.peer].begins():
-                while self.heard.startswith(PING):
-                    self.answer_ping()
+            else:
+                self.take(until)
+
+    def may_ping(self):
+        """Whether the peer is a client that may ping now: it is connected, and between two frames."""
+        return self.own == zkr.SERVER and self.at[self.own].frame > 0 and self.at[self.peer].begins()
 
     def take(self, until):
         """Takes what the peer says next, up to this moment; gives why there is nothing more."""
@@ -170,8 +175,8 @@ class Play:
             self.hear_part(part)
 
     def hear_part(self, due):
-        """Takes a part of one frame. Where it is a whole frame, a ping may come before it, or be missed in its place."""
-        begins = self.at[self.peer].begins() and self.own == zkr.SERVER
+        """Takes a part of one frame, before which a ping may come; a whole ping may be missing."""
+        begins = self.may_ping()
         until, before = time.monotonic() + self.wait, 0
         if begins and due == PING and self.spare:
             self.spare, self.missed = self.spare - 1, self.missed + 1
@@ -206,9 +211,9 @@ class Play:
         """Waits for the peer's end, before which nothing but pings may come; silence is as good."""
         until, is_over = time.monotonic() + self.wait, False
         while not is_over:
-            while self.own == zkr.SERVER and self.heard.startswith(PING):
+            while self.may_ping() and self.heard.startswith(PING):
                 self.answer_ping()
-            is_ping = self.own == zkr.SERVER and PING.startswith(self.heard)
+            is_ping = self.may_ping() and PING.startswith(self.heard)
             is_over = self.heard and not is_ping or self.take(until)
         if self.heard:
             raise self.refused(f"{self.heard[0]:02x} where the recording has no more")

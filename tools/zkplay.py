@@ -47,7 +47,7 @@ def clients(listeners, count):
 
 def opener(parser, path, words):
     """What opens the recording at this path, or the one that is made of a listing there."""
-    with open(path, "rb") as file:
+    with open(path, "rb", buffering=0) as file:
         is_listing = file.read(2) in (b"C ", b"S ")
         file.seek(0)
         if not is_listing:
