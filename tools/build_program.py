@@ -166,7 +166,7 @@ class Build:
     def prove(self, name, lane, jobs):
         """Proves a crate in a lane, and has its library built there for the crates above."""
         begun = self.tell_begin(name)
-        words = ["--jobs", str(jobs)]
+        words = "--jobs", str(jobs)
         self.call(name, lane, "check", *words)
         if any(name in used for used in self.uses.values()):
             self.call(name, lane, "lib", *words)
@@ -178,10 +178,10 @@ class Build:
             say(f"proving {name}, crate {self.begun} of {len(self.uses)}")
         return time.monotonic()
 
-    def call(self, name, lane, *words):
-        """Runs `rt` in a crate's folder, and writes what it says into the log."""
-        with tempfile.TemporaryFile() as said:
-            child = subprocess.Popen(["rt", *words], cwd=lane / "crates" / name, stdin=subprocess.DEVNULL, stdout=said,
+    def call(self, name, lane, *words, file=os.devnull):
+        """Runs `rt` in a crate's folder with this file as its input, and writes what it says into the log."""
+        with tempfile.TemporaryFile() as said, open(file, "rb") as stdin:
+            child = subprocess.Popen(["rt", *words], cwd=lane / "crates" / name, stdin=stdin, stdout=said,
                                      stderr=subprocess.STDOUT, start_new_session=True)
             with self.writing:
                 self.children.add(child)
@@ -213,7 +213,8 @@ class Build:
             child.wait()
 
     def replace_program(self):
-        """Proves the program's own crate and builds it. If that fails, the program that was there is put back."""
+        """Proves the program's own crate, builds it, and has it check the stored run, since the status of `rt run` is that
+        of the program. If anything fails, the program that was there is put back."""
         program, before = self.out() / PROGRAM, self.out() / f"{PROGRAM}.before"
         if before.exists():
             os.replace(before, program)
@@ -221,7 +222,7 @@ class Build:
             shutil.copy2(program, before)
         begun = self.tell_begin(PROGRAM)
         try:
-            self.call(PROGRAM, self.top, "run", "--", "--help")
+            self.call(PROGRAM, self.top, "run", "--", "check", file=self.crate / "stdin")
             program.touch()
         except BaseException:
             self.end_children()

@@ -34,7 +34,8 @@ if [ "$name" = "$BROKEN" ]; then
 fi
 case $1 in
     lib) mkdir -p out/rlib out/incremental; echo "$name" > out/rlib/made ;;
-    run) mkdir -p out
+    run) cmp - stdin || exit 1
+        mkdir -p out
         printf '#!/bin/sh\\necho "ran $*"; cat; exit 7\\n' > out/made
         chmod +x out/made
         mv out/made out/zkdump ;;
@@ -57,6 +58,7 @@ class WrapperCase(ToolCase):
             (source / "uses").write_text(uses)
         (self.top / "crates.txt").write_text("# crates\nother: low\n" + "".join(
             f"{crate}: {uses} clap\n" for crate, uses in reversed(USES.items())))
+        shutil.copy(TOP / "crates" / "zkdump" / "stdin", self.top / "crates" / "zkdump")
         (self.top / "tools").mkdir()
         shutil.copy(TOP / "zkdump", self.top)
         shutil.copy(TOOLS / "build_program.py", self.top / "tools")
@@ -100,7 +102,7 @@ class Wrapper(WrapperCase):
         for told in ("proving low, crate 1 of 4\n", "proving zkdump, crate 4 of 4\n", "low took "):
             self.assertIn(told, err)
         self.assertTrue(all(line.startswith("zkdump: ") for line in err.splitlines()))
-        self.assertEqual(sorted(path.name for path in (self.top / "crates" / "zkdump").iterdir()), ["out", "src"])
+        self.assertEqual(sorted(path.name for path in (self.top / "crates" / "zkdump").iterdir()), ["out", "src", "stdin"])
         self.assertEqual(sorted(path.name for path in self.program.parent.iterdir()), ["took", "zkdump"])
         self.assertEqual(self.zkdump("check"), (7, "ran check\ninput", "", []))
 
@@ -228,7 +230,7 @@ class Lanes(WrapperCase):
         begun = [at for at, line in enumerate(lines) if line.startswith(("left check --jobs", "right check --jobs"))]
         self.assertEqual(len(begun), 2)
         self.assertLess(max(begun), min(ended))
-        self.assertEqual(lines.index("zkdump run -- --help"), len(lines) - 2)
+        self.assertEqual(lines.index("zkdump run -- check"), len(lines) - 2)
 
     def test_all_is_given_to_the_tree(self):
         self.run_lanes(2, SLEEPS="0.2")
