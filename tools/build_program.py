@@ -21,7 +21,8 @@ import threading
 import time
 
 PROGRAM = "zkdump"
-CHECK_MEMORY = 4 << 30      # what a check takes at most, of those that were measured
+CHECK_MEMORY = 4 << 30      # what a check takes at most, and of that each of its jobs
+JOB_MEMORY = 3 << 29
 MOST_LANES = 4
 
 
@@ -48,9 +49,12 @@ def crates_below(text, top):
 
 
 def memory_left():
-    """The bytes of memory that are available."""
-    with open("/proc/meminfo", encoding="ascii") as lines:
-        return next(int(line.split()[1]) * 1024 for line in lines if line.startswith("MemAvailable:"))
+    """The bytes of memory that are available; enough for one check, where the system doesn't tell."""
+    try:
+        with open("/proc/meminfo", encoding="ascii") as lines:
+            return next(int(line.split()[1]) * 1024 for line in lines if line.startswith("MemAvailable:"))
+    except (OSError, StopIteration):
+        return CHECK_MEMORY
 
 
 class Failed(Exception):
@@ -65,15 +69,12 @@ class Build:
         self.log, self.took = self.crate / "build.log", self.crate / "out" / "took"
         self.uses = crates_below((top / "crates.txt").read_text(), PROGRAM)
         self.processors = len(os.sched_getaffinity(0))
+        self.jobs = max(1, min(self.processors, memory_left() // JOB_MEMORY))
         self.begun, self.writing, self.children, self.is_over = 0, threading.Lock(), set(), False
 
     def lane_count(self):
         """How many checks may go side by side."""
-        try:
-            memory = memory_left()
-        except (OSError, StopIteration):
-            memory = CHECK_MEMORY
-        return max(1, min(self.processors // 2, memory // CHECK_MEMORY, MOST_LANES))
+        return max(1, min(self.processors // 2, memory_left() // CHECK_MEMORY, MOST_LANES))
 
     def behind(self, name):
         """How many bytes of sources are on the longest chain of crates from this one up."""
@@ -137,7 +138,7 @@ class Build:
 
     def prove_all(self, lanes):
         """Proves all crates below the program: a crate begins once all that it uses are proved and a lane is free, that
-        with the longest chain behind it first. It gets the processors that the others don't have."""
+        with the longest chain behind it first. It gets all jobs but those of the crates beside it, which get one each."""
         free, done, running = list(lanes), set(), {}
         left = sorted([name for name in self.uses if name != PROGRAM], key=self.behind, reverse=True)
         with concurrent.futures.ThreadPoolExecutor(len(lanes)) as pool:
@@ -148,7 +149,7 @@ class Build:
                         left.remove(name)
                         lane = free.pop(0)
                         others = len(ready) - 1 - at
-                        jobs = max(1, self.processors - sum(it[2] for it in running.values()) - others)
+                        jobs = max(1, self.jobs - sum(it[2] for it in running.values()) - others)
                         running[pool.submit(self.prove, name, lane, jobs)] = name, lane, jobs
                     for ended in concurrent.futures.wait(running, return_when=concurrent.futures.FIRST_COMPLETED).done:
                         name, lane, _ = running.pop(ended)
