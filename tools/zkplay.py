@@ -90,7 +90,8 @@ class Bench:
             print(f"{head}played: {play.told()}", flush=True)
         except (ValueError, OSError) as error:
             self.status = max(self.status, 3 if isinstance(error, OSError) else 1)
-            print(f"zkplay.py: {head}{error}", file=sys.stderr, flush=True)
+            if sys.stderr:
+                print(f"zkplay.py: {head}{error}", file=sys.stderr, flush=True)
 
 
 def seconds(text):

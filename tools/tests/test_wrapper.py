@@ -50,7 +50,7 @@ CALLS = ["low check", "low lib", "left check", "left lib", "right check", "right
 class WrapperCase(ToolCase):
     def setUp(self):
         super().setUp()
-        self.top, self.calls = self.folder / "top", self.folder / "calls"
+        self.top, self.calls = self.folder / "src" / "top", self.folder / "calls"
         for crate, uses in USES.items():
             source = self.top / "crates" / crate / "src"
             source.mkdir(parents=True)
