@@ -1,6 +1,5 @@
 """One side of a recording, played on a connection: what zkplay.py does."""
 
-import os
 import socket
 import struct
 import sys
@@ -28,11 +27,12 @@ class Position:
 
     def parts(self, data):
         """Gives these bytes frame by frame, and goes past each part behind that."""
+        data = memoryview(data)
         while data:
-            head = self.length + data[:max(0, -self.place)]
+            head = self.length + bytes(data[:max(0, -self.place)])
             size = int.from_bytes(head, "big", signed=True) if len(head) == LENGTH else -1
             left = size - self.place if size >= 0 else sys.maxsize
-            part, data = data[:left], data[left:]
+            part, data = bytes(data[:left]), data[left:]
             yield part
             self.length, self.place, self.offset = head, self.place + len(part), self.offset + len(part)
             if len(part) == left:
@@ -175,32 +175,41 @@ class Play:
             self.hear_part(part)
 
     def hear_part(self, due):
-        """Takes a part of one frame, before which a ping may come; a whole ping may be missing."""
-        begins = self.may_ping()
-        until, before = time.monotonic() + self.wait, 0
-        if begins and due == PING and self.spare:
-            self.spare, self.missed = self.spare - 1, self.missed + 1
+        """Takes a part of one frame, before which a ping may come; a recorded ping may be missing."""
+        until = time.monotonic() + self.wait
+        if self.may_ping() and not self.is_coming(due, until):
+            self.missed += 1
             return
-        while True:
-            same = len(os.path.commonprefix([bytes(self.heard[:len(due)]), due]))
-            if same == len(due):
-                del self.heard[:same]
-                return
-            if same > before:
-                until, before = time.monotonic() + self.wait, same
-            if same == len(self.heard):
+        same = 0
+        while same < len(due):
+            size = min(len(self.heard), len(due) - same)
+            if not size:
                 reason = self.take(until)
                 if reason:
                     raise self.refused(f"{reason}, {due[same]:02x} is due", same)
-            elif begins and self.heard.startswith(PING):
-                self.answer_ping()
-            elif begins and PING.startswith(self.heard) and not self.take(until):
-                pass
-            elif begins and due == PING:
-                self.missed += 1
-                return
+            elif self.heard[:size] == due[same:same + size]:
+                del self.heard[:size]
+                same, until = same + size, time.monotonic() + self.wait
             else:
-                raise self.refused(f"{self.heard[same]:02x} in place of {due[same]:02x}", same)
+                other = next(at for at in range(size) if self.heard[at] != due[same + at])
+                raise self.refused(f"{self.heard[other]:02x} in place of {due[same + other]:02x}", same + other)
+
+    def is_coming(self, due, until):
+        """Answers the pings that come before this part of a frame. Gives whether the part itself is to come: a recorded
+        ping is not, where one was answered before, or another frame comes."""
+        if due == PING and self.spare:
+            self.spare -= 1
+            return False
+        if len(due) < len(PING) and PING.startswith(due):
+            return True
+        while True:
+            head = bytes(self.heard[:len(PING)])
+            if due == PING and head:
+                return PING.startswith(head)
+            if head == PING:
+                self.answer_ping()
+            elif not PING.startswith(head) or self.take(until):
+                return True
 
     def answer_ping(self):
         del self.heard[:len(PING)]

@@ -166,12 +166,40 @@ class Pings(BenchCase):
     def test_recorded_pings_may_come_or_be_missing_or_come_early(self):
         recording = [(zkr.CLIENT, CONNECT), (zkr.SERVER, CONNECTED), (zkr.CLIENT, PING), (zkr.SERVER, PING_REPLY),
                      (zkr.CLIENT, EXISTS), (zkr.SERVER, MISSING)]
-        for said, heard in ((CONNECT + PING + EXISTS, CONNECTED + PING_REPLY + MISSING),
-                            (CONNECT + EXISTS, CONNECTED + MISSING)):
-            client = self.client(self.play(recording), said)
+        for words, said, heard, told in (
+                ((), CONNECT + PING + EXISTS, CONNECTED + PING_REPLY + MISSING, ""),
+                ((), CONNECT + EXISTS, CONNECTED + MISSING, ""),
+                (("--delay", "0.2"), CONNECT, CONNECTED, ""), ((), CONNECT + PING[:7], CONNECTED, "")):
+            client = self.client(self.play(recording, *words), said)
             self.assertEqual(receive(client, len(heard)), heard)
+            if words or not heard.endswith(MISSING):
+                client.sendall(PING[len(said) - 49:] + PING + EXISTS)
+                answers = receive(client, 60)
+                self.assertEqual(answers.count(PING_REPLY[:8]), 2)
+                self.assertEqual(answers.count(MISSING), 1)
+                told = ", and 1 pings answered"
             client.close()
-            self.assertEqual(self.ended(), (0, ["played: 80 bytes of the client, 81 of the server"], []))
+            self.assertEqual(self.ended(), (0, [f"played: 80 bytes of the client, 81 of the server{told}"], []))
+
+    def test_a_frame_that_begins_as_a_ping_does(self):
+        close = bytes.fromhex("00000008 00000002 fffffff5")
+        recording = [(zkr.CLIENT, CONNECT), (zkr.SERVER, CONNECTED), (zkr.CLIENT, close), (zkr.SERVER, MISSING)]
+        client = self.client(self.play(recording), CONNECT)
+        self.assertEqual(receive(client, 41), CONNECTED)
+        for part in (PING[:4], PING[4:] + close[:3], close[3:5]):
+            client.sendall(part)
+            time.sleep(0.1)
+        self.assertEqual(receive(client, 20), PING_REPLY[:8] + bytes(12))
+        client.sendall(close[5:])
+        self.assertEqual(receive(client, 20), MISSING)
+
+    def test_large_pieces_take_no_longer_than_they_are(self):
+        frame = bytes.fromhex("0000000c 00000001 00000004 ffffffff")
+        many, large = frame * 100_000, (8_000_000).to_bytes(4, "big") + bytes(8_000_000)
+        recording = [(zkr.CLIENT, CONNECT), (zkr.SERVER, CONNECTED), (zkr.CLIENT, many), (zkr.CLIENT, large)]
+        client = self.client(self.play(recording), CONNECT, many, large)
+        client.shutdown(socket.SHUT_WR)
+        self.assertEqual(self.ended()[:2], (0, ["played: 9600053 bytes of the client, 41 of the server"]))
 
     def test_what_only_begins_as_a_ping_is_refused(self):
         for said, told in ((PING[:11] + b"\0", "client frame=1 offset=53 place=0: 08 in place of 0f"),
