@@ -155,11 +155,12 @@ class Connection:
             self.looker.over()
         self.proxy.left(self)
 
-    def ended_text(self):
-        """How it ended, as it is told: each side's end, in order; `open` where a side had not ended."""
-        told = [f"{side.decode()}:{how}" for side, how in self.ends]
-        is_over = len({side for side, _ in self.ends}) == 2 or any(how != "FIN" for _, how in self.ends)
-        return ",".join(told if is_over else [*told, "open"])
+    def ended_words(self):
+        """How it ended, as it is told: which side closed it first, and which broke it; `open` where neither did."""
+        words = [f"closed={side.decode()}" for side, how in self.ends if how == "FIN"][:1]
+        words += [f"reset={side.decode()}" for side, how in self.ends if how == "RST"][:1]
+        words += [f"broken={side.decode()}:{how}" for side, how in self.ends if how not in ("FIN", "RST")][:1]
+        return words or ["open"]
 
 
 class Room:

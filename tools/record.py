@@ -5,9 +5,9 @@
 
 Point the client at PORT, where this listens: on 127.0.0.1, or on HOST. An IPv6 address stands in brackets. The
 connections become PREFIX-1.zkr, PREFIX-2.zkr and so on; a number whose file is there already is passed over. Standard
-output has a line for each connection that begins or ends, with the client's address and the time, and at the end with
-how each side has ended: end=C:FIN,S:FIN where the client closed first, end=S:RST where the server reset it. Ctrl-C, or
-SIGTERM, ends it.
+output has a line for each connection that begins or ends, with the client's address and the time; that of its end tells
+who ended it, as closed=C (the client closed it first, by a FIN) or reset=S (the server reset it). Ctrl-C, or SIGTERM,
+ends it.
 
 Every piece is in its file before it is passed on, so that no reply stands in the recording before its request. An end
 of one direction is passed on, and so is a reset. Only the owner may read the files: they have everything that was said,
@@ -64,12 +64,11 @@ class Recording:
             pass
 
     def over(self):
+        incomplete = ["incomplete"] if self.words else []
         if self.writer:
             self.close()
-        elif self.words:
-            self.words.append("incomplete")
-        self.recorder.say(" ".join([self.path, self.connection.peer, "ended", zkr.clock(now()),
-                                    f"end={self.connection.ended_text()}", *self.words]))
+        self.recorder.say(" ".join([self.path, self.connection.peer, "ended", zkr.clock(now()), *self.words,
+                                    *self.connection.ended_words(), *incomplete]))
 
 
 class Recorder(proxy.Proxy):

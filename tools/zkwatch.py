@@ -14,7 +14,6 @@ there, before it reads on, and it waits where the reader of its lines waits.
 """
 
 import errno
-import itertools
 import os
 import subprocess
 import sys

@@ -156,7 +156,7 @@ class Wrapper(WrapperCase):
         self.assertIn(f"{self.top}/crates/zkdump cannot be written", err)
         folders = os.environ["PATH"].split(":")
         self.path = ":".join(folder for folder in folders if not os.path.exists(os.path.join(folder, "rt")))
-        self.assertRegex(self.zkdump()[2], "^zkdump: the program is to be built, and the command rt is not on this .*\n$")
+        self.assertRegex(self.zkdump()[2], "^zkdump: the program is to be built, and the command rt .* is not on .*\n$")
 
     def test_without_python_once_it_is_built(self):
         self.zkdump()
