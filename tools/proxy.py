@@ -21,7 +21,7 @@ BLOCK = 65536
 READ, WRITE = selectors.EVENT_READ, selectors.EVENT_WRITE
 OTHER = {zkr.CLIENT: zkr.SERVER, zkr.SERVER: zkr.CLIENT}
 REST = 0.1                  # for so many seconds no clients are taken where the system has no room for one
-LAST_WORDS = 5              # and as many seconds lookers-on have to end in
+LAST_WORDS = 30             # and as many seconds lookers-on have to end in, or until a second signal
 
 
 class Way:
@@ -186,13 +186,14 @@ class Room:
 class Proxy:
     """Takes clients' connections and passes them on, until a signal comes. What is to be done with each is up to the
     classes that stand on it: `look_on` gives a looker-on, which has `piece(side, data)`, called before the bytes are
-    passed on, `over()`, and `busy`, which is true as long as it has something to do behind that."""
+    passed on, and `over()`."""
 
     descriptors = 0         # how many a looker-on opens, at most
 
     def __init__(self, name, server):
         self.server, self.ready = server, selectors.DefaultSelector()
-        self.connections, self.listeners, self.waits, self.due, self.over = set(), [], set(), {}, False
+        self.connections, self.listeners, self.waits, self.due = set(), [], set(), {}
+        self.signals, self.over = 0, False
         self.numbers = itertools.count(1)
         self.heard, self.bell = socket.socketpair()
         self.bell.setblocking(False)
@@ -201,6 +202,10 @@ class Proxy:
 
     def look_on(self, connection):
         raise NotImplementedError
+
+    def busy(self):
+        """Whether a looker-on has something to do though its connection is over."""
+        return False
 
     def taken(self, connection):
         """Called when a client's connection begins."""
@@ -247,7 +252,7 @@ class Proxy:
         for listener in listeners:
             listener.setblocking(False)
         self.take_clients()
-        while not self.over:
+        while not self.signals and not self.over:
             self.turn()
         self.stop()
         self.lines.end()
@@ -259,7 +264,7 @@ class Proxy:
             seconds = max(0, min(self.due.values()) - time.monotonic())
         for key, events in self.ready.select(seconds):
             if key.fileobj is self.heard:
-                self.over = bool(self.heard.recv(BLOCK))
+                self.signals += len(self.heard.recv(BLOCK))
             elif key.fileobj in self.waits:
                 key.data.step(key.fileobj, events)
         now = time.monotonic()
@@ -271,11 +276,10 @@ class Proxy:
         """Ends every connection, and gives those who look on time for their last words."""
         for listener in self.listeners:
             self.wait_for(listener, 0)
-        lookers = [connection.looker for connection in self.connections if connection.looker]
         for connection in list(self.connections):
             connection.close()
-        until = time.monotonic() + LAST_WORDS
-        while any(looker.busy for looker in lookers) and time.monotonic() < until:
+        until, self.signals = time.monotonic() + LAST_WORDS, 0
+        while self.busy() and time.monotonic() < until and not self.signals:
             self.turn(0.05)
 
     def take_clients(self):

@@ -30,8 +30,6 @@ def now():
 class Recording:
     """What is written of a connection; `writer` is None where it can't be, or can't be any more."""
 
-    busy = False
-
     def __init__(self, recorder, connection):
         self.recorder, self.connection, self.writer, self.words = recorder, connection, None, []
         self.path = "-"

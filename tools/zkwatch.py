@@ -49,10 +49,6 @@ class Show:
         watch.wait_for(self.process.stdout, READ, self)
         self.write()
 
-    @property
-    def busy(self):
-        return self.process is not None
-
     def piece(self, side, data):
         """Gives `show` a piece, as far as it takes it."""
         if self.process and not self.unread:
@@ -173,6 +169,9 @@ class Watch(proxy.Proxy):
     def unreached(self, connection, reason):
         self.say_of(connection.number, f"not watched: no connection to the server: {reason}")
         self.over |= self.once
+
+    def busy(self):
+        return bool(self.shows)
 
     def seen(self, show):
         """Called once a connection is over, and all that it said is told."""

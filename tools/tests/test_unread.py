@@ -7,7 +7,7 @@ import subprocess
 import sys
 import time
 
-from proxied import SECONDS, TroubleCase
+from proxied import SECONDS, STAND_IN, TroubleCase
 from support import TOOLS
 
 
@@ -87,6 +87,18 @@ class Programs(TroubleCase):
         self.ask(client, b"\0\0\0\0")
         self.assertEqual(self.watched(3)[1:], ["#1 . refused", "#1 what follows is passed on, and not read"])
         self.assert_pace(client)
+
+    def test_lines_of_connections_that_are_over_come_before_the_end(self):
+        port = self.begin("zkwatch.py")
+        self.stand_in.write_text(STAND_IN.replace("import sys\n", "import sys, time\ntime.sleep(0.5)\n", 1))
+        client = self.client(port)
+        self.ask(client)
+        client.close()
+        time.sleep(0.1)
+        self.tool.terminate()
+        self.assertEqual(self.tool.wait(SECONDS), 0)
+        self.assertEqual([line.partition(" ")[2] for line in self.watched(4)[1:]], ["C 0", "S 0", ". whole show --profile "
+                                                                                    "3.4 --limit 4194304"])
 
     def test_a_program_that_does_not_read(self):
         program = self.folder / "sleeper"
