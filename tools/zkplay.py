@@ -156,6 +156,7 @@ def main():
     parser, words = words_of()
     if sys.stdout is None:
         raise OSError(errno.EBADF, "standard output is closed")
+    zkr.allow_many_files()
     bench = Bench([opener(parser, path, words) for path in words.recordings], words)
     if words.client:
         return bench.run(socket.create_connection(words.address) for _ in range(words.connections))
