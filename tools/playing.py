@@ -10,6 +10,7 @@ import zkr
 NAMES = {zkr.CLIENT: "client", zkr.SERVER: "server"}
 PING = bytes.fromhex("00000008fffffffe0000000b")            # a whole frame: its length, the xid -2, the operation 11
 PING_REPLY = bytes.fromhex("00000010fffffffe")              # the same of its reply, which has a zxid and an error, too
+WHOLE_REPLY = 20
 LENGTH = 4
 BLOCK = 65536
 
@@ -94,7 +95,7 @@ class Play:
         if self.delay:
             self.pause(self.delay)
         for part in at.parts(data):
-            if self.missed and at.begins() and part.startswith(PING_REPLY):
+            if self.missed and at.begins() and part.startswith(PING_REPLY) and len(part) == WHOLE_REPLY:
                 self.missed -= 1
                 continue
             if at.begins() and at.frame and len(part) >= 16 and part[8] < 0x80:

@@ -261,7 +261,8 @@ class Proxy:
     def turn(self, seconds=None):
         """Does what is ready or due; it waits for that, or for as many seconds."""
         if self.due:
-            seconds = max(0, min(self.due.values()) - time.monotonic())
+            left = max(0, min(self.due.values()) - time.monotonic())
+            seconds = left if seconds is None else min(seconds, left)
         for key, events in self.ready.select(seconds):
             if key.fileobj is self.heard:
                 self.signals += len(self.heard.recv(BLOCK))
@@ -276,6 +277,7 @@ class Proxy:
         """Ends every connection, and gives those who look on time for their last words."""
         for listener in self.listeners:
             self.wait_for(listener, 0)
+        self.listeners = []
         for connection in list(self.connections):
             connection.close()
         until, self.signals = time.monotonic() + LAST_WORDS, 0
@@ -288,8 +290,7 @@ class Proxy:
 
     def rest(self, error):
         """Takes no clients for a moment, while those that it has go on."""
-        self.complaints.tell_once(f"no more clients are taken for now: {error.strerror}; "
-                                  f"those that are connected go on")
+        self.complaints.tell_once(f"no more clients are taken for now: {error.strerror}; the connections go on")
         for listener in self.listeners:
             self.wait_for(listener, 0)
         self.after(REST, self.take_clients)

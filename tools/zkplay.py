@@ -65,7 +65,7 @@ class Bench:
     """Connections that are played side by side, and the status that they come to."""
 
     def __init__(self, openers, words):
-        self.openers, self.words, self.status = openers, words, 0
+        self.openers, self.words, self.status, self.telling = openers, words, 0, threading.Lock()
         self.own = zkr.CLIENT if words.client else zkr.SERVER
         self.faults = playing.Faults(words.delay, words.flip, words.cut_at or words.reset_at, bool(words.reset_at))
 
@@ -87,11 +87,16 @@ class Bench:
                 play = playing.Play(self.openers[number % len(self.openers)], self.own, connection, self.words.wait,
                                     self.faults)
                 play.run()
-            print(f"{head}played: {play.told()}", flush=True)
+            self.tell(sys.stdout, f"{head}played: {play.told()}")
         except (ValueError, OSError) as error:
             self.status = max(self.status, 3 if isinstance(error, OSError) else 1)
-            if sys.stderr:
-                print(f"zkplay.py: {head}{error}", file=sys.stderr, flush=True)
+            self.tell(sys.stderr, f"zkplay.py: {head}{error}")
+
+    def tell(self, stream, line):
+        """Tells a line, where the stream is open."""
+        with self.telling:
+            if stream:
+                print(line, file=stream, flush=True)
 
 
 def seconds(text):

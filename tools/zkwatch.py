@@ -105,6 +105,8 @@ class Show:
         if data is None:
             return
         *lines, rest = data.split(b"\n")
+        if not data and self.line:
+            lines = [b""]
         for line in lines:
             self.last, self.line = bytes(self.line + line), bytearray()
             self.watch.say_of(self.number, self.last.decode(errors="backslashreplace"))

@@ -153,7 +153,7 @@ class TroubleCase(ToolCase):
         self.assertEqual(receive(client, len(data)), data)
         return time.monotonic() - begun
 
-    def assert_pace(self, client, rounds=20, seconds=0.05):
+    def assert_pace(self, client, rounds=20, seconds=0.15):
         """That this client has its answers soon."""
         took = sorted(self.ask(client) for _ in range(rounds))
         self.assertLess(took[rounds // 2], seconds, took)
