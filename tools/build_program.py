@@ -10,6 +10,7 @@ The program that was there stays until the new one is built. Standard error tell
 """
 
 import concurrent.futures
+import fcntl
 import os
 import pathlib
 import shutil
@@ -118,12 +119,23 @@ class Build:
         return folder
 
     def give(self, name, lane, other):
-        """Gives another lane what was proved of a crate in this one: its library, and what a later check begins with."""
-        made, to = lane / "crates" / name / "out", other / "crates" / name / "out"
-        for part in ("rlib", "incremental"):
-            shutil.rmtree(to / part, ignore_errors=True)
-            if (made / part).is_dir():
-                shutil.copytree(made / part, to / part, symlinks=True, copy_function=self.link_or_copy)
+        """Gives another lane what was proved of a crate in this one: its library, and what a later check begins with. It
+        keeps every `rt` out of the crate meanwhile, as `rt` itself does. What can't be given, `rt` makes again."""
+        made, to = lane / "crates" / name, other / "crates" / name
+        held = [os.open(folder, os.O_RDONLY) for folder in (made, to)]
+        try:
+            for each in held:
+                fcntl.flock(each, fcntl.LOCK_EX)
+            for part in ("out/rlib", "out/incremental"):
+                shutil.rmtree(to / part, ignore_errors=True)
+                if (made / part).is_dir():
+                    shutil.copytree(made / part, to / part, symlinks=True, copy_function=self.link_or_copy)
+        except OSError:
+            for part in ("out/rlib", "out/incremental"):
+                shutil.rmtree(to / part, ignore_errors=True)
+        finally:
+            for each in held:
+                os.close(each)
 
     @staticmethod
     def link_or_copy(one, other):
@@ -236,14 +248,16 @@ class Build:
 
 
 def main():
-    top = pathlib.Path(sys.argv[1])
-    build = Build(top)
+    if len(sys.argv) < 2 or not os.path.isfile(f"{sys.argv[1]}/crates.txt"):
+        say("usage: build_program.py FOLDER [WORD ..], where FOLDER is the repository")
+        return 2
 
     def stop(*_):
         raise KeyboardInterrupt
     for number in (signal.SIGTERM, signal.SIGHUP):
         signal.signal(number, stop)
     try:
+        build = Build(pathlib.Path(sys.argv[1]).resolve())
         build.run()
     except KeyboardInterrupt:
         say("ended; what was proved so far is kept")
