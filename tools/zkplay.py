@@ -1,127 +1,173 @@
 #!/usr/bin/env python3
 """Plays the server of a recording to a client: a test bench without a ZooKeeper.
 
-    zkplay.py [--wait SECONDS] [HOST:]PORT REC.zkr
-    zkplay.py --client [--wait SECONDS] HOST:PORT REC.zkr
+    zkplay.py [OPTIONS] [HOST:]PORT RECORDING
+    zkplay.py --client [OPTIONS] HOST:PORT RECORDING
 
-It listens on PORT (0 is any free one; the first line of standard output tells it), takes one connection, and goes
-through the recording: the client has to send just the recorded bytes, and each piece of the server is sent once the
-client's pieces before it have come. The first other byte, silence or an end where a byte is due is refused with one
-line, and the status is 1. Session and password are the recorded ones. After the last piece it waits for the client's
-end. With --client it plays the client to a server: two of them are the two ends of a bench for proxies.
+It listens on PORT (0 is any free one; the first line of standard output tells it), takes a connection, and goes through
+the recording: the client has to send just the recorded bytes, and each piece of the server is sent once the client's
+pieces before it have come. The first other byte, silence or an end where a byte is due is refused with one line, and
+the status is 1. Session and password are the recorded ones. Pings of the client that were not recorded are answered,
+and recorded ones may be missing. After the last piece it waits for the client's end. With --client it plays the client
+to a server: two of them are the two ends of a bench for proxies.
+
+A listing may stand in place of a recording: `zkdump build` makes a recording of it. With --then RECORDING this one is
+played to the next connection; with --connections N they are played to N connections, again from the first one on.
+
+Faults, on each connection and the side that is played, whose FRAMEs are counted from 0: PLACE is a byte of the frame's
+payload, as in zkdump's ending lines, and a FRAME alone is the place before its length.
 """
 
+import errno
+import io
+import re
 import select
 import socket
+import subprocess
 import sys
+import threading
 
-import record
+import addresses
+import playing
+import program
 import zkr
 
-NAMES = {zkr.CLIENT: "client", zkr.SERVER: "server"}
+LONGEST_WAIT = 1_000_000
+MOST_CONNECTIONS = range(1, 10_001)
 
 
-class Refused(ValueError):
-    """The peer doesn't say what was recorded."""
-
-
-class Play:
-    """One connection, and how many bytes each side has said on it."""
-
-    def __init__(self, path, own, connection, wait):
-        self.path, self.own, self.connection = path, own, connection
-        self.peer = zkr.SERVER if own == zkr.CLIENT else zkr.CLIENT
-        self.count = {zkr.CLIENT: 0, zkr.SERVER: 0}
-        connection.setsockopt(socket.IPPROTO_TCP, socket.TCP_NODELAY, 1)
-        connection.settimeout(wait)
-
-    def run(self):
-        """Goes through the recording."""
-        with open(self.path, "rb") as recording:
-            for piece in zkr.Reader(recording):
-                if piece.side == self.own:
-                    self.say(piece.data)
-                else:
-                    self.hear(piece.data)
-        if self.own == zkr.CLIENT:
-            self.connection.shutdown(socket.SHUT_WR)
-        self.hear_end()
-
-    def say(self, data):
-        try:
-            self.connection.sendall(data)
-        except OSError as error:
-            raise self.refused(f"it takes no more: {error.strerror or error}") from None
-        self.count[self.own] += len(data)
-
-    def hear(self, due):
-        """Takes these bytes from the peer."""
-        while due:
-            try:
-                got = self.connection.recv(len(due))
-            except socket.timeout:
-                raise self.refused(f"nothing comes, {due[0]:02x} is due") from None
-            except OSError as error:
-                raise self.refused(f"{error.strerror}, {due[0]:02x} is due") from None
-            if not got:
-                raise self.refused(f"it has ended, {due[0]:02x} is due")
-            same = len(got) if due.startswith(got) else next(at for at, byte in enumerate(got) if byte != due[at])
-            self.count[self.peer] += same
-            if same < len(got):
-                raise self.refused(f"{got[same]:02x} in place of {due[same]:02x}")
-            due = due[same:]
-
-    def hear_end(self):
-        """Waits for the peer's end, in which nothing more may come; silence is as good."""
-        try:
-            got = self.connection.recv(1)
-        except OSError:
-            return
-        if got:
-            raise self.refused(f"{got[0]:02x} where the recording has no more")
-
-    def refused(self, reason):
-        """The refusal of the peer's next byte; the numbers are those of zkdump's ending lines."""
-        before, begin, number = self.count[self.peer], 0, 0
-        cutter = zkr.Cutter(zkr.LARGEST_FRAMES)
-        with open(self.path, "rb") as recording:
-            frames = (frame for piece in zkr.Reader(recording) for frame in cutter.take(piece))
-            for frame in frames:
-                if frame.side == self.peer and begin + 4 + len(frame.payload) <= before:
-                    begin, number = begin + 4 + len(frame.payload), number + 1
-        place = max(0, before - begin - 4)
-        return Refused(f"{NAMES[self.peer]} frame={number} offset={before + 1} place={place}: {reason}")
-
-
-def accept(address):
-    """The first connection of a client."""
-    listeners = record.listen(address)
-    print(f"listening on {record.address_text(listeners[0].getsockname())}", flush=True)
-    ready, _, _ = select.select(listeners, [], [])
-    connection, _ = ready[0].accept()
+def clients(listeners, count):
+    """So many connections of clients, one after the other; then nobody listens any more."""
+    for _ in range(count):
+        ready, _, _ = select.select(listeners, [], [])
+        yield ready[0].accept()[0]
     for listener in listeners:
         listener.close()
-    return connection
+
+
+def opener(parser, path, words):
+    """What opens the recording at this path, or the one that is made of a listing there."""
+    with open(path, "rb", buffering=0) as file:
+        is_listing = file.read(2) in (b"C ", b"S ")
+        file.seek(0)
+        if not is_listing:
+            zkr.Reader(file)
+            return lambda: open(path, "rb")
+        program.prove_runs(parser, words.zkdump)
+        built = subprocess.run([words.zkdump, "build"], stdin=file, capture_output=True, check=False)
+    if built.returncode:
+        told = (built.stderr or built.stdout).decode(errors="replace").strip().rpartition("\n")[2]
+        raise ValueError(f"{path}: {told or f'zkdump build has ended with status {built.returncode}'}")
+    return lambda: io.BytesIO(built.stdout)
+
+
+class Bench:
+    """Connections that are played side by side, and the status that they come to."""
+
+    def __init__(self, openers, words):
+        self.openers, self.words, self.status, self.telling = openers, words, 0, threading.Lock()
+        self.own = zkr.CLIENT if words.client else zkr.SERVER
+        self.faults = playing.Faults(words.delay, words.flip, words.cut_at or words.reset_at, bool(words.reset_at))
+
+    def run(self, connections):
+        """Plays to all these connections."""
+        threads = []
+        for number, connection in enumerate(connections):
+            threads.append(threading.Thread(target=self.play, args=(number, connection), daemon=True))
+            threads[-1].start()
+        for thread in threads:
+            thread.join()
+        return self.status
+
+    def play(self, number, connection):
+        """Plays to one connection, and tells how that went."""
+        head = f"#{number + 1} " if self.words.connections > 1 else ""
+        try:
+            with connection:
+                play = playing.Play(self.openers[number % len(self.openers)], self.own, connection, self.words.wait,
+                                    self.faults)
+                play.run()
+            self.tell(sys.stdout, f"{head}played: {play.told()}")
+        except (ValueError, OSError) as error:
+            self.status = max(self.status, 3 if isinstance(error, OSError) else 1)
+            self.tell(sys.stderr, f"zkplay.py: {head}{error}")
+
+    def tell(self, stream, line):
+        """Tells a line, where the stream is open."""
+        with self.telling:
+            if stream:
+                print(line, file=stream, flush=True)
+
+
+def seconds(text):
+    """A time to wait."""
+    try:
+        if 0 < float(text) <= LONGEST_WAIT:
+            return float(text)
+    except ValueError:
+        pass
+    raise ValueError(f"{text!r} is no number of seconds from 0 to {LONGEST_WAIT}")
+
+
+def place(text):
+    """A frame and a place in it."""
+    found = re.fullmatch(r"(\d{1,18})(?::(\d{1,18}))?", text, re.ASCII)
+    if not found:
+        raise ValueError(f"{text!r} is no FRAME or FRAME:PLACE")
+    return int(found[1]), -playing.LENGTH if found[2] is None else int(found[2])
+
+
+def flip(text):
+    """A frame and a place, and the byte that is to be there."""
+    found = re.fullmatch(r"(\d{1,18}):(\d{1,18})(?:=([0-9a-fA-F]{2}))?", text, re.ASCII)
+    if not found:
+        raise ValueError(f"{text!r} is no FRAME:PLACE or FRAME:PLACE=HH")
+    return (int(found[1]), int(found[2])), None if found[3] is None else int(found[3], 16)
+
+
+def words_of():
+    parser = zkr.Words(__doc__)
+
+    def option(word, kind, metavar, **more):
+        def read(text):
+            try:
+                return kind(text)
+            except ValueError as error:
+                parser.error(f"argument {word}: {error}")
+        parser.add_argument(word, type=read, metavar=metavar, **more)
+    parser.add_argument("address", metavar="[HOST:]PORT")
+    parser.add_argument("recording", metavar="RECORDING")
+    parser.add_argument("--then", metavar="RECORDING", action="append", default=[], help="play this one to the next "
+                        "connection; may be given several times")
+    parser.add_argument("--client", action="store_true", help="play the client, to the server at HOST:PORT")
+    option("--wait", seconds, "SECONDS", default=10, help="how long it waits for a byte (10)")
+    parser.add_number("--connections", MOST_CONNECTIONS, help="how many it plays (as many as there are recordings)")
+    option("--delay", seconds, "SECONDS", default=0, help="wait before each piece that is sent")
+    option("--cut-at", place, "FRAME[:PLACE]", help="end the side that is played there")
+    option("--reset-at", place, "FRAME[:PLACE]", help="reset the connection there")
+    option("--flip", flip, "FRAME:PLACE[=HH]", action="append", default=[],
+           help="send this byte there, or the recorded one with its lowest bit changed; may be given several times")
+    program.add_program(parser)
+    words = parser.parse_args()
+    if words.cut_at and words.reset_at:
+        parser.error("--cut-at and --reset-at: only one of them ends a connection")
+    words.recordings = [words.recording, *words.then]
+    words.connections = words.connections or len(words.recordings)
+    words.address = addresses.address_word(parser, words.address, None if words.client else "127.0.0.1")
+    return parser, words
 
 
 def main():
-    parser = zkr.Words(__doc__)
-    parser.add_argument("address", metavar="[HOST:]PORT")
-    parser.add_argument("recording", metavar="REC.zkr")
-    parser.add_argument("--client", action="store_true", help="play the client, to the server at HOST:PORT")
-    parser.add_argument("--wait", type=float, default=10, metavar="SECONDS", help="how long it waits for a byte (10)")
-    words = parser.parse_args()
-    if not words.wait > 0:
-        parser.error(f"{words.wait} is no time to wait")
-    address = record.address_word(parser, words.address, None if words.client else "127.0.0.1")
-    with open(words.recording, "rb") as recording:
-        zkr.Reader(recording)
-    own = zkr.CLIENT if words.client else zkr.SERVER
-    with socket.create_connection(address) if words.client else accept(address) as connection:
-        play = Play(words.recording, own, connection, words.wait)
-        play.run()
-    print(f"played: {play.count[zkr.CLIENT]} bytes of the client, {play.count[zkr.SERVER]} of the server")
-    return 0
+    parser, words = words_of()
+    if sys.stdout is None:
+        raise OSError(errno.EBADF, "standard output is closed")
+    zkr.allow_many_files()
+    bench = Bench([opener(parser, path, words) for path in words.recordings], words)
+    if words.client:
+        return bench.run(socket.create_connection(words.address) for _ in range(words.connections))
+    listeners = addresses.listen(words.address)
+    print(f"listening on {addresses.address_text(listeners[0].getsockname())}", flush=True)
+    return bench.run(clients(listeners, words.connections))
 
 
 if __name__ == "__main__":

@@ -219,16 +219,14 @@ class Writer:
         self.path, self.head, self.gather = path, head, gather
         self.count = {CLIENT: 0, SERVER: 0}
         self.recording, self.times = NewFile(path), None
-        if times:
-            try:
-                self.times = NewFile(times_path(path))
-            except OSError:
-                self.recording.file.close()
-                os.unlink(path)
-                raise
-        self.recording.waiting += head.to_bytes()
-        if not gather:
-            self.flush()
+        try:
+            self.times = NewFile(times_path(path)) if times else None
+            self.recording.waiting += head.to_bytes()
+            if not gather:
+                self.flush()
+        except OSError:
+            self.remove()
+            raise
 
     def piece(self, side, milliseconds, data):
         """Writes bytes of a side, of any number, as pieces. Their time is to a microsecond the same in both files."""
@@ -253,6 +251,13 @@ class Writer:
             self.recording.file.close()
             if self.times:
                 self.times.file.close()
+
+    def remove(self):
+        """Does without the recording and its times, as if they had never been there."""
+        for new in (self.recording, self.times):
+            if new:
+                new.file.close()
+                os.unlink(new.path)
 
 
 class Series:

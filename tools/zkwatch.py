@@ -1,148 +1,215 @@
 #!/usr/bin/env python3
 """A proxy that tells what the ZooKeeper connections through it say, while they say it.
 
-    zkwatch.py [--zkdump PATH] [--once] [HOST:]PORT SERVER:PORT
+    zkwatch.py [--zkdump PATH] [--profile 3.4|3.5] [--limit N] [--once] [HOST:]PORT SERVER:PORT
 
 It listens on PORT (0 is any free one; the first line of standard output tells it) and passes every connection on to the
 server. Each has a `zkdump show` of its own, which gets every piece before it is passed on; so a request is read before
-its reply can come. The lines of all are told with the time and the connection's number. Once a conversation is refused
-its bytes still go on. Ctrl-C, or SIGTERM, ends it.
+its reply can come. The lines of all are told with the time and the connection's number. Once a conversation is refused,
+or is no longer read for another reason, that is told, and its bytes still go on. Ctrl-C, or SIGTERM, ends it.
 
-As an example for authors of proxies: `show` writes a message's line as soon as its last byte is there, before it reads
-on, and it waits where the reader of its lines waits.
+No connection waits for `show`, or for who reads the lines: a connection of which MOST_WAITING bytes wait to be read is
+no longer watched. As an example for authors of proxies: `show` writes a message's line as soon as its last byte is
+there, before it reads on, and it waits where the reader of its lines waits.
 """
 
-import asyncio
-import itertools
-import pathlib
-import shutil
-import signal
+import errno
+import os
+import subprocess
 import sys
 import time
 
-import record
+import addresses
+import program
+import proxy
+import teller
 import zkr
+from proxy import READ, WRITE
 
-BUILT = pathlib.Path(__file__).resolve().parent.parent / "crates" / "zkdump" / "out" / "zkdump"
 BLOCK = 65536
-LONGEST_LINE = 1 << 26
+MOST_WAITING = 1 << 26
 HEAD = zkr.Head()
 
 
-class Watch:
-    """Everything that is watched; `over` is set when it is to end."""
+class Show:
+    """A connection's `show`: what waits to be written to it, and what of a line it has told."""
 
-    def __init__(self, server, zkdump, once):
-        self.server, self.zkdump, self.once = server, zkdump, once
-        self.numbers, self.connections, self.over = itertools.count(1), set(), asyncio.Event()
-
-    async def run(self, listeners):
-        """Takes connections until it is over, and then ends them all, each with its ending line."""
-        for number in (signal.SIGINT, signal.SIGTERM):
-            asyncio.get_running_loop().add_signal_handler(number, self.over.set)
-        servers = [await asyncio.start_server(self.take, sock=listener) for listener in listeners]
-        await self.over.wait()
-        for server in servers:
-            server.close()
-        for task in self.connections:
-            task.cancel()
-        await asyncio.gather(*self.connections, return_exceptions=True)
-
-    def say(self, number, text):
+    def __init__(self, watch, number):
+        self.watch, self.number, self.waiting, self.line = watch, number, bytearray(HEAD.to_bytes()), bytearray()
+        self.last, self.unread, self.is_over = b"", "", False
         try:
-            print(zkr.clock(time.time() * 1000), f"#{number}", text, flush=True)
-        except BrokenPipeError:
-            zkr.read_no_more()
-            self.over.set()
-
-    def take(self, from_client, to_client):
-        """Takes a client's connection."""
-        task = asyncio.create_task(self.connection(next(self.numbers), from_client, to_client))
-        self.connections.add(task)
-        task.add_done_callback(self.connections.discard)
-
-    async def connection(self, number, from_client, to_client):
-        """Passes one connection on, and tells what it says."""
-        self.say(number, f"from {record.address_text(to_client.get_extra_info('peername'))}")
-        try:
-            from_server, to_server = await asyncio.open_connection(*self.server)
-            try:
-                await self.watched(number, from_client, to_client, from_server, to_server)
-            finally:
-                to_server.close()
+            self.process = subprocess.Popen(watch.command, stdin=subprocess.PIPE, stdout=subprocess.PIPE, bufsize=0,
+                                            start_new_session=True)
         except OSError as error:
-            self.say(number, f"not watched: {error}")
-        finally:
-            to_client.close()
-            if self.once:
-                self.over.set()
+            self.process, self.unread = None, f"{watch.command[0]}: {error.strerror}"
+            self.tell_unread()
+            return
+        for file in (self.process.stdin, self.process.stdout):
+            os.set_blocking(file.fileno(), False)
+        watch.wait_for(self.process.stdout, READ, self)
+        self.write()
 
-    async def watched(self, number, from_client, to_client, from_server, to_server):
-        """Passes both directions on, through a `show` of their own, which Ctrl-C doesn't end before it has told all."""
-        show = await asyncio.create_subprocess_exec(self.zkdump, "show", stdin=asyncio.subprocess.PIPE,
-                                                    stdout=asyncio.subprocess.PIPE, limit=LONGEST_LINE,
-                                                    start_new_session=True)
-        telling = asyncio.create_task(self.tell(number, show))
-        show.stdin.write(HEAD.to_bytes())
+    def piece(self, side, data):
+        """Gives `show` a piece, as far as it takes it."""
+        if self.process and not self.unread:
+            self.waiting += HEAD.piece(side, 0, data)
+            if len(self.waiting) > MOST_WAITING:
+                self.unread = f"{MOST_WAITING} bytes of it wait to be read"
+                self.kill()
+            self.write()
+
+    def over(self):
+        """Ends with the connection: once all is read, and all lines are told."""
+        self.is_over = True
+        if self.process:
+            self.write()
+        else:
+            self.watch.seen(self)
+
+    def kill(self):
+        """Ends `show` at once."""
+        self.waiting.clear()
+        if self.process:
+            self.process.kill()
+
+    def step(self, file, _events):
+        if file is self.process.stdin:
+            self.write()
+        else:
+            self.read()
+
+    def write(self):
+        """Writes what waits, as far as it is taken, and ends behind it where the connection is over."""
+        stdin = self.process.stdin
+        if stdin.closed:
+            return
         try:
-            await asyncio.gather(pass_on(zkr.CLIENT, from_client, to_server, show),
-                                 pass_on(zkr.SERVER, from_server, to_client, show))
-        finally:
-            show.stdin.close()
-            await telling
+            while self.waiting and (count := stdin.write(self.waiting[:BLOCK])):
+                del self.waiting[:count]
+        except BrokenPipeError:
+            self.waiting.clear()
+        if self.waiting or not self.is_over:
+            self.watch.wait_for(stdin, WRITE if self.waiting else 0, self)
+        else:
+            self.watch.wait_for(stdin, 0)
+            stdin.close()
 
-    async def tell(self, number, show):
-        async for line in show.stdout:
-            self.say(number, line.decode().removesuffix("\n"))
-        status = await show.wait()
-        if status not in (0, 1):
-            self.say(number, f"zkdump has ended with status {status}")
+    def read(self):
+        """Tells the lines that are there; it waits where they can't be told."""
+        stdout = self.process.stdout
+        if self.watch.lines.is_full():
+            self.watch.wait_for(stdout, 0)
+            self.watch.after(0.05, self.read_on)
+            return
+        data = stdout.read(BLOCK)
+        if data is None:
+            return
+        *lines, rest = data.split(b"\n")
+        if not data and self.line:
+            lines = [b""]
+        for line in lines:
+            self.last, self.line = bytes(self.line + line), bytearray()
+            self.watch.say_of(self.number, self.last.decode(errors="backslashreplace"))
+        self.line += rest
+        if not data:
+            for file in (stdout, self.process.stdin):
+                self.watch.wait_for(file, 0)
+                file.close()
+            self.reap()
+
+    def read_on(self):
+        if self.process:
+            self.watch.wait_for(self.process.stdout, READ, self)
+
+    def reap(self):
+        """Waits for the end of the process, which has told all."""
+        status = self.process.poll()
+        if status is None:
+            self.watch.after(0.01, self.reap)
+            return
+        self.process = None
+        if not self.unread and (status not in (0, 1) or not self.last.startswith(b".")):
+            self.unread = f"zkdump has ended with status {status}"
+        if self.unread or not self.is_over:
+            self.tell_unread()
+        if self.is_over:
+            self.watch.seen(self)
+
+    def tell_unread(self):
+        """Tells that the connection is no longer read."""
+        self.waiting.clear()
+        reason = f"{self.unread}: " if self.unread else ""
+        self.watch.say_of(self.number, f"{reason}what follows is passed on, and not read")
 
 
-async def pass_on(side, source, target, show):
-    """Passes one direction on until its end, and then that. asyncio sets TCP_NODELAY on every connection."""
-    try:
-        while data := await source.read(BLOCK):
-            await feed(show, side, data)
-            target.write(data)
-            await target.drain()
-        target.write_eof()
-    except OSError:
-        target.transport.abort()
+class Watch(proxy.Proxy):
+    """Everything that is watched."""
 
+    descriptors = 8         # the pipes of a `show`, with those that are open only while it begins
 
-async def feed(show, side, data):
-    """Gives `show` a piece. It reads no more where the conversation is refused."""
-    if not show.stdin.is_closing():
-        try:
-            show.stdin.write(HEAD.piece(side, 0, data))
-            await show.stdin.drain()
-        except ConnectionError:
-            show.stdin.close()
+    def __init__(self, server, command, once):
+        super().__init__("zkwatch.py", server)
+        self.command, self.once, self.shows = command, once, set()
+
+    def say_of(self, number, text):
+        self.say(f"{zkr.clock(time.time() * 1000)} #{number} {text}")
+
+    def not_told(self, error):
+        if error.errno == errno.EPIPE:
+            self.ring()
+        else:
+            super().not_told(error)
+
+    def taken(self, connection):
+        self.say_of(connection.number, f"from {connection.peer}")
+
+    def look_on(self, connection):
+        show = Show(self, connection.number)
+        self.shows.add(show)
+        return show
+
+    def unreached(self, connection, reason):
+        self.say_of(connection.number, f"not watched: no connection to the server: {reason}")
+        self.over |= self.once
+
+    def busy(self):
+        return bool(self.shows)
+
+    def seen(self, show):
+        """Called once a connection is over, and all that it said is told."""
+        self.shows.discard(show)
+        self.over |= self.once
+
+    def stop(self):
+        super().stop()
+        for show in self.shows:
+            show.kill()
 
 
 def main():
     parser = zkr.Words(__doc__)
     parser.add_argument("listen", metavar="[HOST:]PORT")
     parser.add_argument("server", metavar="SERVER:PORT")
-    parser.add_argument("--zkdump", metavar="PATH", default=str(BUILT) if BUILT.exists() else "zkdump",
-                        help="the program (that of this repository, where it is built)")
+    program.add_program(parser)
+    parser.add_argument("--profile", choices=zkr.PROFILES, default="3.4", help="the release to judge by (3.4)")
+    parser.add_number("--limit", zkr.LIMITS, default=zkr.USUAL_LIMIT,
+                      help=f"the greatest payload of a frame ({zkr.USUAL_LIMIT})")
     parser.add_argument("--once", action="store_true", help="end with the first connection")
     words = parser.parse_args()
-    listen = record.address_word(parser, words.listen, "127.0.0.1")
-    server = record.address_word(parser, words.server, None)
-    if not shutil.which(words.zkdump):
-        parser.error(f"there is no program {words.zkdump}: --zkdump PATH names it")
+    listen = addresses.address_word(parser, words.listen, "127.0.0.1")
+    server = addresses.address_word(parser, words.server, None)
+    if sys.stdout is None:
+        raise OSError(errno.EBADF, "standard output is closed")
+    program.prove_runs(parser, words.zkdump)
     zkr.allow_many_files()
-    listeners = record.listen(listen)
-    print(f"listening on {record.address_text(listeners[0].getsockname())}", flush=True)
-
-    async def run():
-        await Watch(server, words.zkdump, words.once).run(listeners)
-
-    asyncio.run(run())
+    watch = Watch(addresses.found(server), [words.zkdump, "show", "--profile", words.profile, "--limit",
+                                            str(words.limit)], words.once)
+    listeners = addresses.listen(listen)
+    watch.say(f"listening on {addresses.address_text(listeners[0].getsockname())}")
+    watch.run(listeners)
     return 0
 
 
 if __name__ == "__main__":
+    teller.open_closed_streams()
     sys.exit(zkr.tool(main))

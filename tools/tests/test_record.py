@@ -102,7 +102,7 @@ class Passing(RecordCase):
         path, peer, begun, moment = self.told()
         self.assertEqual((path, peer, begun), (f"{self.prefix}-1.zkr", "%s:%d" % client.getsockname(), "begun"))
         self.assertRegex(moment, r"^\d{4}-\d\d-\d\dT\d\d:\d\d:\d\d\.\d{3}Z$")
-        self.assertEqual(self.ended()[-2:], [f"client={len(said)}", f"server={len(said) + 3}"])
+        self.assertEqual(self.ended()[4:], [f"client={len(said)}", f"server={len(said) + 3}", "closed=C"])
         self.assertEqual(sides(self.recording()), (said, said + b"end"))
 
     def test_each_request_stands_before_its_reply(self):
@@ -172,7 +172,7 @@ class Passing(RecordCase):
             got += len(client.recv(300_000))
             time.sleep(0.001)
         client.close()
-        self.assertEqual(self.ended()[-1], f"server={size}")
+        self.assertEqual(self.ended()[4:], ["client=0", f"server={size}", "closed=S"])
         self.assertEqual(len(sides(self.recording())[1]), size)
 
     def test_256_connections_at_once(self):

@@ -98,14 +98,16 @@ class Zkplay(ToolCase):
                          "recording offset=153 reason=BadSide")
 
     def test_both_ends_of_every_capture(self):
-        for capture in CAPTURES:
-            with self.subTest(capture=capture.name):
-                server, address = self.play(capture)
-                client, _ = self.play(capture, "--client", address=f"{address[0]}:{address[1]}")
-                counts = [len(side) for side in sides(capture.read_bytes())]
-                told = "played: {} bytes of the client, {} of the server\n".format(*counts)
-                self.assertEqual(self.ended(client), (0, told, ""))
-                self.assertEqual(self.ended(server), (0, told, ""))
+        words = [word for capture in CAPTURES[1:] for word in ("--then", str(capture))]
+        server, address = self.play(CAPTURES[0], *words)
+        client, _ = self.play(CAPTURES[0], "--client", *words, address=f"{address[0]}:{address[1]}")
+        told = {}
+        for number, capture in enumerate(CAPTURES, 1):
+            counts = [len(side) for side in sides(capture.read_bytes())]
+            told[f"#{number} played: " + "{} bytes of the client, {} of the server".format(*counts)] = capture.name
+        for end in (client, server):
+            status, out, err = self.ended(end)
+            self.assertEqual((status, set(out.splitlines()), err), (0, set(told), ""))
 
     def test_a_server_that_says_another_byte(self):
         data = bytearray(RUN.read_bytes())

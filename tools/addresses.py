@@ -1,0 +1,53 @@
+"""Addresses of the tools that connect or listen: how they are written, looked up, and listened on."""
+
+import socket
+
+
+def address_text(address):
+    """A socket's address, as it is told."""
+    host, port = address[:2]
+    return f"[{host}]:{port}" if ":" in host else f"{host}:{port}"
+
+
+def address_of(text, usual):
+    """A host and a port, out of HOST:PORT or [HOST]:PORT, or of PORT alone where there is a usual host."""
+    host, colon, port = text.rpartition(":")
+    if host[:1] + host[-1:] == "[]":
+        host = host[1:-1]
+    elif ":" in host:
+        raise ValueError
+    host = host if colon else usual
+    if not (host and port.isascii() and port.isdigit() and int(port) < 65536):
+        raise ValueError
+    return host, int(port)
+
+
+def address_word(parser, text, usual):
+    """The host and the port that a command's word names."""
+    try:
+        return address_of(text, usual)
+    except ValueError:
+        parser.error(f"{text!r} is no host and port")
+
+
+def found(address, *flags):
+    """The socket addresses that a host and a port stand for. An OSError names them."""
+    try:
+        return socket.getaddrinfo(*address, 0, socket.SOCK_STREAM, 0, *flags)
+    except (OSError, UnicodeError) as error:
+        raise OSError(error.errno if isinstance(error, OSError) else None, getattr(error, "strerror", None) or
+                      "this is no name of a host", address_text(address)) from None
+
+
+def listen(address):
+    """A listening socket for each address of this host that the machine has. An OSError names the address."""
+    listeners, failure = [], None
+    for family, _, _, _, where in found(address, socket.AI_PASSIVE):
+        port = listeners[0].getsockname()[1] if listeners else where[1]
+        try:
+            listeners.append(socket.create_server((where[0], port, *where[2:]), family=family, backlog=1024))
+        except OSError as error:
+            failure = error
+    if failure and not listeners:
+        raise OSError(failure.errno, failure.strerror, address_text(address))
+    return listeners

@@ -1,0 +1,236 @@
+"""One side of a recording, played on a connection: what zkplay.py does."""
+
+import socket
+import struct
+import sys
+import time
+
+import zkr
+
+NAMES = {zkr.CLIENT: "client", zkr.SERVER: "server"}
+PING = bytes.fromhex("00000008fffffffe0000000b")            # a whole frame: its length, the xid -2, the operation 11
+PING_REPLY = bytes.fromhex("00000010fffffffe")              # the same of its reply, which has a zxid and an error, too
+WHOLE_REPLY = 20
+LENGTH = 4
+BLOCK = 65536
+
+
+class Refused(ValueError):
+    """The peer doesn't say what was recorded, or there is nothing at which a fault is to be made."""
+
+
+class Position:
+    """Where a side's next byte is: the number of its frame, and its place in the payload. Before that are the four bytes
+    of the length, at the places -4 to -1."""
+
+    def __init__(self):
+        self.frame, self.place, self.length, self.offset = 0, -LENGTH, b"", 0
+
+    def parts(self, data):
+        """Gives these bytes frame by frame, and goes past each part behind that."""
+        data = memoryview(data)
+        while data:
+            head = self.length + bytes(data[:max(0, -self.place)])
+            size = int.from_bytes(head, "big", signed=True) if len(head) == LENGTH else -1
+            left = size - self.place if size >= 0 else sys.maxsize
+            part, data = bytes(data[:left]), data[left:]
+            yield part
+            self.length, self.place, self.offset = head, self.place + len(part), self.offset + len(part)
+            if len(part) == left:
+                self.frame, self.place, self.length = self.frame + 1, -LENGTH, b""
+
+    def begins(self):
+        """Whether the next byte begins a frame."""
+        return self.place == -LENGTH
+
+
+class Faults:
+    """What is done to the own side: a wait of `delay` seconds before each piece; `flips` has bytes by frame and place,
+    where None stands for the recorded one with its lowest bit changed; at `end`, a frame and a place, it ends its side,
+    or resets the connection where `reset` is true."""
+
+    def __init__(self, delay=0, flips=(), end=None, reset=False):
+        self.delay, self.flips, self.end, self.reset = delay, dict(flips), end, reset
+
+
+class Play:
+    """One connection. `pings` counts the client's pings that were not recorded and were answered, `spare` those of them
+    that no recorded one has been set against, and `missed` the recorded ones whose replies are still to be left out."""
+
+    def __init__(self, open_recording, own, connection, wait, faults=Faults()):
+        self.open_recording, self.own, self.connection, self.wait = open_recording, own, connection, wait
+        self.delay, self.end, self.reset = faults.delay, faults.end, faults.reset
+        self.flips = dict(faults.flips)
+        self.peer = zkr.SERVER if own == zkr.CLIENT else zkr.CLIENT
+        self.at = {zkr.CLIENT: Position(), zkr.SERVER: Position()}
+        self.heard, self.has_ended, self.zxid = bytearray(), False, bytes(8)
+        self.pings = self.spare = self.missed = 0
+        connection.setsockopt(socket.IPPROTO_TCP, socket.TCP_NODELAY, 1)
+
+    def run(self):
+        """Goes through the recording, or to the fault that ends it."""
+        is_end = False
+        with self.open_recording() as recording:
+            for piece in zkr.Reader(recording):
+                if piece.side == self.peer:
+                    self.hear(piece.data)
+                elif is_end := self.say(piece.data):
+                    break
+        for frame, place in [*([self.end] if self.end and not is_end else []), *self.flips]:
+            raise Refused(f"the {NAMES[self.own]} of the recording does not come to frame={frame} "
+                          f"place={max(0, place)}, so no fault was made there")
+        if not is_end:
+            if self.own == zkr.CLIENT:
+                self.connection.shutdown(socket.SHUT_WR)
+            self.hear_end()
+
+    def told(self):
+        """What was played, as it is told."""
+        count = "{} bytes of the client, {} of the server".format(*(self.at[side].offset for side in NAMES))
+        return count + (f", and {self.pings} pings answered" if self.pings else "")
+
+    def say(self, data):
+        """Says a piece with its faults; gives whether the connection was ended in it."""
+        said, at, is_end = bytearray(), self.at[self.own], False
+        if self.delay:
+            self.pause(self.delay)
+        for part in at.parts(data):
+            if self.missed and at.begins() and part.startswith(PING_REPLY) and len(part) == WHOLE_REPLY:
+                self.missed -= 1
+                continue
+            if at.begins() and at.frame and len(part) >= 16 and part[8] < 0x80:
+                self.zxid = part[8:16]
+            left = self.before_the_end(at, len(part))
+            is_end = left is not None
+            said += self.flipped(at, part[:left])
+            if is_end:
+                at.offset += left
+                break
+        self.send(said)
+        if is_end:
+            self.end_here()
+        return is_end
+
+    def send(self, data):
+        self.connection.settimeout(self.wait)
+        try:
+            self.connection.sendall(data)
+        except OSError as error:
+            raise self.refused(f"it takes no more: {error.strerror or error}") from None
+
+    def before_the_end(self, at, size):
+        """How many of a part's bytes are still said, where its end is to be made in it."""
+        if self.end and (at.frame, at.place + size) >= self.end:
+            return max(0, self.end[1] - at.place) if at.frame == self.end[0] else 0
+        return None
+
+    def flipped(self, at, part):
+        """A part with the bytes that are to be others."""
+        made = bytearray(part)
+        for frame, place in [it for it in self.flips if it[0] == at.frame and 0 <= it[1] - at.place < len(part)]:
+            byte = self.flips.pop((frame, place))
+            made[place - at.place] = made[place - at.place] ^ 1 if byte is None else byte
+        return made
+
+    def end_here(self):
+        """Ends the own side, or resets the connection."""
+        if self.reset:
+            self.connection.setsockopt(socket.SOL_SOCKET, socket.SO_LINGER, struct.pack("ii", 1, 0))
+        else:
+            self.connection.shutdown(socket.SHUT_WR)
+            until = time.monotonic() + self.wait
+            while not self.take(until):
+                self.heard.clear()
+
+    def pause(self, seconds):
+        """Waits, and answers pings meanwhile."""
+        until = time.monotonic() + seconds
+        while (left := until - time.monotonic()) > 0:
+            if self.may_ping() and self.heard.startswith(PING):
+                self.answer_ping()
+            elif self.has_ended or len(self.heard) > BLOCK:
+                time.sleep(left)
+            else:
+                self.take(until)
+
+    def may_ping(self):
+        """Whether the peer is a client that may ping now: it is connected, and between two frames."""
+        return self.own == zkr.SERVER and self.at[self.own].frame > 0 and self.at[self.peer].begins()
+
+    def take(self, until):
+        """Takes what the peer says next, up to this moment; gives why there is nothing more."""
+        try:
+            self.connection.settimeout(max(0.001, until - time.monotonic()))
+            got = b"" if self.has_ended else self.connection.recv(BLOCK)
+        except socket.timeout:
+            return "nothing comes"
+        except OSError as error:
+            return error.strerror
+        self.heard += got
+        self.has_ended = not got
+        return None if got else "it has ended"
+
+    def hear(self, due):
+        """Takes these bytes from the peer."""
+        for part in self.at[self.peer].parts(due):
+            self.hear_part(part)
+
+    def hear_part(self, due):
+        """Takes a part of one frame, before which a ping may come; a recorded ping may be missing."""
+        until = time.monotonic() + self.wait
+        if self.may_ping() and not self.is_coming(due, until):
+            self.missed += 1
+            return
+        same = 0
+        while same < len(due):
+            size = min(len(self.heard), len(due) - same)
+            if not size:
+                reason = self.take(until)
+                if reason:
+                    raise self.refused(f"{reason}, {due[same]:02x} is due", same)
+            elif self.heard[:size] == due[same:same + size]:
+                del self.heard[:size]
+                same, until = same + size, time.monotonic() + self.wait
+            else:
+                other = next(at for at in range(size) if self.heard[at] != due[same + at])
+                raise self.refused(f"{self.heard[other]:02x} in place of {due[same + other]:02x}", same + other)
+
+    def is_coming(self, due, until):
+        """Answers the pings that come before this part of a frame. Gives whether the part itself is to come: a recorded
+        ping is not, where one was answered before, or another frame comes."""
+        if due == PING and self.spare:
+            self.spare -= 1
+            return False
+        if len(due) < len(PING) and PING.startswith(due):
+            return True
+        while True:
+            head = bytes(self.heard[:len(PING)])
+            if due == PING and head:
+                return PING.startswith(head)
+            if head == PING:
+                self.answer_ping()
+            elif not PING.startswith(head) or self.take(until):
+                return True
+
+    def answer_ping(self):
+        del self.heard[:len(PING)]
+        self.pings, self.spare = self.pings + 1, self.spare + 1
+        self.send(PING_REPLY + self.zxid + bytes(4))
+
+    def hear_end(self):
+        """Waits for the peer's end, before which nothing but pings may come; silence is as good."""
+        until, is_over = time.monotonic() + self.wait, False
+        while not is_over:
+            while self.may_ping() and self.heard.startswith(PING):
+                self.answer_ping()
+            is_ping = self.may_ping() and PING.startswith(self.heard)
+            is_over = self.heard and not is_ping or self.take(until)
+        if self.heard:
+            raise self.refused(f"{self.heard[0]:02x} where the recording has no more")
+
+    def refused(self, reason, same=0):
+        """The refusal of the peer's next byte, behind so many that are as recorded. The numbers are those that zkdump's
+        ending lines have for the recording."""
+        at = self.at[self.peer]
+        return Refused(f"{NAMES[self.peer]} frame={at.frame} offset={at.offset + same + 1} "
+                       f"place={max(0, at.place + same)}: {reason}")

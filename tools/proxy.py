@@ -1,0 +1,323 @@
+"""A proxy that passes connections on while somebody looks on: what record.py and zkwatch.py have in common.
+
+One loop serves all connections, and nothing in it waits: not for an end that doesn't read, not for a file or a
+process, and not for whoever reads what is told. An end of one direction is passed on, and so is a reset.
+"""
+
+import errno
+import itertools
+import os
+import selectors
+import signal
+import socket
+import struct
+import time
+
+import zkr
+from addresses import address_text
+from teller import Teller
+
+BLOCK = 65536
+READ, WRITE = selectors.EVENT_READ, selectors.EVENT_WRITE
+OTHER = {zkr.CLIENT: zkr.SERVER, zkr.SERVER: zkr.CLIENT}
+REST = 0.1                  # for so many seconds no clients are taken where the system has no room for one
+LAST_WORDS = 30             # and as many seconds lookers-on have to end in, or until a second signal
+
+
+class Way:
+    """One direction of a connection: what one end says and the other has not been sent yet."""
+
+    def __init__(self, side, source, target):
+        self.side, self.source, self.target, self.unsent, self.ended = side, source, target, b"", False
+
+
+class Connection:
+    """A client's connection and the one to the server that it is passed on to. `ends` tells how its sides have ended,
+    in order: FIN, RST, or the system's name of an error. `room` has the descriptors that its looker-on may take."""
+
+    def __init__(self, proxy, number, client, peer, room):
+        self.proxy, self.number, self.client, self.peer, self.room = proxy, number, client, address_text(peer), room
+        self.addresses, self.server, self.ways, self.looker, self.ends = iter(proxy.server), None, (), None, []
+        client.setblocking(False)
+
+    def connect(self, reason):
+        """Begins to connect to the next address of the server, or gives up for the reason that the last one gave."""
+        for family, kind, protocol, _, address in self.addresses:
+            try:
+                self.server = socket.socket(family, kind, protocol)
+            except OSError as error:
+                reason = error.strerror
+                continue
+            self.server.setblocking(False)
+            failure = self.server.connect_ex(address)
+            if failure in (0, errno.EINPROGRESS):
+                self.proxy.wait_for(self.server, WRITE, self)
+                return
+            reason = os.strerror(failure)
+            self.server.close()
+        self.room.close()
+        self.client.close()
+        self.proxy.unreached(self, reason)
+        self.proxy.left(self)
+
+    def step(self, end, events):
+        """Goes on with one end of the connection that is ready."""
+        if not self.ways:
+            self.connected()
+            return
+        changed = False
+        for way in self.ways:
+            if way.target is end and events & WRITE and way.unsent:
+                self.send(way)
+                changed = True
+            if way.source is end and events & READ and not way.ended and not way.unsent:
+                self.receive(way)
+                changed |= way.ended or bool(way.unsent)
+        if changed:
+            self.watch()
+
+    def connected(self):
+        """Begins to pass on, or tries the next address."""
+        failure = self.server.getsockopt(socket.SOL_SOCKET, socket.SO_ERROR)
+        self.proxy.wait_for(self.server, 0)
+        if failure:
+            self.server.close()
+            self.connect(os.strerror(failure))
+            return
+        for end in (self.client, self.server):
+            end.setsockopt(socket.IPPROTO_TCP, socket.TCP_NODELAY, 1)
+            end.setsockopt(socket.SOL_SOCKET, socket.SO_KEEPALIVE, 1)
+        self.room.close()
+        self.looker = self.proxy.look_on(self)
+        self.ways = (Way(zkr.CLIENT, self.client, self.server), Way(zkr.SERVER, self.server, self.client))
+        self.watch()
+
+    def watch(self):
+        """Waits for just that for which something is to be done; where nothing is, the connection is over."""
+        if all(way.ended for way in self.ways):
+            self.close()
+            return
+        for way, back in (self.ways, self.ways[::-1]):
+            self.proxy.wait_for(way.source, (0 if way.ended or way.unsent else READ) | (WRITE if back.unsent else 0),
+                                self)
+
+    def receive(self, way):
+        """Takes what an end has said, shows it to the looker-on, and passes it on."""
+        try:
+            data = way.source.recv(BLOCK)
+        except BlockingIOError:
+            return
+        except OSError as error:
+            self.broke(way.side, error)
+            for each in self.ways:
+                each.unsent, each.ended = b"", True
+            return
+        if data:
+            self.looker.piece(way.side, data)
+            way.unsent = data
+            self.send(way)
+        else:
+            self.ends.append((way.side, "FIN"))
+            way.ended = True
+            try:
+                way.target.shutdown(socket.SHUT_WR)
+            except OSError:
+                pass
+
+    def send(self, way):
+        """Passes on what the other end takes now."""
+        try:
+            way.unsent = way.unsent[way.target.send(way.unsent):]
+        except BlockingIOError:
+            pass
+        except OSError as error:
+            # It takes no more; what it said before is still passed on.
+            self.broke(OTHER[way.side], error)
+            way.unsent, way.ended = b"", True
+
+    def broke(self, side, error):
+        """Notes that a side's connection broke, in place of ending."""
+        is_reset = error.errno in (errno.ECONNRESET, errno.EPIPE)
+        how = side, "RST" if is_reset else errno.errorcode.get(error.errno, "lost")
+        if how not in self.ends:
+            self.ends.append(how)
+
+    def close(self):
+        """Ends both connections: with a reset where the other end broke."""
+        broken = [side for side, how in self.ends if how != "FIN"]
+        for side, end in ((zkr.CLIENT, self.client), (zkr.SERVER, self.server)):
+            self.proxy.wait_for(end, 0)
+            if OTHER[side] in broken:
+                end.setsockopt(socket.SOL_SOCKET, socket.SO_LINGER, struct.pack("ii", 1, 0))
+            end.close()
+        self.room.close()
+        if self.looker:
+            self.looker.over()
+        self.proxy.left(self)
+
+    def ended_words(self):
+        """How it ended, as it is told: which side closed it first, and which broke it; `open` where neither did."""
+        words = [f"closed={side.decode()}" for side, how in self.ends if how == "FIN"][:1]
+        words += [f"reset={side.decode()}" for side, how in self.ends if how == "RST"][:1]
+        words += [f"broken={side.decode()}:{how}" for side, how in self.ends if how not in ("FIN", "RST")][:1]
+        return words or ["open"]
+
+
+class Room:
+    """Descriptors that are held for a connection, until it needs them. An OSError says that there are too few."""
+
+    def __init__(self, count, file):
+        self.held = []
+        try:
+            while len(self.held) < count:
+                self.held.append(os.dup(file.fileno()))
+        except OSError:
+            self.close()
+            raise
+
+    def give(self, count):
+        for _ in range(count):
+            os.close(self.held.pop())
+
+    def close(self):
+        self.give(len(self.held))
+
+
+class Proxy:
+    """Takes clients' connections and passes them on, until a signal comes. What is to be done with each is up to the
+    classes that stand on it: `look_on` gives a looker-on, which has `piece(side, data)`, called before the bytes are
+    passed on, and `over()`."""
+
+    descriptors = 0         # how many a looker-on opens, at most
+
+    def __init__(self, name, server):
+        self.server, self.ready = server, selectors.DefaultSelector()
+        self.connections, self.listeners, self.waits, self.due = set(), [], set(), {}
+        self.signals, self.over = 0, False
+        self.numbers = itertools.count(1)
+        self.heard, self.bell = socket.socketpair()
+        self.bell.setblocking(False)
+        self.complaints = Teller(2, f"{name}: ")
+        self.lines = Teller(1, failed=self.not_told)
+
+    def look_on(self, connection):
+        raise NotImplementedError
+
+    def busy(self):
+        """Whether a looker-on has something to do though its connection is over."""
+        return False
+
+    def taken(self, connection):
+        """Called when a client's connection begins."""
+
+    def unreached(self, connection, reason):
+        """Tells that a client's connection has ended, since there is none to the server."""
+        raise NotImplementedError
+
+    def say(self, text):
+        """Tells a line on standard output. Where nobody reads it any more, the connections go on."""
+        if not self.lines.tell(text):
+            self.complaints.tell_once("standard output is not read, so lines are lost")
+
+    def not_told(self, error):
+        """Called in a thread where a line could not be written."""
+        self.complaints.tell_once(f"standard output: {error.strerror}; the connections go on")
+
+    def ring(self):
+        """Ends the proxy, from any thread."""
+        self.bell.send(b"\0")
+
+    def wait_for(self, file, events, who=None):
+        """Waits for these events of a file, in place of those before: `who.step(file, events)` is then called."""
+        if events and file in self.waits:
+            self.ready.modify(file, events, who)
+        elif events:
+            self.ready.register(file, events, who)
+            self.waits.add(file)
+        elif file in self.waits:
+            self.ready.unregister(file)
+            self.waits.discard(file)
+
+    def after(self, seconds, call):
+        """Calls this once, after so many seconds."""
+        self.due[call] = time.monotonic() + seconds
+
+    def run(self, listeners):
+        """Passes on until a signal comes, and then ends every connection."""
+        signal.set_wakeup_fd(self.bell.fileno())
+        for number in (signal.SIGINT, signal.SIGTERM, signal.SIGHUP):
+            signal.signal(number, lambda *_: None)
+        self.wait_for(self.heard, READ, self)
+        self.listeners = listeners
+        for listener in listeners:
+            listener.setblocking(False)
+        self.take_clients()
+        while not self.signals and not self.over:
+            self.turn()
+        self.stop()
+        self.lines.end()
+        self.complaints.end()
+
+    def turn(self, seconds=None):
+        """Does what is ready or due; it waits for that, or for as many seconds."""
+        if self.due:
+            left = max(0, min(self.due.values()) - time.monotonic())
+            seconds = left if seconds is None else min(seconds, left)
+        for key, events in self.ready.select(seconds):
+            if key.fileobj is self.heard:
+                self.signals += len(self.heard.recv(BLOCK))
+            elif key.fileobj in self.waits:
+                key.data.step(key.fileobj, events)
+        now = time.monotonic()
+        for call in [call for call, moment in self.due.items() if moment <= now]:
+            del self.due[call]
+            call()
+
+    def stop(self):
+        """Ends every connection, and gives those who look on time for their last words."""
+        for listener in self.listeners:
+            self.wait_for(listener, 0)
+        self.listeners = []
+        for connection in list(self.connections):
+            connection.close()
+        until, self.signals = time.monotonic() + LAST_WORDS, 0
+        while self.busy() and time.monotonic() < until and not self.signals:
+            self.turn(0.05)
+
+    def take_clients(self):
+        for listener in self.listeners:
+            self.wait_for(listener, READ, self)
+
+    def rest(self, error):
+        """Takes no clients for a moment, while those that it has go on."""
+        self.complaints.tell_once(f"no more clients are taken for now: {error.strerror}; the connections go on")
+        for listener in self.listeners:
+            self.wait_for(listener, 0)
+        self.after(REST, self.take_clients)
+
+    def step(self, listener, _events):
+        """Takes a client's connection, if there is room for all that belongs to it."""
+        try:
+            room = Room(2 + self.descriptors, listener)
+        except OSError as error:
+            self.rest(error)
+            return
+        room.give(2)
+        try:
+            client, peer = listener.accept()
+        except (BlockingIOError, ConnectionAbortedError):
+            room.close()
+        except OSError as error:
+            room.close()
+            self.rest(error)
+        else:
+            connection = Connection(self, next(self.numbers), client, peer, room)
+            self.connections.add(connection)
+            self.taken(connection)
+            connection.connect("no address")
+
+    def left(self, connection):
+        """Called once a connection is over: where clients waited for room, there is some."""
+        self.connections.discard(connection)
+        if self.take_clients in self.due:
+            self.due[self.take_clients] = 0

@@ -1,0 +1,79 @@
+"""Lines that a proxy tells, written so that no connection ever waits for whoever reads them."""
+
+import os
+import select
+import threading
+import time
+
+MOST_HELD = 1 << 20
+
+
+def open_closed_streams():
+    """Opens the null device as each standard stream that is closed, so that no socket or file gets its number."""
+    for number in range(3):
+        try:
+            os.fstat(number)
+        except OSError:
+            os.open(os.devnull, os.O_RDWR)
+
+
+class Teller(threading.Thread):
+    """Writes lines to the file of this number, each behind `head`, in a thread of its own. It holds MOST_HELD bytes that
+    nobody reads; what comes behind them is lost, and so is what can't be written, for which `failed(error)` is called."""
+
+    def __init__(self, number, head="", failed=lambda error: None):
+        super().__init__(daemon=True)
+        self.number, self.head, self.failed = number, head, failed
+        self.lines, self.held, self.ends, self.change = [], 0, False, threading.Condition()
+        self.told = {}
+        self.start()
+
+    def tell(self, text):
+        """Tells a line, and gives whether it was taken."""
+        line = f"{self.head}{text}\n".encode(errors="backslashreplace")
+        with self.change:
+            if self.is_full():
+                return False
+            self.lines.append(line)
+            self.held += len(line)
+            self.change.notify()
+        return True
+
+    def tell_once(self, text, seconds=60):
+        """Tells a trouble that may come thousands of times: once in as many seconds."""
+        now = time.monotonic()
+        if now - self.told.get(text, -seconds) >= seconds:
+            self.told[text] = now
+            self.tell(text)
+
+    def is_full(self):
+        return self.held >= MOST_HELD
+
+    def run(self):
+        while True:
+            with self.change:
+                self.change.wait_for(lambda: self.lines or self.ends)
+                lines, self.lines = self.lines, []
+            if not lines:
+                return
+            data = b"".join(lines)
+            try:
+                self.write(memoryview(data))
+            except OSError as error:
+                self.failed(error)
+            with self.change:
+                self.held -= len(data)
+
+    def write(self, data):
+        while data:
+            try:
+                data = data[os.write(self.number, data):]
+            except BlockingIOError:
+                select.select([], [self.number], [])
+
+    def end(self, seconds=2):
+        """Writes what is held, as far as it is read within that time."""
+        with self.change:
+            self.ends = True
+            self.change.notify()
+        self.join(seconds)

@@ -1,0 +1,140 @@
+"""Tests of record.py and zkwatch.py in trouble: every other connection goes on at its pace, and the trouble is told once."""
+
+import socket
+import subprocess
+import sys
+import threading
+import time
+
+from proxied import NO_IPV6, SECONDS, TroubleCase
+from support import TOOLS, pieces, receive
+
+
+class Descriptors(TroubleCase):
+    def assert_lives_through(self, tool, limit, most, told):
+        port = self.begin(tool, limits=[f"--nofile={limit}:{limit}"])
+        first = self.client(port)
+        self.ask(first)
+        others = [self.client(port) for _ in range(most)]
+        self.assert_pace(first)
+        time.sleep(0.3)
+        self.assert_pace(first)
+        self.assertEqual([told in line for line in self.complaints()], [True], self.err)
+        for other in others:
+            other.close()
+        self.assert_pace(self.client(port))
+        self.assert_pace(first)
+        self.assertIsNone(self.tool.poll())
+
+    def test_record(self):
+        for limit in (20, 21, 22):
+            with self.subTest(limit=limit):
+                self.assert_lives_through("record.py", limit, 30, "no more clients are taken for now: Too many open files")
+                for path in self.folder.glob("r-*.zkr"):
+                    self.assertGreater(path.stat().st_size, 3)
+
+    def test_zkwatch(self):
+        self.assert_lives_through("zkwatch.py", 30, 20, "no more clients are taken for now: Too many open files")
+
+
+class Ends(TroubleCase):
+    def test_clients_that_reset_and_that_never_read(self):
+        port = self.begin("record.py")
+        steady = self.client(port)
+        stuck = self.client(port)
+        stuck.setblocking(False)
+        for _ in range(2000):
+            try:
+                stuck.send(bytes(65536))
+            except BlockingIOError:
+                break
+        for begun in range(0, 2000, 50):
+            clients = [self.client(port) for _ in range(50)]
+            for client in clients:
+                client.send(b"hi")
+                self.reset(client)
+        self.assert_pace(steady)
+        self.assertEqual(self.complaints(), [])
+        self.assertIsNone(self.tool.poll())
+
+    def test_1000_connections(self):
+        port = self.begin("record.py")
+        clients = [self.client(port) for _ in range(1000)]
+        for client in clients:
+            client.sendall(b"hello")
+        for client in clients:
+            self.assertEqual(receive(client, 5), b"hello")
+        self.assertEqual(len(list(self.folder.glob("r-*.zkr"))), 1000)
+        self.assert_pace(clients[0])
+
+    def test_no_ipv6(self):
+        for tool in ("record.py", "zkwatch.py"):
+            with self.subTest(tool=tool):
+                port = self.begin(tool, f"localhost:{self.echo.port}", python=["-c", NO_IPV6])
+                for _ in range(2):
+                    self.ask(self.client(port))
+                self.assertEqual(self.complaints(), [])
+
+    def test_who_ended_a_connection_and_how(self):
+        def ended(talk):
+            port = self.begin("record.py")
+            client = self.client(port)
+            self.ask(client)
+            talk(client)
+            return self.lines(2)[1].split()[6:]
+        self.assertEqual(ended(lambda client: client.close()), ["closed=C"])
+        self.assertEqual(ended(self.reset), ["reset=C"])
+        self.assertEqual(ended(lambda client: self.tool.terminate()), ["open"])
+        for how, told in (("close", ["closed=S"]), ("reset", ["reset=S"])):
+            listener = socket.create_server(("127.0.0.1", 0))
+            self.addCleanup(listener.close)
+            self.echo.port = listener.getsockname()[1]
+
+            def serve():
+                connection, _ = listener.accept()
+                connection.sendall(receive(connection, 6))
+                receive(connection, 3)
+                (self.reset if how == "reset" else socket.socket.close)(connection)
+
+            def bye(client):
+                client.sendall(b"bye")
+                try:
+                    self.assertEqual(client.recv(1), b"")
+                except ConnectionResetError:
+                    self.assertEqual(how, "reset")
+                client.close()
+            threading.Thread(target=serve, daemon=True).start()
+            self.assertEqual(ended(bye), told)
+
+
+class Disk(TroubleCase):
+    def test_a_prefix_that_cannot_be_written_is_told_before_it_listens(self):
+        (self.folder / "file").write_text("")
+        (self.folder / "folder").mkdir()
+        server = f"127.0.0.1:{self.echo.port}"
+        for prefix in (self.folder / "file" / "r", self.folder / "no" / "r", self.folder / ("r" * 300)):
+            status, out, err = self.run_tool("record.py", "0", server, prefix, seconds=10)
+            self.assertEqual((status, out, err.count("\n")), (3, "", 1), err)
+            self.assertIn(str(prefix), err)
+        for words in ((), ("--times",)):
+            done = subprocess.run(["prlimit", "--fsize=0:0", sys.executable, TOOLS / "record.py", "0", server,
+                                   self.folder / "folder" / "r", *words], capture_output=True, text=True, timeout=10,
+                                  check=False)
+            self.assertEqual((done.returncode, done.stderr.count("\n")), (3, 1), done.stderr)
+            self.assertEqual(list((self.folder / "folder").iterdir()), [])
+
+    def test_a_disk_that_is_full_for_new_recordings(self):
+        port = self.begin("record.py", "--times")
+        first = self.client(port)
+        self.ask(first)
+        subprocess.run(["prlimit", f"--pid={self.tool.pid}", "--fsize=0:0"], check=True)
+        for _ in range(5):
+            self.assert_pace(self.client(port))
+        self.assert_pace(first)
+        told = self.complaints()
+        self.assertEqual(len(told), 2, told)
+        self.assertEqual([len(pieces(path.read_bytes())) for path in self.folder.glob("r-*.zkr")], [2])
+        self.tool.terminate()
+        self.assertEqual(self.tool.wait(SECONDS), 3)
+        self.assertRegex(told[0], "^record.py: .*: File too large; new connections go on without a recording$")
+        self.assertRegex(told[1], "^record.py: .*-1.zkr: File too large; the connection of .* goes on without it$")
