@@ -36,7 +36,8 @@ import zlib
 import packets
 import resync
 import zkr
-from recordings import Conversation, Series
+from conversation import Conversation
+from recordings import Series
 from streams import MASK, Stream
 
 MOST_HELD, MOST_SILENT, MOST_LINGERING, MOST_OVER, MOST_PORTS = 1 << 25, 8192, 256, 8192, 8
@@ -91,8 +92,8 @@ class Capture:
         progress.end()
         # Where one recording can't be written, the others are left as they are.
         if not getattr(failed, "filename", None):
-            for half in list(halves.values()):
-                self.finish(half.stream)
+            for stream in list(dict.fromkeys(half.stream for half in halves.values())):
+                self.finish(stream)
         if failed:
             raise failed
 
@@ -179,8 +180,6 @@ class Capture:
 
     def finish(self, stream):
         """Ends a connection, and lets it go."""
-        if stream.ends[0] is None:
-            return
         while stream.give_up():
             pass
         stream.sink.finish()
@@ -192,7 +191,7 @@ class Capture:
                 del self.over[next(iter(self.over))]
         self.silent.pop(stream, None)
         self.lingering.pop(stream, None)
-        stream.ends = None, None
+        stream.let_go()
 
     def ports_heard(self):
         """The other ports in the capture, as they are told."""

@@ -233,6 +233,12 @@ class Stream:
         self.write()
         return True
 
+    def let_go(self):
+        """Takes apart what refers to each other, so that its memory is free at once."""
+        for half in self.halves:
+            half.stream = half.other = None
+        self.sink.stream = self.sink = None
+
     def is_complete(self):
         """Whether both sides have ended, and all is given on."""
         return all(half.end == half.written for half in self.halves)

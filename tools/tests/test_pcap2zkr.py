@@ -195,7 +195,9 @@ class Missing(PcapCase):
                     self.assertTrue(all(each.startswith(part) for each, part in zip(whole, left)))
                     before = sum(len(each.data) for each in sent[:gone] if each.side == side)
                     self.assertEqual(len(left[0 if side == zkr.CLIENT else 1]), before)
-                    self.assert_causal(made[0], sent)
+                    # Replies to what the client had said before come behind what it lost.
+                    known = [each for each in sent if each.side == side or side == zkr.SERVER]
+                    self.assert_causal(made[0], [*sent[:3], *[each for each in known if each not in sent[:3]]])
                     self.assertGreater(size, 0)
 
     def test_packets_that_were_not_captured_whole(self):
