@@ -116,6 +116,7 @@ class Conversation:
         self.cutter.held[side].clear()
         self.cutter.broken.discard(side)
         self.trusted.discard(side)
+        self.connected.add(side)
         self.sought[side] = b""
 
     def waits(self, side):
@@ -248,6 +249,6 @@ class Conversation:
         self.left_out |= bool(notes)
         self.series.say(" ".join([
             path, self.name, "begun", zkr.clock(began), "ended", zkr.clock(ended), f"client={count[zkr.CLIENT]}",
-            f"server={count[zkr.SERVER]}", f"packets={first}-{last}", f"resent={self.stream.resent - self.resent}", *how,
-            *notes]))
+            f"server={count[zkr.SERVER]}", f"packets={first}-{last}", f"resent={self.stream.resent - self.resent}",
+            *how, *notes]))
         self.resent = self.stream.resent

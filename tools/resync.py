@@ -18,8 +18,11 @@ A server's frame is plausible where its length is at least 16 and within the lim
   is empty or begins with "/";
 - a reply to a ping, auth or setWatches: xid -2, -4 or -8 and 16 bytes;
 - an error: a positive xid, a zxid of at least -1, an err from -1 to -200 and 16 bytes;
-- another reply: a positive xid, a zxid above 0, err 0, and where there is a body of more than four bytes, its first int
-  is that of a stat (84 bytes in all), or a length, a count or a type: from -1 up to what is left of the frame.
+- another reply: a positive xid, a zxid above 0, err 0, and a body that is one of these by its first int n and the size
+  of the whole payload: none (16 bytes), a stat (84), a number or an empty or null list (20); n bytes of data, or an
+  empty or null list, and a stat (88 and n); a path of n bytes, which begins with "/", with or without a stat behind it;
+  a list of n elements, of which the first is a name of at least a byte, or permissions from 1 to 31 and a scheme; the
+  results of a multi, the first with the number n of a part, a boolean and an int from -200 to 0.
 
 So a place can be passed over that is one, which costs a message; a place that is none is taken hardly ever, and then
 what is read from it on is not plausible for long (joined.py).
@@ -42,7 +45,7 @@ LEAST_WHOLE = {14: 17, 16: 28, 22: 17, 100: 20, 101: 28, 102: 12, 105: 36}
 XIDS = {11: (PING,), 100: (AUTH,), 101: (SET_WATCHES,), 105: (SET_WATCHES,)}
 # By operation, how long the payload of a reply without an error is.
 REPLY_SIZES = {2: range(16, 17), -11: range(16, 17), 3: range(84, 85), 5: range(84, 85), 7: range(84, 85)}
-STATES, STAT_REPLY = {-112, -1, 0, 1, 3, 4, 5, 6, 7}, 84
+STATES, PARTS = {-112, -1, 0, 1, 3, 4, 5, 6, 7}, {-1, 1, 2, 4, 5, 8, 13, 15, 19, 20, 21}
 HEADS = {zkr.CLIENT: 12, zkr.SERVER: 20}
 MAY_BEGIN = {
     zkr.CLIENT: re.compile(rb"(?s)(?=[\0\1].{7}(?:\0\0\0[\1-\x6b]|\xff\xff\xff\xf5))"),
@@ -112,8 +115,22 @@ def is_reply(payload, size):
         return size == 16
     if err:
         return xid > 0 and zxid >= -1 and size == 16 and -200 <= err < 0
-    first = int.from_bytes(payload[16:20], "big", signed=True) if len(payload) >= 20 else -1
-    return xid > 0 and zxid > 0 and (size in (16, 20, STAT_REPLY) or size > 20 and -1 <= first <= size - 20)
+    return xid > 0 and zxid > 0 and \
+        (size in (16, 20, 84) or len(payload) < min(size, 28) or is_body(payload, size))
+
+
+def is_body(payload, size):
+    """Whether a reply without an error, of this size, can have the body that begins here."""
+    count, first, second = struct.unpack_from(">iii", payload.ljust(28, b"\0"), 16)
+    if size == 88 + max(0, count):
+        return count >= -1
+    if payload[20:21] == b"/" and count > 0 and size in (20 + count, 88 + count):
+        return True
+    err = int.from_bytes(payload[21:25], "big", signed=True)
+    if count in PARTS and size >= 25 and payload[20] <= 1 and -200 <= err <= 0:
+        return True
+    left = size - 20
+    return 0 < count <= left // 4 and (0 < first <= left - 4 or 0 < first <= 31 and 0 < second <= left - 8)
 
 
 def is_event(payload, size):

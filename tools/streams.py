@@ -37,8 +37,8 @@ class Half:
     """One side of a connection: puts what was captured in order.
 
     `next` is the sequence number behind the bytes that are in order, or -1, and `place` their place. `apart` has what
-    came before its turn; `ready` what is in order, and is given on once that is which it follows. `written` is the place of
-    what is given on, `end` that of the side's end, and `fin` what is known of the first segment with a FIN.
+    came before its turn; `ready` what is in order, and is given on once that is which it follows. `written` is the
+    place of what is given on, `end` that of the side's end, and `fin` what is known of the first segment with a FIN.
     """
 
     __slots__ = ("stream", "side", "other", "first", "next", "place", "written", "end", "fin", "acknowledged", "apart",

@@ -7,9 +7,10 @@ it isn't the first to a ping, and one ping alone was sent since that. From this 
 all that the server says behind it is there; what the client said before it is left out, and so is every reply without
 its request. Events are kept in any case.
 
-A stretch ends where bytes of the client are lost, but the replies to what it had asked before come behind that, and are
-still taken. Where bytes of the server are lost, no more replies are taken to what is kept already; what is held back
-goes on to wait for its first reply. What is held back when the connection ends is kept: no reply to it was captured.
+A stretch ends where bytes of the client are lost, but the replies to what it had asked before come behind that, and
+are still taken. Where bytes of the server are lost, no more replies are taken to what is kept already; what is held
+back goes on to wait for its first reply. What is held back when the connection ends is kept: no reply to it was
+captured.
 """
 
 import collections
@@ -83,8 +84,8 @@ class Stretch:
             self.bound()
 
     def answer(self, reply, last):
-        """Takes a reply, where its request is here. Where no loss is behind this stretch, `last`, it also takes one that
-        is none to what waits, once it took one: that is a fault, which the recording is to show."""
+        """Takes a reply, where its request is here. Where no loss is behind this stretch, `last`, it also takes one
+        that is none to what waits, once it took one: that is a fault, which the recording is to show."""
         xid = reply.payload[:4]
         lane = self.waiting.get(xid, self.ordinary)
         if not self.anchored:

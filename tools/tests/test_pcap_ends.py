@@ -1,10 +1,12 @@
 """Tests of how pcap2zkr.py tells the ends of connections, and lets them go."""
 
 import random
+import unittest.mock
 
 import wire
 from captured import SMALL, PcapCase, capture_of, packed
 from support import pieces, sides, zkr
+import pcap2zkr
 
 ASK = zkr.Piece(zkr.CLIENT, None, b"ask")
 REPLY = zkr.Piece(zkr.SERVER, None, b"reply")
@@ -115,7 +117,8 @@ class Many(PcapCase):
 
     def test_those_that_are_over_take_no_memory(self):
         fin = wire.FIN | wire.ACK
-        for end in ([(zkr.CLIENT, fin), (zkr.SERVER, fin), (zkr.CLIENT, wire.ACK)], [(zkr.SERVER, wire.RST | wire.ACK)]):
+        closed = [(zkr.CLIENT, fin), (zkr.SERVER, fin), (zkr.CLIENT, wire.ACK)]
+        for end in (closed, [(zkr.SERVER, wire.RST | wire.ACK)]):
             few, many = (self.convert_within(wire.pcap(self.connections(count, *end, said=())), "RLIMIT_NOFILE", 64)
                          for count in (10, 12_000))
             self.assertEqual((few[:3], many[:3]), ((0, 10, []), (0, 12_000, [])))
@@ -123,8 +126,8 @@ class Many(PcapCase):
 
     def test_those_that_are_never_answered_take_little_memory(self):
         capture = wire.pcap([each for at in range(30_000) for each in packed(opened([])[:1], client=at + 3000)])
-        status, lines, complaint, memory = self.convert_within(capture, "RLIMIT_NOFILE", 64)
-        self.assertEqual((status, lines, complaint), (0, 30_000, []))
+        *found, memory = self.convert_within(capture, "RLIMIT_NOFILE", 64)
+        self.assertEqual(found, [0, 30_000, []])
         self.assertLess(memory, 48)
 
     def test_what_comes_again_of_one_that_is_over(self):
@@ -146,11 +149,19 @@ class Many(PcapCase):
             self.assertIn(" 10.0.0.7:2181 > 10.0.0.9:2181 ", told[0])
 
     def test_what_waits_has_one_bound_for_all(self):
-        """A hundred connections, each of which lacks its first bytes and has 600,000 behind them."""
-        packets = []
-        for at in range(100):
-            sent = opened([zkr.Piece(zkr.CLIENT, None, bytes(601_000))], most=60_000)
+        """Twenty connections, each of which lacks its first bytes and has 6,000 behind them."""
+        packets, most = [], []
+        for at in range(20):
+            sent = opened([zkr.Piece(zkr.CLIENT, None, bytes(6_600))], most=600)
             packets += packed(sent[:3] + sent[4:], client=3000 + at)
-        status, lines, complaint, memory = self.convert_within(wire.pcap(packets), "RLIMIT_NOFILE", 64)
-        self.assertEqual((status, lines, complaint), (1, 100, []))
-        self.assertLess(memory, 80)
+        watched = pcap2zkr.Capture.look_after
+
+        def watch(capture, stream):
+            watched(capture, stream)
+            most.append(capture.budget.held)
+        with unittest.mock.patch("pcap2zkr.MOST_HELD", 40_000), \
+                unittest.mock.patch("pcap2zkr.Capture.look_after", watch):
+            status, told, _ = self.convert(wire.pcap(packets))
+        self.assertEqual((status, len(told)), (1, 20))
+        self.assertTrue(all(" lost=C:600,S:0 " in line for line in told), told)
+        self.assertTrue(30_000 < max(most) <= 40_000, max(most))
