@@ -19,8 +19,8 @@ request, in whatever order packets were captured. Where bytes are missing, the r
 says `hole=C` or `hole=S`, the side that they are of. What follows them is PREFIX-1.2.zkr and so on, each with its line:
 from a request on that has its reply, behind a connect request and response that are made up (all numbers -1). The line
 says how many bytes of each side were not captured before it (`lost=C:0,S:96`), how many were captured but are left out
-(`skipped=C:120,S:300`), and how many replies are, since their requests were not captured (`unasked=3`). `snapped` says
-that packets were not captured whole.
+(`skipped=C:120,S:300`), and how many replies are, since their requests are not in it (`unasked=3`). `snapped` says that
+packets were not captured whole.
 
 A connection that began before the capture gets a line with `late`, and no recording. With --late it is joined in the
 same way.
