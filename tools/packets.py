@@ -2,98 +2,153 @@
 
 Links: Ethernet with any number of VLAN tags, the cooked captures of Linux (SLL and SLL2), raw IP, and the loopback of
 BSD and macOS. Networks: IPv4 and IPv6. A packet that was sent in fragments is passed over, and so is what isn't TCP.
+
+A segment is a plain tuple, since there are many of them:
+
+    number, milliseconds, ends, source, target, sequence, acknowledged, flags, data, snapped
+
+`number` is the packet's number in the capture, from 1, as Wireshark counts. `ends` are the source's and the target's
+address and their ports, as they stand in the packet: an own value for each direction of each connection. `source` and
+`target` are the ports; `snapped` says that bytes of the segment were not captured.
 """
 
 import gzip
 import struct
-from typing import NamedTuple
 
 FIN, SYN, RST, ACK = 1, 2, 4, 16
-LARGEST_PACKET, LATEST = 1 << 26, 253_402_300_800_000
+LARGEST_PACKET, LATEST = 1 << 24, 253_402_300_800_000
+BLOCK = 1 << 18
 # The bytes of the link's header before the IP header, by the number of the link type.
 LINKS = {0: 4, 108: 4, 113: 16, 276: 20, 12: 0, 14: 0, 101: 0, 228: 0, 229: 0}
 ETHERNET, VLANS, IP_KINDS = 1, (b"\x81\x00", b"\x88\xa8", b"\x91\x00"), (b"\x08\x00", b"\x86\xdd")
 FRAGMENTED, EXTENSIONS, TCP = 0x3FFF, (0, 43, 60), 6
-IPV4, TCP_HEAD = struct.Struct(">2xH2xHxB2x4s4s"), struct.Struct(">HHIIBB")
+IPV4, TCP_HEAD = struct.Struct(">2xH2xHxB"), struct.Struct(">HHIIBB")
+SECTION, INTERFACE, OLD_PACKETS, PACKET = 0x0A0D0D0A, 1, (2, 3), 6
 
 
 class NotRead(ValueError):
     """A file that is no capture, or one that isn't read here."""
 
 
-class Segment(NamedTuple):
-    """A TCP segment. Source and target are an address, as bytes, and a port; `snapped` says that bytes of it were not
-    captured."""
-    milliseconds: float
-    source: tuple
-    target: tuple
-    number: int
-    acknowledged: int
-    flags: int
-    data: bytes
-    snapped: bool
+class Source:
+    """The bytes of a stream: `data`, of which those before `at` are done with."""
 
+    def __init__(self, stream):
+        self.read, self.data, self.at = stream.read1, b"", 0
 
-def exactly(stream, size):
-    if size > LARGEST_PACKET:
-        raise NotRead(f"a packet of {size} bytes")
-    data = stream.read(size)
-    if len(data) < size:
-        raise EOFError("the capture ends within a packet")
-    return data
+    def more(self, at):
+        """Reads on, where the bytes before `at` are done with. False at the stream's end."""
+        rest = self.data[at:]
+        # As much again as is there, so that a large packet isn't copied once for each small part of it.
+        new = self.read(max(BLOCK, len(rest)))
+        self.data, self.at = rest + new, 0
+        return bool(new)
+
+    def exactly(self, size):
+        """The next bytes, so many."""
+        while len(self.data) - self.at < size:
+            if not self.more(self.at):
+                raise EOFError("the capture ends within a packet")
+        self.at += size
+        return self.data[self.at - size:self.at]
 
 
 def segments(stream):
     """The TCP segments of a capture: of a buffered stream of its bytes."""
     if stream.peek(2)[:2] == b"\x1f\x8b":
         stream = gzip.GzipFile(fileobj=stream)
-    mark = stream.read(4)
-    packets = packets_of_pcapng(stream) if mark == b"\x0a\x0d\x0d\x0a" else packets_of_pcap(stream, mark)
-    for milliseconds, link, packet in packets:
+    source, number = Source(stream), 0
+    mark = source.exactly(4) if source.more(0) else b""
+    packets = packets_of_pcapng(source) if mark == b"\x0a\x0d\x0d\x0a" else packets_of_pcap(source, mark)
+    unpack_ip, unpack_tcp = IPV4.unpack_from, TCP_HEAD.unpack_from
+    for number, (milliseconds, link, packet, at, end) in enumerate(packets, 1):
         if not 0 <= milliseconds < LATEST:
-            raise NotRead("a packet has no time between the years 1970 and 9999")
-        segment = segment_of(milliseconds, network_part(link, packet))
-        if segment:
-            yield segment
+            raise NotRead(f"packet {number} has no time between the years 1970 and 9999")
+        if link == ETHERNET and packet[at + 12:at + 14] == b"\x08\x00":
+            at += 14
+        else:
+            at = network_place(link, packet, at)
+        if end - at >= 40 and packet[at] == 0x45:
+            size, fragment, kind = unpack_ip(packet, at)
+            if kind != TCP or fragment & FRAGMENTED:
+                continue
+            # 0 where the network card cuts the packet only later
+            whole, ends, at = at + size if size else end, packet[at + 12:at + 24], at + 20
+        else:
+            found = other_network(packet, at, end)
+            if not found:
+                continue
+            at, whole, ends = found
+        source_port, target_port, sequence, acknowledged, length, flags = unpack_tcp(packet, at)
+        if length < 0x50:
+            continue
+        yield (number, milliseconds, ends, source_port, target_port, sequence, acknowledged, flags,
+               packet[at + (length >> 4) * 4:whole if whole < end else end], whole > end)
 
 
-def packets_of_pcap(stream, mark):
-    """The time, the link type and the bytes of each packet of a pcap file, whose first four bytes were read."""
+def packets_of_pcap(source, mark):
+    """The packets of a pcap file, whose first four bytes were read: for each its time, its link type, and bytes with
+    the places in them where it begins and ends."""
     forms = {struct.pack(order + "I", number): (order, unit)
              for order in "<>" for number, unit in ((0xA1B2C3D4, 1e-3), (0xA1B23C4D, 1e-6))}
     if mark not in forms:
         raise NotRead("no capture of pcap or pcapng")
     order, unit = forms[mark]
-    link = struct.unpack(order + "16xI", exactly(stream, 20))[0] & 0x0FFFFFFF
-    head = struct.Struct(order + "IIII")
-    while first := stream.read(1):
-        seconds, part, size, _ = head.unpack(first + exactly(stream, 15))
-        yield seconds * 1000 + part * unit, link, exactly(stream, size)
+    link = struct.unpack(order + "16xI", source.exactly(20))[0] & 0x0FFFFFFF
+    unpack = struct.Struct(order + "IIII").unpack_from
+    data, at = source.data, source.at
+    while True:
+        size, last = 0, len(data)
+        while at + 16 <= last:
+            seconds, part, size, _ = unpack(data, at)
+            end = at + 16 + size
+            if end > last:
+                break
+            yield seconds * 1000 + part * unit, link, data, at + 16, end
+            at = end
+        if size > LARGEST_PACKET:
+            raise NotRead(f"a packet of {size} bytes")
+        if not source.more(at):
+            if at < last:
+                raise EOFError("the capture ends within a packet")
+            return
+        data, at = source.data, 0
 
 
-def packets_of_pcapng(stream):
+def packets_of_pcapng(source):
     """The same of a pcapng file, whose first four bytes were read."""
-    kind, order, interfaces = b"\x0a\x0d\x0d\x0a", "<", []
-    while kind:
-        size = exactly(stream, 4)
-        if kind == b"\x0a\x0d\x0d\x0a":  # a section: the order of its bytes stands in it
-            mark = exactly(stream, 4)
+    kind, order, interfaces = SECTION, "<", []
+    while True:
+        head = source.exactly(4)
+        if kind == SECTION:  # the order of its bytes stands in it
+            mark = source.exactly(4)
             order, interfaces = "<" if mark == b"\x4d\x3c\x2b\x1a" else ">", []
-            exactly(stream, struct.unpack(order + "I", size)[0] - 12)
+            body = block_body(source, order, head, 16)
         else:
-            body = exactly(stream, max(0, struct.unpack(order + "I", size)[0] - 12))
-            exactly(stream, 4)
-            number = struct.unpack(order + "I", kind)[0]
-            if number == 1:
-                interfaces.append((struct.unpack(order + "H", body[:2])[0], *clock_of(order, body[8:])))
-            elif number == 6:
-                interface, high, low, length = struct.unpack(order + "IIII", body[:16])
-                link, unit, offset = interfaces[interface]
-                yield ((high << 32) + low) * unit + offset, link, body[20:20 + length]
-            elif number in (2, 3):
-                raise NotRead("a pcapng of an old form; convert it: editcap -F pcapng OLD NEW")
-        kind = stream.read(1)
-        kind += exactly(stream, 3) if kind else b""
+            body = block_body(source, order, head, 12)
+        if kind == INTERFACE:
+            interfaces.append((struct.unpack_from(order + "H", body)[0], *clock_of(order, body[8:])))
+        elif kind == PACKET:
+            interface, high, low, length = struct.unpack_from(order + "IIII", body)
+            link, unit, offset = interfaces[interface]
+            yield ((high << 32) + low) * unit + offset, link, body, 20, min(20 + length, len(body))
+        elif kind in OLD_PACKETS:
+            raise NotRead("a pcapng of an old form; convert it: editcap -F pcapng OLD NEW")
+        if source.at == len(source.data) and not source.more(source.at):
+            return
+        kind = struct.unpack(order + "I", source.exactly(4))[0]
+
+
+def block_body(source, order, head, least):
+    """What stands in a block of pcapng, of which `least` bytes are its head and its end; each of those has its
+    length."""
+    size = struct.unpack(order + "I", head)[0]
+    if not least <= size <= LARGEST_PACKET:
+        raise NotRead(f"a block of {size} bytes")
+    body = source.exactly(size - least)
+    if source.exactly(4) != head:
+        raise NotRead("a block has one length before it and another behind it")
+    return body
 
 
 def clock_of(order, options):
@@ -112,38 +167,34 @@ def clock_of(order, options):
     return unit, offset
 
 
-def network_part(link, packet):
-    """What stands behind the link's header."""
+def network_place(link, packet, at):
+    """Where the IP header begins, of a packet that begins at this place; past its end where it has none."""
     if link == ETHERNET:
-        at = 12
+        at += 12
         while packet[at:at + 2] in VLANS:
             at += 4
-        return packet[at + 2:] if packet[at:at + 2] in IP_KINDS else b""
+        return at + 2 if packet[at:at + 2] in IP_KINDS else len(packet)
     if link not in LINKS:
         raise NotRead(f"link type {link} is not read here")
-    return packet[LINKS[link]:]
+    return at + LINKS[link]
 
 
-def segment_of(milliseconds, packet):
-    """The TCP segment in an IP packet, or None."""
-    version = packet[0] >> 4 if packet else 0
-    if version == 4 and len(packet) >= 20:
-        size, fragment, kind, source, target = IPV4.unpack_from(packet)
-        at = (packet[0] & 15) * 4
-        if fragment & FRAGMENTED:
+def other_network(packet, at, end):
+    """Of an IP packet: where TCP begins, where it should end, and the ends. None where there is no TCP."""
+    version = packet[at] >> 4 if at < end else 0
+    if version == 4 and end - at >= 20:
+        size, fragment, kind = IPV4.unpack_from(packet, at)
+        tcp, addresses = at + (packet[at] & 15) * 4, packet[at + 12:at + 20]
+        if fragment & FRAGMENTED or tcp < at + 20:
             return None
-    elif version == 6 and len(packet) >= 40:
-        size, at, kind = struct.unpack(">4xH", packet[:6])[0], 40, packet[6]
+    elif version == 6 and end - at >= 40:
+        size, kind, tcp, addresses = struct.unpack_from(">H", packet, at + 4)[0], packet[at + 6], at + 40, \
+            packet[at + 8:at + 40]
         size += 40 if size else 0
-        source, target = packet[8:24], packet[24:40]
-        while kind in EXTENSIONS and len(packet) >= at + 8:
-            kind, at = packet[at], at + 8 + packet[at + 1] * 8
+        while kind in EXTENSIONS and end >= tcp + 8:
+            kind, tcp = packet[tcp], tcp + 8 + packet[tcp + 1] * 8
     else:
         return None
-    if kind != TCP or len(packet) < at + 20:
+    if kind != TCP or end < tcp + 20:
         return None
-    size = size or len(packet)  # 0 where the network card cuts the packet only later
-    from_port, to_port, number, acknowledged, length, flags = TCP_HEAD.unpack_from(packet, at)
-    data = packet[at + (length >> 4) * 4:size]
-    return Segment(milliseconds, (source, from_port), (target, to_port), number, acknowledged, flags, data,
-                   size > len(packet))
+    return tcp, at + size if size else end, addresses + packet[tcp:tcp + 4]

@@ -5,336 +5,198 @@
 
 CAPTURE is a file of pcap or pcapng, also one packed with gzip, or - for standard input. Each connection to the port
 (2181) becomes PREFIX-1.zkr, PREFIX-2.zkr and so on; a number whose file is there already is passed over. It gets a line
-on standard output, once it has ended:
+on standard output, once it has ended (here on two lines):
 
-    PREFIX-1.zkr 10.0.0.7:41822 > 10.0.0.9:2181 begun 2026-11-22T20:31:07.120Z client=1045 server=2210
+    PREFIX-1.zkr 10.0.0.7:41822 > 10.0.0.9:2181 begun 2026-11-22T20:31:07.120Z ended 2026-11-22T20:31:09.884Z
+        client=1045 server=2210 packets=1-37 resent=0 closed=C
+
+packets= has the numbers of its first and its last packet in the capture, and resent= says how many segments were
+captured again. closed=C says that the client sent the first FIN, reset=S that the server sent a reset, and open that
+neither was captured; `ended` is the time of that, or of the last packet.
 
 Bytes are written only behind everything that their sender had acknowledged, so that no reply stands before its
 request, in whatever order packets were captured. Where bytes are missing, the recording ends before them, and the line
-says `hole=C` or `hole=S`, the side that they are of. `snapped` says that packets were not captured whole.
+says `hole=C` or `hole=S`, the side that they are of. What follows them is PREFIX-1.2.zkr and so on, each with its line:
+from a request on that has its reply, behind a connect request and response that are made up (all numbers -1). The line
+says how many bytes of each side were not captured before it (`lost=C:0,S:96`), how many were captured but are left out
+(`skipped=C:120,S:300`), and how many replies are, since their requests are not in it (`unasked=3`). `snapped` says that
+packets were not captured whole.
 
-A connection that began before the capture gets a line that ends with `late`, and no recording. With --late it is
-joined: at the first frame of each side that is plausible, behind a connect request and response that are made up
-(all numbers -1), and without the replies to requests that were not captured. The line then says how many bytes of each
-side were passed over (`skipped=C:120,S:300`) and how many such replies (`unasked=3`).
+A connection that began before the capture gets a line with `late`, and no recording. With --late it is joined in the
+same way.
 
 The status is 1 where anything was left out, or the capture has no connection to the port.
 """
 
-import collections
-import heapq
 import ipaddress
 import struct
 import sys
 import zlib
-from typing import NamedTuple
 
 import packets
+import resync
 import zkr
+from conversation import Conversation
+from recordings import Series
+from streams import MASK, Stream
 
-SIDES = (zkr.CLIENT, zkr.SERVER)
-OTHER = {zkr.CLIENT: zkr.SERVER, zkr.SERVER: zkr.CLIENT}
-GATHERED, MOST_HELD = 1 << 16, 1 << 25
-# A connect request and a connect response that no peer sends: every number is -1, and the password is null.
-MADE_UP = {zkr.CLIENT: struct.pack(">iiqiqi", 28, -1, -1, -1, -1, -1),
-           zkr.SERVER: struct.pack(">iiiqi", 20, -1, -1, -1, -1)}
-EVENT, PING, LANES = -1, -2, (-2, -4, -8)
-# The operations of requests; those of the first line have a path behind their header.
-WITH_PATH = {1, 2, 3, 4, 5, 6, 7, 8, 9, 12, 15, 17, 18, 19, 20, 21, 103, 104, 106}
-REQUESTS = WITH_PATH | {11, 14, 16, 22, 100, 101, 102, 105, 107, -11}
+MOST_HELD, MOST_SILENT, MOST_LINGERING, MOST_OVER, MOST_PORTS = 1 << 25, 8192, 256, 8192, 8
+DAMAGED = (struct.error, IndexError, zlib.error)
 
 
-class Part(NamedTuple):
-    """Bytes of one side in their place. `follows` is how much of the other side stands before them: what their sender
-    had acknowledged. `order` is the order of capture. Places count from the first byte of the side."""
-    place: int
-    follows: int
-    order: int
-    milliseconds: float
-    data: bytes
+def address_text(ends, at):
+    """The source's address and port, or where `at` is 1 the target's, out of a segment's ends."""
+    width, port = (len(ends) - 4) // 2, len(ends) - 4 + 2 * at
+    address = ipaddress.ip_address(ends[at * width:(at + 1) * width])
+    text = str(address) if address.version == 4 else f"[{address}]"
+    return f"{text}:{int.from_bytes(ends[port:port + 2], 'big')}"
 
 
-class Half:
-    """One side of a connection: puts what was captured in order. `apart` has what came before its turn, `ready` what
-    can be written once that is written which it follows, and `held` is the size of both."""
+class Budget:
+    """How many bytes wait, of all connections."""
 
-    def __init__(self, first):
-        self.first, self.place, self.end, self.written, self.acknowledged = first, 0, None, 0, 0
-        self.apart, self.ready, self.held = [], collections.deque(), 0
-
-    def place_of(self, number):
-        """The place of a sequence number, which is known up to 2^32 alone: the one next to where this half is."""
-        return self.place + (number - self.first - self.place + (1 << 31)) % (1 << 32) - (1 << 31)
-
-    def put(self, part):
-        """Takes bytes of any place."""
-        if part.place == self.place and not self.apart:
-            self.ready.append(part)
-            self.place += len(part.data)
-            self.held += len(part.data)
-            return
-        heapq.heappush(self.apart, part)
-        self.held += len(part.data)
-        while self.apart and self.apart[0].place <= self.place:
-            part = heapq.heappop(self.apart)
-            data = part.data[self.place - part.place:]
-            self.held -= len(part.data) - len(data)
-            if data:
-                self.ready.append(part._replace(place=self.place, data=data))
-                self.place += len(data)
-
-    def take(self):
-        """Takes away what is to be written next."""
-        part = self.ready.popleft()
-        self.held -= len(part.data)
-        self.written += len(part.data)
-        return part
-
-    def reached(self):
-        """How much of this half is written; its end counts as one more."""
-        return self.written + (self.end == self.written)
-
-    def lacks(self):
-        """Whether bytes are known to be missing: others came behind them, or the other side acknowledged them."""
-        return bool(self.apart) or (self.end or 0) > self.place or self.acknowledged > self.place + 1
-
-
-class Connection:
-    """A connection: puts its two halves into one order, and writes them."""
-
-    def __init__(self, series, client, server, milliseconds, late, join):
-        self.series, self.begun, self.late = series, milliseconds, late
-        self.name = f"{address_text(client)} > {address_text(server)}"
-        self.halves, self.recording, self.snapped, self.over = {}, None, False, False
-        self.joined = Joined(series.head, self.record) if late and join else None
-
-    def take(self, side, segment, order):
-        """Takes a segment of a side."""
-        number, flags = segment.number, segment.flags
-        if flags & packets.SYN:
-            number = (number + 1) % (1 << 32)
-        half = self.half(side, number)
-        self.snapped |= segment.snapped
-        follows = 0
-        if flags & packets.ACK:
-            other = self.half(OTHER[side], segment.acknowledged)
-            follows = other.place_of(segment.acknowledged)
-            other.acknowledged = max(other.acknowledged, follows)
-        place = half.place_of(number)
-        if flags & packets.FIN:
-            half.end = place + len(segment.data)
-        if segment.data and not flags & packets.RST:
-            half.put(Part(place, follows, order, segment.milliseconds, segment.data))
-        if len(self.halves) == 2:
-            self.write()
-
-    def half(self, side, number):
-        """A side's half, which begins with this number where nothing was known of it."""
-        if side not in self.halves:
-            self.halves[side] = Half(number)
-        return self.halves[side]
-
-    def write(self):
-        """Writes what is in order on its side and follows nothing that isn't written."""
-        while True:
-            heads = [(self.halves[side].ready[0], side) for side in SIDES if self.halves[side].ready]
-            if not heads:
-                return
-            free = [(head.order, side) for head, side in heads if head.follows <= self.halves[OTHER[side]].reached()]
-            if free:
-                side = min(free)[1]
-            elif len(heads) == 2:
-                # Each waits for the other: a copy of a segment was captured whose first copy was not.
-                side = zkr.CLIENT
-            else:
-                return
-            part = self.halves[side].take()
-            if self.joined:
-                self.joined.take(zkr.Piece(side, part.milliseconds, part.data))
-            elif not self.late:
-                self.record(side, part.milliseconds, part.data)
-
-    def record(self, side, milliseconds, data):
-        if not self.recording:
-            self.recording = self.series.next()
-        self.recording.piece(side, milliseconds, data)
-
-    def held(self):
-        """How many bytes wait to be written."""
-        return sum([half.held for half in self.halves.values()])
-
-    def ended(self):
-        """Whether both sides have ended, and all is written."""
-        for half in self.halves.values():
-            if half.end != half.written:
-                return False
-        return len(self.halves) == 2
-
-    def finish(self):
-        """Ends the recording, tells it, and says whether anything was left out."""
-        self.over = True
-        if self.recording:
-            self.recording.close()
-        holes = [side for side, half in self.halves.items()
-                 if half.lacks() or OTHER[side] in self.halves and self.halves[OTHER[side]].ready]
-        path, count = (self.recording.path, self.recording.count) if self.recording else ("-", dict.fromkeys(SIDES, 0))
-        notes = ["late"] if self.late else []
-        if self.joined:
-            notes.append("skipped=C:{},S:{}".format(*(self.joined.skipped[side] for side in SIDES)))
-            notes.append(f"unasked={self.joined.unasked}")
-        notes += [f"hole={side.decode()}" for side in sorted(holes)] + ["snapped"] * self.snapped
-        print(path, self.name, "begun", zkr.clock(self.begun), f"client={count[zkr.CLIENT]}",
-              f"server={count[zkr.SERVER]}", *notes, flush=True)
-        self.halves = {side: Half(half.first) for side, half in self.halves.items()}
-        return bool(notes)
-
-
-class Joined:
-    """A connection that was begun earlier, from the first frames on that are plausible: those of the server first, so
-    that each request that is kept has its reply behind it. Gives `record` whole frames."""
-
-    def __init__(self, head, record):
-        self.cutter, self.record, self.limits = zkr.Cutter(head), record, (head.client_limit, head.server_limit)
-        self.begun, self.skipped, self.unasked = set(), dict.fromkeys(SIDES, 0), 0
-        self.waiting, self.matched, self.connected = collections.defaultdict(collections.deque), False, False
-
-    def take(self, piece):
-        if piece.side not in self.begun and not self.begins(piece):
-            self.skipped[piece.side] += len(piece.data)
-            return
-        for frame in self.cutter.take(piece):
-            if self.is_wanted(frame):
-                self.write(piece, len(frame.payload).to_bytes(4, "big") + frame.payload)
-            else:
-                self.unasked += 1
-        if piece.side in self.cutter.broken:
-            self.write(piece, bytes(self.cutter.held[piece.side]))
-            self.cutter.held[piece.side].clear()
-
-    def begins(self, piece):
-        """Whether this side can be joined at this piece."""
-        if piece.side == zkr.SERVER:
-            found = begins_with_frames(piece.data, 16, self.limits[1], is_reply)
-        else:
-            found = zkr.SERVER in self.begun and begins_with_frames(piece.data, 8, self.limits[0], is_request)
-        if found:
-            self.begun.add(piece.side)
-        return found
-
-    def write(self, piece, data):
-        if not self.connected:
-            self.connected = True
-            for side in SIDES:
-                self.record(side, piece.milliseconds, MADE_UP[side])
-        self.record(piece.side, piece.milliseconds, data)
-
-    def is_wanted(self, frame):
-        """Whether it is a request, an event, or a reply that isn't one to a request that was not captured."""
-        if len(frame.payload) < 8:
-            return True
-        xid = int.from_bytes(frame.payload[:4], "big", signed=True)
-        lane = self.waiting[xid if xid in LANES else 0]
-        if frame.side == zkr.CLIENT:
-            lane.append(xid)
-        elif xid != EVENT:
-            if xid not in LANES:
-                self.matched |= bool(lane) and lane[0] == xid
-                if not self.matched:
-                    return False
-            elif not lane:
-                return False
-            if lane:
-                lane.popleft()
-        return True
-
-
-def begins_with_frames(data, least, limit, is_plausible):
-    """Whether these bytes are plausible frames up to their end, or four of them at least."""
-    at = seen = 0
-    while at < len(data):
-        size = int.from_bytes(data[at:at + 4], "big")
-        if len(data) < at + 4 + least:
-            return seen >= 4
-        if not (least <= size <= limit and is_plausible(data[at + 4:at + 24], size)):
-            return False
-        at, seen = at + 4 + size, seen + 1
-    return at == len(data) or seen >= 4
-
-
-def is_request(payload, size):
-    """Whether a request's payload can begin so."""
-    xid, kind = struct.unpack(">ii", payload[:8])
-    if kind in WITH_PATH:
-        length = int.from_bytes(payload[8:12], "big")
-        return xid > 0 and 0 < length <= size - 12 and payload[12:13] == b"/"
-    return kind in REQUESTS and (xid > 0 or xid in LANES) and (xid == PING) == (kind == 11)
-
-
-def is_reply(payload, size):
-    """Whether a reply's or an event's payload can begin so."""
-    xid, zxid, failure = struct.unpack(">iqi", payload[:16])
-    return (xid > 0 or xid == EVENT or xid in LANES) and zxid >= -1 and \
-        (failure == 0 or size == 16 and -200 <= failure < 0)
-
-
-def address_text(end):
-    address = ipaddress.ip_address(end[0])
-    return f"{address}:{end[1]}" if address.version == 4 else f"[{address}]:{end[1]}"
+    def __init__(self):
+        self.held = 0
 
 
 class Capture:
     """All connections of a capture."""
 
     def __init__(self, words, head):
-        self.port, self.join = words.port, words.late
-        self.series = zkr.Series(words.prefix, head, words.times, GATHERED)
-        self.connections, self.segments, self.begun, self.left_out = {}, 0, 0, False
-
-    def take(self, segment):
-        """Takes the next segment of the capture."""
-        self.segments += 1
-        if segment.target[1] == self.port:
-            side, ends = zkr.CLIENT, (segment.source, segment.target)
-        elif segment.source[1] == self.port:
-            side, ends = zkr.SERVER, (segment.target, segment.source)
-        else:
-            return
-        connection = self.connections.get(ends)
-        begins = segment.flags & packets.SYN
-        if connection and begins:
-            half = connection.halves.get(side)
-            if half and half.first != (segment.number + 1) % (1 << 32):
-                self.finish(connection)
-                connection = None
-        if not connection:
-            if not (begins or segment.data):
-                return
-            connection = Connection(self.series, *ends, segment.milliseconds, not begins, self.join)
-            self.connections[ends] = connection
-            self.begun += 1
-        if not connection.over:
-            connection.take(side, segment, self.segments)
-            if connection.ended() or connection.held() > MOST_HELD:
-                self.finish(connection)
-
-    def finish(self, connection):
-        if not connection.over:
-            self.left_out |= connection.finish()
+        self.port, self.begun, self.left_out = words.port, 0, False
+        self.series = Series(words.prefix, head, words.times, words.late)
+        self.budget, self.heard = Budget(), {}
+        # By the ends of a direction, the half of a connection, or where the bytes of one that is over were. And the
+        # connections of which no byte was captured yet, and those of which no more is expected, the oldest first.
+        self.halves, self.over, self.silent, self.lingering = {}, {}, {}, {}
 
     def read(self, stream):
         """Reads a capture up to its end, or up to Ctrl-C."""
-        progress = zkr.Progress("pcap2zkr.py")
+        progress, halves, failed = zkr.Progress("pcap2zkr.py"), self.halves, None
         try:
             for segment in packets.segments(stream):
-                self.take(segment)
-                if self.segments % 1024 == 0:
-                    progress.tell(f"{self.segments} segments, {self.begun} connections")
+                number, milliseconds, ends, _, _, sequence, acknowledged, flags, data, snapped = segment
+                half = halves.get(ends)
+                if half is None or flags & packets.SYN:
+                    half = self.half_of(half, segment)
+                    if half is None:
+                        continue
+                if half.take(number, milliseconds, sequence, acknowledged, flags, data, snapped):
+                    self.look_after(half.stream)
+                if number & 1023 == 0:
+                    progress.tell(f"{number} packets, {self.begun} connections")
         except KeyboardInterrupt:
             pass
-        finally:
-            progress.end()
-            for connection in self.connections.values():
-                self.finish(connection)
+        except (EOFError, OSError, packets.NotRead, *DAMAGED) as error:
+            failed = error
+        progress.end()
+        # Where one recording can't be written, the others are left as they are.
+        if not getattr(failed, "filename", None):
+            for stream in list(dict.fromkeys(half.stream for half in halves.values())):
+                self.finish(stream)
+        if failed:
+            raise failed
+
+    def half_of(self, half, segment):
+        """The half that takes a segment with a SYN, or one of unknown ends: a new one where a connection begins."""
+        number, milliseconds, ends, source, target, sequence, _, flags, data, _ = segment
+        begins = flags & packets.SYN
+        if half:
+            if half.first in (-1, sequence + 1 & MASK):
+                return half
+            self.finish(half.stream)
+        if self.port not in (source, target):
+            self.hear(source, target, flags)
+            return None
+        if not (begins or data):
+            return None
+        width = (len(ends) - 4) // 2
+        back = ends[width:2 * width] + ends[:width] + ends[-2:] + ends[-4:-2]
+        if ends in self.over:
+            first, size = self.over[ends]
+            if first == sequence + 1 & MASK if begins else sequence - first & MASK < size:
+                return None  # it was captured again
+            del self.over[ends]
+            self.over.pop(back, None)
+        from_client = self.is_from_client(segment)
+        client = ends if from_client else back
+        conversation = Conversation(self.series, f"{address_text(client, 0)} > {address_text(client, 1)}", not begins,
+                                    number, milliseconds)
+        stream = conversation.stream = Stream(conversation, self.budget, number, milliseconds)
+        stream.ends = client, back if from_client else ends
+        self.halves.update(zip(stream.ends, stream.halves))
+        self.begun += 1
+        self.silent[stream] = None
+        if len(self.silent) > MOST_SILENT:
+            self.forget_silent()
+        return self.halves[ends]
+
+    def is_from_client(self, segment):
+        """Whether the client sent this segment, of a connection of which nothing is known."""
+        source, target, flags, data = segment[3], segment[4], segment[7], segment[8]
+        if source != target:
+            return target == self.port
+        if flags & packets.SYN:
+            return not flags & packets.ACK
+        return not resync.frames_follow(zkr.SERVER, data, 0, self.series.head.server_limit)
+
+    def hear(self, source, target, flags):
+        """Counts a packet of another port, by that which is the server's."""
+        if flags & packets.SYN:
+            port = source if flags & packets.ACK else target
+        else:
+            port = next((port for port in (target, source) if port in self.heard), min(source, target))
+        self.heard[port] = self.heard.get(port, 0) + 1
+
+    def look_after(self, stream):
+        """Ends a connection that is over, and lets none hold too much."""
+        if stream.is_complete():
+            self.finish(stream)
+        elif stream.is_over():
+            # What was captured late may still come.
+            self.lingering[stream] = None
+            if len(self.lingering) > MOST_LINGERING:
+                oldest = next(iter(self.lingering))
+                del self.lingering[oldest]
+                if oldest.is_over():
+                    self.finish(oldest)
+        if self.budget.held > MOST_HELD:
+            self.relieve()
+
+    def relieve(self):
+        """Goes on behind missing bytes, in the connections that hold most."""
+        holding = sorted({half.stream for half in self.halves.values() if half.stream.held},
+                         key=lambda stream: stream.held)
+        while self.budget.held > MOST_HELD // 4 * 3:
+            if not holding[-1].give_up():
+                holding.pop()
+
+    def forget_silent(self):
+        """Ends the oldest of the connections of which no byte was captured."""
+        for stream in list(self.silent)[:MOST_SILENT // 4]:
+            del self.silent[stream]
+            if stream.is_silent():
+                self.finish(stream)
+
+    def finish(self, stream):
+        """Ends a connection, and lets it go."""
+        while stream.give_up():
+            pass
+        stream.sink.finish()
+        self.left_out |= stream.sink.left_out
+        for ends, half in zip(stream.ends, stream.halves):
+            del self.halves[ends]
+            self.over[ends] = half.first, half.place
+            if len(self.over) > MOST_OVER:
+                del self.over[next(iter(self.over))]
+        self.silent.pop(stream, None)
+        self.lingering.pop(stream, None)
+        stream.let_go()
+
+    def ports_heard(self):
+        """The other ports in the capture, as they are told."""
+        most = sorted(self.heard, key=lambda port: (-self.heard[port], port))[:MOST_PORTS]
+        return "; the ports in it are " + ", ".join(map(str, most)) if most else ""
 
 
 def words_of():
@@ -349,12 +211,15 @@ def words_of():
 
 
 def complain(text):
-    print(f"pcap2zkr.py: {text}", file=sys.stderr)
+    if sys.stderr:
+        print(f"pcap2zkr.py: {text}", file=sys.stderr)
 
 
 def main():
     words, head = words_of()
-    zkr.allow_many_files()
+    if not sys.stdout or words.capture == "-" and not sys.stdin:
+        complain(f"standard {'input' if sys.stdout else 'output'} is closed")
+        return 3
     capture = Capture(words, head)
     try:
         with sys.stdin.buffer if words.capture == "-" else open(words.capture, "rb") as stream:
@@ -362,14 +227,20 @@ def main():
     except EOFError:
         complain(f"{words.capture}: the capture ends within a packet")
         return 1
-    except (struct.error, IndexError, zlib.error):
+    except DAMAGED:
         complain(f"{words.capture}: the capture is damaged")
         return 3
-    except (OSError, packets.NotRead) as error:
-        complain(f"{words.capture}: {getattr(error, 'strerror', None) or error}")
+    except OSError as error:
+        complain(f"{error.filename or words.capture}: {error.strerror or error}")
+        return 3
+    except packets.NotRead as error:
+        complain(f"{words.capture}: {error}")
+        return 3
+    if capture.series.unsaid:
+        complain(f"standard output: {capture.series.unsaid.strerror}")
         return 3
     if not capture.begun:
-        complain(f"{words.capture}: no connection to port {words.port}")
+        complain(f"{words.capture}: no connection to port {words.port}{capture.ports_heard()}")
     return 1 if capture.left_out or not capture.begun else 0
 
 

@@ -2,96 +2,20 @@
 
 import contextlib
 import gzip
-import io
 import random
 import re
 import shutil
 import socket
 import struct
 import subprocess
+import sys
 import threading
 import time
-import unittest.mock
 
 import wire
-from support import CAPTURES, TOP, ToolCase, pieces, sides, zkr
-import pcap2zkr
+from captured import SMALL, PcapCase, capture_of, disturbed, packed
+from support import CAPTURES, TOOLS, TOP, pieces, sides, zkr
 from test_record import echo, exactly, serve
-
-OTHER = {zkr.CLIENT: zkr.SERVER, zkr.SERVER: zkr.CLIENT}
-SMALL = [path for path in CAPTURES if path.stat().st_size < 60_000]
-
-
-def packed(sent, **more):
-    return [(each.milliseconds, wire.packet(each, **more)) for each in sent]
-
-
-def capture_of(sent, **more):
-    return wire.pcap(packed(sent, **more))
-
-
-def disturbed(sent, chance):
-    """These segments as a bad network and a busy machine have them captured: some twice, some again with other cuts,
-    and in another order within eight. The three of the beginning stay where they are."""
-    begin, rest, last = sent[:3], [], {}
-    for each in sent[3:]:
-        rest.append(each)
-        if each.data and chance.random() < 0.2:
-            rest.append(each)
-        before = last.get(each.side)
-        # Bytes that are known to have come are not sent again.
-        if each.data and before and before.number + len(before.data) == each.number \
-                and before.acknowledged == each.acknowledged and chance.random() < 0.5:
-            cut = chance.randrange(len(before.data) + 1)
-            rest.append(each._replace(number=before.number + cut, data=before.data[cut:] + each.data))
-        last[each.side] = each
-    mixed = []
-    for at in range(0, len(rest), 8):
-        window = rest[at:at + 8]
-        newest = max((each for each in window if each.data), default=None)
-        chance.shuffle(window)
-        mixed += window
-        if newest:  # asks whether the other end is alive
-            mixed.append(newest._replace(number=newest.number + len(newest.data) - 1, data=b"\0"))
-    return begin + mixed
-
-
-class PcapCase(ToolCase):
-    def convert(self, capture, *words):
-        """Converts a capture: the status, the lines told, and the recordings."""
-        source = self.folder / "capture"
-        source.write_bytes(capture)
-        for old in self.folder.glob("r-*"):
-            old.unlink()
-        with contextlib.redirect_stdout(io.StringIO()) as out, contextlib.redirect_stderr(io.StringIO()) as err:
-            words = ["pcap2zkr.py", *map(str, words), str(source), str(self.folder / "r")]
-            with unittest.mock.patch("sys.argv", words):
-                status = pcap2zkr.main()
-        self.complaint = err.getvalue()
-        paths = sorted(self.folder.glob("r-*.zkr"), key=lambda path: int(path.stem[2:]))
-        return status, out.getvalue().splitlines(), [path.read_bytes() for path in paths]
-
-    def assert_whole(self, capture, source, *words):
-        status, told, made = self.convert(capture, *words)
-        client, server = sides(source)
-        self.assertEqual((status, len(told), len(made), self.complaint), (0, 1, 1, ""), told)
-        self.assertEqual(sides(made[0]), (client, server))
-        self.assertRegex(told[0], rf"r-1\.zkr \S+ > \S+ begun \S+Z client={len(client)} server={len(server)}$")
-        return made[0]
-
-    def assert_causal(self, made, sent):
-        """That nothing stands in the recording before what its sender had acknowledged."""
-        least = {zkr.CLIENT: [], zkr.SERVER: []}
-        first = {each.side: each.number + 1 for each in sent[:2]}
-        for each in sent[3:]:
-            if each.data:
-                least[each.side].append((each.number - first[each.side], each.acknowledged - first[OTHER[each.side]]))
-        written = {zkr.CLIENT: 0, zkr.SERVER: 0}
-        for piece in pieces(made):
-            end = written[piece.side] + len(piece.data)
-            while least[piece.side] and least[piece.side][0][0] < end:
-                self.assertGreaterEqual(written[OTHER[piece.side]], least[piece.side].pop(0)[1])
-            written[piece.side] = end
 
 
 class Forms(PcapCase):
@@ -154,6 +78,42 @@ class Forms(PcapCase):
                 for _ in range(chance.randrange(1, 20)):
                     capture[chance.randrange(len(capture))] = chance.randrange(256)
                 self.assertIn(self.convert(capture)[0], (0, 1, 3))
+
+    def test_blocks_of_pcapng_with_impossible_lengths(self):
+        whole = bytearray(wire.pcapng(packed(wire.conversation(pieces(SMALL[0].read_bytes())))))
+        second = struct.unpack("<I", whole[4:8])[0]  # where the block behind the first begins
+        for place in (4, second + 4):
+            for size in (0, 10, 11, 15, 40, 1 << 27, (1 << 32) - 1):
+                with self.subTest(place=place, size=size):
+                    whole[place:place + 4] = struct.pack("<I", size)
+                    status, told, made = self.convert(whole)
+                    self.assertEqual((status, told, made, self.complaint.count("\n")), (3, [], [], 1))
+            whole[4:8] = struct.pack("<I", second)
+        status, _, err = self.run_tool("pcap2zkr.py", "-", self.folder / "s", stdin=b"\n\r\r\n\n\0\0\0M<+\x1a")
+        self.assertEqual((status, err), (3, "pcap2zkr.py: -: a block of 10 bytes\n"))
+
+    def test_what_fails_is_named(self):
+        capture, prefix = self.folder / "capture", self.folder / "none" / "r"
+        capture.write_bytes(capture_of(wire.conversation(pieces(SMALL[0].read_bytes()))))
+        for words, name, why in (((capture, prefix), f"{prefix}-1.zkr", "No such file or directory"),
+                                 ((self.folder, self.folder / "r"), self.folder, "Is a directory"),
+                                 ((prefix, self.folder / "r"), prefix, "No such file or directory")):
+            with self.subTest(name=name):
+                self.assertEqual(self.run_tool("pcap2zkr.py", *words), (3, "", f"pcap2zkr.py: {name}: {why}\n"))
+        status, lines, complaint, _ = self.convert_within(capture.read_bytes(), "RLIMIT_FSIZE", 100)
+        self.assertEqual((status, lines, complaint), (3, 0, [f"pcap2zkr.py: {self.folder}/r-1.zkr: File too large"]))
+
+    def test_standard_streams_that_are_closed_or_gone(self):
+        capture = self.folder / "capture"
+        capture.write_bytes(capture_of(wire.conversation(pieces(SMALL[0].read_bytes()))))
+        for words, closed, told in (("- PREFIX", "<&-", "standard input is closed"),
+                                    ("CAPTURE PREFIX", ">&-", "standard output is closed"),
+                                    ("CAPTURE PREFIX", ">/dev/full", "standard output: No space left on device")):
+            with self.subTest(closed=closed):
+                words = words.replace("CAPTURE", str(capture)).replace("PREFIX", str(self.folder / "s"))
+                done = subprocess.run(["sh", "-c", f"{sys.executable} {TOOLS}/pcap2zkr.py {words} {closed}"],
+                                      capture_output=True, text=True, check=False)
+                self.assertEqual((done.returncode, done.stderr), (3, f"pcap2zkr.py: {told}\n"))
 
     def test_bad_words(self):
         for words in ((), ("a",), ("a", "b", "c"), ("--port", "0", "a", "b"), ("--port", "x", "a", "b"),
@@ -235,13 +195,15 @@ class Missing(PcapCase):
                     self.assertTrue(all(each.startswith(part) for each, part in zip(whole, left)))
                     before = sum(len(each.data) for each in sent[:gone] if each.side == side)
                     self.assertEqual(len(left[0 if side == zkr.CLIENT else 1]), before)
-                    self.assert_causal(made[0], sent)
+                    # Replies to what the client had said before come behind what it lost.
+                    known = [each for each in sent if each.side == side or side == zkr.SERVER]
+                    self.assert_causal(made[0], [*sent[:3], *[each for each in known if each not in sent[:3]]])
                     self.assertGreater(size, 0)
 
     def test_packets_that_were_not_captured_whole(self):
         packets = packed(wire.conversation(pieces(SMALL[0].read_bytes())))
         status, told, made = self.convert(wire.pcap(packets, snap=96))
-        self.assertEqual((status, len(made)), (1, 1))
+        self.assertEqual((status, bool(made)), (1, True))
         self.assertRegex(told[0], r"hole=[CS].* snapped$")
 
     def test_a_connection_without_bytes_has_no_recording(self):
@@ -252,79 +214,13 @@ class Missing(PcapCase):
         status, told, made = self.convert(wire.pcap([]))
         self.assertEqual((status, told, made, self.complaint.count("\n")), (1, [], [], 1))
 
-
-class Late(PcapCase):
-    def frames(self, recording):
-        cutter = zkr.Cutter()
-        return [frame for piece in pieces(recording) for frame in cutter.take(piece)]
-
-    def test_is_told(self):
+    def test_no_connection_to_this_port_but_to_others(self):
         sent = list(wire.conversation(pieces(SMALL[0].read_bytes())))
-        status, told, made = self.convert(capture_of(sent[6:]))
-        self.assertEqual((status, made), (1, []))
-        self.assertRegex(told[0], r"^- 10\.0\.0\.7:41822 > 10\.0\.0\.9:2181 begun \S+ client=0 server=0 late$")
+        capture = wire.pcap(packed(sent, server=9999) + packed(sent[:3], server=60_000) + packed(sent[4:8], server=80))
+        status, told, _ = self.convert(capture)
+        self.assertEqual((status, told), (1, []))
+        self.assertRegex(self.complaint, r": no connection to port 2181; the ports in it are 9999, 80, 60000\n$")
 
-    def test_is_joined(self):
-        chance, joined = random.Random(7), 0
-        for path in SMALL:
-            source = path.read_bytes()
-            sent = list(wire.conversation(pieces(source)))
-            if path.name.startswith("refused") or len(sent) < 20:
-                continue
-            for _ in range(3):
-                begin = chance.randrange(5, len(sent) - 10)
-                with self.subTest(recording=path.stem, begin=begin):
-                    status, told, made = self.convert(capture_of(sent[begin:]), "--late")
-                    self.assertEqual((status, len(told)), (1, 1))
-                    self.assertRegex(told[0], r" late skipped=C:\d+,S:\d+ unasked=\d+$")
-                    if made:
-                        joined += 1
-                        self.check_joined(self.frames(made[0]), self.frames(source), sides(made[0]))
-        self.assertGreater(joined, 20)
-
-    def check_joined(self, made, source, bytes_of_sides):
-        """That the frames are the made-up pair and then frames of the source in its order, and that each reply is
-        that of the oldest request that waits."""
-        self.assertEqual([len(made[0].payload), len(made[1].payload)], [28, 20])
-        self.assertEqual(sum(4 + len(frame.payload) for frame in made), sum(map(len, bytes_of_sides)))
-        rest = iter((frame.side, frame.payload) for frame in source)
-        self.assertTrue(all((frame.side, frame.payload) in rest for frame in made[2:]))
-        waiting = []
-        for frame in made[2:]:
-            xid = struct.unpack(">i", frame.payload[:4])[0]
-            if xid <= 0:
-                continue
-            if frame.side == zkr.CLIENT:
-                waiting.append(xid)
-            else:
-                self.assertEqual(xid, waiting.pop(0))
-
-    def frame(self, side, *numbers, more=b""):
-        payload = b"".join(value.to_bytes(length, "big", signed=True) for value, length in numbers) + more
-        return zkr.Piece(side, None, len(payload).to_bytes(4, "big") + payload)
-
-    def asks_and_replies(self, count):
-        """So many requests for exists, and the replies that there is no such node."""
-        return ([self.frame(zkr.CLIENT, (xid, 4), (3, 4), more=b"\0\0\0\2/a\0") for xid in range(1, count + 1)],
-                [self.frame(zkr.SERVER, (xid, 4), (7, 8), (-101, 4)) for xid in range(1, count + 1)])
-
-    def test_replies_without_their_requests_are_counted(self):
-        asks, replies = self.asks_and_replies(5)
-        event = self.frame(zkr.SERVER, (-1, 4), (-1, 8), (0, 4), more=bytes(8) + b"\0\0\0\2/a")
-        sent = list(wire.conversation([*asks[:3], replies[0], event, asks[3], replies[1], replies[2], replies[3],
-                                       asks[4], replies[4]]))[6:]
-        status, told, made = self.convert(capture_of(sent), "--late")
-        self.assertEqual((status, told[0].split()[-3:]), (1, ["late", "skipped=C:0,S:0", "unasked=3"]))
-        self.assertEqual(pieces(made[0])[2:], [event, asks[3], replies[3], asks[4], replies[4]])
-
-    def test_the_client_is_joined_behind_the_server(self):
-        asks, replies = self.asks_and_replies(4)
-        cut = [replies[0]._replace(data=replies[0].data[:7]),
-               replies[1]._replace(data=replies[0].data[7:] + replies[1].data)]
-        sent = list(wire.conversation([asks[0], cut[0], asks[1], cut[1], asks[2], replies[2], asks[3], replies[3]]))
-        status, told, made = self.convert(capture_of(sent[3:]), "--late")
-        self.assertEqual((status, told[0].split()[-2:]), (1, ["skipped=C:57,S:40", "unasked=1"]))
-        self.assertEqual(pieces(made[0])[2:], [asks[3], replies[3]])
 
 class Others(PcapCase):
     def test_tshark_follows_the_same_bytes(self):

@@ -1,0 +1,254 @@
+"""What was captured of a connection, as recordings and as the lines that tell them.
+
+A connection has one recording up to the first bytes that were not captured, PREFIX-1.zkr, and one of what follows each
+such loss, PREFIX-1.2.zkr and so on, as far as that can be known (stretches.py). Those begin with a connect request and
+a connect response that are made up, with -1 for every number.
+"""
+
+import struct
+
+import resync
+import zkr
+from streams import SIDES
+from stretches import EVENT, Message, Stretch
+
+# A connect request and a connect response that no peer sends: every number is -1, and the password is null.
+MADE_UP = {zkr.CLIENT: struct.pack(">iiqiqi", 28, -1, -1, -1, -1, -1),
+           zkr.SERVER: struct.pack(">iiiqi", 20, -1, -1, -1, -1)}
+MOST_STRETCHES = 256
+
+
+class Conversation:
+    """The sink of a connection's stream."""
+
+    __slots__ = ("series", "name", "late", "first", "began", "stream", "cutter", "stretches", "connected", "sought",
+                 "trusted", "unfinished", "holes", "number", "part", "resent", "left_out")
+
+    def __init__(self, series, name, late, number, milliseconds):
+        self.series, self.name, self.late, self.first, self.began = series, name, late, number, milliseconds
+        self.stream = self.cutter = self.number = self.holes = None
+        self.part, self.resent, self.unfinished, self.left_out = 1, 0, 0, False
+        self.stretches = ()
+
+    def begin(self):
+        """Begins the first stretch. The client goes on with the last one; those before it wait for replies."""
+        self.cutter = zkr.Cutter(self.series.head)
+        self.stretches = [Stretch(self.put, self.first, self.began, not self.late)]
+        # The sides whose connect message has passed; those whose frames were not found yet, with the bytes in which
+        # they may be; and those of which it is sure that they were found.
+        self.connected, self.sought, self.trusted = set(), {}, set(SIDES)
+        if self.late:
+            self.connected, self.sought, self.trusted = set(SIDES), dict.fromkeys(SIDES, b""), set()
+
+    def piece(self, side, number, milliseconds, data):
+        """Takes the next bytes of a side."""
+        if self.late and not self.series.join:
+            return
+        if not self.stretches:
+            self.begin()
+        if self.holes:
+            self.go_on(number, milliseconds)
+        stretch = self.stretches[0]
+        if not stretch.whole or stretch.holes:
+            self.take(side, number, milliseconds, data)
+            return
+        self.record(stretch, side, number, milliseconds, data)
+        if not self.cutter.held[side] and side in self.connected and side not in self.cutter.broken \
+                and int.from_bytes(data[:4], "big") == len(data) - 4 > 4:
+            stretch.note(side, data[4:8])  # it is just one frame, as nearly always
+            return
+        for frame in self.cutter.take(zkr.Piece(side, milliseconds, data)):
+            if side in self.connected:
+                stretch.note(side, frame.payload[:4])
+            self.connected.add(side)
+        if side in self.cutter.broken:
+            self.cutter.held[side].clear()
+
+    def take(self, side, number, milliseconds, data):
+        """Takes the next bytes of a side where a stretch does not have all that is said."""
+        if side in self.sought:
+            data = self.found(side, data)
+            if not data:
+                return
+        frames = self.cutter.take(zkr.Piece(side, milliseconds, data))
+        for at, frame in enumerate(frames):
+            message = Message(side, number, milliseconds, frame.payload)
+            if side not in self.connected:
+                self.connected.add(side)
+                self.skip(side, message.size())
+            elif side == zkr.SERVER and self.unfinished:
+                self.complete(message)
+            elif side in self.trusted or resync.is_plausible(side, frame.payload, len(frame.payload)):
+                self.hear(message)
+            else:
+                # These are no frames after all.
+                self.skip(side, sum([4 + len(frame.payload) for frame in frames[at:]]))
+                self.seek(side)
+                return
+        if side in self.cutter.broken:
+            stretch = self.stretches[-1 if side == zkr.CLIENT else 0]
+            if side in self.trusted and stretch.anchored:
+                self.record(stretch, side, number, milliseconds, bytes(self.cutter.held[side]))
+                self.cutter.held[side].clear()
+            else:
+                self.seek(side)
+
+    def found(self, side, data):
+        """The bytes of a side from that frame on which is the first to end in these bytes; none where it isn't found
+        yet."""
+        before = self.sought[side]
+        data, fresh = before + data, len(before)
+        place, keep = resync.resynchronise(side, data, self.cutter.limits[side])
+        if place is None:
+            self.skip(side, keep)
+            self.sought[side] = data[keep:]
+            return b""
+        while (end := place + 4 + int.from_bytes(data[place:place + 4], "big")) <= fresh:
+            place = end
+        self.skip(side, place)
+        del self.sought[side]
+        return data[place:]
+
+    def seek(self, side, count=True):
+        """Looks for the frames of this side from here on. The beginning of a frame is left out, and counts."""
+        if count:
+            self.skip(side, self.waits(side))
+        self.cutter.held[side].clear()
+        self.cutter.broken.discard(side)
+        self.trusted.discard(side)
+        self.connected.add(side)
+        self.sought[side] = b""
+
+    def waits(self, side):
+        """How many bytes of a side wait for what completes them."""
+        return len(self.cutter.held[side]) + len(self.sought.get(side, b""))
+
+    def skip(self, side, size):
+        self.stretches[-1].skipped[side] += size
+
+    def hear(self, message):
+        """Takes a frame."""
+        stretches, last = self.stretches, self.stretches[-1]
+        if message.side == zkr.CLIENT:
+            last.ask(message)
+        elif message.payload[:4] == EVENT:
+            stretches[0].tell(message)
+        else:
+            taker = next((stretch for stretch in stretches if stretch.answer(message, stretch is last)), None)
+            if taker:
+                self.trusted.add(zkr.SERVER)
+                if taker is last:
+                    self.trusted.add(zkr.CLIENT)
+                while stretches[0] is not taker:
+                    self.end_first()
+            else:
+                last.unasked += 1
+            self.end_settled()
+
+    def complete(self, message):
+        """Takes a frame of the server whose beginning is in the first stretch already."""
+        data = len(message.payload).to_bytes(4, "big") + message.payload
+        self.record(self.stretches[0], *message[:3], data[self.unfinished:])
+        self.stretches[0].note(zkr.SERVER, message.payload[:4])
+        self.unfinished = 0
+        self.end_settled()
+
+    def put(self, stretch, message):
+        """Writes a frame."""
+        self.record(stretch, *message[:3], len(message.payload).to_bytes(4, "big") + message.payload)
+
+    def record(self, stretch, side, number, milliseconds, data):
+        """Writes bytes."""
+        if not stretch.recording:
+            stretch.recording, self.number, self.part = self.series.next(self.number, self.part)
+            if not stretch.whole:
+                for each in SIDES:
+                    stretch.recording.take(each, number, milliseconds, MADE_UP[each])
+        stretch.recording.take(side, number, milliseconds, data)
+
+    def hole(self, side, size):
+        """Bytes of this side, so many, were not captured."""
+        if not self.late or self.series.join:
+            self.holes = self.holes or dict.fromkeys(SIDES, 0)
+            self.holes[side] += size
+
+    def go_on(self, number, milliseconds):
+        """Goes on behind holes."""
+        holes, self.holes = self.holes, None
+        first, last = self.stretches[0], self.stretches[-1]
+        lost, whole = {side for side in SIDES if holes[side]}, last.whole
+        for side in lost | self.cutter.broken:
+            self.seek(side, not whole)
+        if zkr.SERVER in lost:
+            self.unfinished = 0
+            for stretch in self.stretches:
+                stretch.lose_replies()
+        elif whole:
+            self.unfinished = len(self.cutter.held[zkr.SERVER])
+        if last.anchored or zkr.CLIENT in lost and last.back:
+            if zkr.CLIENT in lost:
+                last.holes.add(zkr.CLIENT)
+            self.stretches.append(Stretch(self.put, number, milliseconds, False))
+        self.stretches[-1].lose(holes)
+        if first.anchored and zkr.SERVER in lost or len(self.stretches) > MOST_STRETCHES:
+            self.end_first()
+        self.end_settled()
+
+    def end_settled(self):
+        """Ends the stretches that wait for nothing any more."""
+        while len(self.stretches) > 1 and not self.stretches[0].waits() and not self.unfinished:
+            self.end_first()
+
+    def end_first(self):
+        """Ends the first stretch, which has another behind it."""
+        stretch = self.stretches.pop(0)
+        stretch.end(False)
+        if stretch.recording:
+            self.tell(stretch, stretch.recording.last, stretch.recording.ended)
+        else:
+            self.stretches[0].join(stretch)
+
+    def finish(self):
+        """Ends it all: the connection is over."""
+        stream, how, ended = self.stream, [], self.stream.last_time
+        if stream.reset:
+            how, ended = [f"reset={stream.reset.decode()}"], stream.reset_time
+        if closer := stream.closer():
+            how, ended = [f"closed={closer.side.decode()}", *how], closer.fin.milliseconds
+        *others, last = self.stretches or [Stretch(self.put, self.first, self.began, not self.late)]
+        for stretch in others:
+            stretch.end(True)
+            if stretch.recording:
+                self.tell(stretch, stretch.recording.last, stretch.recording.ended)
+        last.end(True)
+        for side in SIDES if self.stretches else ():
+            last.skipped[side] += self.waits(side)
+        holes = self.holes or {half.side: half.lacks() for half in stream.halves}
+        last.holes |= {side for side in SIDES if holes[side]}
+        self.tell(last, stream.last, ended, how or ["open"])
+        self.stretches = ()
+
+    def tell(self, stretch, last, ended, how=()):
+        """Ends the recording of a stretch, where there is one, and tells it."""
+        recording, notes, lost = stretch.recording, [], any(stretch.lost.values())
+        path, count = "-", dict.fromkeys(SIDES, 0)
+        if recording:
+            recording.close()
+            self.series.open -= 1
+            path, count = recording.path, recording.count
+        first, began = (recording.first, recording.began) if lost and recording else (stretch.first, stretch.began)
+        if lost:
+            notes.append("lost=C:{},S:{}".format(*stretch.lost.values()))
+        elif self.late:
+            notes.append("late")
+        if self.series.join or not self.late:
+            if not stretch.whole:
+                notes += ["skipped=C:{},S:{}".format(*stretch.skipped.values()), f"unasked={stretch.unasked}"]
+            notes += [f"hole={side.decode()}" for side in SIDES if side in stretch.holes]
+        notes += ["snapped"] * self.stream.snapped
+        self.left_out |= bool(notes)
+        self.series.say(" ".join([
+            path, self.name, "begun", zkr.clock(began), "ended", zkr.clock(ended), f"client={count[zkr.CLIENT]}",
+            f"server={count[zkr.SERVER]}", f"packets={first}-{last}", f"resent={self.stream.resent - self.resent}",
+            *how, *notes]))
+        self.resent = self.stream.resent

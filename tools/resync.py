@@ -1,0 +1,148 @@
+"""Where the frames of one side begin again behind bytes that were not captured.
+
+The rule, which any reader of captured connections can follow. It takes the bytes of one side that were captured without
+a gap since the loss, up to the end of a segment. Frames begin again at the first place from which frames that are
+plausible follow one another, up to the end of those bytes or three of them at least, and each of them whole. Where
+there is no such place, wait for the next segment and look again. Bytes are kept meanwhile from the first place on that
+still may be one, but no more than 65,536: a frame that is longer is passed over.
+
+A client's frame is plausible where its length is at least 8 and within the limit, and its xid and its operation belong
+together: -2 and ping; -4 and auth; -8 or a positive number and setWatches or setWatches2; a positive number and any
+other operation that ZooKeeper has. Where the operation's body begins with a path, the path begins with "/", and its
+length leaves what the operation has behind it: just so much where that has a fixed size, and else at least so much. An
+operation without a body has a frame of 8 bytes.
+
+A server's frame is plausible where its length is at least 16 and within the limit, and it is one of these:
+
+- an event: xid -1, err 0, a type from -1 to 7 and a state that ZooKeeper has, and a path that ends with the frame and
+  is empty or begins with "/";
+- a reply to a ping, auth or setWatches: xid -2, -4 or -8 and 16 bytes;
+- an error: a positive xid, a zxid of at least -1, an err from -1 to -200 and 16 bytes;
+- another reply: a positive xid, a zxid above 0, err 0, and a body that is one of these by its first int n and the size
+  of the whole payload: none (16 bytes), a stat (84), a number or an empty or null list (20); n bytes of data, or an
+  empty or null list, and a stat (88 and n); a path of n bytes, which begins with "/", with or without a stat behind it;
+  a list of n elements, of which the first is a name of at least a byte, or permissions from 1 to 31 and a scheme; the
+  results of a multi, the first with the number n of a part, a boolean and an int from -200 to 0.
+
+So a place can be passed over that is one, which costs a message; a place that is none is taken hardly ever, and then
+what is read from it on is not plausible for long (joined.py).
+"""
+
+import re
+import struct
+
+import zkr
+
+ENOUGH, MOST_KEPT = 3, 1 << 16
+EVENT, PING, AUTH, SET_WATCHES = -1, -2, -4, -8
+LANES = (PING, AUTH, SET_WATCHES)
+# By operation, what it has behind its path: exactly so many bytes, or at least so many.
+BEHIND_PATH = {2: 4, 3: 1, 4: 1, 6: 0, 8: 1, 9: 0, 12: 1, 17: 4, 18: 4, 20: 0, 103: 0, 104: 0, 106: 4}
+LEAST_BEHIND_PATH = {1: 12, 5: 8, 7: 8, 15: 12, 19: 12, 21: 20}
+# By other operation, how long the payload of its request is, and the least length of it.
+WHOLE = {11: 8, 107: 8, -11: 8}
+LEAST_WHOLE = {14: 17, 16: 28, 22: 17, 100: 20, 101: 28, 102: 12, 105: 36}
+XIDS = {11: (PING,), 100: (AUTH,), 101: (SET_WATCHES,), 105: (SET_WATCHES,)}
+# By operation, how long the payload of a reply without an error is.
+REPLY_SIZES = {2: range(16, 17), -11: range(16, 17), 3: range(84, 85), 5: range(84, 85), 7: range(84, 85)}
+STATES, PARTS = {-112, -1, 0, 1, 3, 4, 5, 6, 7}, {-1, 1, 2, 4, 5, 8, 13, 15, 19, 20, 21}
+HEADS = {zkr.CLIENT: 12, zkr.SERVER: 20}
+MAY_BEGIN = {
+    zkr.CLIENT: re.compile(rb"(?s)(?=[\0\1].{7}(?:\0\0\0[\1-\x6b]|\xff\xff\xff\xf5))"),
+    zkr.SERVER: re.compile(rb"(?s)(?=[\0\1].{3}(?:[\0-\x7f]...|\xff{3}[\xff\xfe\xfc\xf8])(?:[\0-\x7f].{7}|\xff{8})"
+                           rb"(?:\0{4}|\xff{3}.))")}
+CLIENT_HEAD, SERVER_HEAD = struct.Struct(">iii"), struct.Struct(">iiqi")
+
+
+def resynchronise(side, data, limit):
+    """Where frames begin again in these bytes of a side, or None; and from where on the bytes may still be needed."""
+    keep = max(0, len(data) - HEADS[side] + 1)
+    for found in MAY_BEGIN[side].finditer(data):
+        at = found.start()
+        follow = frames_follow(side, data, at, limit)
+        if follow:
+            return at, at
+        if follow is None:
+            keep = min(keep, at)
+    return None, max(keep, len(data) - MOST_KEPT)
+
+
+def frames_follow(side, data, at, limit):
+    """Whether plausible frames follow one another from this place on; None where more bytes are needed to know it."""
+    seen = 0
+    while at < len(data) and seen < ENOUGH:
+        if len(data) < at + HEADS[side]:
+            return None
+        size = int.from_bytes(data[at:at + 4], "big", signed=True)
+        if size > limit or not is_plausible(side, data[at + 4:at + 4 + size], size):
+            return False
+        if len(data) < at + 4 + size:
+            return None
+        at, seen = at + 4 + size, seen + 1
+    return True
+
+
+def is_plausible(side, payload, size):
+    """Whether a frame of this side may have this payload, of which the first bytes may be all that is there."""
+    least = HEADS[side] - 4
+    return least <= size and len(payload) >= least and \
+        (is_request if side == zkr.CLIENT else is_reply)(payload, size)
+
+
+def is_request(payload, size):
+    xid, kind = struct.unpack_from(">ii", payload)
+    if not (xid > 0 and kind not in (11, 100) or xid in XIDS.get(kind, ())):
+        return False
+    if kind in WHOLE:
+        return size == WHOLE[kind]
+    if kind in LEAST_WHOLE:
+        return size >= LEAST_WHOLE[kind]
+    if kind not in BEHIND_PATH and kind not in LEAST_BEHIND_PATH:
+        return False
+    if len(payload) < 13:
+        return size > len(payload)
+    length = int.from_bytes(payload[8:12], "big", signed=True)
+    behind = size - 12 - length
+    return length > 0 and payload[12:13] == b"/" and \
+        (behind == BEHIND_PATH[kind] if kind in BEHIND_PATH else behind >= LEAST_BEHIND_PATH[kind])
+
+
+def is_reply(payload, size):
+    xid, zxid, err = struct.unpack_from(">iqi", payload)
+    if xid == EVENT:
+        return err == 0 and is_event(payload, size)
+    if xid in LANES:
+        return size == 16
+    if err:
+        return xid > 0 and zxid >= -1 and size == 16 and -200 <= err < 0
+    return xid > 0 and zxid > 0 and \
+        (size in (16, 20, 84) or len(payload) < min(size, 28) or is_body(payload, size))
+
+
+def is_body(payload, size):
+    """Whether a reply without an error, of this size, can have the body that begins here."""
+    count, first, second = struct.unpack_from(">iii", payload.ljust(28, b"\0"), 16)
+    if size == 88 + max(0, count):
+        return count >= -1
+    if payload[20:21] == b"/" and count > 0 and size in (20 + count, 88 + count):
+        return True
+    err = int.from_bytes(payload[21:25], "big", signed=True)
+    if count in PARTS and size >= 25 and payload[20] <= 1 and -200 <= err <= 0:
+        return True
+    left = size - 20
+    return 0 < count <= left // 4 and (0 < first <= left - 4 or 0 < first <= 31 and 0 < second <= left - 8)
+
+
+def is_event(payload, size):
+    if size < 28:
+        return False
+    if len(payload) < 28:
+        return True
+    kind, state, length = struct.unpack_from(">iii", payload, 16)
+    return -1 <= kind <= 7 and state in STATES and size == 28 + max(0, length) and payload[28:29] in (b"/", b"")
+
+
+def may_answer(request, reply):
+    """Whether the payload of a reply has a length that a reply to the request of this payload can have."""
+    kind = int.from_bytes(request[4:8], "big", signed=True)
+    return reply[12:16] != bytes(4) or len(reply) in REPLY_SIZES.get(kind, range(16, 1 << 32))

@@ -1,0 +1,261 @@
+"""The two sides of a TCP connection out of its segments, put into one order.
+
+Bytes are given on only behind everything that their sender had acknowledged, so that no reply comes before its request,
+in whatever order packets were captured. Where bytes are missing, those behind them wait: they may have been captured
+later. They are lost for good once the connection is over, or once too much waits; what is behind them then goes on.
+"""
+
+import collections
+import heapq
+from typing import NamedTuple
+
+import zkr
+from packets import ACK, FIN, RST, SYN
+
+SIDES = (zkr.CLIENT, zkr.SERVER)
+OTHER = {zkr.CLIENT: zkr.SERVER, zkr.SERVER: zkr.CLIENT}
+WRAP, MASK = 1 << 31, (1 << 32) - 1
+# What a part that waits takes beside its bytes.
+PART_COST = 256
+# A reset counts only where its number is near that which is next.
+NEAR = 1 << 24
+
+
+class Part(NamedTuple):
+    """Bytes of one side in their place. `follows` is how much of the other side stands before them: what their sender
+    had acknowledged. `number` is that of their packet. Places count from the first byte of the side. A part without
+    bytes stands for as many as `lost` says, which were not captured."""
+    place: int
+    follows: int
+    number: int
+    milliseconds: float
+    data: bytes
+    lost: int = 0
+
+
+class Half:
+    """One side of a connection: puts what was captured in order.
+
+    `next` is the sequence number behind the bytes that are in order, or -1, and `place` their place. `apart` has what
+    came before its turn; `ready` what is in order, and is given on once that is which it follows. `written` is the
+    place of what is given on, `end` that of the side's end, and `fin` what is known of the first segment with a FIN.
+    """
+
+    __slots__ = ("stream", "side", "other", "first", "next", "place", "written", "end", "fin", "acknowledged", "apart",
+                 "ready")
+
+    def __init__(self, stream, side):
+        self.stream, self.side, self.other, self.first, self.next, self.end = stream, side, None, -1, -1, None
+        self.fin = None
+        self.place = self.written = self.acknowledged = 0
+        self.apart = self.ready = ()
+
+    def take(self, number, milliseconds, sequence, acknowledged, flags, data, snapped):
+        """Takes a segment of this side. True where the connection now waits for something, or is over."""
+        stream, other = self.stream, self.other
+        stream.last = number
+        stream.last_time = milliseconds
+        if sequence == self.next and flags & 23 == ACK and not (stream.held or stream.reset or snapped) \
+                and (acknowledged == other.next or 0 <= other.next and acknowledged - other.next & MASK >= WRAP):
+            # All before is there on both sides, as nearly always.
+            if data:
+                size = len(data)
+                self.place += size
+                self.written += size
+                self.next = sequence + size & MASK
+                stream.sink.piece(self.side, number, milliseconds, data)
+            return False
+        return self.take_any(number, milliseconds, sequence, acknowledged, flags, data, snapped)
+
+    def take_any(self, number, milliseconds, sequence, acknowledged, flags, data, snapped):
+        """Takes a segment of any place."""
+        stream, other = self.stream, self.other
+        if flags & SYN:
+            sequence = sequence + 1 & MASK
+            stream.resent += self.first == sequence
+        self.begin(sequence)
+        stream.snapped |= snapped
+        follows = 0
+        if flags & ACK:
+            other.begin(acknowledged)
+            follows = other.place_of(acknowledged)
+            other.acknowledged = max(other.acknowledged, follows)
+        place = self.place_of(sequence)
+        if flags & FIN:
+            stream.resent += self.fin is not None and not data
+            self.end = place + len(data)
+            self.fin = self.fin or Part(place, follows, number, milliseconds, b"")
+        if flags & RST:
+            if abs(place - self.place) < NEAR:
+                stream.resets(self.side, place, milliseconds)
+        elif data:
+            if stream.reset and place >= stream.reset_at and stream.reset == self.side:
+                stream.reset = ""  # that reset was none of this connection's
+            self.put(Part(place, follows, number, milliseconds, data))
+        if other.next >= 0:
+            stream.write()
+        return bool(stream.held or stream.reset or self.fin)
+
+    def begin(self, sequence):
+        """This half begins with this number, where nothing was known of it."""
+        if self.next < 0:
+            self.first = self.next = sequence
+
+    def place_of(self, sequence):
+        """The place of a sequence number, which is known up to 2^32 alone: the one next to where this half is."""
+        return self.place + (sequence - self.next + WRAP & MASK) - WRAP
+
+    def put(self, part):
+        """Takes bytes of any place."""
+        size = len(part.data)
+        if part.place < self.place:
+            # A byte before those that are next asks whether the other end is alive.
+            self.stream.resent += size > 1 or part.place < self.place - 1
+        if part.place + size <= self.place:
+            return
+        if not self.apart:
+            self.apart = []
+        heapq.heappush(self.apart, part)
+        self.stream.hold(size + PART_COST)
+        self.sort()
+
+    def sort(self):
+        """Moves what has its turn now from `apart` to `ready`."""
+        while self.apart and self.apart[0].place <= self.place:
+            part = heapq.heappop(self.apart)
+            data = part.data[self.place - part.place:]
+            self.stream.hold(len(data) - len(part.data))
+            if data:
+                self.add(part._replace(place=self.place, data=data), len(data))
+            else:
+                self.stream.hold(-PART_COST)
+                self.stream.resent += 1
+
+    def add(self, part, size):
+        if not self.ready:
+            self.ready = collections.deque()
+        self.ready.append(part)
+        self.place += size
+        self.next = self.next + size & MASK
+
+    def lose(self, size, number, milliseconds):
+        """Takes the bytes that are next for lost: so many of them."""
+        self.add(Part(self.place, 0, number, milliseconds, b"", size), size)
+        self.stream.hold(PART_COST)
+        self.sort()
+
+    def reached(self):
+        """How much of this half is given on; its end counts as one more."""
+        return self.written + (self.end == self.written)
+
+    def lacks(self):
+        """Whether bytes are known to be missing at the end: the other side acknowledged them."""
+        return (self.end or 0) > self.place or self.acknowledged > self.place + 1
+
+
+class Stream:
+    """A connection. It gives `sink.piece(side, number, milliseconds, data)` the bytes, in order, and
+    `sink.hole(side, size)` where bytes are lost."""
+
+    __slots__ = ("sink", "budget", "halves", "ends", "first", "begun", "last", "last_time", "held", "snapped", "resent",
+                 "reset", "reset_at", "reset_time")
+
+    def __init__(self, sink, budget, number, milliseconds):
+        self.sink, self.budget, self.first, self.begun, self.last, self.last_time = \
+            sink, budget, number, milliseconds, number, milliseconds
+        client, server = self.halves = Half(self, zkr.CLIENT), Half(self, zkr.SERVER)
+        client.other, server.other = server, client
+        self.held, self.resent, self.snapped = 0, 0, False
+        self.reset, self.reset_at, self.reset_time = "", 0, None
+
+    def hold(self, size):
+        """Counts bytes that wait, here and in the budget of all connections."""
+        self.held += size
+        self.budget.held += size
+
+    def resets(self, side, place, milliseconds):
+        """Takes a reset; what the other side had sent by then may still come."""
+        if not self.reset:
+            self.reset, self.reset_at, self.reset_time = side, place, milliseconds
+
+    def write(self):
+        """Gives on what is in order on its side and follows nothing that isn't given on."""
+        while True:
+            half = self.next_half()
+            if not half:
+                return
+            part = half.ready.popleft()
+            self.hold(-len(part.data) - PART_COST)
+            if part.lost:
+                half.written += part.lost
+                self.sink.hole(half.side, part.lost)
+            else:
+                half.written += len(part.data)
+                self.sink.piece(half.side, part.number, part.milliseconds, part.data)
+
+    def next_half(self):
+        """The half whose next bytes are given on next: of those that follow nothing, what was captured first. Bytes
+        that were captured behind a hole of the other side wait for what is in it."""
+        found, blocked = None, 0
+        for half in self.halves:
+            if half.ready:
+                head, other = half.ready[0], half.other
+                if head.follows > other.reached():
+                    blocked += 1
+                elif (head.lost or not (other.apart and other.apart[0].number < head.number)) \
+                        and not (found and found.ready[0].number < head.number):
+                    found = half
+        # Where each waits for the other, a copy of a segment was captured whose first copy was not.
+        return self.halves[0] if blocked == 2 else found
+
+    def give_up(self):
+        """Takes the bytes for lost that all else waits for, and goes on behind them. False where nothing waits."""
+        for half in self.halves:
+            if half.ready and half.ready[0].follows > half.other.reached() and not half.other.ready:
+                head, other = half.ready[0], half.other
+                size = head.follows - other.place
+                if other.apart:
+                    size = min(size, other.apart[0].place - other.place)
+                elif (other.end or 0) > other.place:
+                    size = min(size, other.end - other.place)
+                if size == 1 and not other.apart and other.end is None:
+                    other.end = other.place  # one alone, with nothing behind it, is the end that wasn't captured
+                else:
+                    other.lose(size, head.number, head.milliseconds)
+                break
+        else:
+            apart = [half for half in self.halves if half.apart]
+            if not apart:
+                return False
+            half = min(apart, key=lambda half: half.apart[0].number)
+            head = half.apart[0]
+            half.lose(head.place - half.place, head.number, head.milliseconds)
+        self.write()
+        return True
+
+    def let_go(self):
+        """Takes apart what refers to each other, so that its memory is free at once."""
+        for half in self.halves:
+            half.stream = half.other = None
+        self.sink.stream = self.sink = None
+
+    def is_complete(self):
+        """Whether both sides have ended, and all is given on."""
+        return all(half.end == half.written for half in self.halves)
+
+    def closer(self):
+        """The half that sent the first FIN, or None. It wasn't captured first where the other's acknowledges it."""
+        client, server = self.halves
+        if client.fin and server.fin:
+            if client.fin.follows > server.end:
+                return server
+            return client if server.fin.follows > client.end or client.fin.number < server.fin.number else server
+        return client if client.fin else server if server.fin else None
+
+    def is_silent(self):
+        """Whether no byte was captured."""
+        return not any(half.place or half.apart or half.ready for half in self.halves)
+
+    def is_over(self):
+        """Whether no more is expected but what was captured late."""
+        return bool(self.reset) or all(half.end is not None for half in self.halves)

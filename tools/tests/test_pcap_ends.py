@@ -1,0 +1,167 @@
+"""Tests of how pcap2zkr.py tells the ends of connections, and lets them go."""
+
+import random
+import unittest.mock
+
+import wire
+from captured import SMALL, PcapCase, capture_of, packed
+from support import pieces, sides, zkr
+import pcap2zkr
+
+ASK = zkr.Piece(zkr.CLIENT, None, b"ask")
+REPLY = zkr.Piece(zkr.SERVER, None, b"reply")
+
+
+def opened(said=(ASK, REPLY), **more):
+    """A connection that isn't closed."""
+    return list(wire.conversation(said, close=False, **more))
+
+
+def then(sent, *segments):
+    """These segments, and behind them others of no bytes: each a side and its flags."""
+    found = list(sent)
+    for side, flags in segments:
+        last = {each.side: each for each in found}
+        own, other = last[side], last[zkr.CLIENT if side == zkr.SERVER else zkr.SERVER]
+        found.append(wire.Sent(found[-1].milliseconds + 1, side, own.number + len(own.data) + (own.flags & wire.FIN),
+                               other.number + len(other.data) + (other.flags & wire.FIN), flags, b""))
+    return found
+
+
+class Ends(PcapCase):
+    def told_of(self, sent):
+        """The words that tell the end, and the milliseconds since the capture began."""
+        status, told, _ = self.convert(capture_of(sent))
+        words = told[0].split()
+        self.assertEqual((status, len(told), words[4], words[6]), (0, 1, "begun", "ended"), told)
+        return words[12:], round(float(words[7][-5:-1]) * 1000)
+
+    def test_who_ended_it_and_when(self):
+        fin, reset = wire.FIN | wire.ACK, wire.RST | wire.ACK
+        client, server = zkr.CLIENT, zkr.SERVER
+        for segments, words in (((), ["open"]), (((client, fin),), ["closed=C"]),
+                                (((server, fin), (client, fin), (server, wire.ACK)), ["closed=S"]),
+                                (((client, fin), (server, fin)), ["closed=C"]), (((client, reset),), ["reset=C"]),
+                                (((server, reset),), ["reset=S"]), (((client, fin), (server, reset)),
+                                                                    ["closed=C", "reset=S"])):
+            with self.subTest(words=words, segments=segments):
+                sent = then(opened(), *segments)
+                found, ended = self.told_of(sent)
+                self.assertEqual(found, words)
+                self.assertEqual(ended, 4 + bool(segments))  # five segments before it, one in each millisecond
+
+    def test_who_ended_it_where_captured_out_of_order(self):
+        fin = wire.FIN | wire.ACK
+        sent = then(opened(), (zkr.CLIENT, fin), (zkr.SERVER, fin))
+        self.assertEqual(self.told_of([*sent[:5], sent[6], sent[5]])[0], ["closed=C"])
+
+    def test_packets_are_numbered_as_wireshark_does(self):
+        sent, other = then(opened(), (zkr.CLIENT, wire.FIN | wire.ACK)), bytes(12) + b"\x08\x06" + bytes(28)
+        packets = packed(sent)
+        _, told, _ = self.convert(wire.pcap([(0, other), (0, other), *packets, (0, other)]))
+        self.assertIn(f" packets=3-{len(packets) + 2} ", told[0])
+
+    def test_segments_that_were_captured_again(self):
+        sent = opened([ASK, REPLY, ASK])
+        asks_alive = sent[-1]._replace(number=sent[-1].number + 2, data=b"k")
+        for more, count in (((), 0), ((sent[3],), 1), ((sent[0],), 1), (sent[3:], 3), ((asks_alive,), 0)):
+            with self.subTest(count=count, more=more):
+                _, told, made = self.convert(capture_of([*sent, *more]))
+                self.assertIn(f" resent={count} ", told[0])
+                self.assertEqual(sides(made[0]), (b"askask", b"reply"))
+
+    def test_what_the_other_side_said_before_a_reset_is_kept(self):
+        """Also where it was captured behind the reset, as was what the side itself had said."""
+        for side, late in ((zkr.SERVER, ASK), (zkr.CLIENT, ASK), (zkr.SERVER, REPLY), (zkr.CLIENT, REPLY)):
+            with self.subTest(side=side, late=late):
+                sent = opened([ASK, REPLY, late])
+                if side == late.side:
+                    reset = then(sent, (side, wire.RST | wire.ACK))[-1]
+                else:
+                    reset = then(sent[:-1], (side, wire.RST | wire.ACK))[-1]
+                status, told, made = self.convert(capture_of([*sent[:-1], reset, sent[-1]]))
+                self.assertEqual((status, len(told), sides(made[0])), (0, 1, sides_of([ASK, REPLY, late])))
+                self.assertIn(f" reset={side.decode()}", told[0])
+
+    def test_a_reset_of_something_else_ends_nothing(self):
+        sent = opened([ASK, REPLY, ASK, REPLY])
+        for number in (sent[4].number + 5, sent[4].number + (1 << 30)):
+            strange = sent[4]._replace(number=number, flags=wire.RST, data=b"")
+            found, _ = self.told_of([*sent[:5], strange, *sent[5:]])
+            self.assertEqual(found, ["open"])
+
+
+def sides_of(said):
+    return tuple(b"".join(piece.data for piece in said if piece.side == side) for side in (zkr.CLIENT, zkr.SERVER))
+
+
+class Many(PcapCase):
+    """Many connections, one after the other unless it says otherwise."""
+
+    def connections(self, count, *end, said=(ASK, REPLY)):
+        chance, packets = random.Random(1), []
+        for at in range(count):
+            numbers = chance.randrange(1 << 32), chance.randrange(1 << 32)
+            packets += packed(then(opened(said, numbers=numbers), *end), client=10_000 + at % 50_000)
+        return packets
+
+    def test_more_of_them_than_files_may_be_open(self):
+        ends = {"reset": [(zkr.SERVER, wire.RST | wire.ACK)], "open": []}
+        for name, end in ends.items():
+            with self.subTest(end=name):
+                found = self.convert_within(wire.pcap(self.connections(600, *end)), "RLIMIT_NOFILE", 64)
+                self.assertEqual(found[:3], (0, 600, []))
+                self.assertEqual(len(list(self.folder.glob("r-*.zkr"))), 600)
+                for path in self.folder.glob("r-*.zkr"):
+                    path.unlink()
+
+    def test_those_that_are_over_take_no_memory(self):
+        fin = wire.FIN | wire.ACK
+        closed = [(zkr.CLIENT, fin), (zkr.SERVER, fin), (zkr.CLIENT, wire.ACK)]
+        for end in (closed, [(zkr.SERVER, wire.RST | wire.ACK)]):
+            few, many = (self.convert_within(wire.pcap(self.connections(count, *end, said=())), "RLIMIT_NOFILE", 64)
+                         for count in (10, 12_000))
+            self.assertEqual((few[:3], many[:3]), ((0, 10, []), (0, 12_000, [])))
+            self.assertLess(many[3] - few[3], 12)
+
+    def test_those_that_are_never_answered_take_little_memory(self):
+        capture = wire.pcap([each for at in range(30_000) for each in packed(opened([])[:1], client=at + 3000)])
+        *found, memory = self.convert_within(capture, "RLIMIT_NOFILE", 64)
+        self.assertEqual(found, [0, 30_000, []])
+        self.assertLess(memory, 48)
+
+    def test_what_comes_again_of_one_that_is_over(self):
+        """Also where its ports are used once more, by a connection whose beginning was not captured."""
+        source = SMALL[0].read_bytes()
+        sent = list(wire.conversation(pieces(source)))
+        later = list(wire.conversation(pieces(source), numbers=(1 << 30, 1 << 31)))
+        status, told, made = self.convert(capture_of([*sent, *sent[-5:], *sent[3:5], *later[3:]]))
+        self.assertEqual((status, [line.split()[-1] for line in told]), (1, ["closed=C", "late"]))
+        self.assertEqual([sides(each) for each in made], [sides(source)])
+
+    def test_a_client_with_the_port_of_the_server(self):
+        source = SMALL[0].read_bytes()
+        sent = list(wire.conversation(pieces(source)))
+        self.assert_whole(capture_of(sent, client=2181), source)
+        for begin in (5, 6):
+            status, told, made = self.convert(capture_of(sent[begin:], client=2181), "--late")
+            self.assertEqual((status, len(told)), (1, 1))
+            self.assertIn(" 10.0.0.7:2181 > 10.0.0.9:2181 ", told[0])
+
+    def test_what_waits_has_one_bound_for_all(self):
+        """Twenty connections, each of which lacks its first bytes and has 6,000 behind them."""
+        packets, most = [], []
+        for at in range(20):
+            sent = opened([zkr.Piece(zkr.CLIENT, None, bytes(6_600))], most=600)
+            packets += packed(sent[:3] + sent[4:], client=3000 + at)
+        watched = pcap2zkr.Capture.look_after
+
+        def watch(capture, stream):
+            watched(capture, stream)
+            most.append(capture.budget.held)
+        with unittest.mock.patch("pcap2zkr.MOST_HELD", 40_000), \
+                unittest.mock.patch("pcap2zkr.Capture.look_after", watch):
+            status, told, _ = self.convert(wire.pcap(packets))
+        self.assertEqual((status, len(told)), (1, 20))
+        self.assertTrue(all(" lost=C:600,S:0 " in line for line in told), told)
+        self.assertTrue(30_000 < max(most) <= 40_000, max(most))

@@ -1,0 +1,220 @@
+"""Tests of what pcap2zkr.py makes of connections that were not captured whole."""
+
+import random
+import re
+import struct
+import subprocess
+
+import wire
+from captured import SMALL, PcapCase, capture_of, packed
+from support import PROGRAM, pieces, sides, zkr
+
+
+def frame(side, *numbers, more=b""):
+    payload = b"".join(value.to_bytes(length, "big", signed=True) for value, length in numbers) + more
+    return zkr.Piece(side, None, len(payload).to_bytes(4, "big") + payload)
+
+
+def ask(xid):
+    """A request for exists."""
+    return frame(zkr.CLIENT, (xid, 4), (3, 4), more=b"\0\0\0\2/a\0")
+
+
+def reply(xid):
+    """The reply that there is no such node."""
+    return frame(zkr.SERVER, (xid, 4), (7, 8), (-101, 4))
+
+
+CONNECT = [zkr.Piece(zkr.CLIENT, None, struct.pack(">iiqiqi", 44, 0, 0, 30_000, 0, 16) + bytes(16)),
+           zkr.Piece(zkr.SERVER, None, struct.pack(">iiiqi", 36, 0, 30_000, 5, 16) + bytes(16))]
+PING, PONG = frame(zkr.CLIENT, (-2, 4), (11, 4)), frame(zkr.SERVER, (-2, 4), (7, 8), (0, 4))
+EVENT = frame(zkr.SERVER, (-1, 4), (-1, 8), (0, 4), (3, 4), (3, 4), more=b"\0\0\0\2/a")
+
+
+class JoinedCase(PcapCase):
+    def frames(self, recording):
+        cutter = zkr.Cutter()
+        return [frame for piece in pieces(recording) for frame in cutter.take(piece)]
+
+    def check_joined(self, made, source, bytes_of_sides):
+        """That the frames are the made-up pair and then frames of the source in its order, and that each reply is
+        that of the oldest request that waits."""
+        self.assertEqual([len(made[0].payload), len(made[1].payload)], [28, 20])
+        self.assertEqual(sum(4 + len(frame.payload) for frame in made), sum(map(len, bytes_of_sides)))
+        rest = iter((frame.side, frame.payload) for frame in source)
+        self.assertTrue(all((frame.side, frame.payload) in rest for frame in made[2:]))
+        waiting = []
+        for frame in made[2:]:
+            xid = struct.unpack(">i", frame.payload[:4])[0]
+            if xid <= 0:
+                continue
+            if frame.side == zkr.CLIENT:
+                waiting.append(xid)
+            else:
+                self.assertEqual(xid, waiting.pop(0))
+
+    def assert_no_refusal(self, recording):
+        """That the program finds the recording whole, or cut."""
+        if PROGRAM.exists():
+            done = subprocess.run([PROGRAM, "check"], input=recording, capture_output=True, text=False, check=False)
+            self.assertRegex(done.stdout.decode(), r"^\. (whole|cut) ")
+
+
+class Late(JoinedCase):
+    def test_is_told(self):
+        sent = list(wire.conversation(pieces(SMALL[0].read_bytes())))
+        status, told, made = self.convert(capture_of(sent[6:]))
+        self.assertEqual((status, made), (1, []))
+        self.assertRegex(told[0], r"^- 10\.0\.0\.7:41822 > 10\.0\.0\.9:2181 begun \S+ ended \S+ client=0 server=0 "
+                         r"packets=1-\d+ resent=0 closed=C late$")
+
+    def test_is_joined(self):
+        chance, joined = random.Random(7), 0
+        for path in SMALL:
+            source = path.read_bytes()
+            sent = list(wire.conversation(pieces(source)))
+            if path.name.startswith("refused") or len(sent) < 20:
+                continue
+            for _ in range(3):
+                begin = chance.randrange(5, len(sent) - 10)
+                with self.subTest(recording=path.stem, begin=begin):
+                    status, told, made = self.convert(capture_of(sent[begin:]), "--late")
+                    self.assertEqual((status, len(told)), (1, 1))
+                    self.assertRegex(told[0], r" late skipped=C:\d+,S:\d+ unasked=\d+$")
+                    if made:
+                        joined += 1
+                        self.check_joined(self.frames(made[0]), self.frames(source), sides(made[0]))
+        self.assertGreater(joined, 20)
+
+    def test_replies_without_their_requests_are_counted(self):
+        asks, replies = [ask(xid) for xid in range(1, 6)], [reply(xid) for xid in range(1, 6)]
+        sent = list(wire.conversation([*asks[:3], replies[0], EVENT, asks[3], replies[1], replies[2], replies[3],
+                                       asks[4], replies[4]]))[6:]
+        status, told, made = self.convert(capture_of(sent), "--late")
+        self.assertEqual((status, told[0].split()[-3:]), (1, ["late", "skipped=C:0,S:0", "unasked=3"]))
+        self.assertEqual(pieces(made[0])[2:], [EVENT, asks[3], replies[3], asks[4], replies[4]])
+
+    def test_frames_that_are_cut_are_put_together(self):
+        """The first reply begins in one segment and ends in the next, with another behind it."""
+        asks, replies = [ask(xid) for xid in range(1, 5)], [reply(xid) for xid in range(1, 5)]
+        cut = [replies[0]._replace(data=replies[0].data[:7]),
+               replies[1]._replace(data=replies[0].data[7:] + replies[1].data)]
+        sent = list(wire.conversation([asks[0], cut[0], asks[1], cut[1], asks[2], replies[2], asks[3], replies[3]]))
+        status, told, made = self.convert(capture_of(sent[3:]), "--late")
+        self.assertEqual((status, told[0].split()[-2:]), (1, ["skipped=C:0,S:0", "unasked=0"]))
+        kept = [*asks[:2], *replies[:2], asks[2], replies[2], asks[3], replies[3]]
+        self.assertEqual([piece.data for piece in pieces(made[0])[2:]], [each.data for each in kept])
+
+
+class Behind(JoinedCase):
+    """What follows a loss."""
+
+    def parts(self, said, *gone):
+        """The lines without their paths, and what is in the recordings, where the segments of these pieces of what is
+        said are gone."""
+        sent = list(wire.conversation([*CONNECT, *said]))
+        keep = [each for at, each in enumerate(sent) if at - 5 not in gone]
+        status, told, made = self.convert(capture_of(keep))
+        self.assertEqual(status, 1 if gone else 0)
+        for recording in made:
+            self.assert_no_refusal(recording)
+        names = [line.split()[0].rpartition("/")[2] for line in told]
+        ends = [" ".join(line.split()[10:]) for line in told]
+        return names, ends, [[piece[::2] for piece in pieces(recording)[2:]] for recording in made]
+
+    def assert_parts(self, made, *expected):
+        self.assertEqual(made, [[piece[::2] for piece in said] for said in expected])
+
+    def test_a_lost_reply(self):
+        said = [ask(1), reply(1), ask(2), reply(2), ask(3), reply(3)]
+        names, ends, made = self.parts(said, 3)
+        self.assertEqual(names, ["r-1.zkr", "r-1.2.zkr"])
+        self.assertEqual(ends, ["packets=1-8 resent=0 hole=S",
+                                "packets=9-13 resent=0 closed=C lost=C:0,S:20 skipped=C:0,S:0 unasked=0"])
+        self.assert_parts(made, said[:3], said[4:])
+
+    def test_a_lost_request(self):
+        said = [ask(1), reply(1), ask(2), reply(2), ask(3), reply(3)]
+        names, ends, made = self.parts(said, 2)
+        self.assertEqual(names, ["r-1.zkr", "r-1.2.zkr"])
+        self.assertEqual(ends, ["packets=1-7 resent=0 hole=C",
+                                "packets=9-13 resent=0 closed=C lost=C:19,S:0 skipped=C:0,S:0 unasked=1"])
+        self.assert_parts(made, said[:2], said[4:])
+
+    def test_replies_to_what_was_asked_before_a_lost_request(self):
+        """They come behind it, and belong to the recording before it."""
+        said = [*map(ask, range(1, 7)), reply(1), EVENT, *map(reply, range(2, 7))]
+        _, ends, made = self.parts(said, 2)
+        self.assert_parts(made, [*said[:2], reply(1), EVENT, reply(2)], [*said[3:6], *map(reply, range(4, 7))])
+        self.assertRegex(ends[1], r" lost=C:19,S:0 skipped=C:0,S:0 unasked=1$")
+
+    def test_lost_replies_of_many_requests_under_way(self):
+        """Those that were asked for before the loss can't stand behind it, since their requests are in the recording
+        before; those that were asked for behind a lost request can."""
+        said = [*map(ask, range(1, 9)), *map(reply, range(1, 9))]
+        _, _, made = self.parts(said, 10)
+        self.assert_parts(made, [*said[:8], reply(1), reply(2)])
+        _, _, made = self.parts(said, 3, 8, 13)
+        self.assert_parts(made, said[:3], [*said[4:8], reply(5)])
+
+    def test_what_follows_the_last_loss_has_no_reply(self):
+        said = [ask(1), reply(1), ask(2), reply(2), ask(3), ask(4)]
+        _, ends, made = self.parts(said, 2)
+        self.assert_parts(made, said[:2], said[4:])
+        self.assertRegex(ends[1], r"unasked=1$")
+
+    def test_pings(self):
+        """The reply to a ping stands beside no other: that behind the loss may be one to a ping before it."""
+        said = [PING, PONG, ask(1), reply(1), PING, PONG, ask(2), reply(2), PING, PONG]
+        _, _, made = self.parts(said, 3)
+        self.assert_parts(made, said[:3], said[6:])
+        said = [ask(1), reply(1), PING, PONG, PING, PONG, EVENT, PING, PONG]
+        _, _, made = self.parts(said, 1)
+        self.assert_parts(made, said[:1], [*said[4:6], EVENT, *said[7:]])
+
+    def test_a_loss_at_the_end(self):
+        names, ends, made = self.parts([ask(1), reply(1), ask(2), reply(2)], 3)
+        self.assertEqual((names, ends), (["r-1.zkr"], ["packets=1-11 resent=0 closed=C hole=S"]))
+        self.assert_parts(made, [ask(1), reply(1), ask(2)])
+
+    def test_a_lost_connect_message(self):
+        for gone in (-2, -1):
+            names, ends, made = self.parts([ask(1), reply(1), ask(2), reply(2)], gone)
+            self.assertRegex(ends[-1], r" closed=C lost=C:\d+,S:\d+ skipped=")
+            self.assert_parts(made[-1:], [ask(1), reply(1), ask(2), reply(2)])
+
+    def test_nothing_is_known_between_two_losses(self):
+        said = [ask(1), reply(1), ask(2), reply(2), ask(3), reply(3), ask(4), reply(4)]
+        names, ends, made = self.parts(said, 3, 5)
+        self.assertEqual(names, ["r-1.zkr", "r-1.2.zkr"])
+        self.assertRegex(ends[1], r" lost=C:0,S:40 skipped=C:19,S:0 unasked=0$")
+        self.assert_parts(made, said[:3], said[6:])
+
+    def test_a_number_that_is_taken_is_passed_over(self):
+        sent = list(wire.conversation([*CONNECT, ask(1), reply(1), ask(2), reply(2)]))
+        capture = self.folder / "c"
+        capture.write_bytes(capture_of(sent[:6] + sent[7:]))
+        (self.folder / "s-1.2.zkr").write_bytes(b"old")
+        _, told, _ = self.run_tool("pcap2zkr.py", capture, self.folder / "s")
+        self.assertEqual([line.split()[0][-7:] for line in told.splitlines()], ["s-1.zkr", "1.3.zkr"])
+        self.assertEqual((self.folder / "s-1.2.zkr").read_bytes(), b"old")
+
+    def test_packets_lost_at_random(self):
+        """Every part is of frames that were said, each reply behind its request, and nearly all is kept."""
+        sources = [path.read_bytes() for path in SMALL if not re.search("refused|small|create2", path.name)]
+        for chance, least in ((0.002, 0.97), (0.02, 0.92), (0.1, 0.6)):
+            kept = captured = 0
+            for seed in range(3):
+                lottery = random.Random(seed)
+                for source in sources:
+                    sent = [each for each in wire.conversation(pieces(source))
+                            if each.flags & wire.SYN or lottery.random() >= chance]
+                    captured += sum(len(each.data) for each in sent)
+                    _, told, made = self.convert(capture_of(sent))
+                    for line, recording in zip([line for line in told if line[0] != "-"], made):
+                        if "lost=" in line:
+                            self.check_joined(self.frames(recording), self.frames(source), sides(recording))
+                            kept -= 56
+                        kept += sum(map(len, sides(recording)))
+                        self.assert_no_refusal(recording)
+            self.assertGreater(kept / captured, least)
