@@ -96,8 +96,7 @@ class Skipping:
 
 
 def tell(frame, xid, lacks):
-    print(f"left out: {frame.side.decode()} frame={frame.number} xid={xid} {lacks}, {len(frame.payload)} bytes",
-          file=sys.stderr)
+    zkr.tell(f"left out: {frame.side.decode()} frame={frame.number} xid={xid} {lacks}, {len(frame.payload)} bytes")
 
 
 def skip(pieces, out, skipping):
@@ -135,12 +134,12 @@ def main():
     parser.add_argument("--profile", choices=OF_PROFILE,
                         help="the release whose operations stay (that in the head of a ZKR2 recording, else 3.4)")
     words = parser.parse_args()
-    recording = zkr.Reader(sys.stdin.buffer)
+    recording = zkr.Reader(zkr.standard_input())
     skipping = Skipping(OF_PROFILE[words.profile or zkr.RELEASES[recording.head.profile]])
     try:
         skip(recording, sys.stdout.buffer, skipping)
     finally:
-        print(f"left out: {skipping.requests} requests, {skipping.replies} replies", file=sys.stderr)
+        zkr.tell(f"left out: {skipping.requests} requests, {skipping.replies} replies")
     return 0
 
 
