@@ -83,15 +83,8 @@ def times_of(parser, path, beside, needed):
     pieces = zkr.Reader(open(path, "rb"))
     if pieces.head.form == "zkr2" and not beside:
         return Times(pieces, None)
-    if not beside:
-        beside = zkr.times_path(path)
-        if not os.path.exists(beside):
-            if needed:
-                parser.error(f"{path} has no times: --times FILE names them")
-            return None
-    times = sum(1 for _ in zkr.read_times(beside))
-    with open(path, "rb") as recording:
-        count = zkr.Reader(recording).count()
-    if times != count:
-        raise ValueError(f"{beside} has {times} times, and {path} {count} pieces")
-    return Times(pieces, zkr.read_times(beside))
+    if not beside and not os.path.exists(zkr.times_path(path)):
+        if needed:
+            parser.error(f"{path} has no times: --times FILE names them")
+        return None
+    return Times(pieces, zkr.times_beside(path, beside))

@@ -153,6 +153,18 @@ def read_times(path):
             yield line.removesuffix("\n")
 
 
+def times_beside(path, beside=None):
+    """The times of the pieces of the recording at this path, which stand in the file `beside`, usually the one beside
+    it. A ValueError where that has another number of times than the recording has pieces."""
+    beside = beside or times_path(path)
+    times = sum(1 for _ in read_times(beside))
+    with open(path, "rb") as recording:
+        pieces = Reader(recording).count()
+    if times != pieces:
+        raise ValueError(f"{beside} has {times} times, and {path} {pieces} pieces")
+    return read_times(beside)
+
+
 class Frame(NamedTuple):
     """A whole frame: its side, its number on that side from 0, its payload, and the time of its last byte."""
     side: bytes
