@@ -1,25 +1,39 @@
-"""Reads the listings that `zkdump show` writes (docs/FORMATS.md, sections 9 and 11): what zkjson and zkstat share."""
+"""Reads the listings that `zkdump show` writes (docs/FORMATS.md, sections 9 and 11), line by line.
 
+A line becomes a Message, which has what stands at the line's beginning. A Listing gives the messages of one connection,
+each with its line and with the request that it answers, and what is known of the connection itself is in its
+Connection. Joined, in joined.py, gives the same of the lines that zkjson makes; conversations.py opens either.
+"""
+
+import codecs
 import collections
-import json
-import os
+import contextlib
 import re
-import sys
-
-import zkr
 
 BLOCK = 1 << 16
-LETTERS = {zkr.CLIENT: "C", zkr.SERVER: "S"}
-OWN_LANES = {None, "-2", "-4", "-8"}
+STANDARD_INPUT = "-"
+OWN_LANES = (None, "-2", "-4", "-8")
+NO_FRAME = (None, None, None)
+EVENT_XID = -1
 NOT_DONE = ("OK", "RUNTIMEINCONSISTENCY")   # the results of a failed multi's parts that did not fail themselves
+CONNECT, EVENT = "connect", "event"
+ENDINGS = ("whole", "cut", "refused", "recording")
 
-TEXT = r'~|"[^"]*"'
+# Spellings of a line. A number has no more digits than a long has.
+NUMBER = r"(?:0|-?[1-9]\d{0,18})"
+TEXT = '(?:~|"[ !#-~]*")'
+NAME = r"(?:/([A-Za-z]+))?"
 # How a message's line begins: its side, xid and operation, and its path, its error or an event's kind.
-BEGINNING = re.compile(rf"([CS]) (?:(-?\d+) )?([A-Za-z]\w*)"
-                       rf"(?: path=({TEXT})(?= |$)| zxid=-?\d+ (?:err|kind)=(-?\d+)(?:/(\w+))?(?= |$))?")
-FAILED_PART = re.compile(r"[{;]fail err=(-?\d+)(?:/(\w+))?")
+HEAD = rf"([CS]) (?:({NUMBER}) )?([A-Za-z][A-Za-z0-9]*)"
+BEGINNING = re.compile(rf"{HEAD}(?: path=({TEXT})(?= |$)| zxid={NUMBER} (?:err|kind)=({NUMBER}){NAME}(?= |$)|"
+                       r"(?= (?!path=|zxid=\S* (?:err|kind)=)|$))", re.ASCII)
+ONLY_HEAD = re.compile(HEAD, re.ASCII)
+FAILED_PART = re.compile(rf"[{{;]fail err=({NUMBER}){NAME}", re.ASCII)
 QUOTED = re.compile('"[^"]*"')
-ESCAPE = re.compile(rb"\\(..)")
+PATHS = re.compile(rf' path=({TEXT})|"[^"]*"', re.ASCII)
+SESSION = re.compile(rf" session=({NUMBER})(?= |$)", re.ASCII)
+ZXID = re.compile(rf" zxid=({NUMBER})(?= |$)", re.ASCII)
+ENDING = re.compile(rf"\. ([a-z]+)((?: [a-z]+=(?:{NUMBER}|[A-Za-z0-9]+))*)", re.ASCII)
 
 
 class NoListing(ValueError):
@@ -27,54 +41,66 @@ class NoListing(ValueError):
 
 
 def no_line(n, at):
+    """The complaint about line n, which can be read to the place `at` alone."""
     return NoListing(f"line {n}: this is no line of a listing from column {at + 1} on")
+
+
+class Connection:
+    """What is known of a connection, as far as its messages are read.
+
+    `name` is what it is called, and `session` the number of its session in hexadecimal: that of the connect response,
+    else that which the client asked for, else None. `begun` and `ended` are the times of its first and its last
+    message, in milliseconds since 1970; `ending` is its ending line, its numbers as numbers; and `backwards` counts the
+    replies whose time lies before that of their request. `known` says that it is too late to learn the session.
+    """
+
+    def __init__(self, name):
+        self.name, self.session, self.known = name, None, False
+        self.begun = self.ended = self.ending = None
+        self.backwards = 0
+
+    def connect(self, side, session):
+        """Takes the session of a connect message, as a number."""
+        self.known = side == "S"
+        if session:
+            self.session = hexadecimal(session)
+
+    def timed(self, moment):
+        """Takes a message's time."""
+        self.ended = moment
+        if self.begun is None:
+            self.begun = moment
+
+    def measure(self, asked, made):
+        """Says how long a reply took, unless its time lies before that of its request."""
+        microseconds = round((made.moment - asked.moment) * 1000)
+        if microseconds >= 0:
+            made.microseconds = microseconds
+        else:
+            self.backwards += 1
 
 
 class Message:
     """How a message's line begins: its number, its side, and its xid, operation and path as the line has them; None for
     what it has not.
 
-    `error` is the name of a reply's error, or its number: of a failed multi, that of the part that failed; and of an
-    event, its kind. `at` is the message's time as it is spelled, and `ms` how long a reply took. `end` is the place
-    behind the operation, and `parts` are the paths of a multi's parts, both for who reads the rest of the line.
+    `connection` is the Connection that it belongs to. `error` is the name of a reply's error, or its number: of a
+    failed multi, that of the part that failed; and of an event, its kind. `at` is the message's time as it is spelled,
+    `moment` the same as a number of milliseconds since 1970, and `microseconds` how long a reply took. `end` is the
+    place behind the operation in the line; `parts` is for who reads the rest of it, and `chosen` for who chooses.
     """
 
-    __slots__ = ("n", "side", "xid", "op", "path", "error", "end", "at", "ms", "parts")
+    at = moment = microseconds = chosen = None
+    parts = ()
 
-    def __init__(self, n, side, xid, op, path, error, end=0, at=None, ms=None):
-        self.n, self.side, self.xid, self.op, self.path, self.error = n, side, xid, op, path, error
-        self.end, self.at, self.ms, self.parts = end, at, ms, ()
-
-
-def message(line, n):
-    """The message of line n."""
-    found = BEGINNING.match(line)
-    if not found:
-        raise no_line(n, 0)
-    side, xid, op, path, number, name = found.groups()
-    error = name or number
-    if op == "multi" and side == "S" and not error:
-        error = error_of_parts([name or number for number, name in FAILED_PART.findall(QUOTED.sub("", line))])
-    return Message(n, side, xid, op, path, error, found.end(3))
+    def __init__(self, connection, n, side, xid, op, path, error, end=0):
+        self.connection, self.n, self.side, self.xid, self.op, self.path = connection, n, side, xid, op, path
+        self.error, self.end = error, end
 
 
-def message_of(made, n):
-    """The message of line n, of which zkjson has made this object."""
-    try:
-        error, xid = error_of(made), made.get("xid")
-        if made["op"] == "event":
-            error = made.get("kindName", str(made["kind"]))
-        elif "parts" in made:
-            error = error_of_parts([error_of(part) for part in made["parts"] if "err" in part])
-        return Message(made.get("n", n), made["side"], None if xid is None else str(xid), made["op"],
-                       spelled(made.get("path")), error, at=made.get("at"), ms=made.get("ms"))
-    except KeyError as lacking:
-        raise ValueError(f"this object has no {lacking}") from None
-
-
-def error_of(made):
-    """The name of the error that an object of zkjson's has, or its number; None where it has none."""
-    return made.get("errName", str(made["err"])) if "err" in made else None
+def hexadecimal(number):
+    """A session or a zxid as ZooKeeper's logs print it."""
+    return f"0x{number & 0xffff_ffff_ffff_ffff:x}"
 
 
 def error_of_parts(names):
@@ -82,163 +108,162 @@ def error_of_parts(names):
     return next((name for name in names if name not in NOT_DONE), names[-1] if names else None)
 
 
+def unescaped(spelled):
+    """The bytes that a part of a text spells; the part has no half of an escape."""
+    if "\\" not in spelled:
+        return spelled.encode()
+    return spelled.replace("\\", "\\x").encode().decode("unicode_escape").encode("latin-1")
+
+
 def text(spelled):
     """A text of a line; None for null."""
-    if spelled == "~":
-        return None
-    if "\\" in spelled:
-        spelled = ESCAPE.sub(lambda escape: bytes.fromhex(escape[1].decode()), spelled.encode()).decode()
-    return spelled[1:-1]
+    return None if spelled == "~" else "".join(parts_of_text(spelled, 0, len(spelled)))
+
+
+def parts_of_text(line, at, end):
+    """The text that stands in the line, with its quotes, from one place to the other: in parts, none of them long."""
+    decoder, at, end = codecs.getincrementaldecoder("utf-8")(), at + 1, end - 1
+    while at < end:
+        to = min(at + BLOCK, end)
+        if to < end:
+            escape = line.rfind("\\", to - 2, to)
+            to = to if escape < 0 else escape
+        yield decoder.decode(unescaped(line[at:to]), to == end)
+        at = to
 
 
 def spelled(value):
-    """A text as a line has it, with no more escapes than `text` needs; None for null."""
-    return None if value is None else '"' + value.replace("\\", "\\5c").replace('"', "\\22") + '"'
+    """A text as a line has it; None for null."""
+    if value is None:
+        return "~"
+    if value.isascii() and value.isprintable() and '"' not in value and "\\" not in value:
+        return f'"{value}"'
+    return '"' + "".join(chr(each) if 0x20 <= each <= 0x7e and each not in b'"\\' else f"\\{each:02x}"
+                         for each in value.encode(errors="surrogatepass")) + '"'
 
 
-def ending_of(line):
+def ending_of(line, n):
     """An ending line, its numbers as numbers."""
-    word, *rest = line[2:].split(" ")
-    made = {"ending": word}
-    for name, _, value in (field.partition("=") for field in rest):
+    found = ENDING.fullmatch(line)
+    if not found or found[1] not in ENDINGS:
+        raise NoListing(f"line {n}: this is no ending line")
+    made = {"ending": found[1]}
+    for name, _, value in (field.partition("=") for field in found[2].split()):
         made[name] = value if name in ("side", "reason") else int(value)
     return made
 
 
-class Waiting:
-    """The requests that wait for replies, in the lanes in which a server answers them (docs/CONVERSATION.md)."""
+def lines_of(stream, before_read=lambda: None):
+    """The lines of a stream of bytes, each as soon as it is there. Before each read `before_read` is called."""
+    decoder, begun = codecs.getincrementaldecoder("utf-8")("surrogateescape"), []
+    while before_read() or (block := stream.read1(BLOCK)):
+        first, end, rest = decoder.decode(block).partition("\n")
+        begun.append(first)
+        if not end:
+            continue
+        line = "".join(begun)
+        begun.clear()
+        yield line
+        *lines, rest = rest.split("\n")
+        begun.append(rest)
+        yield from lines
+    begun.append(decoder.decode(b"", True))
+    if any(begun):
+        yield "".join(begun)
 
-    def __init__(self):
-        self.lanes = collections.defaultdict(collections.deque)
 
-    def take(self, made):
-        """Takes the next message, and gives the request that it answers: None for a request and for an event."""
-        if made.op == "event":
-            return None
-        lane = self.lanes[made.xid if made.xid in OWN_LANES else "plain"]
-        if made.side == "C":
-            lane.append(made)
-            return None
-        if not lane or lane[0].xid != made.xid:
-            raise ValueError("a reply without its request")
-        return lane.popleft()
+class Conversations:
+    """What a Listing and a Joined have in common: `name` names the conversation, and `file` what is read."""
+
+    def __init__(self, name, lines, progress):
+        self.name, self.lines, self.progress, self.file = name, lines, progress, STANDARD_INPUT
+
+    @contextlib.contextmanager
+    def complaints(self):
+        """Names the file that was not understood, where it has a name."""
+        try:
+            yield
+        except ValueError as error:
+            raise error if self.file == STANDARD_INPUT else NoListing(f"{self.file}: {error}") from None
+
+
+class Listing(Conversations):
+    """The listing of one connection, message by message.
+
+    Iterating gives the line of each message, the message, and the request that it answers, or None. `connection` is
+    what is known of the connection, and `left()` gives the requests that wait. `times` gives the time of each message,
+    where it isn't None (times.Times); `progress` is told how far it is.
+    """
+
+    def __init__(self, name, lines, times, progress):
+        super().__init__(name, lines, progress)
+        self.connection, self.times = Connection(name), times
+        self.plain = collections.deque()        # the requests that wait, in the lanes in which a server answers them
+        self.lanes = {xid: collections.deque() for xid in OWN_LANES}    # (docs/CONVERSATION.md)
+
+    def __iter__(self):
+        connection, plain, lanes, lines, n = self.connection, self.plain, self.lanes, iter(self.lines), 0
+        frames = self.times and self.times.frames
+        for n, line in enumerate(lines, 1):
+            found = BEGINNING.match(line)
+            if not found or connection.ending:
+                self.end(line, n)
+                continue
+            side, xid, op, path, number, name = found.groups()
+            made = Message(connection, n, side, xid, op, path, name or number, found.end(3))
+            if frames:
+                of_side, of_xid, at = next(frames, NO_FRAME)
+                if of_side != side or of_xid != int(xid or EVENT_XID) and op != CONNECT:
+                    self.times.refuse(n, of_side, lines)
+                if at is not None:
+                    made.at, made.moment = at, float(at)
+                    connection.timed(made.moment)
+            asked, lane = None, lanes.get(xid, plain)
+            if side == "C":
+                lane.append(made)
+            elif op != EVENT:
+                if not lane or lane[0].xid != xid or lane[0].op != op:
+                    raise NoListing(f"line {n}: a reply without its request")
+                asked = lane.popleft()
+                if asked.moment is not None and made.moment is not None:
+                    connection.measure(asked, made)
+                if op == "multi" and made.error is None:
+                    failed = [name or number for number, name in FAILED_PART.findall(QUOTED.sub("", line))]
+                    made.error = error_of_parts(failed)
+            if op == CONNECT:
+                session = SESSION.search(line, made.end)
+                connection.connect(side, session and int(session[1]))
+            yield line, made, asked
+            if n % 1000 == 0:
+                self.progress.tell(f"{n:,} lines")
+        if not n:
+            raise NoListing("the listing is empty")
+        if frames:
+            self.times.compare(connection.ending)
+        self.progress.end()
+
+    def end(self, line, n):
+        """Takes an ending line, as the last one."""
+        if self.connection.ending:
+            raise NoListing(f"line {n}: a line behind the ending line")
+        if not line.startswith("."):
+            head = ONLY_HEAD.match(line)
+            raise no_line(n, head.end() if head else 0)
+        self.connection.ending = ending_of(line, n)
+
+    def connections(self):
+        """The connections that were read: the one."""
+        return [self.connection]
 
     def left(self):
         """The requests that still wait, in the order in which they came."""
-        return sorted((made for lane in self.lanes.values() for made in lane), key=lambda made: made.n)
+        return sorted((made for lane in (self.plain, *self.lanes.values()) for made in lane), key=lambda made: made.n)
 
+    def paths(self, line, made):
+        """The paths of a request's line: of a multi, those of its parts."""
+        return [path for path in PATHS.findall(line) if path] if made.op == "multi" else [made.path]
 
-def lines_of(stream, before_read):
-    """The lines of a stream of bytes, each as soon as it is there. Before each read `before_read` is called."""
-    begun = []
-    while before_read() or (block := stream.read1(BLOCK)):
-        *lines, rest = block.split(b"\n")
-        if lines:
-            lines[0] = b"".join([*begun, lines[0]])
-            begun.clear()
-        begun.append(rest)
-        for line in lines:
-            yield line.decode(errors="replace")
-    if any(begun):
-        yield b"".join(begun).decode(errors="replace")
-
-
-class Conversation:
-    """A listing, message by message.
-
-    Iterating gives the line of each message, the message, and the request that it answers, or None. `waiting` are the
-    requests that wait, and `ending` is the ending line, once it has come. `objects` says whether lines of zkjson are
-    read, too; `times` gives the side and the time of each message, or is None; `progress` is told how far it is.
-    """
-
-    def __init__(self, lines, objects, times, progress):
-        self.lines, self.objects, self.times, self.progress = lines, objects, times, progress
-        self.waiting, self.ending = Waiting(), None
-
-    def __iter__(self):
-        for n, line in enumerate(self.lines, 1):
-            try:
-                made = self.message(line, n)
-                if made:
-                    if self.times:
-                        self.tell_time(made)
-                    asked = self.waiting.take(made)
-                    if asked and asked.at and made.at:
-                        made.ms = round(float(made.at) - float(asked.at), 3)
-                    yield line, made, asked
-            except NoListing:
-                raise
-            except ValueError as error:
-                raise NoListing(f"line {n}: {error}") from None
-            if n % 1000 == 0:
-                self.progress.tell(f"{n:,} lines")
-        self.progress.end()
-
-    def message(self, line, n):
-        """The message of a line; None of the ending line."""
-        if self.ending:
-            raise ValueError("a line behind the ending line")
-        if line.startswith("."):
-            self.ending = ending_of(line)
-            return None
-        if not (self.objects and line.startswith("{")):
-            return message(line, n)
-        made = json.loads(line)
-        if "ending" in made:
-            self.ending = made
-            return None
-        return message_of(made, n)
-
-    def tell_time(self, made):
-        """Gives the message its time, where it has one."""
-        side, at = next(self.times, (made.side, None))
-        if side != made.side:
-            raise ValueError("the recording has another message there")
-        made.at = at
-
-
-def last_bytes(pieces, times):
-    """Of each frame of a recording, in the order of their last bytes, its side and the time of its last byte as it is
-    spelled, or None.
-
-    `times` are those of the pieces, one each; where it is None, those that the pieces have. There 0 is no time.
-    """
-    cutter = zkr.Cutter(zkr.LARGEST_FRAMES)
-    try:
-        for piece in pieces:
-            at = next(times, None) if times else str(piece.milliseconds or "") or None
-            letter = LETTERS[piece.side]
-            if cutter.is_one_frame(piece):
-                yield letter, at
-                continue
-            for _ in cutter.take(piece):
-                yield letter, at
-    except zkr.Damaged:
-        return      # the listing ends there, too
-
-
-def add_words(words):
-    """The words that say which conversation is read."""
-    words.add_argument("listing", metavar="LISTING", nargs="?", help="the listing; else standard input")
-    words.add_argument("--recording", metavar="FILE", help="the recording that the listing is of, for its times")
-    words.add_argument("--times", metavar="FILE", help="the times of its pieces (RECORDING.times)")
-
-
-def conversation(parser, words, objects, progress, before_read=lambda: None):
-    """The conversation that these words name; the rest is told at Conversation and at lines_of."""
-    if words.times and not words.recording:
-        parser.error("--times goes with --recording alone")
-    stream = open(words.listing, "rb") if words.listing else sys.stdin.buffer
-    times = times_of(parser, words) if words.recording else None
-    return Conversation(lines_of(stream, before_read), objects, times, progress)
-
-
-def times_of(parser, words):
-    """The side and the time of each message of the recording."""
-    pieces = zkr.Reader(open(words.recording, "rb"))
-    if pieces.head.form == "zkr2" and not words.times:
-        return last_bytes(pieces, None)
-    path = words.times or zkr.times_path(words.recording)
-    if not os.path.exists(path):
-        parser.error(f"{words.recording} has no times: --times FILE names them")
-    return last_bytes(pieces, zkr.read_times(path))
+    def zxid(self, line):
+        """The zxid of a reply's line as ZooKeeper's logs print it; None where it has none."""
+        found = ZXID.search(line)
+        return found and hexadecimal(int(found[1]))

@@ -13,15 +13,15 @@ import argparse
 import datetime
 import os
 import re
-import resource
 import struct
-import sys
-import time
 from typing import NamedTuple, Optional
+
+from running import Progress, allow_many_files, complain, read_no_more, standard_input, tell, tool  # noqa: F401
 
 CLIENT, SERVER = b"C", b"S"
 LARGEST_PIECE = 16_777_220
-TIME = re.compile(r"\d+(?:\.\d+)?\n?", re.ASCII)
+TIME = re.compile(r"\d{1,19}(?:\.\d{1,9})?\n?", re.ASCII)
+LONGEST_TIME = 32
 LIMITS, USUAL_LIMIT = range(64, 16_777_217), 4_194_304
 WAITINGS, USUAL_WAITING = range(1, 1_048_577), 65_536
 PROFILES = {"3.4": 34, "3.5": 35}
@@ -112,6 +112,21 @@ class Reader:
                 raise Damaged(self.offset, "Short")
             self.offset += size
 
+    def count(self):
+        """How many pieces there are from here to the end, or to where the recording is damaged; none of them is read."""
+        form, stream, pieces = PIECE_HEADS[self.head.form], self.stream, 0
+        at, end = stream.tell(), stream.seek(0, os.SEEK_END)
+        stream.seek(at)
+        while len(begin := stream.read(form.size)) == form.size:
+            side, *times, size = form.unpack(begin)
+            at += form.size
+            if side not in (CLIENT, SERVER) or times and times[0] < 0 or not 1 <= size <= LARGEST_PIECE or at == end:
+                break
+            pieces += 1
+            at += size
+            stream.seek(size, os.SEEK_CUR)
+        return pieces
+
     def damage(self, begin):
         """The damage of what stands before a piece's bytes, as far as it is there."""
         if begin[:1] not in (CLIENT, SERVER):
@@ -131,11 +146,23 @@ def times_path(path):
 
 def read_times(path):
     """The times in a file of times, one for each piece of its recording, as they stand there."""
-    with open(path, encoding="ascii") as lines:
-        for number, line in enumerate(lines, 1):
+    with open(path, encoding="ascii", errors="replace") as lines:
+        for number, line in enumerate(iter(lambda: lines.readline(LONGEST_TIME), ""), 1):
             if not TIME.fullmatch(line):
                 raise ValueError(f"{path}: line {number} is no time")
             yield line.removesuffix("\n")
+
+
+def times_beside(path, beside=None):
+    """The times of the pieces of the recording at this path, which stand in the file `beside`, usually the one beside
+    it. A ValueError where that has another number of times than the recording has pieces."""
+    beside = beside or times_path(path)
+    times = sum(1 for _ in read_times(beside))
+    with open(path, "rb") as recording:
+        pieces = Reader(recording).count()
+    if times != pieces:
+        raise ValueError(f"{beside} has {times} times, and {path} {pieces} pieces")
+    return read_times(beside)
 
 
 class Frame(NamedTuple):
@@ -276,16 +303,13 @@ class Series:
 
 
 def clock(milliseconds):
-    """A time as it is told: date and time of day in UTC."""
+    """A time as it is told: date and time of day in UTC; behind the year 9999 its milliseconds since 1970."""
     whole, part = divmod(int(milliseconds), 1000)
-    moment = datetime.datetime(1970, 1, 1) + datetime.timedelta(seconds=whole)
+    try:
+        moment = datetime.datetime(1970, 1, 1) + datetime.timedelta(seconds=whole)
+    except OverflowError:
+        return f"{int(milliseconds)} ms"
     return f"{moment:%Y-%m-%dT%H:%M:%S}.{part:03}Z"
-
-
-def allow_many_files():
-    """Lets this process have as many open files as the system allows it."""
-    _, most = resource.getrlimit(resource.RLIMIT_NOFILE)
-    resource.setrlimit(resource.RLIMIT_NOFILE, (most, most))
 
 
 class Words(argparse.ArgumentParser):
@@ -296,7 +320,8 @@ class Words(argparse.ArgumentParser):
                          formatter_class=argparse.RawDescriptionHelpFormatter)
 
     def error(self, message):
-        self.exit(2, f"{self.prog}: {' '.join(message.split())}\n")
+        complain(" ".join(message.split()))
+        self.exit(2)
 
     def add_number(self, word, allowed, **more):
         """An option whose value is a number in the range `allowed`."""
@@ -326,46 +351,3 @@ class Words(argparse.ArgumentParser):
             return Head()
         limit = words.limit or USUAL_LIMIT
         return Head("zkr2", limit, limit, words.waiting or USUAL_WAITING, PROFILES[words.profile or "3.4"])
-
-
-def read_no_more():
-    """Does without standard output, whose reader has gone."""
-    os.dup2(os.open(os.devnull, os.O_WRONLY), sys.stdout.fileno())
-
-
-def tool(main):
-    """Runs a tool's main function. What it can't do is told in one line; the status is then 1 for what it has read
-    and 3 for the system."""
-    try:
-        status = main()
-        sys.stdout.flush()
-        return status
-    except BrokenPipeError:
-        read_no_more()
-        return 3
-    except KeyboardInterrupt:
-        return 130
-    except (ValueError, OSError) as error:
-        print(f"{os.path.basename(sys.argv[0])}: {error}", file=sys.stderr)
-        return 3 if isinstance(error, OSError) else 1
-
-
-class Progress:
-    """Tells on standard error how far long work is, where a person looks on: on a terminal alone, and only where it
-    `may` be told there."""
-
-    def __init__(self, what, may=True):
-        self.what, self.shown = what, False
-        self.due = time.monotonic() + 1 if may and sys.stderr.isatty() else float("inf")
-
-    def tell(self, amount):
-        """Tells the amount that is done, once a second; `amount` is a text, or a function that gives it."""
-        if time.monotonic() >= self.due:
-            self.due, self.shown = time.monotonic() + 1, True
-            text = amount() if callable(amount) else amount
-            print(f"\r{self.what}: {text}\033[K", end="", file=sys.stderr, flush=True)
-
-    def end(self):
-        """Clears the line."""
-        if self.shown:
-            print("\r\033[K", end="", file=sys.stderr, flush=True)

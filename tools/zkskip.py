@@ -1,15 +1,18 @@
 #!/usr/bin/env python3
 """Leaves out of a recording the requests that a release lacks, with their replies, so that zkdump reads on.
 
+    zkskip.py [--profile 3.4|3.5] REC.zkr PLAIN.zkr
     zkskip.py [--profile 3.4|3.5] < REC.zkr > PLAIN.zkr
 
 Left out are operations of later releases and of SASL, a check outside a multi, multis with parts of later releases,
 and auth under another xid than -4, which some Go clients send. Each is told in a line on standard error. Numbers that
 no release has stay, and so does everything else. The new recording has the format of the old one, and one frame a
-piece, in the order of their last bytes; from where a side has no frames any more, its bytes stay as they are.
+piece, in the order of their last bytes; from where a side has no frames any more, its bytes stay as they are. Where
+REC.zkr.times is there, PLAIN.zkr.times is written, too. Neither may be there already.
 """
 
 import collections
+import os
 import struct
 import sys
 
@@ -22,6 +25,7 @@ OTHERS = {13: "check", 15: "create2", 16: "reconfig", 17: "checkWatches", 18: "r
           104: "getAllChildrenNumber", 105: "setWatches2", 106: "addWatch", 107: "whoAmI"}
 MULTI, AUTH = 14, 100
 EVENT_XID, AUTH_XID = -1, -4
+GATHERED = 1 << 16
 # What the parts of a multi are made of: b is a text or a blob, i an int, a an access list.
 PARTS = {1: "bbai", 2: "bi", 5: "bbi", 13: "bi"}
 
@@ -96,51 +100,71 @@ class Skipping:
 
 
 def tell(frame, xid, lacks):
-    print(f"left out: {frame.side.decode()} frame={frame.number} xid={xid} {lacks}, {len(frame.payload)} bytes",
-          file=sys.stderr)
+    zkr.tell(f"left out: {frame.side.decode()} frame={frame.number} xid={xid} {lacks}, {len(frame.payload)} bytes")
 
 
-def skip(pieces, out, skipping):
-    """Writes the recording again, without the frames that don't stay."""
-    cutter, head, milliseconds = zkr.Cutter(zkr.LARGEST_FRAMES), pieces.head, 0
+class StandardOutput:
+    """A recording on standard output, with what zkr.Writer has of one in a file."""
+
+    def __init__(self, head):
+        self.head, self.file = head, sys.stdout.buffer
+        self.file.write(head.to_bytes())
+
+    def piece(self, side, milliseconds, data):
+        for at in range(0, len(data), zkr.LARGEST_PIECE):
+            self.file.write(self.head.piece(side, milliseconds, data[at:at + zkr.LARGEST_PIECE]))
+
+    def close(self):
+        self.file.flush()
+
+
+def skip(pieces, times, out, skipping):
+    """Writes the recording again, without the frames that don't stay. `times` are those of its pieces, or None."""
+    cutter, milliseconds = zkr.Cutter(zkr.LARGEST_FRAMES), 0
     progress, done = zkr.Progress("zkskip"), 0
-    out.write(head.to_bytes())
     try:
         for piece in pieces:
-            milliseconds = piece.milliseconds
+            milliseconds = float(next(times)) if times else piece.milliseconds or 0
             for frame in cutter.take(piece):
                 if skipping.stays(frame):
-                    data = len(frame.payload).to_bytes(4, "big") + frame.payload
-                    out.write(head.piece(frame.side, milliseconds, data))
+                    out.piece(frame.side, milliseconds, len(frame.payload).to_bytes(4, "big") + frame.payload)
             if piece.side in cutter.broken:
-                rest(cutter, piece.side, head, milliseconds, out)
+                rest(cutter, piece.side, milliseconds, out)
             done += len(piece.data)
             progress.tell(lambda: f"{done:,} bytes")
     finally:
         for side in cutter.held:
-            rest(cutter, side, head, milliseconds, out)
+            rest(cutter, side, milliseconds, out)
         progress.end()
 
 
-def rest(cutter, side, head, milliseconds, out):
+def rest(cutter, side, milliseconds, out):
     """Writes what is held of a side: a frame's beginning, or what can't be cut into frames."""
-    held = cutter.held[side]
-    for at in range(0, len(held), zkr.LARGEST_PIECE):
-        out.write(head.piece(side, milliseconds, bytes(held[at:at + zkr.LARGEST_PIECE])))
-    held.clear()
+    out.piece(side, milliseconds, bytes(cutter.held[side]))
+    cutter.held[side].clear()
 
 
 def main():
     parser = zkr.Words(__doc__)
+    parser.add_argument("source", metavar="REC.zkr", nargs="?", help="the recording; else standard input")
+    parser.add_argument("target", metavar="PLAIN.zkr", nargs="?", help="the new recording; else standard output")
     parser.add_argument("--profile", choices=OF_PROFILE,
                         help="the release whose operations stay (that in the head of a ZKR2 recording, else 3.4)")
     words = parser.parse_args()
-    recording = zkr.Reader(sys.stdin.buffer)
+    if words.source and not words.target:
+        parser.error("the new recording has to be named, too")
+    recording = zkr.Reader(open(words.source, "rb") if words.source else zkr.standard_input())
+    times = zkr.times_beside(words.source) if words.source and os.path.exists(zkr.times_path(words.source)) else None
     skipping = Skipping(OF_PROFILE[words.profile or zkr.RELEASES[recording.head.profile]])
+    if words.target:
+        out = zkr.Writer(words.target, recording.head, times is not None, GATHERED)
+    else:
+        out = StandardOutput(recording.head)
     try:
-        skip(recording, sys.stdout.buffer, skipping)
+        skip(recording, times, out, skipping)
     finally:
-        print(f"left out: {skipping.requests} requests, {skipping.replies} replies", file=sys.stderr)
+        out.close()
+        zkr.tell(f"left out: {skipping.requests} requests, {skipping.replies} replies")
     return 0
 
 

@@ -1,131 +1,174 @@
 #!/usr/bin/env python3
-"""Counts a conversation: requests, replies, errors and latencies of each operation, events, requests without a reply.
+"""Counts conversations: requests, replies, errors and latencies of each operation and each connection, events, the
+slowest requests, and those without a reply.
 
-    zkdump show < REC.zkr | zkstat.py [--json] [--recording REC.zkr [--times FILE]]
+    zkstat.py [--json] [--recording REC.zkr [--times FILE]] [CHOICE ..] [FILE ..]
 
-It reads a listing, or the lines that zkjson makes of one. With the recording (or where zkjson had it) there are
-latencies: from a request's last byte to its reply's. p50 and p95 are the least latencies that so many of a hundred
-replies didn't exceed, to three digits; max is exact. A multi has failed where one of its parts has.
+It reads recordings by their names (zkdump show makes their listings), listings, or the lines that zkjson makes of
+these, also of several connections; without a name a listing or zkjson's lines from standard input. Where there are
+times there are latencies: from a request's last byte to its reply's. p50, p95 and p99 are those of HdrHistogram with
+three significant digits, in microseconds; max is exact. A multi has failed where one of its parts has. Connections of
+one session stand together.
 """
 
 import collections
+import heapq
+import itertools
 import json
-import math
 import sys
 
+import conversations
 import listing
+import selection
+import tables
 import zkr
+from histogram import Histogram
 
-QUANTILES = {"p50": 0.5, "p95": 0.95}
-SHOWN = 10
-
-
-class Latencies:
-    """Latencies in milliseconds, counted by their first three digits: some ten thousand counts at most."""
-
-    def __init__(self):
-        self.counts = collections.Counter()
-        self.longest = 0
-
-    def add(self, latency):
-        self.counts[float(f"{latency:.3g}")] += 1
-        self.longest = max(self.longest, latency)
-
-    def quantile(self, share):
-        due = math.ceil(share * sum(self.counts.values()))
-        for latency in sorted(self.counts):
-            due -= self.counts[latency]
-            if due <= 0:
-                return min(latency, self.longest)
-
-    def summary(self):
-        """None where there are no latencies."""
-        if not self.counts:
-            return None
-        return {**{name: self.quantile(share) for name, share in QUANTILES.items()}, "max": self.longest}
+SLOWEST = 20
+LONGEST_PATH = 1000
 
 
-class Operation:
-    """What is counted of an operation."""
+class Counts:
+    """What is counted of an operation, or of a connection; latencies in microseconds."""
 
     def __init__(self):
         self.asked = self.answered = 0
         self.errors = collections.Counter()
-        self.latencies = Latencies()
+        self.latencies = Histogram()
 
-    def add(self, made):
-        """Counts a request or a reply."""
-        if made.side == "C":
-            self.asked += 1
-            return
+    def add(self, error, microseconds):
+        """Counts a request with its reply."""
+        self.asked += 1
         self.answered += 1
-        if made.error:
-            self.errors[made.error] += 1
-        if made.ms is not None:
-            self.latencies.add(made.ms)
+        if error:
+            self.errors[error] += 1
+        if microseconds is not None:
+            self.latencies.add(microseconds)
 
     def summary(self):
-        return {"asked": self.asked, "answered": self.answered, "failed": sum(self.errors.values()),
-                "errors": dict(self.errors.most_common()), "ms": self.latencies.summary()}
+        timed = self.latencies.total()
+        ms = timed and {**{f"p{percent}": self.latencies.percentile(percent) / 1000 for percent in tables.PERCENTS},
+                        "max": self.latencies.greatest / 1000}
+        return {"asked": self.asked, "answered": self.answered, "failed": sum(self.errors.values()), "timed": timed,
+                "ms": ms or None}
 
 
-def summary(talk):
-    """Everything that is counted of a conversation."""
-    operations, events = collections.defaultdict(Operation), collections.Counter()
-    for _, made, _ in talk:
-        if made.op == "event":
-            events[made.error] += 1
+class Slow:
+    """A request and its reply, as far as it is told of the slowest."""
+
+    def __init__(self, asked, made, zxid):
+        self.told = {"time": time(asked.moment), "ms": made.microseconds / 1000,
+                     "connection": made.connection.name, "n": asked.n, "op": made.op, "path": cut(asked.path),
+                     "error": made.error, "zxid": zxid}
+
+
+def cut(path):
+    """A path as the line has it, as far as it is told."""
+    return path if path is None or len(path) <= LONGEST_PATH else path[:LONGEST_PATH] + '".. and more'
+
+
+class Statistics:
+    """Everything that is counted of conversations."""
+
+    def __init__(self, chosen):
+        self.selection = chosen
+        self.operations, self.connections = collections.defaultdict(Counts), {}
+        self.events, self.waiting = collections.Counter(), []
+        self.slowest, self.order, self.least = [], itertools.count(), -1
+
+    def read(self, talk):
+        """Counts what is chosen of a conversation, or of several."""
+        operations, connections = self.operations, self.connections
+        for line, made, asked in self.selection.chosen(talk):
+            counts = connections.get(made.connection)
+            if counts is None:
+                counts = connections[made.connection] = Counts()
+            if asked is None:
+                if made.op == listing.EVENT:
+                    self.events[made.error] += 1
+                elif made.path and len(made.path) > LONGEST_PATH:
+                    made.path = cut(made.path)
+                continue
+            microseconds = made.microseconds
+            operations[made.op].add(made.error, microseconds)
+            counts.add(made.error, microseconds)
+            if microseconds is not None and microseconds > self.least:
+                self.add_slow(talk, line, made, asked)
+        if self.selection.all:
+            for connection in talk.connections():
+                connections.setdefault(connection, Counts())
+        for made in self.selection.left(talk):
+            self.operations[made.op].asked += 1
+            self.connections[made.connection].asked += 1
+            self.waiting.append(made)
+
+    def add_slow(self, talk, line, made, asked):
+        """Keeps a reply as one of the slowest, in place of the least slow of them."""
+        entry = made.microseconds, -next(self.order), Slow(asked, made, talk.zxid(line))
+        if len(self.slowest) < SLOWEST:
+            heapq.heappush(self.slowest, entry)
         else:
-            operations[made.op].add(made)
-    ordered = sorted(operations.items(), key=lambda item: -item[1].asked)
-    ending = talk.ending and {name: value for name, value in talk.ending.items() if name != "waiting"}
-    return {"operations": {name: operation.summary() for name, operation in ordered},
-            "events": dict(events.most_common()), "unanswered": [request(made) for made in talk.waiting.left()],
-            "ending": ending}
+            heapq.heapreplace(self.slowest, entry)
+        if len(self.slowest) == SLOWEST:
+            self.least = self.slowest[0][0]
+
+    def summary(self):
+        ordered = sorted(self.operations.items(), key=lambda item: -item[1].asked)
+        return {"operations": {name: {**counts.summary(), "errors": dict(counts.errors.most_common())}
+                               for name, counts in ordered},
+                "events": dict(self.events.most_common()), "connections": list(self.rows()),
+                "unanswered": [request(made) for made in self.waiting],
+                "slowest": [slow.told for *_, slow in sorted(self.slowest, reverse=True)]}
+
+    def rows(self):
+        """What is told of each connection, those of one session together; of a later one how long after the end of the
+        one before it began, in seconds."""
+        sessions = collections.defaultdict(list)
+        for each in self.connections:
+            sessions[each.session or each].append(each)
+        for group in sorted((sorted(group, key=begun) for group in sessions.values()), key=lambda group: begun(group[0])):
+            last = None
+            for each in group:
+                gap = None
+                if last and each.begun is not None and last.ended is not None:
+                    gap = round((each.begun - last.ended) / 1000, 6)
+                ending = each.ending and {name: value for name, value in each.ending.items() if name != "waiting"}
+                yield {"connection": each.name, "session": each.session, "gap": gap, "begun": time(each.begun),
+                       "ended": time(each.ended), **self.connections[each].summary(), "backwards": each.backwards,
+                       "ending": ending}
+                last = each
+
+
+def begun(connection):
+    return float("inf") if connection.begun is None else connection.begun
+
+
+def time(moment):
+    return None if moment is None else zkr.clock(moment)
 
 
 def request(made):
     """What is told of a request that was never answered."""
-    path = made.path and listing.text(made.path)
-    told = {"n": made.n, "xid": made.xid and int(made.xid), "op": made.op, "path": path}
+    told = {"connection": made.connection.name, "n": made.n, "xid": made.xid and int(made.xid), "op": made.op,
+            "path": made.path}
     return {name: value for name, value in told.items() if value is not None}
-
-
-def table(found):
-    """The lines of the table for a person."""
-    yield f"{'operation':14}{'asked':>10}{'answered':>10}{'failed':>10}{'p50 ms':>10}{'p95 ms':>10}{'max ms':>10}"
-    for name, counts in found["operations"].items():
-        times = counts["ms"]
-        cells = "".join(f"{times[each]:>10.7g}" if times else f"{'-':>10}" for each in (*QUANTILES, "max"))
-        yield f"{name:14}{counts['asked']:>10}{counts['answered']:>10}{counts['failed']:>10}{cells}"
-    for name, counts in found["operations"].items():
-        for error, count in counts["errors"].items():
-            yield f"{'error':14}{count:>10}  {name} {error}"
-    for kind, count in found["events"].items():
-        yield f"{'event':14}{count:>10}  {kind}"
-    waiting = found["unanswered"]
-    yield f"{'unanswered':14}{len(waiting):>10}"
-    for made in waiting[:SHOWN]:
-        yield f"    line {made['n']}: {' '.join(str(made[name]) for name in ('xid', 'op', 'path') if name in made)}"
-    if len(waiting) > SHOWN:
-        yield f"    and {len(waiting) - SHOWN} more"
-    if found["ending"]:
-        word, *fields = found["ending"].items()
-        yield " ".join([".", word[1], *(f"{name}={value}" for name, value in fields)])
-    else:
-        yield "the listing has no ending line"
 
 
 def main():
     parser = zkr.Words(__doc__)
-    listing.add_words(parser)
+    conversations.add_words(parser)
+    selection.add_words(parser)
     parser.add_argument("--json", action="store_true", help="write one object of JSON, with every unanswered request")
     words = parser.parse_args()
-    found = summary(listing.conversation(parser, words, True, zkr.Progress("zkstat")))
+    sys.stdout.reconfigure(errors="backslashreplace")
+    found = Statistics(selection.Selection(words))
+    for talk in conversations.conversations(parser, words, True, zkr.Progress("zkstat")):
+        with talk.complaints():
+            found.read(talk)
     if words.json:
-        print(json.dumps(found))
+        print(json.dumps(found.summary()))
     else:
-        for line in table(found):
+        for line in tables.lines(found.summary()):
             print(line.rstrip())
     return 0
 

@@ -1,6 +1,7 @@
 """Tests of zkjson: what each line becomes, what is paired, and whose times a message has."""
 
 import json
+import pathlib
 import subprocess
 import sys
 
@@ -81,10 +82,12 @@ ENDINGS = {
 
 class Zkjson(ToolCase):
     def json_of(self, lines, *words):
-        """The objects that zkjson makes of these lines."""
+        """The objects that zkjson makes of these lines, without their connection, which is the same for all."""
         status, out, err = self.run_tool("zkjson.py", *words, stdin="".join(f"{line}\n" for line in lines).encode())
         self.assertEqual((status, err), (0, ""))
-        return [json.loads(line) for line in out.splitlines()]
+        found = [json.loads(line) for line in out.splitlines()]
+        self.assertEqual(len({made.pop("connection") for made in found}), 1)
+        return found
 
     def test_each_kind_of_line(self):
         found = self.json_of(LINES)
@@ -129,7 +132,8 @@ class Zkjson(ToolCase):
                            ("C 1 ping}", "column 9 on"), ("C 1 ping  x=1", "column 9 on"),
                            ('C 1 setACL path="/a" acl=[1:"a"]', "column 21 on"),
                            ('C 1 getData path="/a"watch=0', "column 12 on"),
-                           ('C 1 setData path="/a" blob=#6', "column 22 on"), (". whole x", "invalid literal")):
+                           ('C 1 setData path="/a" blob=#6', "column 22 on"), (". whole x", "this is no ending line"),
+                           ("C 1 nonsense", "column 13 on")):
             with self.subTest(line=line):
                 status, out, err = self.run_tool("zkjson.py", stdin=f"C -2 ping\n{line}\n".encode())
                 self.assertEqual((status, out.count("\n"), err.count("\n")), (1, 1, 1))
@@ -159,17 +163,31 @@ class Zkjson(ToolCase):
         tool.communicate()
 
     def test_every_capture(self):
+        listings = [capture.with_suffix(".show") for capture in CAPTURES]
+        status, out, err = self.run_tool("zkjson.py", *listings)
+        self.assertEqual((status, err), (0, ""))
+        found = {path: [] for path in listings}
+        for line in out.splitlines():
+            made = json.loads(line)
+            found[pathlib.Path(made.pop("connection"))].append(made)
+        for path, objects in found.items():
+            with self.subTest(capture=path.name):
+                lines = path.read_text(encoding="ascii").splitlines()
+                self.assertEqual(len(objects), len(lines))
+                waiting = set(range(1, len(lines))) - {made.get("of") for made in objects}
+                waiting = [n for n in sorted(waiting) if lines[n - 1].startswith("C")]
+                self.assertEqual(objects[-1]["waiting"], waiting)
+                self.assertEqual(objects[-1].get("unanswered", len(waiting)), len(waiting))
+
+    def test_the_times_of_every_capture(self):
         for capture in CAPTURES:
             with self.subTest(capture=capture.name):
-                lines = capture.with_suffix(".show").read_text(encoding="ascii").splitlines()
-                found = self.json_of([], capture.with_suffix(".show"))
-                self.assertEqual(len(found), len(lines))
-                waiting = set(range(1, len(lines))) - {made.get("of") for made in found}
-                waiting = [n for n in sorted(waiting) if lines[n - 1].startswith("C")]
-                self.assertEqual(found[-1]["waiting"], waiting)
-                self.assertEqual(found[-1].get("unanswered", len(waiting)), len(waiting))
-                self.assertEqual(self.json_of([], "--recording", self.with_times(capture),
-                                              capture.with_suffix(".show"))[-1], found[-1])
+                words = ["--recording", self.with_times(capture), capture.with_suffix(".show")]
+                status, out, err = self.run_tool("zkjson.py", *words)
+                self.assertEqual((status, err), (0, ""))
+                *messages, ending = map(json.loads, out.splitlines())
+                self.assertTrue(all("at" in made for made in messages))
+                self.assertIn("ending", ending)
 
     def with_times(self, capture):
         """A copy of a recording, beside which stand the times of its pieces."""
@@ -223,16 +241,46 @@ class Times(ToolCase):
                              ([1795332633518, 1795332633520, 1795332633532, 1795332633548], [None, 2, None, 16]))
             file.unlink()
         self.assert_bad_words("zkjson.py", "--recording", path)
-        beside.write_text(times[0], "ascii")
-        self.assertEqual(self.found("--recording", path), ([None] * 4, [None] * 4))
+
+    def test_times_of_another_recording(self):
+        path = self.recording(zkr.Head(), range(8))
+        for count in (0, 1, 7, 9):
+            (self.folder / "two.zkr.times").write_text("1000\n" * count, "ascii")
+            self.assertEqual(self.run_tool("zkjson.py", "--recording", path, stdin=self.LISTING.encode()),
+                             (1, "", f"zkjson.py: {path}.times has {count} times, and {path} 8 pieces\n"))
 
     def test_another_recording(self):
         path = self.recording(zkr.Head("zkr2"), range(8))
-        status, _, err = self.run_tool("zkjson.py", "--recording", path, stdin=b"C -2 ping\nC -2 ping\n")
-        self.assertEqual((status, err), (1, "zkjson.py: line 2: the recording has another message there\n"))
+        request, reply = self.LISTING.splitlines()[:2]
+        other = "the recording has another message there"
+        for lines, told in (
+                ([request, reply, reply], f"line 3: {other}"), ([request.replace("C 1", "C 2")], f"line 1: {other}"),
+                ([request, reply] * 3 + [". whole unanswered=0"], "the listing has 6 messages, and the recording 4"),
+                ([request, reply, ". whole unanswered=0"], "the listing has 2 messages, and the recording 4"),
+                ([request, reply] * 2 + [". cut side=S frame=2 got=1"], "the recording doesn't end as the listing does"),
+                ([request, reply] * 2 + [". recording offset=9 reason=Short"],
+                 "the recording doesn't end as the listing does"),
+                ([request, reply] * 2 + [". refused side=S frame=2 offset=9 place=0 reason=Short"],
+                 "the recording doesn't end as the listing does")):
+            with self.subTest(lines=lines):
+                status, _, err = self.run_tool("zkjson.py", "--recording", path, stdin="\n".join(lines).encode())
+                self.assertEqual((status, err), (1, f"zkjson.py: {told}\n"))
+
+    def test_a_recording_that_is_cut(self):
+        path = self.recording(zkr.Head("zkr2"), range(8))
+        path.write_bytes(path.read_bytes()[:-1])
+        lines = self.LISTING.rpartition("S 1")[0]
+        for ending, status in (("recording offset=182 reason=Short", 0), ("whole unanswered=1", 1),
+                               ("recording offset=181 reason=Short", 1), ("cut side=S frame=1 got=19", 1)):
+            found = self.run_tool("zkjson.py", "--recording", path, stdin=f"{lines}. {ending}\n".encode())
+            self.assertEqual(found[0], status, found)
+        self.assertEqual(self.run_tool("zkjson.py", "--recording", path, stdin=self.LISTING.encode())[::2],
+                         (1, "zkjson.py: the listing has 4 messages, and the recording 3\n"))
 
     def test_words(self):
-        for words in (["--nonsense"], ["a", "b"], ["--times", "a"]):
+        for words in (["--nonsense"], ["a", "b", "--recording", "c"], ["--times", "a"], ["a", "a"], ["--op", "none"],
+                      ["--slower", "-1"], ["--slower", "nan"], ["--from", "noon"], ["--session", "x"],
+                      ["--profile", "3.6"]):
             self.assert_bad_words("zkjson.py", *words)
         self.assertEqual(self.run_tool("zkjson.py", "/no/such/listing")[0], 3)
         self.assertEqual(self.run_tool("zkjson.py", "--help")[0], 0)

@@ -1,5 +1,6 @@
 """Tests of zkskip: what is left out, what stays, and what is told."""
 
+import stat
 import struct
 
 from support import CAPTURES, PROGRAM, ToolCase, pieces, sides, zkr
@@ -148,6 +149,31 @@ class Zkskip(ToolCase):
                 if requests and PROGRAM.exists():
                     self.assertEqual(self.show(found).splitlines()[-1], ". whole unanswered=0")
 
+    def test_files_by_their_names(self):
+        frames = [request(1, 19), request(2, 3), reply(1), reply(2, -101)]
+        for head in (zkr.Head(), zkr.Head("zkr2")):
+            source, target = self.folder / f"{head.form}.zkr", self.folder / f"{head.form}_plain.zkr"
+            source.write_bytes(recording(frames, head))
+            self.skip(b"", source, target)
+            self.assertEqual(target.read_bytes(), self.skip(source.read_bytes())[0])
+            self.assertFalse((self.folder / f"{target}.times").exists())
+            target.unlink()
+            (self.folder / f"{source}.times").write_text("".join(f"{at}.25{at}\n" for at in range(6)), "ascii")
+            self.skip(b"", source, target)
+            self.assertEqual(target.read_bytes(), self.skip(source.read_bytes())[0])
+            self.assertEqual((self.folder / f"{target}.times").read_text("ascii"), "0.250\n1.251\n3.253\n5.255\n")
+            self.assertEqual(stat.S_IMODE(target.stat().st_mode), 0o600)
+            status, out, err = self.run_tool("zkskip.py", source, target)
+            self.assertEqual((status, out, err), (3, "", f"zkskip.py: {target}: File exists\n"))
+
+    def test_times_of_another_recording(self):
+        source = self.folder / "a.zkr"
+        source.write_bytes(recording([request(1, 19)]))
+        (self.folder / "a.zkr.times").write_text("1\n2\n", "ascii")
+        status, out, err = self.run_tool("zkskip.py", source, self.folder / "b.zkr")
+        self.assertEqual((status, out, err), (1, "", f"zkskip.py: {source}.times has 2 times, and {source} 3 pieces\n"))
+        self.assertFalse((self.folder / "b.zkr").exists())
+
     def test_words(self):
-        for words in (["--nonsense"], ["file.zkr"], ["--profile", "3.6"], ["--profile"]):
+        for words in (["--nonsense"], ["file.zkr"], ["a", "b", "c"], ["--profile", "3.6"], ["--profile"]):
             self.assert_bad_words("zkskip.py", *words)

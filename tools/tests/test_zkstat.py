@@ -28,37 +28,59 @@ C 7 multi {}
 . cut side=S frame=8 got=3
 """
 
+NO_TIMES = {"timed": 0, "ms": None}
 COUNTED = {
     "operations": {
-        "exists": {"asked": 3, "answered": 3, "failed": 2, "errors": {"NONODE": 1, "-200": 1}, "ms": None},
-        "multi": {"asked": 3, "answered": 2, "failed": 1, "errors": {"BADVERSION": 1}, "ms": None},
-        "connect": {"asked": 1, "answered": 1, "failed": 0, "errors": {}, "ms": None},
-        "getData": {"asked": 1, "answered": 0, "failed": 0, "errors": {}, "ms": None},
-        "ping": {"asked": 1, "answered": 0, "failed": 0, "errors": {}, "ms": None},
+        "exists": {"asked": 3, "answered": 3, "failed": 2, "errors": {"NONODE": 1, "-200": 1}, **NO_TIMES},
+        "multi": {"asked": 3, "answered": 2, "failed": 1, "errors": {"BADVERSION": 1}, **NO_TIMES},
+        "connect": {"asked": 1, "answered": 1, "failed": 0, "errors": {}, **NO_TIMES},
+        "getData": {"asked": 1, "answered": 0, "failed": 0, "errors": {}, **NO_TIMES},
+        "ping": {"asked": 1, "answered": 0, "failed": 0, "errors": {}, **NO_TIMES},
     },
     "events": {"NodeDataChanged": 2, "9": 1},
-    "unanswered": [{"n": 16, "xid": 6, "op": "getData", "path": "/é"}, {"n": 17, "xid": -2, "op": "ping"},
-                   {"n": 18, "xid": 7, "op": "multi"}],
-    "ending": {"ending": "cut", "side": "S", "frame": 8, "got": 3},
+    "connections": [{"connection": "-", "session": "0x100000000000001", "gap": None, "begun": None, "ended": None,
+                     "asked": 9, "answered": 6, "failed": 3, **NO_TIMES, "backwards": 0,
+                     "ending": {"ending": "cut", "side": "S", "frame": 8, "got": 3}}],
+    "unanswered": [{"connection": "-", "n": 16, "xid": 6, "op": "getData", "path": r'"/\c3\a9"'},
+                   {"connection": "-", "n": 17, "xid": -2, "op": "ping"},
+                   {"connection": "-", "n": 18, "xid": 7, "op": "multi"}],
+    "slowest": [],
 }
 
-TABLE = """operation          asked  answered    failed    p50 ms    p95 ms    max ms
-exists                 3         3         2         -         -         -
-multi                  3         2         1         -         -         -
-connect                1         1         0         -         -         -
-getData                1         0         0         -         -         -
-ping                   1         0         0         -         -         -
-error                  1  exists NONODE
-error                  1  exists -200
-error                  1  multi BADVERSION
-event                  2  NodeDataChanged
-event                  1  9
-unanswered             3
-    line 16: 6 getData /é
+TABLE = r"""operation  asked  answered  failed  p50 ms  p95 ms  p99 ms  max ms
+exists         3         3       2       -       -       -       -
+multi          3         2       1       -       -       -       -
+connect        1         1       0       -       -       -       -
+getData        1         0       0       -       -       -       -
+ping           1         0       0       -       -       -       -
+       1 errors: exists NONODE
+       1 errors: exists -200
+       1 errors: multi BADVERSION
+       2 events: NodeDataChanged
+       1 events: 9
+       0 of 6 replies timed
+       3 requests unanswered
+    line 16: 6 getData "/\c3\a9"
     line 17: -2 ping
     line 18: 7 multi
-. cut side=S frame=8 got=3
+
+connection  session            begun  ended  asked  answered  failed  p50 ms  p95 ms  p99 ms  max ms  ending
+-           0x100000000000001  -      -          9         6       3       -       -       -       -  cut side=S frame=8 got=3
 """
+
+# Times of day in milliseconds since 1970, and the frames that came then: of two connections of a session, each a connect
+# request and response, a request, and in the first the reply to it.
+SESSION = "0x100000000000001"
+BEGUN = 1_795_332_633_000
+CONNECT = bytes.fromhex("00000000 0000000000000000 00007530 0000000000000000 00000000")
+CONNECTED = bytes.fromhex("00000000 00007530 0100000000000001 00000000")
+EXISTS = struct.pack(">iii2s?", 1, 3, 2, b"/a", False)
+NO_NODE = struct.pack(">iqi", 1, 5, -101)
+FRAMES = {"first": [(0, b"C", CONNECT), (4.5, b"S", CONNECTED), (1000, b"C", EXISTS), (1001.25, b"S", NO_NODE)],
+          "second": [(5000, b"C", CONNECT), (5002, b"S", CONNECTED), (5010, b"C", EXISTS)]}
+LINES = ["C connect version=0 zxid=0 timeout=30000 session=0 passwd=# ro=-",
+         "S connect version=0 timeout=30000 session=72057594037927937 passwd=# ro=-",
+         'C 1 exists path="/a" watch=0', "S 1 exists zxid=5 err=-101/NONODE"]
 
 
 class Zkstat(ToolCase):
@@ -76,55 +98,160 @@ class Zkstat(ToolCase):
         self.assertEqual(self.stat(stdin=out.encode()), TABLE)
 
     def test_what_is_no_object_of_zkjson(self):
-        for line, told in (('{"side": "C"}', "this object has no 'op'"),
-                           ('{"op": "ping"}', "this object has no 'side'"), ("{", "")):
-            status, out, err = self.run_tool("zkstat.py", stdin=f"C -2 ping\n{line}\n".encode())
-            self.assertEqual((status, out, err.count("\n")), (1, "", 1))
-            self.assertTrue(err.startswith(f"zkstat.py: line 2: {told}"), err)
+        ping = {"n": 2, "side": "C", "op": "ping", "xid": -2}
+        many = [("{", "this is no JSON from column 2 on"), ('{"a":' + "[" * 100_000, "this is nested too deep"),
+                ('{"n": NaN}', "NaN is no number of JSON"), ("[]", "this is no object of zkjson"),
+                ('{"n": 2, "side": "C"}', "this object has no 'op'"), ('{"op": "ping"}', "this object has no 'n'"),
+                ('{"n": 2, "op": "ping"}', "this object has no 'side'"), ('{"ending": "x"}', "this is no ending of zkjson"),
+                ('{"ending": "whole", "unanswered": "\\u001b"}', "this is no ending of zkjson"), ("C -2 ping", "this is no JSON")]
+        many += [(json.dumps({**ping, **wrong}), "this is no object of zkjson") for wrong in (
+            {"op": []}, {"op": "\x1b"}, {"op": "multi", "side": "S", "parts": 3}, {"op": "multi", "side": "S", "parts": [3]},
+            {"ms": -5}, {"at": "x"}, {"ms": 10**400}, {"n": True}, {"n": "2"}, {"connection": 3}, {"path": 3},
+            {"xid": "1"}, {"err": "x", "side": "S"}, {"err": 1, "errName": "a b"}, {"side": "X"},
+            {"op": "connect", "session": 1}, {"op": "connect", "session": "0xx"})]
+        many += [(json.dumps({**ping, "side": "S"}), "this object has no 'of'"), (json.dumps({**ping, "n": 1}), "message 1 of")]
+        for line, told in many:
+            with self.subTest(line=line[:60]):
+                status, out, err = self.run_tool("zkstat.py", stdin=f'{{"n": 1, "side": "C", "op": "ping"}}\n{line}\n'.encode())
+                self.assertEqual((status, out, err.count("\n")), (1, "", 1), err)
+                self.assertTrue(err.startswith(f"zkstat.py: line 2: {told}"), err)
 
     def test_many_unanswered_and_no_ending_line(self):
         listing = "".join(f'C {n} getData path="/a" watch=0\n' for n in range(1, 13)).encode()
-        self.assertEqual(self.stat(stdin=listing).splitlines()[2:], [
-            "unanswered            12", *(f"    line {n}: {n} getData /a" for n in range(1, 11)), "    and 2 more",
-            "the listing has no ending line"])
+        found = self.stat(stdin=listing).splitlines()
+        self.assertEqual(found[3:15], ["      12 requests unanswered",
+                                       *(f'    line {n}: {n} getData "/a"' for n in range(1, 11)), "    and 2 more"])
+        self.assertEqual(found[-1].split()[-3:], ["no", "ending", "line"])
+
+    def test_no_character_that_a_terminal_obeys(self):
+        forged = r'C 1 exists path="/a\1b]0;owned\07\1b[2J\0aunanswered             0\0a. whole unanswered=0" watch=1'
+        found = self.stat(stdin=forged.encode())
+        self.assertIn(forged[16:-8], found)
+        self.assertTrue(all(line.isprintable() for line in found.splitlines()), found)
+        _, objects, _ = self.run_tool("zkjson.py", stdin=forged.encode())
+        self.assertEqual(self.stat(stdin=objects.encode()), found)
+        for raw in ('C 1 exists path="/\x1b[2J" watch=1', 'C 1 exists path="/\u202e" watch=1', 'C 1 exists path="/\xff" watch=1',
+                    "C 1 exists\x1b[2J", ". whole\x1b[2J=1", ". whole unanswered=\x1b[2J", "\x1b[2J", ". Whole unanswered=0"):
+            status, out, err = self.run_tool("zkstat.py", stdin=raw.encode())
+            self.assertEqual((status, out, err.count("\n")), (1, "", 1), raw)
+            self.assertTrue(err[:-1].isprintable(), err)
+        objects = json.dumps({"connection": "a\n\x1b[2J", "n": 1, "side": "C", "op": "ping"})
+        self.assertTrue(all(line.isprintable() for line in self.stat(stdin=objects.encode()).splitlines()))
+
+    def recordings(self):
+        """The two recordings of a session, each with a file of times, and their listings."""
+        for number, (name, frames) in enumerate(FRAMES.items()):
+            path = self.folder / f"{name}.zkr"
+            path.write_bytes(b"ZKR1" + b"".join(
+                zkr.Head().piece(side, 0, len(payload).to_bytes(4, "big") + payload) for _, side, payload in frames))
+            zkr_times = "".join(f"{BEGUN + at:.3f}\n" for at, *_ in frames)
+            (self.folder / f"{name}.zkr.times").write_text(zkr_times, "ascii")
+            lines = [*LINES[:len(frames)], f". whole unanswered={number}"]
+            (self.folder / f"{name}.show").write_text("".join(f"{line}\n" for line in lines), "ascii")
+
+    def joined(self, *words):
+        """What zkjson makes of both."""
+        found = [self.run_tool("zkjson.py", "--recording", self.folder / f"{name}.zkr", *words,
+                               self.folder / f"{name}.show") for name in ("second", "first")]
+        self.assertEqual([each[0] for each in found], [0, 0], found)
+        return "".join(each[1] for each in found).replace(f"{self.folder}/", "").encode()
+
+    def test_connections_of_one_session_stand_together(self):
+        self.recordings()
+        wide, counts = "{:10}  {:17}  {:24}  {:24}", "asked  answered  failed  p50 ms  p95 ms  p99 ms  max ms"
+        self.assertEqual(self.stat(stdin=self.joined()).splitlines(), [
+            f"operation  {counts}",
+            "connect        2         2       0       2     4.5     4.5     4.5",
+            "exists         2         1       1    1.25    1.25    1.25    1.25",
+            "       1 errors: exists NONODE",
+            "       3 of 3 replies timed",
+            "       1 requests unanswered",
+            '    second.zkr line 3: 1 exists "/a"',
+            "",
+            wide.format("connection", "session", "begun", "ended") + f"  {counts}  ending",
+            wide.format("first.zkr", SESSION, "2026-11-22T07:30:33.000Z", "2026-11-22T07:30:34.001Z")
+            + "      2         2       1    1.25     4.5     4.5     4.5  whole unanswered=0",
+            "    the same session, 3.99875 s later",
+            wide.format("second.zkr", SESSION, "2026-11-22T07:30:38.000Z", "2026-11-22T07:30:38.010Z")
+            + "      2         1       0       2       2       2       2  whole unanswered=1",
+            "",
+            "slowest: asked at           ms  connection  line  operation  error   zxid  path",
+            "2026-11-22T07:30:33.000Z   4.5  first.zkr      1  connect    -       -     -",
+            "2026-11-22T07:30:38.000Z     2  second.zkr     1  connect    -       -     -",
+            '2026-11-22T07:30:34.000Z  1.25  first.zkr      3  exists     NONODE  0x5   "/a"',
+        ])
+
+    def test_recordings_by_their_names(self):
+        self.recordings()
+        program = self.folder / "zkdump"
+        program.write_text("#!/bin/sh\ntest \"$*\" = 'show --profile 3.5' || exit 2\n"
+                           f"if [ $(wc -c) -gt 100 ]; then cat {self.folder}/first.show; exit 0; fi\n"
+                           f"cat {self.folder}/second.show; exit 1\n")
+        program.chmod(0o700)
+        names = [self.folder / f"{name}.zkr" for name in FRAMES]
+        words = ["--zkdump", program, "--profile", "3.5"]
+        found = self.stat(*words, *names).replace(f"{self.folder}/", "")
+        self.assertEqual(sorted(" ".join(line.split()) for line in found.splitlines()),
+                         sorted(" ".join(line.split()) for line in self.stat(stdin=self.joined()).splitlines()))
+        for wrong, told in ((["--zkdump", program], "has ended with status 2"),):
+            status, out, err = self.run_tool("zkstat.py", *wrong, names[0])
+            self.assertEqual((status, out, err), (3, "", f"zkstat.py: {program} {told}\n"))
+        self.assert_bad_words("zkstat.py", "--zkdump", "/no/such/program", names[0])
+
+    def test_what_is_chosen(self):
+        self.recordings()
+        joined = self.joined()
+        for words, asked in ((["--path", "/a"], {"exists": 2}), (["--path", "/"], {"exists": 2}), (["--path", "/b"], {}),
+                             (["--path", "/a/"], {"exists": 2}), (["--op", "connect"], {"connect": 2}),
+                             (["--op", "connect", "--op", "exists"], {"connect": 2, "exists": 2}),
+                             (["--slower", "1.25"], {"connect": 2}), (["--slower", "1.249"], {"connect": 2, "exists": 1}),
+                             (["--session", SESSION], {"connect": 2, "exists": 2}),
+                             (["--session", "72057594037927937"], {"connect": 2, "exists": 2}), (["--session", "1"], {}),
+                             (["--from", "2026-11-22T07:30:34Z"], {"connect": 1, "exists": 2}),
+                             (["--to", "2026-11-22T07:30:33.000Z"], {"connect": 1}),
+                             (["--from", "2026-11-22T08:30:33.001+01:00", "--to", str(BEGUN + 5000)],
+                              {"connect": 1, "exists": 1})):
+            with self.subTest(words=words):
+                found = json.loads(self.stat("--json", *words, stdin=joined))
+                self.assertEqual({name: each["asked"] for name, each in found["operations"].items()}, asked)
+                chosen = json.loads(self.stat("--json", stdin=self.joined(*words)))
+                for each in ("operations", "events", "unanswered", "slowest"):
+                    self.assertEqual(chosen[each], found[each])
+
+    def test_the_paths_of_a_multi(self):
+        lines = 'C 1 multi {check path="/x path=~ y" version=1;delete path="/b/c" version=1}\nC 2 exists path="/bc" watch=1\n'
+        for path, count in (("/b", 1), ("/b/c", 1), ("/x path=~ y", 1), ("/x", 0), ("/bc", 1), ("/", 2)):
+            found = json.loads(self.stat("--json", "--path", path, stdin=lines.encode()))
+            self.assertEqual(sum(each["asked"] for each in found["operations"].values()), count, path)
 
     def test_latencies(self):
         head = zkr.Head("zkr2")
-        payloads = [(at, b"C", struct.pack(">iii?", n, 3, -1, False)) for n, at in ((1, 1000), (2, 1001), (3, 1010))]
-        payloads += [(at, b"S", struct.pack(">iqi", n, 5, -101)) for n, at in ((1, 1003), (2, 1005), (3, 3345))]
-        recording = self.folder / "three.zkr"
+        payloads = [(at, b"C", struct.pack(">iii?", n, 3, -1, False)) for n, at in ((1, 1000), (2, 1001), (3, 1010), (4, 1020))]
+        payloads += [(at, b"S", struct.pack(">iqi", n, 5, -101)) for n, at in ((1, 1003), (2, 1005), (3, 3345), (4, 1010))]
+        recording = self.folder / "four.zkr"
         recording.write_bytes(head.to_bytes() + b"".join(
             head.piece(side, at, len(payload).to_bytes(4, "big") + payload) for at, side, payload in payloads))
-        listing = "".join(f"C {n} exists path=~ watch=0\n" for n in (1, 2, 3))
-        listing += "".join(f"S {n} exists zxid=5 err=-101/NONODE\n" for n in (1, 2, 3))
-        found = self.stat("--json", "--recording", recording, stdin=listing.encode())
-        self.assertEqual(json.loads(found)["operations"]["exists"]["ms"], {"p50": 4.0, "p95": 2335, "max": 2335})
-        self.assertEqual(self.stat("--recording", recording, stdin=listing.encode()).splitlines()[1],
-                         "exists                 3         3         3         4      2335      2335")
-
-    def test_quantiles_are_exact_to_three_digits_and_few_are_counted(self):
-        latencies = zkstat.Latencies()
-        for n in range(1, 100_001):
-            latencies.add(n / 7)
-        for name, rank in (("p50", 50_000), ("p95", 95_000)):
-            self.assertEqual(latencies.summary()[name], float(f"{rank / 7:.3g}"))
-        self.assertEqual(latencies.summary()["max"], 100_000 / 7)
-        self.assertLess(len(latencies.counts), 5_000)
-        self.assertIsNone(zkstat.Latencies().summary())
+        listing = "".join(f"C {n} exists path=~ watch=0\n" for n in (1, 2, 3, 4))
+        listing += "".join(f"S {n} exists zxid=5 err=-101/NONODE\n" for n in (1, 2, 3, 4))
+        found = self.stat("--recording", recording, stdin=listing.encode()).splitlines()
+        self.assertEqual(found[1:5], ["exists         4         4       4   4.001    2335    2335    2335",
+                                      "       4 errors: exists NONODE", "       3 of 4 replies timed",
+                                      "       1 replies have a time before that of their request"])
 
     def test_every_capture(self):
-        for capture in CAPTURES:
-            listing = capture.with_suffix(".show").read_text(encoding="ascii").splitlines()
-            found = json.loads(self.stat("--json", capture.with_suffix(".show")))
-            with self.subTest(capture=capture.name):
-                counts = found["operations"].values()
-                self.assertEqual(sum(each["asked"] for each in counts), sum(line[0] == "C" for line in listing))
-                self.assertEqual(sum(each["answered"] for each in counts) + sum(found["events"].values()),
-                                 sum(line[0] == "S" for line in listing))
-                self.assertEqual(found["ending"].get("unanswered", len(found["unanswered"])), len(found["unanswered"]))
+        listings = [capture.with_suffix(".show") for capture in CAPTURES]
+        found = {each["connection"]: each for each in json.loads(self.stat("--json", *listings))["connections"]}
+        for path in listings:
+            with self.subTest(capture=path.name):
+                lines, each = path.read_text(encoding="ascii").splitlines(), found[str(path)]
+                self.assertEqual(each["asked"], sum(line[0] == "C" for line in lines))
+                self.assertEqual(each["answered"], sum(line[0] == "S" and line[:7] != "S event" for line in lines))
+                self.assertEqual(each["ending"].get("unanswered", each["asked"] - each["answered"]),
+                                 each["asked"] - each["answered"])
 
     def test_words(self):
-        for words in (["--nonsense"], ["a", "b"], ["--times", "a"]):
+        for words in (["--nonsense"], ["a", "b", "--recording", "c"], ["--times", "a"], ["a", "a"]):
             self.assert_bad_words("zkstat.py", *words)
         self.assertEqual(self.run_tool("zkstat.py", stdin=b"nonsense\n")[::2],
                          (1, "zkstat.py: line 1: this is no line of a listing from column 1 on\n"))
+        self.assertEqual(self.run_tool("zkstat.py"), (1, "", "zkstat.py: the listing is empty\n"))

@@ -1,0 +1,80 @@
+"""Opens what a tool is to read: listings, recordings, and lines that zkjson has made, with the times of messages."""
+
+import itertools
+import pathlib
+import shutil
+import subprocess
+
+import joined
+import listing
+import zkr
+from times import times_of
+
+BUILT = pathlib.Path(__file__).resolve().parent.parent / "crates" / "zkdump" / "out" / "zkdump"
+
+
+def add_words(parser):
+    """Adds the words that say what is read."""
+    parser.add_argument("inputs", metavar="FILE", nargs="*", help="listings and recordings; else a listing on standard "
+                        "input. Those of recordings are made by zkdump show")
+    parser.add_argument("--recording", metavar="FILE", help="the recording that the listing is of, for its times")
+    parser.add_argument("--times", metavar="FILE", help="the times of its pieces (RECORDING.times)")
+    parser.add_argument("--profile", choices=zkr.PROFILES, help="the release that zkdump judges recordings by (3.4)")
+    parser.add_argument("--zkdump", metavar="PATH", default=str(BUILT) if BUILT.exists() else "zkdump",
+                        help="the program (that of this repository, where it is built)")
+
+
+def conversations(parser, words, objects, progress, before_read=lambda: None):
+    """The conversations that these words name, each a Listing, or a Joined where `objects` says that these may come.
+    Before each read `before_read` is called; `progress` is told how far it is."""
+    if words.recording and len(words.inputs) > 1:
+        parser.error("--recording goes with one listing")
+    if words.times and not words.recording and len(words.inputs) != 1:
+        parser.error("--times goes with one recording")
+    if len(set(words.inputs)) < len(words.inputs):
+        parser.error("a file is named twice")
+    for path in words.inputs or [listing.STANDARD_INPUT]:
+        try:
+            with zkr.standard_input() if path == listing.STANDARD_INPUT else open(path, "rb") as stream:
+                talk = conversation(parser, words, path, stream, objects, progress, before_read)
+                talk.file = path
+                yield talk
+        except zkr.Damaged as damage:
+            raise ValueError(f"{words.recording or path}: {damage}") from None
+
+
+def conversation(parser, words, path, stream, objects, progress, before_read):
+    """The conversation of one input."""
+    times, name = None, words.recording or path
+    if stream.peek(4)[:4] in (b"ZKR1", b"ZKR2"):
+        if path == listing.STANDARD_INPUT or words.recording:
+            parser.error("a recording is read by its name alone, and without --recording")
+        lines, times = lines_of_show(parser, words, path, before_read), times_of(parser, path, words.times, False)
+    else:
+        if words.recording:
+            times = times_of(parser, words.recording, words.times, True)
+        elif words.times:
+            parser.error("--times goes with a recording")
+        lines = listing.lines_of(stream, before_read)
+        if objects:
+            first = next(lines, "")
+            lines = itertools.chain([first], lines) if first else lines
+            if first.startswith("{"):
+                return joined.Joined(name, lines, progress)
+    return listing.Listing(name, lines, times, progress)
+
+
+def lines_of_show(parser, words, path, before_read):
+    """The lines of a recording."""
+    if not shutil.which(words.zkdump):
+        parser.error(f"there is no program {words.zkdump}: --zkdump PATH names it")
+    profile = ["--profile", words.profile] if words.profile else []
+    with open(path, "rb") as recording:
+        show = subprocess.Popen([words.zkdump, "show", *profile], stdin=recording, stdout=subprocess.PIPE)
+    try:
+        yield from listing.lines_of(show.stdout, before_read)
+    finally:
+        show.stdout.close()
+        status = show.wait()
+    if status not in (0, 1):
+        raise OSError(f"{words.zkdump} has ended with status {status}")

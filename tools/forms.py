@@ -1,0 +1,255 @@
+"""The forms of a listing's lines (docs/FORMATS.md, section 9), and the JSON that zkjson makes of them.
+
+A form is a row of fields, each with a name and a kind. A short line is matched as a whole. A long one is gone through
+step by step and becomes pieces of JSON, none of them long, so that it takes no more memory than the line; and so is a
+line that doesn't match, to find the place.
+"""
+
+import codecs
+import functools
+import json
+import re
+
+import listing
+from listing import BLOCK, NUMBER, TEXT
+
+READABLE, ASCII = json.JSONEncoder(ensure_ascii=False).encode, json.JSONEncoder().encode
+BLANKS = {9: " ", 10: " ", 13: " "}
+STAT = ("czxid", "mzxid", "ctime", "mtime", "version", "cversion", "aversion", "ephemeralOwner", "dataLength",
+        "numChildren", "pzxid")
+STAT_FORM = "{" + ", ".join(f'"{name}": %s' for name in STAT) + "}"
+USUAL = 64      # lists that are no longer are often the same again
+BITS = {"0": "false", "1": "true", "-": "null"}
+
+
+class NoField(ValueError):
+    """What is no field, or stands where none does; `at` is its place."""
+
+    def __init__(self, at):
+        super().__init__(at)
+        self.at = at
+
+
+def readable(value):
+    """A text as JSON, with no character that a terminal would obey."""
+    return (READABLE if value.isprintable() else ASCII)(value)
+
+
+def text(spelled):
+    """A text of a line as JSON: the same, where it has no escape."""
+    if "\\" in spelled:
+        return readable(listing.text(spelled))
+    return "null" if spelled == "~" else spelled
+
+
+def pieces_of_text(line, at, end):
+    """The text that stands in the line from one place to the other, as pieces of JSON."""
+    if line[at] == "~":
+        yield "null"
+        return
+    yield '"'
+    for part in listing.parts_of_text(line, at, end):
+        yield readable(part)[1:-1]
+    yield '"'
+
+
+def data(spelled, secret=False):
+    """Bytes of a line as JSON: as a text where they are UTF-8 that can be printed, else in hexadecimal."""
+    if spelled == "~":
+        return "null"
+    found = bytes.fromhex(spelled[1:])
+    try:
+        value = None if secret else found.decode()
+    except UnicodeDecodeError:
+        value = None
+    if value is None or not printable(value):
+        return f'{{"hex": "{spelled[1:]}"}}'
+    return READABLE(value)
+
+
+def printable(value):
+    return value.isprintable() or value.translate(BLANKS).isprintable()
+
+
+def parts_of_data(line, at, end):
+    """The text that stands in the line as hexadecimal digits, in parts; a ValueError where it can't be printed."""
+    decoder = codecs.getincrementaldecoder("utf-8")()
+    for begin in range(at, end, BLOCK):
+        part = decoder.decode(bytes.fromhex(line[begin:min(begin + BLOCK, end)]), begin + BLOCK >= end)
+        if not printable(part):
+            raise ValueError("this can't be printed")
+        yield part
+
+
+def pieces_of_data(line, at, end, secret=False):
+    """Bytes that stand in the line, as pieces of JSON."""
+    if line[at] == "~":
+        yield "null"
+        return
+    if (end - at) % 2 == 0:
+        raise NoField(at)
+    try:
+        for _ in parts_of_data(line, at + 1, end):
+            pass
+    except ValueError:
+        secret = True
+    yield '{"hex": "' if secret else '"'
+    if secret:
+        yield from (line[begin:min(begin + BLOCK, end)] for begin in range(at + 1, end, BLOCK))
+    else:
+        yield from (READABLE(part)[1:-1] for part in parts_of_data(line, at + 1, end))
+    yield '"}' if secret else '"'
+
+
+@functools.lru_cache(4096)
+def hexadecimal(digits):
+    """A session or a zxid as ZooKeeper's logs print it."""
+    return f'"{listing.hexadecimal(int(digits))}"'
+
+
+def stat(spelled):
+    """A Stat: its numbers under their names."""
+    czxid, mzxid, ctime, mtime, version, cversion, aversion, owner, length, children, pzxid = spelled[1:-1].split(",")
+    return STAT_FORM % (hexadecimal(czxid), hexadecimal(mzxid), ctime, mtime, version, cversion, aversion,
+                        hexadecimal(owner), length, children, hexadecimal(pzxid))
+
+
+def code(field):
+    """A number, and under a name of its own the name that it has."""
+    def json_of(spelled):
+        number, _, name = spelled.partition("/")
+        return f'{number}, "{field}Name": "{name}"' if name else number
+    return json_of
+
+
+def acl(found):
+    return f'{{"perms": {found[1]}, "scheme": {text(found[2])}, "id": {text(found[3])}}}'
+
+
+class Kind:
+    """A kind of value: its pattern, what makes JSON of a short one, and, where one may be long, of any in pieces."""
+
+    def __init__(self, pattern, json_of, pieces=None):
+        self.pattern, self.match, self.json, self.found = pattern, re.compile(pattern, re.ASCII).match, json_of, pieces
+
+    def pieces(self, line, at):
+        """The value that stands in the line, as pieces of JSON; gives the place behind it."""
+        found = self.match(line, at)
+        if not found:
+            raise NoField(at)
+        if self.found:
+            yield from self.found(line, at, found.end())
+        else:
+            yield self.json(found[0])
+        return found.end()
+
+
+class List:
+    """A list of values: `plain` matches those which JSON spells as the line does, and `element` one value."""
+
+    pattern = r'(?:~|\[[^"\]]*(?:"[ !#-~]*"[^"\]]*)*\])'
+
+    def __init__(self, element, json_of, plain):
+        self.element, self.json_of, self.plain = re.compile(element, re.ASCII), json_of, re.compile(plain, re.ASCII)
+
+    def json(self, spelled):
+        if self.plain.fullmatch(spelled):
+            return spelled
+        return self.usual(spelled) if len(spelled) <= USUAL else "".join(self.pieces(spelled, 0))
+
+    @functools.lru_cache(1024)
+    def usual(self, spelled):
+        return "".join(self.pieces(spelled, 0))
+
+    def pieces(self, line, at):
+        """The list that stands in the line, as pieces of JSON; gives the place behind it."""
+        if line.startswith("~", at):
+            yield "null"
+            return at + 1
+        if line.startswith("[]", at):
+            yield "[]"
+            return at + 2
+        sign = "["
+        while line.startswith("[" if sign == "[" else ",", at):
+            found = self.element.match(line, at + 1)
+            if not found:
+                break
+            yield sign + self.json_of(found)
+            at, sign = found.end(), ", "
+        if sign == "[" or not line.startswith("]", at):
+            raise NoField(at)
+        yield "]"
+        return at + 1
+
+
+DATA = "(?:~|#[0-9a-f]*)"
+KINDS = {
+    "number": Kind(NUMBER, str), "hexadecimal": Kind(NUMBER, hexadecimal), "bit": Kind("[01]", BITS.get),
+    "readonly": Kind("[01-]", BITS.get), "stat": Kind(rf"\({NUMBER}(?:,{NUMBER}){{10}}\)", stat),
+    "err": Kind(rf"{NUMBER}(?:/[A-Za-z]+)?", code("err")), "kind": Kind(rf"{NUMBER}(?:/[A-Za-z]+)?", code("kind")),
+    "text": Kind(TEXT, text, pieces_of_text), "data": Kind(DATA, data, pieces_of_data),
+    "secret": Kind(DATA, functools.partial(data, secret=True), functools.partial(pieces_of_data, secret=True)),
+    "texts": List(TEXT, lambda found: text(found[0]), r'\[(?:"[ !#-\[\]-~]*"(?:,"[ !#-\[\]-~]*")*)?\]'),
+    "acls": List(rf"({NUMBER}):({TEXT}):({TEXT})", acl, r"\[\]"),
+}
+
+
+class Form:
+    """A row of fields; `fields` has of each NAME:KIND."""
+
+    def __init__(self, fields=""):
+        self.fields = [(f" {name}=", f', "{name}": ', KINDS[kind])
+                       for name, kind in (field.split(":") for field in fields.split())]
+        pattern = "".join(f"{before}({kind.pattern})" for before, _, kind in self.fields)
+        self.match = re.compile(pattern, re.ASCII).match
+        self.form = "".join(f"{name}%s" for _, name, _ in self.fields)
+        self.made = [(number, kind.json) for number, (*_, kind) in enumerate(self.fields) if kind is not KINDS["number"]]
+
+    def json(self, line, at):
+        """The fields that stand in the line, as JSON, and the place behind them; a ValueError where they don't."""
+        found = self.match(line, at)
+        if not found:
+            raise NoField(at)
+        values = list(found.groups())
+        for number, json_of in self.made:
+            values[number] = json_of(values[number])
+        return self.form % tuple(values), found.end()
+
+    def pieces(self, line, at):
+        """The fields that stand in the line, as pieces of JSON; gives the place behind them."""
+        for before, name, kind in self.fields:
+            try:
+                if not line.startswith(before, at):
+                    raise NoField(at)
+                yield name
+                at = yield from kind.pieces(line, at + len(before))
+            except ValueError:
+                raise NoField(at) from None
+        return at
+
+
+# What an operation asks, and what the reply to it tells behind its zxid; a multi has parts, and results.
+WATCH, VERSION = "path:text watch:bit", "path:text version:number"
+ASKS = {
+    "connect": "version:number zxid:hexadecimal timeout:number session:hexadecimal passwd:secret ro:readonly",
+    "create": "path:text blob:data acl:acls flags:number", "create2": "path:text blob:data acl:acls flags:number",
+    "delete": VERSION, "exists": WATCH, "getData": WATCH, "setData": "path:text blob:data version:number",
+    "getACL": "path:text", "setACL": "path:text acl:acls version:number", "getChildren": WATCH, "getChildren2": WATCH,
+    "sync": "path:text", "ping": "", "auth": "kind:number scheme:text auth:data",
+    "setWatches": "zxid:hexadecimal dataWatches:texts existWatches:texts childWatches:texts", "closeSession": "",
+    "multi": "",
+}
+TELLS = {
+    "create": "path:text", "create2": "path:text stat:stat", "delete": "", "exists": "stat:stat",
+    "getData": "blob:data stat:stat", "setData": "stat:stat", "getACL": "acl:acls stat:stat", "setACL": "stat:stat",
+    "getChildren": "names:texts", "getChildren2": "names:texts stat:stat", "sync": "path:text", "ping": "", "auth": "",
+    "setWatches": "", "closeSession": "", "multi": "",
+}
+REQUESTS = {name: Form(fields) for name, fields in ASKS.items()}
+REPLIES = {name: Form("zxid:hexadecimal " + fields) for name, fields in TELLS.items()}
+REPLIES["connect"] = Form("version:number timeout:number session:hexadecimal passwd:secret ro:readonly")
+REPLIES[listing.EVENT] = Form("zxid:hexadecimal kind:kind state:number path:text")
+FAILED = Form("zxid:hexadecimal err:err")
+PARTS = {**{name: REQUESTS[name] for name in ("create", "delete", "setData")}, "check": Form(VERSION)}
+RESULTS = {"create": Form("path:text"), "delete": Form(), "setData": Form("stat:stat"), "check": Form(),
+           "fail": Form("err:err")}

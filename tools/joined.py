@@ -1,0 +1,199 @@
+"""Reads the lines that zkjson makes: messages of one connection or of several, in any order of the connections."""
+
+import json
+import math
+import re
+
+import listing
+
+WORD = re.compile(r"[A-Za-z0-9-]+", re.ASCII)
+SESSION = re.compile("0x[0-9a-f]{1,16}", re.ASCII)
+MOST = 1 << 64
+NEEDED = object()
+
+
+def no_constant(name):
+    raise ValueError(f"{name} is no number of JSON")
+
+
+DECODER = json.JSONDecoder(parse_constant=no_constant)
+
+
+def object_of(line):
+    """The object of a line."""
+    try:
+        made, end = DECODER.raw_decode(line)
+    except json.JSONDecodeError as error:
+        raise ValueError(f"this is no JSON from column {error.colno} on") from None
+    except RecursionError:
+        raise ValueError("this is nested too deep") from None
+    if not isinstance(made, dict) or line[end:].strip():
+        raise ValueError("this is no object of zkjson")
+    return made
+
+
+def value(made, name, kinds, otherwise=NEEDED):
+    """The value that an object has under this name, which has to be of one of these kinds."""
+    found = made.get(name, otherwise)
+    if found is NEEDED:
+        raise ValueError(f"this object has no {name!r}")
+    if found is not otherwise and (type(found) not in kinds or str not in kinds and not -MOST < found < MOST):
+        raise ValueError(f"this is no object of zkjson: its {name!r}")
+    return found
+
+
+def word(made, name, otherwise=NEEDED):
+    found = value(made, name, (str,), otherwise)
+    if found is not otherwise and not WORD.fullmatch(found):
+        raise ValueError(f"this is no object of zkjson: its {name!r}")
+    return found
+
+
+def error_of(made, number="err"):
+    """The name of the error that an object has, or its number; None where it has none."""
+    found = value(made, number, (int,), None)
+    return word(made, number + "Name", None if found is None else str(found))
+
+
+def parts_of(made):
+    """The parts of a multi."""
+    parts = made.get("parts", [])
+    if type(parts) is not list or not all(type(part) is dict for part in parts):
+        raise ValueError("this is no object of zkjson: its 'parts'")
+    return parts
+
+
+class Joined(listing.Conversations):
+    """The lines of zkjson, message by message, with the interface of a Listing; `name` is the connection of objects
+    that name none.
+
+    A reply belongs to the request whose number it has, so lines may have been left out; where the request is not
+    there, what the reply tells of it is given in its place.
+    """
+
+    def __init__(self, name, lines, progress):
+        super().__init__(name, lines, progress)
+        self.names = {}     # what is known of each connection
+
+    def __iter__(self):
+        for n, line in enumerate(self.lines, 1):
+            try:
+                made = object_of(line)
+                known = self.known(made)
+                if "ending" in made:
+                    known.end(made)
+                    continue
+                message = known.message(made)
+                asked = known.asked(message, made)
+            except ValueError as error:
+                raise listing.NoListing(f"line {n}: {error}") from None
+            yield line, message, asked
+            if n % 1000 == 0:
+                self.progress.tell(f"{n:,} lines")
+        self.progress.end()
+
+    def known(self, made):
+        """What is known of the connection of an object."""
+        name = value(made, "connection", (str,), self.name)
+        if name not in self.names:
+            self.names[name] = Known(name)
+        return self.names[name]
+
+    def connections(self):
+        """The connections that were read."""
+        return [known.connection for known in self.names.values()]
+
+    def left(self):
+        """The requests to which no reply has come."""
+        return [made for known in self.names.values() for made in known.left()]
+
+    def paths(self, line, made):
+        """The paths of a request's line: of a multi, those of its parts."""
+        if made.op != "multi":
+            return [made.path]
+        return [path_of(part, "path") for part in parts_of(object_of(line))]
+
+    def zxid(self, line):
+        """The zxid of a reply's line; None where it has none."""
+        found = object_of(line).get("zxid")
+        return found if isinstance(found, str) and SESSION.fullmatch(found) else None
+
+
+class Known:
+    """What is known of one of the connections."""
+
+    def __init__(self, name):
+        self.connection, self.last, self.requests, self.waiting = listing.Connection(name), 0, {}, None
+
+    def message(self, made):
+        """The message of an object."""
+        connection, n = self.connection, value(made, "n", (int,))
+        if connection.ending or n <= self.last:
+            raise ValueError(f"message {n} of connection {json.dumps(connection.name)} comes behind its message "
+                             f"{self.last} or its ending: two recordings have this name, or the order is lost")
+        self.last = n
+        side, op = value(made, "side", (str,)), word(made, "op")
+        if side not in ("C", "S"):
+            raise ValueError("this is no object of zkjson: its 'side'")
+        error = error_of(made) if op != listing.EVENT else error_of(made, "kind")
+        if op == "multi" and side == "S" and not error:
+            error = listing.error_of_parts([each for each in map(error_of, parts_of(made)) if each])
+        at, ms = value(made, "at", (int, float), None), value(made, "ms", (int, float), None)
+        if not all(number is None or number >= 0 and math.isfinite(number) for number in (at, ms)):
+            raise ValueError("this is no object of zkjson: its 'at' or its 'ms'")
+        xid = value(made, "xid", (int,), None)
+        connection.known = connection.known or side == "S"
+        if op == listing.CONNECT:
+            connection.connect(side, session_of(made))
+        message = listing.Message(connection, n, side, None if xid is None else str(xid), op, path_of(made, "path"), error)
+        if at is not None:
+            message.moment = at
+            connection.timed(at)
+        message.microseconds = None if ms is None else round(ms * 1000)
+        return message
+
+    def asked(self, message, made):
+        """The request that a reply answers; None for a request and for an event."""
+        if message.op == listing.EVENT:
+            return None
+        if message.side == "C":
+            self.requests[message.n] = message
+            return None
+        of = value(made, "of", (int,))
+        asked = self.requests.pop(of, None)
+        if asked is None:
+            asked = listing.Message(self.connection, of, "C", message.xid, message.op, path_of(made, "asked"), None)
+            if message.moment is not None and message.microseconds is not None:
+                asked.moment = message.moment - message.microseconds / 1000
+        return asked
+
+    def end(self, made):
+        """Takes the ending."""
+        if self.connection.ending:
+            raise ValueError("a line behind the ending line")
+        waiting = made.pop("waiting", None)
+        made.pop("connection", None)
+        if made["ending"] not in listing.ENDINGS or not all(type(each) is int or type(each) is str and WORD.fullmatch(each)
+                                                            for each in made.values()):
+            raise ValueError("this is no ending of zkjson")
+        self.connection.ending = made
+        if type(waiting) is list:
+            self.waiting = set(filter(lambda each: type(each) is int, waiting))
+
+    def left(self):
+        """The requests to which no reply has come: where the ending says which these are, those."""
+        return [made for made in self.requests.values() if self.waiting is None or made.n in self.waiting]
+
+
+def path_of(made, name):
+    """A path as a line has it; None where there is none."""
+    found = value(made, name, (str,), None)
+    return None if found is None else listing.spelled(found)
+
+
+def session_of(made):
+    """The session of a connect message, as a number."""
+    found = made.get("session")
+    if not isinstance(found, str) or not SESSION.fullmatch(found):
+        raise ValueError("this is no object of zkjson: its 'session'")
+    return int(found, 16)

@@ -1,0 +1,101 @@
+"""How a tool of this folder runs: its standard streams, its status, what it tells on standard error."""
+
+import errno
+import os
+import resource
+import sys
+import time
+
+
+def allow_many_files():
+    """Lets this process have as many open files as the system allows it."""
+    _, most = resource.getrlimit(resource.RLIMIT_NOFILE)
+    resource.setrlimit(resource.RLIMIT_NOFILE, (most, most))
+
+
+def shown(text):
+    """A text with an escape for each character that a terminal may obey."""
+    return text if text.isprintable() else "".join(each if each.isprintable() else ascii(each)[1:-1] for each in text)
+
+
+def complain(trouble):
+    """Tells trouble in one line on standard error, where that can be written."""
+    if isinstance(trouble, OSError) and trouble.strerror:
+        file = "" if trouble.filename is None else f"{os.fsdecode(trouble.filename)}: "
+        trouble = file + trouble.strerror
+    tell(f"{os.path.basename(sys.argv[0])}: {trouble}")
+
+
+def tell(line):
+    """Writes a line on standard error, where that can be written."""
+    try:
+        if sys.stderr:
+            print(shown(line), file=sys.stderr, flush=True)
+    except OSError:
+        pass
+
+
+def standard_input():
+    """The bytes of standard input."""
+    if sys.stdin is None:
+        raise OSError(errno.EBADF, "standard input is closed")
+    return sys.stdin.buffer
+
+
+def hold_standard_streams():
+    """Keeps the numbers of closed standard streams from files that are opened later."""
+    while (held := os.open(os.devnull, os.O_RDWR)) < 3:
+        pass
+    os.close(held)
+
+
+def read_no_more():
+    """Does without standard output, whose reader has gone."""
+    os.dup2(os.open(os.devnull, os.O_WRONLY), sys.stdout.fileno())
+
+
+def tool(main):
+    """Runs a tool's main function. What it can't do is told in one line; the status is then 1 for what it has read
+    and 3 for the system."""
+    hold_standard_streams()
+    try:
+        if sys.stdout is None:
+            raise OSError(errno.EBADF, "standard output is closed")
+        status = main()
+        sys.stdout.flush()
+        return status
+    except BrokenPipeError:
+        read_no_more()
+        return 3
+    except KeyboardInterrupt:
+        return 130
+    except (ValueError, OSError, MemoryError) as error:
+        complain("out of memory" if isinstance(error, MemoryError) else error)
+        status = 1 if isinstance(error, ValueError) else 3
+    try:
+        if sys.stdout:
+            sys.stdout.flush()
+    except OSError:
+        read_no_more()
+    return status
+
+
+class Progress:
+    """Tells on standard error how far long work is, where a person looks on: on a terminal alone, and only where it
+    `may` be told there."""
+
+    def __init__(self, what, may=True):
+        self.what, self.shown = what, False
+        self.due = time.monotonic() + 1 if may and sys.stderr and sys.stderr.isatty() else float("inf")
+
+    def tell(self, amount):
+        """Tells the amount that is done, once a second; `amount` is a text, or a function that gives it."""
+        if time.monotonic() >= self.due:
+            self.due, self.shown = time.monotonic() + 1, True
+            text = amount() if callable(amount) else amount
+            print(f"\r{self.what}: {text}\033[K", end="", file=sys.stderr, flush=True)
+
+    def end(self):
+        """Clears the line."""
+        if self.shown:
+            print("\r\033[K", end="", file=sys.stderr, flush=True)

@@ -1,0 +1,127 @@
+"""Chooses messages: by path, session, operation, time of day, and how long a reply took."""
+
+import argparse
+import datetime
+import re
+
+import forms
+import listing
+
+MILLISECONDS = re.compile(r"\d{1,15}", re.ASCII)
+LATENCY = re.compile(r"\d{1,15}(?:\.\d{1,9})?", re.ASCII)
+SESSION = re.compile(r"0x[0-9A-Fa-f]{1,16}|\d{1,20}", re.ASCII)
+OPERATIONS = (*forms.ASKS, listing.EVENT)
+
+
+def moment(text):
+    """A time of day as milliseconds since 1970."""
+    if MILLISECONDS.fullmatch(text):
+        return int(text)
+    try:
+        found = datetime.datetime.fromisoformat(re.sub("[Zz]$", "+00:00", text))
+    except ValueError:
+        raise argparse.ArgumentTypeError(f"{text!r} is no time such as 2026-11-22T20:31:07.120Z, and no number of "
+                                         "milliseconds since 1970") from None
+    if not found.tzinfo:
+        found = found.replace(tzinfo=datetime.timezone.utc)
+    return (found - datetime.datetime(1970, 1, 1, tzinfo=datetime.timezone.utc)) // datetime.timedelta(milliseconds=1)
+
+
+def latency(text):
+    """A number of milliseconds."""
+    if not LATENCY.fullmatch(text):
+        raise argparse.ArgumentTypeError(f"{text!r} is no number of milliseconds")
+    return float(text)
+
+
+def session(text):
+    """A session's number in hexadecimal or decimal, as a listing.Connection has it."""
+    if not SESSION.fullmatch(text):
+        raise argparse.ArgumentTypeError(f"{text!r} is no session such as 0x100003780a6001f")
+    return listing.hexadecimal(int(text, 0))
+
+
+def path(text):
+    """A path as a line has it, without the quotes."""
+    return listing.spelled(text)[1:-1].rstrip("/")
+
+
+def add_words(parser):
+    """Adds the words that choose messages."""
+    parser.add_argument("--path", metavar="PATH", type=path, action="append",
+                        help="choose requests for this path and those below it; may be given several times")
+    parser.add_argument("--session", metavar="ID", type=session, action="append",
+                        help="choose connections of this session, in hexadecimal or decimal")
+    parser.add_argument("--op", metavar="NAME", choices=OPERATIONS, action="append",
+                        help="choose an operation, or event")
+    parser.add_argument("--slower", metavar="MS", type=latency, help="choose what took more milliseconds than these")
+    parser.add_argument("--from", metavar="TIME", type=moment, dest="begin",
+                        help="choose what was asked at this time or later; TIME as in 2026-11-22T20:31:07.120Z, or in "
+                        "milliseconds since 1970")
+    parser.add_argument("--to", metavar="TIME", type=moment, dest="end", help="choose what was asked at this time or "
+                        "earlier")
+
+
+class Selection:
+    """What the words choose. A reply goes with its request, save that --slower chooses replies and nothing else."""
+
+    def __init__(self, words):
+        self.paths, self.sessions, self.operations = words.path, words.session, words.op
+        self.slower, self.begin, self.end = words.slower and words.slower * 1000, words.begin, words.end
+        self.needs_times = (self.slower, self.begin, self.end) != (None,) * 3
+        self.by_message = bool(self.needs_times or self.paths or self.operations)
+        self.all = not self.by_message and not self.sessions
+
+    def chosen(self, talk):
+        """What is chosen of conversations, as iterating over them gives it."""
+        found = self.of_messages(talk) if self.by_message else talk
+        return self.of_sessions(found) if self.sessions else found
+
+    def left(self, talk):
+        """The requests that are chosen of those that wait."""
+        return [made for made in talk.left() if (made.chosen and self.slower is None or not self.by_message)
+                and (not self.sessions or made.connection.session in self.sessions)]
+
+    def of_messages(self, talk):
+        for line, made, asked in talk:
+            if asked:
+                if asked.chosen is None:    # the request itself isn't there
+                    asked.chosen = self.takes(asked, [asked.path])
+                if asked.chosen and (self.slower is None or made.microseconds is not None and made.microseconds > self.slower):
+                    yield line, made, asked
+                continue
+            made.chosen = self.takes(made, talk.paths(line, made) if self.paths else ())
+            if made.chosen and self.slower is None:
+                yield line, made, asked
+
+    def of_sessions(self, found):
+        """Keeps what comes before the session of a connection is known, until it is."""
+        held = {}
+        for each in found:
+            connection = each[1].connection
+            if not connection.known:
+                held.setdefault(connection, []).append(each)
+                continue
+            early = held.pop(connection, ())
+            if connection.session in self.sessions:
+                yield from early
+                yield each
+        for connection, early in held.items():
+            if connection.session in self.sessions:
+                yield from early
+
+    def takes(self, made, paths):
+        """Whether a request or an event for these paths is chosen."""
+        if self.operations and made.op not in self.operations:
+            return False
+        if self.begin is not None or self.end is not None:
+            if made.moment is None:
+                return False
+            at = int(made.moment)
+            if self.begin is not None and at < self.begin or self.end is not None and at > self.end:
+                return False
+        return not self.paths or any(path and self.takes_path(path) for path in paths)
+
+    def takes_path(self, spelled):
+        return any(spelled.startswith(path, 1) and spelled[len(path) + 1:len(path) + 2] in ('"', "/")
+                   for path in self.paths)

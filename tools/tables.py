@@ -1,0 +1,91 @@
+"""The tables that zkstat writes for a person. All of it is told in characters that no terminal obeys."""
+
+import json
+import re
+
+PERCENTS = (50, 95, 99)
+COUNTS = ("asked", "answered", "failed")
+TIMES = (*(f"p{percent}" for percent in PERCENTS), "max")
+SHOWN = 10
+PLAIN = re.compile("[!-~]+")
+
+
+def plain(value):
+    """A name as a cell of a table."""
+    return value if PLAIN.fullmatch(value) else json.dumps(value)
+
+
+def cells(counts):
+    """The cells of what is counted of an operation or a connection."""
+    times = [f"{counts['ms'][each]:.10g}" if counts["ms"] else "-" for each in TIMES]
+    return [str(counts[each]) for each in COUNTS] + times
+
+
+def aligned(rows, left):
+    """The lines of a table, whose cells in the columns `left` stand at the left; the last column is not padded. A row
+    that is a text stands as it is."""
+    widths = [max(map(len, column)) for column in zip(*(row for row in rows if not isinstance(row, str)))]
+    for row in rows:
+        if isinstance(row, str):
+            yield row
+        else:
+            yield "  ".join(cell.ljust(width) if at in left else cell.rjust(width)
+                            for at, (cell, width) in enumerate(zip(row, widths)))
+
+
+def lines(found):
+    """The lines of what zkstat has found."""
+    heads = [*COUNTS, *(f"{each} ms" for each in TIMES)]
+    operations = found["operations"]
+    yield from aligned([["operation", *heads], *([name, *cells(counts)] for name, counts in operations.items())], {0})
+    for name, counts in operations.items():
+        for error, count in counts["errors"].items():
+            yield f"{count:>8} errors: {name} {error}"
+    for kind, count in found["events"].items():
+        yield f"{count:>8} events: {kind}"
+    timed, answered = (sum(counts[each] for counts in operations.values()) for each in ("timed", "answered"))
+    yield f"{timed:>8} of {answered} replies timed"
+    if backwards := sum(each["backwards"] for each in found["connections"]):
+        yield f"{backwards:>8} replies have a time before that of their request"
+    yield from unanswered(found["unanswered"])
+    yield ""
+    yield from connections(found["connections"], heads)
+    if found["slowest"]:
+        yield ""
+        yield from slowest(found["slowest"])
+
+
+def unanswered(waiting):
+    yield f"{len(waiting):>8} requests unanswered"
+    for made in waiting[:SHOWN]:
+        name = "" if made["connection"] == "-" else plain(made["connection"]) + " "
+        yield f"    {name}line {made['n']}: {' '.join(str(made[each]) for each in ('xid', 'op', 'path') if each in made)}"
+    if len(waiting) > SHOWN:
+        yield f"    and {len(waiting) - SHOWN} more"
+
+
+def connections(found, heads):
+    rows = [["connection", "session", "begun", "ended", *heads, "ending"]]
+    for each in found:
+        if each["gap"] is not None:
+            rows.append(f"    the same session, {each['gap']:.10g} s later" if each["gap"] >= 0 else
+                        f"    the same session, {-each['gap']:.10g} s before that ended")
+        rows.append([plain(each["connection"]), each["session"] or "-", each["begun"] or "-", each["ended"] or "-",
+                     *cells(each), ending(each["ending"])])
+    return aligned(rows, {0, 1, 2, 3, len(rows[0]) - 1})
+
+
+def ending(found):
+    """An ending line without its point."""
+    if not found:
+        return "no ending line"
+    (_, word), *fields = found.items()
+    return " ".join([word, *(f"{name}={value}" for name, value in fields)])
+
+
+def slowest(found):
+    rows = [["slowest: asked at", "ms", "connection", "line", "operation", "error", "zxid", "path"]]
+    for each in found:
+        rows.append([each["time"] or "-", f"{each['ms']:.10g}", plain(each["connection"]), str(each["n"]), each["op"],
+                     each["error"] or "-", each["zxid"] or "-", each["path"] or "-"])
+    return aligned(rows, {0, 2, 4, 5, 6, 7})

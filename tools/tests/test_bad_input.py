@@ -1,0 +1,80 @@
+"""Tests of what no tool may answer with a traceback: closed streams, folders, and bytes that are nothing."""
+
+import os
+import subprocess
+import sys
+
+from support import TOOLS, TOP, ToolCase
+
+LISTING = TOP / "captures" / "kazoo_auth.show"
+RECORDING = TOP / "captures" / "kazoo_auth.zkr"
+READERS = ("zkstat.py", "zkjson.py")
+
+
+class BadInput(ToolCase):
+    def shell(self, command, **more):
+        """Runs a command in which TOOLS is the folder of the tools."""
+        return subprocess.run(["sh", "-c", command.replace("TOOLS", f"{sys.executable} {TOOLS}")], capture_output=True,
+                              timeout=60, check=False, **more)
+
+    def assert_told(self, command, status, told):
+        """That a command ends with this status and one line on standard error."""
+        done = self.shell(command)
+        self.assertEqual((done.returncode, done.stderr.decode()), (status, told), command)
+
+    def test_closed_streams(self):
+        for tool in READERS:
+            self.assert_told(f"TOOLS/{tool} <&-", 3, f"{tool}: standard input is closed\n")
+            self.assert_told(f"TOOLS/{tool} {LISTING} >&-", 3, f"{tool}: standard output is closed\n")
+            self.assert_told(f"TOOLS/{tool} {LISTING} 2>&- > {self.folder}/out", 0, "")
+            self.assert_told(f"TOOLS/{tool} nothing 2>&- > {self.folder}/out", 3, "")
+            self.assertEqual((self.folder / "out").read_bytes(), b"")
+            self.assert_told(f"TOOLS/{tool} {LISTING} <&- > {self.folder}/out", 0, "")
+        self.assert_told("TOOLS/zkskip.py <&-", 3, "zkskip.py: standard input is closed\n")
+        whole = self.shell(f"TOOLS/zkskip.py < {RECORDING}").stdout
+        self.assertEqual(self.shell(f"TOOLS/zkskip.py < {RECORDING} 2>&-").stdout, whole)
+        self.assert_told(f"TOOLS/zkskip.py < {RECORDING} >&-", 3, "zkskip.py: standard output is closed\n")
+
+    def test_a_full_disk(self):
+        for command in (f"zkstat.py {LISTING}", f"zkjson.py {LISTING}"):
+            self.assert_told(f"TOOLS/{command} > /dev/full", 3, f"{command[:9]}: No space left on device\n")
+        done = self.shell(f"TOOLS/zkskip.py < {RECORDING} > /dev/full")
+        self.assertEqual((done.returncode, done.stderr.decode().splitlines()[-1]),
+                         (3, "zkskip.py: No space left on device"))
+
+    def test_folders(self):
+        for tool in READERS:
+            self.assert_told(f"TOOLS/{tool} {self.folder}", 3, f"{tool}: {self.folder}: Is a directory\n")
+            self.assert_told(f"TOOLS/{tool} --recording {self.folder} {LISTING}", 3,
+                             f"{tool}: {self.folder}: Is a directory\n")
+            self.assert_told(f"TOOLS/{tool} --recording {RECORDING} --times {self.folder} {LISTING}", 3,
+                             f"{tool}: {self.folder}: Is a directory\n")
+
+    def test_names_that_a_terminal_obeys(self):
+        name = b"no\x1b[2J\n"
+        for tool in READERS:
+            done = subprocess.run([sys.executable, TOOLS / tool, name], capture_output=True, check=False)
+            self.assertEqual((done.returncode, done.stderr.decode()),
+                             (3, f"{tool}: no\\x1b[2J\\n: No such file or directory\n"))
+
+    def test_any_bytes(self):
+        for data in (b"\0", b"\xff\xfe", b"{", b"C", b"\n\n", b"\x1b[2J", b"ZKR1", b"ZKR2", b"\xd4\xc3\xb2\xa1" + bytes(20),
+                     b"\x1f\x8b\x08", b"C 1 exists path=\"/" + b"\\" * 1001 + b"\" watch=1\n", b"C " + b"1" * 10_000 + b" ping\n",
+                     b'C 1 setData path="/a" blob=#' + b"6" * 70_001 + b" version=1\n",
+                     b'C 1 exists path="/' + b"\\c3" * 70_001 + b'" watch=1\n',
+                     b'C 1 exists path="/\\zz" watch=1\n', b"C connect session=" + b"9" * 5000 + b"\n",
+                     b". whole unanswered=" + b"9" * 5000 + b"\n"):
+            for tool in READERS:
+                status, out, err = self.run_tool(tool, stdin=data)
+                with self.subTest(tool=tool, data=data[:20]):
+                    self.assertIn((status, err.count("\n")), ((0, 0), (1, 1), (2, 1)), err)
+                    self.assertTrue(err[:-1].isprintable() and "Error" not in err, err)
+
+    def test_output_that_is_not_utf_8(self):
+        name = self.folder / "größe.show"
+        name.write_bytes(LISTING.read_bytes())
+        environment = {**os.environ, "PYTHONIOENCODING": "ascii", "PYTHONUTF8": "0", "LC_ALL": "C"}
+        for tool in READERS:
+            done = self.shell(f"TOOLS/{tool} '{name}'", env=environment)
+            self.assertEqual((done.returncode, done.stderr), (0, b""))
+            self.assertTrue(done.stdout)
