@@ -1,0 +1,185 @@
+"""Compares two runs: what was asked and answered, without xids, zxids, sessions and times.
+
+The connections of both are compared in pairs, in their order. Of each pair the requests are compared in their order,
+each with its reply, however many others were under way; and the events of watches, in theirs. Pings are left out, since
+they tell of time alone.
+"""
+
+import collections
+import itertools
+import json
+import re
+
+from report import gather, summary
+
+STAT = re.compile(r'"[^"]*"|stat=\((?:-?\d+,){4}((?:-?\d+,){3})(-?\d+),(-?\d+,-?\d+),-?\d+\)')
+CONNECT_FIELDS = re.compile(r" (?:zxid=-?\d+|session=-?\d+|passwd=\S+)")
+ZXID = re.compile(r" zxid=-?\d+")
+TIMED_FIELDS = {"n", "xid", "zxid", "session", "passwd", "at", "ms", "of", "asked", "connection", "czxid", "mzxid",
+                "pzxid", "ctime", "mtime"}
+LEFT_OUT = ("ping",)
+SHOWN = 160
+
+
+class Exchange:
+    """A request and its reply as they are compared, with the numbers of their messages."""
+
+    __slots__ = ("request", "n", "reply", "answer")
+
+    def __init__(self, request, n):
+        self.request, self.n, self.reply, self.answer = request, n, None, None
+
+    def texts(self):
+        return self.request, self.answer
+
+
+def plain(line, made, as_objects):
+    """A message without what differs from run to run."""
+    if as_objects:
+        return json.dumps(plain_object(gather.object_of(line, made)), sort_keys=True)
+    rest = line[made.end:]
+    if made.op == "connect":
+        return f"{made.op}{CONNECT_FIELDS.sub('', rest)}"
+    if made.side == "S":
+        rest = STAT.sub(plain_stat, ZXID.sub("", rest, count=1))
+    elif made.op == "setWatches":
+        rest = ZXID.sub("", rest, count=1)
+    return made.op + rest
+
+
+def plain_stat(found):
+    """A stat with its versions, whether it has an owner, its length and its number of children; a text as it is."""
+    if found[1] is None:
+        return found[0]
+    return f"stat=({found[1]}{'0' if found[2] == '0' else 'owner'},{found[3]})"
+
+
+def plain_object(value):
+    if isinstance(value, list):
+        return [plain_object(each) for each in value]
+    if not isinstance(value, dict):
+        return value
+    told = {name: plain_object(each) for name, each in value.items() if name not in TIMED_FIELDS}
+    if "ephemeralOwner" in told:
+        told["ephemeralOwner"] = told["ephemeralOwner"] != "0x0"
+    return told
+
+
+class Side:
+    """One connection of a run, as what is compared: `events` has those so far."""
+
+    def __init__(self, talk, as_objects):
+        self.talk, self.as_objects, self.events = talk, as_objects, []
+
+    def exchanges(self):
+        """The exchanges, in the order of their requests."""
+        waiting, by_number = collections.deque(), {}
+        for line, made, asked in self.talk:
+            if made.op in LEFT_OUT:
+                continue
+            if made.side == "C":
+                by_number[made.n] = exchange = Exchange(plain(line, made, self.as_objects), made.n)
+                waiting.append(exchange)
+            elif asked:
+                exchange = by_number.pop(asked.n)
+                exchange.reply, exchange.answer = made.n, plain(line, made, self.as_objects)
+                while waiting and waiting[0].answer is not None:
+                    yield waiting.popleft()
+            else:
+                self.events.append((plain(line, made, self.as_objects), made.n))
+        yield from waiting
+
+
+class Comparison:
+    """The comparison of two runs, each given as its connections. `first` is the first difference, or None."""
+
+    def __init__(self, ours, theirs, program, progress):
+        self.equal, self.first = 0, None
+        as_objects = any(is_objects(connection.source) for connection in (*ours, *theirs))
+        for number, (mine, other) in enumerate(itertools.zip_longest(ours, theirs)):
+            if mine is None or other is None:
+                self.differ(number, "connection", (mine and mine.source.name, None), (other and other.source.name, None))
+                continue
+            with mine.source.conversation(program, progress) as one, other.source.conversation(program, progress) as two:
+                self.compare(number, Side(one, as_objects), Side(two, as_objects))
+
+    def compare(self, number, mine, other):
+        """Compares a pair of connections."""
+        for one, two in itertools.zip_longest(mine.exchanges(), other.exchanges()):
+            if one and two and one.texts() == two.texts():
+                self.equal += 1
+            elif one and two and one.request == two.request:
+                self.differ(number, "reply", (one.answer, one.reply or one.n), (two.answer, two.reply or two.n))
+            else:
+                self.differ(number, "request", (one and one.request, one and one.n), (two and two.request, two and two.n))
+        for one, two in itertools.zip_longest(mine.events, other.events, fillvalue=(None, None)):
+            if one[0] == two[0]:
+                self.equal += 1
+            else:
+                self.differ(number, "event", one, two)
+
+    def differ(self, connection, kind, one, two):
+        if self.first is None:
+            self.first = {"connection": connection, "kind": kind, "equal": self.equal, "messages": [one[1], two[1]],
+                          "texts": around(one[0], two[0])}
+
+
+def is_objects(source):
+    """Whether a source has the lines of zkjson."""
+    if not source.is_listing:
+        return False
+    with open(source.path, "rb") as stream:
+        return stream.read(1) == b"{"
+
+
+def around(one, two):
+    """Both texts around the first place where they differ."""
+    if one is None or two is None:
+        return [each and each[:SHOWN] + cut(each, SHOWN) for each in (one, two)]
+    at = next((at for at, (a, b) in enumerate(zip(one, two)) if a != b), min(len(one), len(two)))
+    begin = max(0, at - SHOWN // 2) if at > SHOWN // 2 else 0
+    return [(".." if begin else "") + each[begin:begin + SHOWN] + cut(each, begin + SHOWN) for each in (one, two)]
+
+
+def cut(text, at):
+    return f".. ({len(text)} characters)" if len(text) > at else ""
+
+
+def tables(found, other, comparison):
+    """What is shown of a comparison: the first difference, and the counts of both runs by operation."""
+    rows = []
+    for name in dict.fromkeys((*found.operations, *other.operations)):
+        counts = [side.operations.get(name) or gather.Operation() for side in (found, other)]
+        row = [name]
+        for value in (lambda each: each.asked, lambda each: sum(each.errors.values()), lambda each: each.unanswered):
+            row += [value(each) for each in counts]
+        for share in (0.5, 0.99):
+            row += [each.latencies.quantile(share) if each.latencies.counts else None for each in counts]
+        rows.append([*row, None, None])
+    return {"equal": comparison.equal, "first": comparison.first, "rows": rows,
+            "columns": COLUMNS}
+
+
+COLUMNS = [summary.Column("op", "operation", "op")] + [
+    summary.Column(f"{name}{side}", f"{heading}, {told}", kind)
+    for name, heading, kind in (("asked", "asked", "count"), ("failed", "failed", "count"),
+                                ("unanswered", "unanswered", "count"), ("p50", "p50 ms", "ms"), ("p99", "p99 ms", "ms"))
+    for side, told in (("", "here"), ("Other", "there"))]
+
+
+def lines_of(told):
+    """The lines of a comparison's first difference."""
+    first = told["first"]
+    if first is None:
+        yield f"no difference: {told['equal']} exchanges and events are the same"
+        return
+    yield (f"the first difference is a {first['kind']} of connection #{first['connection'] + 1}, after {first['equal']} "
+           "exchanges and events that are the same:")
+    for name, n, each in zip(("here", "there"), first["messages"], first["texts"]):
+        where = f" message {n}" if n else ""
+        yield f"    {name}{where}: {'nothing' if each is None else shown(each)}"
+
+
+def shown(text):
+    """A text of ASCII that no terminal obeys."""
+    return text if text.isascii() and text.isprintable() else ascii(text)[1:-1]

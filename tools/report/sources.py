@@ -1,0 +1,103 @@
+"""Where a report's connections come from: captures, recordings, and listings or the lines of zkjson."""
+
+import contextlib
+import datetime
+import os
+import pathlib
+import re
+import subprocess
+import sys
+import tempfile
+
+import listing
+import zkr
+
+TOOLS = pathlib.Path(__file__).resolve().parent.parent
+BUILT = TOOLS.parent / "crates" / "zkdump" / "out" / "zkdump"
+# The widest limits: a report shows what there is. The head of a ZKR2 recording has its own.
+SHOW = ("show", "--limit", "16777216", "--profile", "3.5")
+RECORDINGS = (b"ZKR1", b"ZKR2")
+CAPTURES = (b"\xa1\xb2\xc3\xd4", b"\xd4\xc3\xb2\xa1", b"\xa1\xb2\x3c\x4d", b"\x4d\x3c\xb2\xa1", b"\x0a\x0d\x0d\x0a",
+            b"\x1f\x8b")
+LISTINGS = re.compile(rb"[CS] |\. |\{")
+CAPTURED = re.compile(r"(.+) (\S+) > (\S+) begun (\S+)((?: \S+)*)")
+
+
+class Source:
+    """One connection: its file, its name, and what its capture reports of it.
+
+    `is_listing` tells whether the file is a listing, or lines of zkjson, in place of a recording. `notes` are the words
+    of pcap2zkr's line behind the time, each with its value, or with None.
+    """
+
+    def __init__(self, path, name, is_listing=False, client=None, server=None, begun=None, notes=None):
+        self.path, self.name, self.is_listing = path, name, is_listing
+        self.client, self.server, self.begun, self.notes = client, server, begun, notes or {}
+
+    @contextlib.contextmanager
+    def conversation(self, program, progress):
+        """The conversation, message by message. Who leaves it before its end ends the program that shows it."""
+        if self.path is None:
+            yield listing.Conversation(iter(()), False, None, progress)
+        elif self.is_listing:
+            with open(self.path, "rb") as stream:
+                yield listing.Conversation(listing.lines_of(stream, nothing), True, None, progress)
+        else:
+            with open(self.path, "rb") as recording:
+                show = subprocess.Popen([program, *SHOW], stdin=recording, stdout=subprocess.PIPE)
+            with show:
+                talk = listing.Conversation(listing.lines_of(show.stdout, nothing), False, self.times(), progress)
+                yield talk
+                show.stdout.close()
+            if talk.ending is None and show.returncode not in (0, 1, 3, -13):
+                raise OSError(f"{program} has ended with status {show.returncode}")
+
+    def times(self):
+        """The side and the time of each message, or None where the recording has no times."""
+        pieces = zkr.Reader(open(self.path, "rb"))
+        if pieces.head.form == "zkr2":
+            return listing.last_bytes(pieces, None)
+        path = zkr.times_path(self.path)
+        return listing.last_bytes(pieces, zkr.read_times(path)) if os.path.exists(path) else None
+
+
+def nothing():
+    """What is done before each read."""
+
+
+def sources_of(paths, folder, port):
+    """The connections of all these files, in order. Recordings that are made of captures go to the folder."""
+    for path in paths:
+        with open(path, "rb") as stream:
+            mark = stream.read(4)
+        name = os.path.basename(path)
+        if mark in RECORDINGS:
+            yield Source(path, name.removesuffix(".zkr"))
+        elif mark.startswith(CAPTURES):
+            yield from captured(path, name, os.path.join(tempfile.mkdtemp(dir=folder), "capture"), port)
+        elif LISTINGS.match(mark):
+            yield Source(path, name.removesuffix(".show"), is_listing=True)
+        else:
+            raise ValueError(f"{path} is no capture, no recording and no listing")
+
+
+def captured(path, name, prefix, port):
+    """The connections of a capture: recordings that begin with the prefix."""
+    words = [sys.executable, TOOLS / "pcap2zkr.py", "--times", "--late", "--port", str(port), path, prefix]
+    done = subprocess.run(words, stdout=subprocess.PIPE, stderr=subprocess.PIPE, check=False)
+    lines = done.stdout.decode().splitlines()
+    if done.returncode not in (0, 1) or not lines:
+        raise ValueError(done.stderr.decode().strip().removeprefix("pcap2zkr.py: ") or f"{path}: not read")
+    for line in lines:
+        recording, client, server, begun, words = CAPTURED.fullmatch(line).groups()
+        notes = {word: value if equals else None
+                 for word, equals, value in (each.partition("=") for each in words.split())}
+        part = recording.removeprefix(prefix).removesuffix(".zkr")
+        yield Source(None if recording == "-" else recording, f"{name}{part}" if part != "-" else name,
+                     client=client, server=server, begun=milliseconds(begun), notes=notes)
+
+
+def milliseconds(text):
+    """Milliseconds since 1970 of a time as zkr.clock spells it."""
+    moment = datetime.datetime.fromisoformat(text.removesuffix("Z"))
+    return (moment - datetime.datetime(1970, 1, 1)) / datetime.timedelta(milliseconds=1)

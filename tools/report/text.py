@@ -1,0 +1,56 @@
+"""The tables of a report as text for a terminal: ASCII, and nothing in it that a terminal would obey."""
+
+import zkr
+from report import paths, summary
+
+NUMBERS = ("count", "ms", "length", "connection")
+ROWS, WHOLE = 20, ("sessions", "connections", "operations", "errors")
+
+
+def lines_of(found):
+    """The lines of all tables of a summary."""
+    counts = found.counts
+    yield (f"{len(found.run.connections)} connections, {len(found.sessions)} sessions, {counts['messages']} messages, "
+           f"{counts['asked']} requests, {counts['failed']} failed, {counts['unanswered']} unanswered, "
+           f"{counts['events']} events")
+    if found.begun is not None:
+        yield f"from {zkr.clock(found.begun)} to {zkr.clock(found.ended)}"
+    left_out = found.rows_left_out()
+    for name, rows in found.tables.items():
+        if rows:
+            yield ""
+            yield summary.HEADINGS[name]
+            shown = rows if name in WHOLE else rows[:ROWS]
+            yield from table(summary.COLUMNS[name], shown)
+            if more := left_out.get(name, 0) + len(rows) - len(shown):
+                yield f"and {more} more"
+    if found.run.paths.short:
+        yield f"Counts of paths may be up to {found.run.paths.short} too low: there were too many paths to count each."
+
+
+def table(columns, rows):
+    """The lines of one table."""
+    cells = [[cell(column.kind, value) for column, value in zip(columns, row)] for row in rows]
+    widths = [max(len(column.heading), *(len(row[at]) for row in cells)) for at, column in enumerate(columns)]
+    for row in ([column.heading for column in columns], *cells):
+        yield "  ".join(text.rjust(width) if column.kind in NUMBERS else text.ljust(width)
+                        for text, width, column in zip(row, widths, columns)).rstrip()
+
+
+def cell(kind, value):
+    """A value as a table has it."""
+    if value is None or value == {}:
+        return "-"
+    if kind == "time":
+        return zkr.clock(value)
+    if kind == "ms":
+        return f"{value:.7g}"
+    if kind == "length":
+        return f"{value / 1000:.7g} s"
+    if kind == "connection":
+        return f"#{value + 1}"
+    if kind == "counts":
+        return " ".join(f"{name}={count}" for name, count in value.items())
+    if kind == "path":
+        return paths.shown(value)
+    return str(value)

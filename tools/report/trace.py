@@ -1,0 +1,74 @@
+"""Writes requests as trace events of Chrome, which Perfetto opens too.
+
+A session is a process and a connection a thread of it. Requests are asynchronous events, since several may be under way
+at once; events of watches are instants. Times are microseconds since 1970.
+"""
+
+import json
+
+from report import paths
+
+
+class Trace:
+    """A trace that is written to a new file, as it is given what happens."""
+
+    def __init__(self, out):
+        self.out, self.ids, self.sessions = out, 0, {}
+        self.out.waiting += b'{"displayTimeUnit":"ms","traceEvents":[\n'
+        self.before = b""
+        self.events = 0
+
+    def put(self, **event):
+        self.out.waiting += self.before + json.dumps(event, separators=(",", ":")).encode()
+        self.before = b",\n"
+        if len(self.out.waiting) > 1 << 16:
+            self.out.flush()
+
+    def request(self, connection, asked, made):
+        """Takes a request and its reply, or None where it has none."""
+        if asked.at is None or made and made.at is None:
+            return
+        self.ids += 1
+        self.events += 1
+        name = asked.op if not (made and made.error) else f"{asked.op} {made.error}"
+        where = {"cat": "request", "name": name, "id": self.ids, **self.place(connection)}
+        told = {"message": asked.n, "xid": asked.xid, "path": None if asked.path is None else paths.shown(asked.path)}
+        self.put(ph="b", ts=microseconds(asked.at), args=told, **where)
+        if made:
+            end, told = made.at, {"message": made.n, "ms": made.ms, "error": made.error}
+        else:
+            end, told = max(connection.ended, asked.at), {"answered": False}
+        self.put(ph="e", ts=microseconds(end), args=told, **where)
+
+    def event(self, connection, made, path):
+        """Takes an event of a watch."""
+        if made.at is None:
+            return
+        self.events += 1
+        self.put(ph="i", s="t", cat="watch", name=f"event {made.error}", ts=microseconds(made.at),
+                 args={"message": made.n, "path": None if path is None else paths.shown(path)},
+                 **self.place(connection))
+
+    def place(self, connection):
+        """The process and the thread of a connection."""
+        session = connection.session_id()
+        process = self.sessions.setdefault(session or connection.number, len(self.sessions) + 1)
+        return {"pid": process, "tid": connection.number + 1}
+
+    def end(self, connection):
+        """Takes the end of a connection, once all its messages are taken."""
+        where = self.place(connection)
+        if connection.begun is not None:
+            self.put(ph="X", cat="connection", name=f"connection {connection.source.name}",
+                     ts=microseconds(connection.begun), dur=microseconds(connection.ended - connection.begun), **where)
+        self.put(ph="M", name="process_name", args={"name": f"session {connection.session_id() or 'unknown'}"}, **where)
+        self.put(ph="M", name="thread_name", args={"name": f"#{connection.number + 1} {connection.source.name}"}, **where)
+
+    def close(self):
+        self.out.waiting += b"\n]}\n"
+        self.out.flush()
+        self.out.file.close()
+
+
+def microseconds(milliseconds):
+    return round(milliseconds * 1000)
