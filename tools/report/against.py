@@ -10,7 +10,7 @@ import itertools
 import json
 import re
 
-from report import gather, summary
+from report import gather, summary, text
 
 STAT = re.compile(r'"[^"]*"|stat=\((?:-?\d+,){4}((?:-?\d+,){3})(-?\d+),(-?\d+,-?\d+),-?\d+\)')
 CONNECT_FIELDS = re.compile(r" (?:zxid=-?\d+|session=-?\d+|passwd=\S+)")
@@ -141,8 +141,8 @@ def around(one, two):
     return [(".." if begin else "") + each[begin:begin + SHOWN] + cut(each, begin + SHOWN) for each in (one, two)]
 
 
-def cut(text, at):
-    return f".. ({len(text)} characters)" if len(text) > at else ""
+def cut(whole, at):
+    return f".. ({len(whole)} characters)" if len(whole) > at else ""
 
 
 def tables(found, other, comparison):
@@ -177,9 +177,4 @@ def lines_of(told):
            "exchanges and events that are the same:")
     for name, n, each in zip(("here", "there"), first["messages"], first["texts"]):
         where = f" message {n}" if n else ""
-        yield f"    {name}{where}: {'nothing' if each is None else shown(each)}"
-
-
-def shown(text):
-    """A text of ASCII that no terminal obeys."""
-    return text if text.isascii() and text.isprintable() else ascii(text)[1:-1]
+        yield f"    {name}{where}: {'nothing' if each is None else text.printable(each)}"

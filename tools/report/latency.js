@@ -105,7 +105,7 @@ function drawDensity(pen, axis, to, colour) {
   const sums = new Map();
   let most = 1;
   for (const [connection, found] of Object.entries(cells)) {
-    if (filter.session !== "" && sessionOf[connection] !== +filter.session) continue;
+    if (!inSession(connection)) continue;
     for (let i = 0; i < found.length; i += 3) {
       const key = found[i] * 64 + found[i + 1], sum = (sums.get(key) ?? 0) + found[i + 2];
       sums.set(key, sum);

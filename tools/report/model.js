@@ -7,6 +7,9 @@ const OK = 0, FAILED = 1, UNANSWERED = 2, OUTCOMES = ["ok", "failed", "unanswere
 const sessionOf = [];       // by connection, the number of its session
 data.sessions.forEach((session, number) => session.connections.forEach(each => { sessionOf[each] = number; }));
 
+// By session, what a filter and a link call it.
+const sessionKeys = data.sessions.map(session => session.id ?? connectionName(session.connections[0]));
+
 // The columns of the requests, with times in milliseconds since the run began and latencies in milliseconds.
 function unpack(columns) {
   const count = columns.n.length, x = new Float64Array(count), ms = new Float64Array(count);
@@ -33,9 +36,13 @@ function isFiltered() {
   return Object.values(filter).some(value => value !== "" && value !== null);
 }
 
+// Whether a connection is one of the session that the filter names.
+function inSession(connection) {
+  return filter.session === "" || sessionKeys[sessionOf[connection]] === filter.session;
+}
+
 function sessionName(number) {
-  const session = data.sessions[number];
-  return session.id ?? `unknown (${connectionName(session.connections[0])})`;
+  return data.sessions[number].id ?? `unknown (${sessionKeys[number]})`;
 }
 
 function connectionName(number) {
@@ -65,7 +72,7 @@ function matching() {
   const op = filter.op === "" ? -1 : data.ops.indexOf(filter.op);
   for (let i = 0; i < requests.count; i++) {
     if (wanted && !(requests.path[i] >= 0 && ofPath[requests.path[i]])) continue;
-    if (filter.session !== "" && sessionOf[requests.connection[i]] !== +filter.session) continue;
+    if (!inSession(requests.connection[i])) continue;
     if (filter.op !== "" && requests.op[i] !== op) continue;
     if (filter.outcome !== "" && OUTCOMES[outcome(i)] !== filter.outcome) continue;
     if (filter.slower !== null && !(requests.ms[i] > filter.slower)) continue;
@@ -143,14 +150,14 @@ const derive = {
 // The rows of a table under the filters, and what they don't go by, if anything.
 function rowsOf(name, indices) {
   const table = data.tables[name], column = table.columns.findIndex(each => each[0] === "path");
-  const bySession = row => filter.session === "" || sessionOf[row[row.length - 2]] === +filter.session;
+  const bySession = row => inSession(row[row.length - 2]);
   const byPath = row => !filter.path || plainText(row[column]).toLowerCase().includes(filter.path.toLowerCase());
   if (!isFiltered()) return table.rows;
   if (name === "sessions" || name === "connections") return table.rows.filter(bySession);
   if (name === "watches") return table.rows.filter(row => bySession(row) && byPath(row));
   if (data.complete || name === "slowest" || name === "unanswered") return derive[name](indices);
   if (name === "paths") return table.rows.filter(byPath);
-  const rows = filter.session === "" ? table.rows : data.bySession[filter.session]?.[name] ?? [];
+  const rows = filter.session === "" ? table.rows : data.bySession[sessionKeys.indexOf(filter.session)]?.[name] ?? [];
   return filter.op === "" ? rows : rows.filter(row => row[0] === filter.op);
 }
 

@@ -25,7 +25,7 @@ function lanes(session) {
 function drawSessions(indices) {
   const box = document.getElementById("sessions"), width = box.clientWidth;
   const rows = data.sessions.map((session, number) => ({ session, number, lanes: lanes(session) }))
-    .filter(row => filter.session === "" || row.number === +filter.session);
+    .filter(row => inSession(row.session.connections[0]));
   const shown = rows.filter(row => row.lanes.length).slice(0, MOST_ROWS);
   const high = shown.length > 40 ? 12 : shown.length > 14 ? 18 : 26;
   const tall = shown.reduce((sum, row) => sum + row.lanes.length * high + 4, 0);
@@ -69,7 +69,7 @@ function label(svg, row, top, high) {
   shape("text", { x: 0, y: top + high / 2 + 4 }, link).textContent = visible(session.id ?? `session unknown`);
   link.addEventListener("click", event => {
     event.preventDefault();
-    setFilter("session", filter.session === String(number) ? "" : String(number));
+    setFilter("session", filter.session === "" ? sessionKeys[number] : "");
   });
 }
 

@@ -50,7 +50,12 @@ def cell(kind, value):
     if kind == "connection":
         return f"#{value + 1}"
     if kind == "counts":
-        return " ".join(f"{name}={count}" for name, count in value.items())
+        return " ".join(f"{printable(name)}={count}" for name, count in value.items())
     if kind == "path":
         return paths.shown(value)
-    return str(value)
+    return printable(str(value))
+
+
+def printable(text):
+    """A text in characters of ASCII that no terminal obeys."""
+    return text if text.isascii() and text.isprintable() else ascii(text)[1:-1]
