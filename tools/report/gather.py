@@ -191,14 +191,12 @@ class Reading:
         operation.add(made)
         if operation.slowest is None or (ms or 0) > operation.slowest[0]:
             operation.slowest = ms or 0, connection.number, asked.n
-        heap = run.kept.answered
         if made.error:
-            heap = run.kept.failed
             operation.failures.setdefault(made.error, (connection.number, asked.n))
-        if heap.takes(ms):
-            heap.add(kept.Request(connection.number, asked.n, made.n, asked.at, ms, made.op, made.error, asked.path))
+        if run.kept.takes(ms, made.error):
+            run.kept.put(kept.Request(connection.number, asked.n, made.n, asked.at, ms, made.op, made.error, asked.path))
         if ms is not None:
-            run.density.add(connection.number, asked.at, ms)
+            run.density.add(connection.number, asked.at, ms, 1 if made.error else 0)
         if asked.path is not None:
             self.judge_path(asked, made)
         if asked.n in self.watching:
@@ -231,8 +229,10 @@ class Reading:
         if connection.is_late and made.op == "connect":
             return
         connection.operations[made.op].unanswered += 1
-        self.run.kept.add_unanswered(
+        self.run.kept.put_unanswered(
             kept.Request(connection.number, made.n, None, made.at, None, made.op, None, made.path))
+        if made.at is not None:
+            self.run.density.add(connection.number, made.at, None, 2)
         if self.tracing:
             self.tracing.request(connection, made, None)
 

@@ -59,7 +59,8 @@ function drawLatency(indices) {
   latency.marks = [];
   for (const kind of [OK, FAILED, UNANSWERED]) {
     pen.fillStyle = pen.strokeStyle = colour(OUTCOMES[kind]);
-    for (const i of indices) if (outcome(i) === kind) drawMark(pen, i, kind, axis, to);
+    const all = indices.filter(i => outcome(i) === kind), size = all.length > 1500 ? 0.6 : 1;
+    for (const i of all) drawMark(pen, i, kind, axis, to, size);
   }
   if (latency.at >= 0) ring(pen, latency.at, colour);
   pen.restore();
@@ -122,7 +123,7 @@ function drawDensity(pen, axis, to, colour) {
   pen.globalAlpha = 1;
 }
 
-function drawMark(pen, i, kind, axis, to) {
+function drawMark(pen, i, kind, axis, to, size) {
   const x = to(requests.x[i]);
   if (Number.isNaN(x) || kind !== UNANSWERED && (!axis || Number.isNaN(requests.ms[i]))) return;
   const y = kind === UNANSWERED ? BAND / 2 : axis.y(requests.ms[i]);
@@ -130,12 +131,14 @@ function drawMark(pen, i, kind, axis, to) {
   pen.beginPath();
   if (kind === OK) {
     pen.globalAlpha = 0.65;
-    pen.arc(x, y, 2.2, 0, 7);
+    pen.arc(x, y, 2.2 * size, 0, 7);
   } else if (kind === FAILED) {
-    pen.moveTo(x, y - 4.2);
-    pen.lineTo(x + 4.2, y);
-    pen.lineTo(x, y + 4.2);
-    pen.lineTo(x - 4.2, y);
+    const r = 4.2 * size;
+    pen.globalAlpha = size < 1 ? 0.6 : 1;
+    pen.moveTo(x, y - r);
+    pen.lineTo(x + r, y);
+    pen.lineTo(x, y + r);
+    pen.lineTo(x - r, y);
   } else {
     pen.moveTo(x - 4.5, y - 4);
     pen.lineTo(x + 4.5, y - 4);

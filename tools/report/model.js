@@ -117,7 +117,7 @@ const derive = {
       return [data.ops[op], all.length, answered.length, all.filter(i => outcome(i) === FAILED).length,
         all.length - answered.length, quantile(times, 0.5), quantile(times, 0.95), quantile(times, 0.99),
         quantile(times, 1), ...link(slowestOf(all))];
-    }).sort((a, b) => b[1] - a[1]);
+    }).sort((a, b) => b[1] - a[1] || (a[0] < b[0] ? -1 : 1));
   },
   errors(indices) {
     const failed = indices.filter(i => outcome(i) === FAILED);
@@ -165,6 +165,6 @@ function rowsOf(name, indices) {
 function shortcoming() {
   if (data.complete || !isFiltered()) return "";
   const others = filter.path || filter.outcome || filter.slower !== null || filter.from !== null || filter.to !== null;
-  const told = `This page has ${count(requests.count)} of ${count(data.counts.asked)} requests: the slowest, the failed and the unanswered.`;
+  const told = `This page has ${count(requests.count)} of ${count(data.counts.asked)} requests: the slowest, the unanswered, and the failed or some of them.`;
   return others ? `${told} Operations and errors follow the filters by session and operation alone, busiest paths the one by path; for the others make the report of a part of the run.` : told;
 }

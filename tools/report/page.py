@@ -115,13 +115,18 @@ def session_of(session):
 
 
 def density_of(found):
-    """The cells of the density by connection: bucket, bin and count, one behind another. Buckets count from `first`."""
+    """The cells of the density by connection: bucket, bin and count, one behind another. Buckets count from `first`.
+    `troubles` has in the same way bucket, 1 for failed or 2 for unanswered, and count."""
     density = found.run.density
-    cells = {}
-    for (connection, bucket, row), count in sorted(density.cells.items()):
-        cells.setdefault(connection, []).extend((bucket - density.low, row, count))
     return {"width": density.width, "first": None if density.low is None else density.low * density.width,
-            "cells": cells}
+            "cells": by_connection(density.cells, density.low), "troubles": by_connection(density.troubles, density.low)}
+
+
+def by_connection(cells, low):
+    found = {}
+    for (connection, bucket, row), count in sorted(cells.items()):
+        found.setdefault(connection, []).extend((bucket - low, row, count))
+    return found
 
 
 def by_session(found):

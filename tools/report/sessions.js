@@ -1,6 +1,6 @@
 // The picture of the sessions in time: a row a session, a bar a connection.
 
-const MOST_ROWS = 200, MOST_TICKS = 4000;
+const MOST_ROWS = 200;
 
 // By connection, its bar: from and to, in the axis of time.
 function bar(number) {
@@ -73,17 +73,42 @@ function label(svg, row, top, high) {
   });
 }
 
-// The failed and the unanswered requests by connection, as places and kinds.
+// The failed and the unanswered requests by connection. Where the page has not every request and the filters don't choose
+// among them, their counts by time are drawn in place of the requests.
 function troubles(indices) {
   const found = new Map();
-  let left = MOST_TICKS;
   for (const i of indices) {
-    if (outcome(i) === OK || Number.isNaN(requests.x[i]) || left-- <= 0) continue;
+    if (outcome(i) === OK || Number.isNaN(requests.x[i])) continue;
     const number = requests.connection[i];
     if (!found.has(number)) found.set(number, []);
     found.get(number).push(i);
   }
   return found;
+}
+
+function drawTroubles(bar, number, to, top, high, marks) {
+  for (const kind of [FAILED, UNANSWERED]) {
+    if (showsDensity() && timed) {
+      drawShares(bar, number, kind, to, top, high);
+      continue;
+    }
+    const lines = (marks.get(number) ?? []).filter(i => outcome(i) === kind)
+      .map(i => `M${to(requests.x[i]).toFixed(1)},${top + 3}v${high - 6}`);
+    if (lines.length) shape("path", { class: `ticks ${OUTCOMES[kind]}`, d: lines.join("") }, bar);
+  }
+}
+
+// The share of the requests that failed, or had no reply, by time: as much of the bar from its foot on.
+function drawShares(parent, number, kind, to, top, high) {
+  const { width, first, cells, troubles: counts } = data.density, sums = new Map(), [begun, ended] = bar(number);
+  const all = cells[number] ?? [], found = counts[number] ?? [];
+  for (let i = 0; i < all.length; i += 3) sums.set(all[i], (sums.get(all[i]) ?? 0) + all[i + 2]);
+  for (let i = 0; i < found.length; i += 3) {
+    if (found[i + 1] !== kind) continue;
+    const x = first - data.begun + found[i] * width, share = Math.min(1, found[i + 2] / Math.max(1, sums.get(found[i]) ?? 0));
+    const from = to(Math.max(x, begun)), until = to(Math.min(x + width, ended)), tall = Math.max(1.5, share * (high - 6));
+    shape("rect", { class: `share ${OUTCOMES[kind]}`, x: from, y: top + high - 3 - tall, width: Math.max(1, until - from), height: tall }, parent);
+  }
 }
 
 function drawBar(plot, { number, span }, to, top, high, marks) {
@@ -93,9 +118,7 @@ function drawBar(plot, { number, span }, to, top, high, marks) {
     `closed by ${each.closed}`, `recording: ${each.end}`].filter(Boolean);
   const link = shape("a", { href: "#", class: "bar", "aria-label": told.join(", ") }, plot);
   shape("rect", { class: each.refused ? "refused" : "open", x: from, y: top + 3, width: until - from, height: high - 6, rx: 3 }, link);
-  for (const i of marks.get(number) ?? []) {
-    shape("line", { class: OUTCOMES[outcome(i)], x1: to(requests.x[i]), x2: to(requests.x[i]), y1: top + 3, y2: top + high - 3 }, link);
-  }
+  drawTroubles(link, number, to, top, high, marks);
   if (until - from > 34 && high > 14) shape("text", { x: Math.max(from, MARGIN.left) + 6, y: top + high / 2 + 4 }, link).textContent = connectionName(number);
   drawEnd(link, endOf(each), until, top, high);
   link.addEventListener("click", event => { event.preventDefault(); openMessages(number, 1); });

@@ -5,6 +5,7 @@ import json
 import re
 import shutil
 import subprocess
+import tempfile
 import urllib.request
 
 CHROMIUM, DRIVER = shutil.which("chromium"), shutil.which("chromedriver")
@@ -14,11 +15,13 @@ OPTIONS = ("--headless=new", "--no-sandbox", "--disable-gpu", "--disable-dev-shm
 
 
 class Browser:
-    """A browser with a window. Its files are in the folder, and it is gone once it is closed."""
+    """A browser with a window. Its files are in a folder of its own; all is gone once it is closed."""
 
-    def __init__(self, folder):
+    def __init__(self):
+        self.folder = tempfile.TemporaryDirectory()
+        folder = self.folder.name
         self.driver = subprocess.Popen([DRIVER, "--port=0"], stdout=subprocess.PIPE, stderr=subprocess.DEVNULL,
-                                       env={"PATH": "/usr/bin:/bin", "HOME": str(folder), "TMPDIR": str(folder)})
+                                       env={"PATH": "/usr/bin:/bin", "HOME": folder, "TMPDIR": folder})
         self.session = None
         while line := self.driver.stdout.readline():
             if found := STARTED.search(line):
@@ -61,3 +64,4 @@ class Browser:
         finally:
             self.driver.terminate()
             self.driver.communicate()
+            self.folder.cleanup()
