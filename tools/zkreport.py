@@ -25,7 +25,7 @@ from report import against, gather, messages, page, sources, summary, text, trac
 def read(run, inputs, words, folder, tracing=None):
     """Reads all connections of these files into the run."""
     progress = zkr.Progress("zkreport")
-    for source in sources.sources_of(inputs, folder, words.port):
+    for source in sources.sources_of(inputs, folder, words.port, run.warnings):
         run.read(source, words.zkdump, progress, tracing)
     return run
 
@@ -92,7 +92,7 @@ def main():
             write_page(words, found, compared)
     if words.text:
         write_text(found, compared)
-    return 1 if compared and compared["first"] else 0
+    return 1 if found.run.warnings or compared and compared["first"] else 0
 
 
 if __name__ == "__main__":

@@ -98,29 +98,29 @@ class Comparison:
         as_objects = any(is_objects(connection.source) for connection in (*ours, *theirs))
         for number, (mine, other) in enumerate(itertools.zip_longest(ours, theirs)):
             if mine is None or other is None:
-                self.differ(number, "connection", (mine and mine.source.name, None), (other and other.source.name, None))
+                self.differ(number, mine or other, "connection", (mine and mine.source.name, None), (other and other.source.name, None))
                 continue
             with mine.source.conversation(program, progress) as one, other.source.conversation(program, progress) as two:
-                self.compare(number, Side(one, as_objects), Side(two, as_objects))
+                self.compare(number, mine, Side(one, as_objects), Side(two, as_objects))
 
-    def compare(self, number, mine, other):
+    def compare(self, number, connection, mine, other):
         """Compares a pair of connections."""
         for one, two in itertools.zip_longest(mine.exchanges(), other.exchanges()):
             if one and two and one.texts() == two.texts():
                 self.equal += 1
             elif one and two and one.request == two.request:
-                self.differ(number, "reply", (one.answer, one.reply or one.n), (two.answer, two.reply or two.n))
+                self.differ(number, connection, "reply", (one.answer, one.reply or one.n), (two.answer, two.reply or two.n))
             else:
-                self.differ(number, "request", (one and one.request, one and one.n), (two and two.request, two and two.n))
+                self.differ(number, connection, "request", (one and one.request, one and one.n), (two and two.request, two and two.n))
         for one, two in itertools.zip_longest(mine.events, other.events, fillvalue=(None, None)):
             if one[0] == two[0]:
                 self.equal += 1
             else:
-                self.differ(number, "event", one, two)
+                self.differ(number, connection, "event", one, two)
 
-    def differ(self, connection, kind, one, two):
+    def differ(self, number, connection, kind, one, two):
         if self.first is None:
-            self.first = {"connection": connection, "kind": kind, "equal": self.equal, "messages": [one[1], two[1]],
+            self.first = {"connection": number, "label": connection.label, "kind": kind, "equal": self.equal, "messages": [one[1], two[1]],
                           "texts": around(one[0], two[0])}
 
 
@@ -173,7 +173,7 @@ def lines_of(told):
     if first is None:
         yield f"no difference: {told['equal']} exchanges and events are the same"
         return
-    yield (f"the first difference is a {first['kind']} of connection #{first['connection'] + 1}, after {first['equal']} "
+    yield (f"the first difference is a {first['kind']} of connection {first['label']}, after {first['equal']} "
            "exchanges and events that are the same:")
     for name, n, each in zip(("here", "there"), first["messages"], first["texts"]):
         where = f" message {n}" if n else ""

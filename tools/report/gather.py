@@ -55,10 +55,12 @@ class Watch(list):
 
 
 class Connection:
-    """What is found of one connection. Times are milliseconds since 1970, and None where there are none."""
+    """What is found of one connection, or of a part of it. Times are milliseconds since 1970, and None where there are
+    none. `label` is what it is called: the number of the connection, and of a later part that of the part; `first` is
+    the part that the connection begins with."""
 
-    def __init__(self, number, source):
-        self.number, self.source = number, source
+    def __init__(self, number, source, label, first):
+        self.number, self.source, self.label, self.first = number, source, label, first
         self.asked_session = self.session = self.timeout = self.read_only = None
         self.begun = self.ended = None
         self.messages = self.events = 0
@@ -73,10 +75,19 @@ class Connection:
 
     def session_id(self):
         """The session as ZooKeeper's logs print it; None where the recording has none."""
+        if self.first:
+            return self.first.session_id()
         for number in (self.session, self.asked_session):
             if number not in (None, "0x0") and not self.is_late:
                 return number
         return None
+
+    def span(self):
+        """When it begins and ends, by its capture or else by its messages."""
+        source = self.source
+        begun = self.begun if source.begun is None else source.begun
+        ended = self.ended if source.ended is None else source.ended
+        return begun, max(begun, ended) if ended is not None else begun
 
     def is_refused(self):
         """Whether the server no longer knew the session."""
@@ -87,14 +98,14 @@ class Run:
     """What is found of all connections of a report."""
 
     def __init__(self):
-        self.connections, self.kept, self.density = [], kept.Kept(), kept.Density()
+        self.connections, self.by_source, self.warnings = [], {}, []
+        self.kept, self.density = kept.Kept(), kept.Density()
         self.paths = kept.Counted(Path)
         self.watches = kept.Counted(Watch, MOST_WATCHES)
 
     def read(self, source, program, progress, tracing=None):
         """Reads a connection. `tracing` is given what happens, for a trace."""
-        connection = Connection(len(self.connections), source)
-        self.connections.append(connection)
+        connection = self.connection(source)
         reading = Reading(self, connection, tracing)
         with source.conversation(program, progress) as talk:
             for line, made, asked in talk:
@@ -105,8 +116,17 @@ class Run:
         if tracing:
             tracing.end(connection)
 
-    def is_timed(self):
-        return any(connection.begun is not None for connection in self.connections)
+    def connection(self, source):
+        """The next connection, or the next part of one."""
+        first = self.by_source.get(source.first)
+        label = f"{first.label}.{source.part}" if first else f"#{self.count() + 1}"
+        found = self.by_source[source] = Connection(len(self.connections), source, label, first)
+        self.connections.append(found)
+        return found
+
+    def count(self):
+        """How many connections there are, whatever their parts."""
+        return sum(connection.first is None for connection in self.connections)
 
 
 class Reading:

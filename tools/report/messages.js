@@ -29,7 +29,7 @@ function drawMessages() {
   const close = element("button", { type: "button", onclick: closeMessages, text: "Close", title: "Esc" });
   const head = element("header", {}, element("div", {},
     element("h2", { text: `Connection ${connectionName(connection)}, message ${count(n)}` }),
-    element("p", { text: [visible(each.name), each.client && `${each.client} > ${each.server}`,
+    element("p", { text: [visible(each.name), each.server && `to ${each.server}`,
       `session ${sessionName(sessionOf[connection])}`].filter(Boolean).join(" · ") })), close);
   if (at < 0) {
     panel.replaceChildren(head, element("p", { class: "hint", text: missing(connection, n) }));

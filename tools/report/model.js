@@ -46,7 +46,7 @@ function sessionName(number) {
 }
 
 function connectionName(number) {
-  return `#${number + 1}`;
+  return data.connections[number].label;
 }
 
 // A text with every character that isn't seen, or that would turn the text around, as an escape.
@@ -127,7 +127,7 @@ const derive = {
   },
   slowest(indices) {
     return indices.filter(i => !Number.isNaN(requests.ms[i])).sort((a, b) => requests.ms[b] - requests.ms[a])
-      .slice(0, 20).map(i => [requests.ms[i], timed ? data.begun + requests.x[i] : null, requests.connection[i],
+      .slice(0, 20).map(i => [requests.ms[i], timed ? data.begun + requests.x[i] : null, connectionName(requests.connection[i]),
         requests.n[i], data.ops[requests.op[i]], data.errors[requests.error[i]] ?? null, data.paths[requests.path[i]] ?? null,
         ...link(i)]);
   },
@@ -142,7 +142,7 @@ const derive = {
   },
   unanswered(indices) {
     return indices.filter(i => outcome(i) === UNANSWERED).slice(0, 50).map(i => [
-      timed && !Number.isNaN(requests.x[i]) ? data.begun + requests.x[i] : null, requests.connection[i],
+      timed && !Number.isNaN(requests.x[i]) ? data.begun + requests.x[i] : null, connectionName(requests.connection[i]),
       requests.n[i], data.ops[requests.op[i]], data.paths[requests.path[i]] ?? null, ...link(i)]);
   },
 };

@@ -89,10 +89,11 @@ function head() {
   document.getElementById("files").textContent = [visible(data.title),
     timed ? `${iso(data.begun).replace("T", " ").replace("Z", "")} to ${iso(data.ended).slice(11, 23)} UTC, ${duration(data.ended - data.begun)}`
       : "no times"].join(" · ");
+  document.getElementById("warnings").append(...data.warnings.map(text => element("p", { class: "failed", text: `Not read: ${visible(text)}` })));
   const one = (name, value, kind = "") => element("li", { class: value ? kind : "" },
     element("b", { text: count(value) }), ` ${name}`);
   document.getElementById("counts").append(
-    one("sessions", data.sessions.length), one("connections", data.connections.length), one("requests", data.counts.asked),
+    one("sessions", data.sessions.length), one("connections", data.counts.connections), one("requests", data.counts.asked),
     one("failed", data.counts.failed, "failed"), one("unanswered", data.counts.unanswered, "unanswered"),
     one("events", data.counts.events), one("messages", data.counts.messages));
   data.sessions.forEach((_, number) => field("session").append(element("option", { value: sessionKeys[number], text: visible(sessionName(number)) })));

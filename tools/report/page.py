@@ -48,7 +48,7 @@ def data_of(title, found):
                      "rows": [[plain(value) for value in row] for row in rows]}
               for name, rows in found.tables.items()}
     return {
-        "title": title, "begun": found.begun, "ended": found.ended, "counts": found.counts, "tables": tables,
+        "title": title, "warnings": run.warnings, "begun": found.begun, "ended": found.ended, "counts": {**found.counts, "connections": run.count()}, "tables": tables,
         "leftOut": found.rows_left_out(), "pathsShort": run.paths.short, "complete": run.kept.is_complete(),
         "connections": [connection_of(each) for each in run.connections],
         "sessions": [session_of(each) for each in found.sessions],
@@ -102,16 +102,18 @@ def requests_of(found, names):
 
 def connection_of(each):
     source = each.source
-    return {"name": source.name, "client": source.client, "server": source.server, "session": each.session_id(),
-            "asked": each.asked_session, "timeout": each.timeout, "begun": each.begun, "ended": each.ended,
-            "opened": source.begun, "messages": each.messages, "late": each.is_late, "refused": each.is_refused(),
-            "closed": summary.closed_by(each), "end": summary.ending_of(each), "notes": source.notes,
-            "word": each.ending and each.ending["ending"]}
+    begun, ended = each.span()
+    return {"name": source.name, "label": each.label, "server": source.server, "begun": begun, "ended": ended,
+            "messages": each.messages, "refused": each.is_refused(), "closed": summary.closed_by(each),
+            "end": summary.ending_of(each), "first": each.first and each.first.number,
+            "hole": "hole" in source.notes or bool(each.ending) and each.ending["ending"] != "whole"}
 
 
 def session_of(session):
     return {"id": session.id, "connections": [each.number for each in session.connections], "end": session.end(),
-            "gaps": [[before.number, after.number, gap] for before, after, gap in session.gaps()]}
+            "gaps": [[before.number, after.number, gap] for before, after, gap in session.gaps()],
+            "holes": [[before.number, after.number] for before, after in zip(session.connections, session.connections[1:])
+                      if summary.is_hole(before, after)]}
 
 
 def density_of(found):

@@ -47,7 +47,7 @@ function drawSessions(indices) {
     label(svg, row, top, high);
     const plot = shape("g", { "clip-path": "url(#plot)" }, svg);
     row.lanes.forEach((lane, at) => lane.forEach(each => drawBar(plot, each, to, top + at * high, high, marks)));
-    if (timed) drawGaps(plot, row, to, top, high);
+    if (timed) drawGaps(plot, row.session, to, top, high);
     top += row.lanes.length * high + 4;
   }
   box.replaceChildren(svg);
@@ -113,7 +113,7 @@ function drawShares(parent, number, kind, to, top, high) {
 
 function drawBar(plot, { number, span }, to, top, high, marks) {
   const each = data.connections[number], from = to(span[0]), until = Math.max(from + 2, to(span[1]));
-  const told = [`${connectionName(number)} ${visible(each.name)}`, each.client && `${each.client} > ${each.server}`,
+  const told = [`${connectionName(number)} ${visible(each.name)}`, each.server && `to ${each.server}`,
     timed ? `${place(span[0])} to ${place(span[1])}, ${duration(span[1] - span[0])}` : `${count(each.messages)} messages`,
     `closed by ${each.closed}`, `recording: ${each.end}`].filter(Boolean);
   const link = shape("a", { href: "#", class: "bar", "aria-label": told.join(", ") }, plot);
@@ -128,10 +128,10 @@ function drawBar(plot, { number, span }, to, top, high, marks) {
 
 // How a connection ended: a hole or an early end of the recording, a closed session, a refusal or reset, or nothing known.
 function endOf(each) {
-  if (each.word && each.word !== "whole" || each.notes.hole) return "hole";
+  if (each.hole) return "hole";
   if (each.closed.startsWith("client: closeSession")) return "closed";
   if (each.closed.includes("reset") || each.refused) return "reset";
-  return each.closed === "not recorded" || each.closed.startsWith("open") ? "still" : "closed";
+  return /^(open|not)/.test(each.closed) ? "still" : "closed";
 }
 
 // The sign of an end, at the end of a bar.
@@ -168,9 +168,14 @@ function drawLegend() {
   }));
 }
 
-// The gaps between a session's connections.
-function drawGaps(plot, row, to, top, high) {
-  for (const [before, after, ms] of row.session.gaps) {
+// The gaps between a session's connections, and the holes within a connection.
+function drawGaps(plot, session, to, top, high) {
+  for (const [before, after] of session.holes) {
+    const from = to(bar(before)[1]), until = to(bar(after)[0]);
+    shape("rect", { class: "hole", x: from, y: top + 2, width: Math.max(3, until - from), height: high - 4 }, shape("g", { class: "bar" }, plot),
+      `bytes are missing between ${connectionName(before)} and ${connectionName(after)}`);
+  }
+  for (const [before, after, ms] of session.gaps) {
     if (ms <= 0) continue;
     const from = to(bar(before)[1]), until = to(bar(after)[0]), middle = top + high / 2;
     const gap = shape("g", { class: "gap" }, plot, `${duration(ms)} between ${connectionName(before)} and ${connectionName(after)}`);

@@ -10,6 +10,8 @@ from typing import NamedTuple
 from report import gather
 
 SLOWEST, ROWS, MOST_SESSIONS = 20, 50, 200
+SIDES = {"C": "client", "S": "server"}
+PLAIN_NOTES = ("client", "server", "packets", "closed", "reset", "open")
 QUANTILES = {"p50": 0.5, "p95": 0.95, "p99": 0.99}
 
 
@@ -28,7 +30,7 @@ COLUMNS = {
         Column("end", "how it ended", "text")],
     "connections": [
         Column("connection", "connection", "connection"), Column("session", "session", "session"),
-        Column("name", "name", "text"), Column("client", "client", "text"), Column("begun", "begun", "time"),
+        Column("name", "name", "text"), Column("server", "server", "text"), Column("begun", "begun", "time"),
         Column("lasted", "lasted", "length"),
         Column("asked", "requests", "count"), Column("failed", "failed", "count"),
         Column("unanswered", "unanswered", "count"), Column("events", "events", "count"),
@@ -65,14 +67,18 @@ class Session:
 
     def __init__(self, number, found, connections):
         self.number, self.id = number, found
-        self.connections = sorted(connections, key=lambda each: (each.begun or 0, each.number))
+        self.connections = sorted(connections, key=lambda each: (each.span()[0] or 0, each.number))
 
     def gaps(self):
         """The gaps between its connections: the one before, the one behind, and the milliseconds; the last is negative
-        where two were open at once."""
-        return [(before, after, round(after.begun - before.ended, 3))
+        where two were open at once. Between parts of one connection there is no gap, but a hole of the recording."""
+        return [(before, after, round(after.span()[0] - before.span()[1], 3))
                 for before, after in zip(self.connections, self.connections[1:])
-                if before.ended is not None and after.begun is not None]
+                if before.span()[1] is not None and after.span()[0] is not None and not is_hole(before, after)]
+
+    def count(self):
+        """How many connections it has, whatever their parts."""
+        return sum(each.first is None for each in self.connections)
 
     def end(self):
         last = self.connections[-1]
@@ -83,12 +89,17 @@ class Session:
         return closed_by(last)
 
 
+def is_hole(before, after):
+    """Whether these are parts of one connection, between which bytes are missing."""
+    return (before.first or before) is (after.first or after)
+
+
 def sessions_of(run):
     """The sessions of a run. A connection whose session isn't known is one by itself."""
     groups = collections.defaultdict(list)
     for connection in run.connections:
-        groups[connection.session_id() or connection.number].append(connection)
-    ordered = sorted(groups.items(), key=lambda item: min((each.begun or 0, each.number) for each in item[1]))
+        groups[connection.session_id() or (connection.first or connection).number].append(connection)
+    ordered = sorted(groups.items(), key=lambda item: min((each.span()[0] or 0, each.number) for each in item[1]))
     return [Session(number, key if isinstance(key, str) else None, connections)
             for number, (key, connections) in enumerate(ordered)]
 
@@ -99,14 +110,18 @@ def closed_by(connection):
         return "client: closeSession"
     if connection.is_refused():
         return "server: session expired"
-    return "not recorded"
+    notes = connection.source.notes
+    for word, told in (("reset", "reset"), ("closed", "FIN")):
+        if word in notes:
+            return f"{SIDES[notes[word]]}: {told}"
+    return "open at the end" if "open" in notes else "not known: a hole" if "hole" in notes else "not recorded"
 
 
 def ending_of(connection):
     """How the recording of a connection ends, and what is missing of it."""
     ending = connection.ending
     notes = [f"{word}={value}" if value else word for word, value in connection.source.notes.items()
-             if word not in ("client", "server")]
+             if word not in PLAIN_NOTES and (word, value) != ("resent", "0")]
     if ending is None:
         told = "no ending line" if connection.source.path else "nothing recorded"
     else:
@@ -144,15 +159,16 @@ def session_rows(sessions):
         connections, gaps = session.connections, session.gaps()
         begun, ended = span(connections)
         timeout = next((each.timeout for each in reversed(connections) if each.timeout), None)
-        yield [session.id, timeout, len(connections), begun, ended, sum(each.total("asked") for each in connections),
+        yield [session.id, timeout, session.count(), begun, ended, sum(each.total("asked") for each in connections),
                sum(each.failed() for each in connections), sum(each.total("unanswered") for each in connections),
                max((gap for _, _, gap in gaps), default=None), session.end(), connections[0].number, 1]
 
 
 def connection_rows(run):
     for each in run.connections:
-        lasted = None if each.begun is None else round(each.ended - each.begun, 3)
-        yield [each.number, each.session_id(), each.source.name, each.source.client, each.begun, lasted, each.total("asked"),
+        begun, ended = each.span()
+        lasted = None if begun is None else round(ended - begun, 3)
+        yield [each.label, each.session_id(), each.source.name, each.source.server, begun, lasted, each.total("asked"),
                each.failed(), each.total("unanswered"), each.events, closed_by(each), ending_of(each), each.number,
                max(1, each.messages)]
 
@@ -160,7 +176,7 @@ def connection_rows(run):
 def slowest_rows(run):
     timed = [each for each in run.kept.requests() if each.ms is not None]
     for each in sorted(timed, key=lambda each: (-each.ms, each.connection, each.n))[:SLOWEST]:
-        yield [each.ms, each.at, each.connection, each.n, each.op, each.error, each.path, each.connection, each.n]
+        yield [each.ms, each.at, run.connections[each.connection].label, each.n, each.op, each.error, each.path, each.connection, each.n]
 
 
 def path_rows(run):
@@ -169,20 +185,21 @@ def path_rows(run):
 
 
 def watch_rows(run):
-    rows = [[found[0], found[1], sum(found[2].values()), found[2], connection, path, connection, found[3]]
+    rows = [[found[0], found[1], sum(found[2].values()), found[2], run.connections[connection].label, path, connection,
+             found[3]]
             for (connection, path), found in run.watches.entries.items()]
-    return sorted(rows, key=lambda row: (-row[2], -row[0], row[4], row[7]))[:ROWS]
+    return sorted(rows, key=lambda row: (-row[2], -row[0], row[6], row[7]))[:ROWS]
 
 
 def unanswered_rows(run):
     for each in run.kept.unanswered[:ROWS]:
-        yield [each.at, each.connection, each.n, each.op, each.path, each.connection, each.n]
+        yield [each.at, run.connections[each.connection].label, each.n, each.op, each.path, each.connection, each.n]
 
 
 def span(connections):
     """When the first of these connections begins, and when the last one ends."""
-    return (min((each.begun for each in connections if each.begun is not None), default=None),
-            max((each.ended for each in connections if each.ended is not None), default=None))
+    spans = [each.span() for each in connections if each.span()[0] is not None]
+    return min((begun for begun, _ in spans), default=None), max((ended for _, ended in spans), default=None)
 
 
 class Summary:

@@ -6,7 +6,7 @@ const HELP = {
   operations: "p50, p95 and p99 are the latencies that so many of a hundred replies didn't exceed.",
   paths: "A part of a multi counts as a request of its path.",
   watches: "Set: by a request that asked for a watch and could set one, or again by setWatches behind a reconnection.",
-  unanswered: "Requests that had no reply when the recording or the connection ended.",
+  unanswered: "Requests that had no reply when the recording or the connection ended. Where a recording has a hole, the reply may have been among the bytes that are missing.",
 };
 
 function cellText(kind, value) {
@@ -15,7 +15,6 @@ function cellText(kind, value) {
   if (kind === "ms") return value < 1 ? String(+value.toFixed(3)) : String(+value.toPrecision(5));
   if (kind === "length") return duration(value);
   if (kind === "count") return count(value);
-  if (kind === "connection") return connectionName(value);
   if (kind === "counts") return Object.entries(value).map(([name, many]) => `${visible(name)} ${count(many)}`).join(", ") || "–";
   return shownText(value);
 }
@@ -63,7 +62,7 @@ function drawTable(name, rows) {
 function drawCompared({ equal, first, columns, rows }) {
   const section = element("section", { id: "t-compared", class: "table" }, element("h2", { text: "Compared with the other run" }));
   if (first) {
-    section.append(element("p", { text: `The first difference is a ${first.kind} of connection ${connectionName(first.connection)}, after ${count(first.equal)} exchanges and events that are the same:` }));
+    section.append(element("p", { text: `The first difference is a ${first.kind} of connection ${first.label}, after ${count(first.equal)} exchanges and events that are the same:` }));
     ["here", "there"].forEach((name, side) => {
       const n = first.messages[side];
       const where = n && side === 0 ? element("a", { href: hashOf({ m: `${first.connection + 1}:${n}` }), text: `here, message ${count(n)}` })

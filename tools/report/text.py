@@ -10,11 +10,13 @@ ROWS, WHOLE = 20, ("sessions", "connections", "operations", "errors")
 def lines_of(found):
     """The lines of all tables of a summary."""
     counts = found.counts
-    yield (f"{len(found.run.connections)} connections, {len(found.sessions)} sessions, {counts['messages']} messages, "
+    yield (f"{found.run.count()} connections, {len(found.sessions)} sessions, {counts['messages']} messages, "
            f"{counts['asked']} requests, {counts['failed']} failed, {counts['unanswered']} unanswered, "
            f"{counts['events']} events")
     if found.begun is not None:
         yield f"from {zkr.clock(found.begun)} to {zkr.clock(found.ended)}"
+    for warning in found.run.warnings:
+        yield f"not read: {printable(warning)}"
     left_out = found.rows_left_out()
     for name, rows in found.tables.items():
         if rows:
@@ -47,8 +49,6 @@ def cell(kind, value):
         return f"{value:.7g}"
     if kind == "length":
         return f"{value / 1000:.7g} s"
-    if kind == "connection":
-        return f"#{value + 1}"
     if kind == "counts":
         return " ".join(f"{printable(name)}={count}" for name, count in value.items())
     if kind == "path":

@@ -52,17 +52,18 @@ class Trace:
     def place(self, connection):
         """The process and the thread of a connection."""
         session = connection.session_id()
-        process = self.sessions.setdefault(session or connection.number, len(self.sessions) + 1)
+        process = self.sessions.setdefault(session or (connection.first or connection).number, len(self.sessions) + 1)
         return {"pid": process, "tid": connection.number + 1}
 
     def end(self, connection):
         """Takes the end of a connection, once all its messages are taken."""
         where = self.place(connection)
-        if connection.begun is not None:
-            self.put(ph="X", cat="connection", name=f"connection {connection.source.name}",
-                     ts=microseconds(connection.begun), dur=microseconds(connection.ended - connection.begun), **where)
+        begun, ended = connection.span()
+        if begun is not None:
+            self.put(ph="X", cat="connection", name=f"connection {connection.source.name}", ts=microseconds(begun),
+                     dur=microseconds(ended - begun), **where)
         self.put(ph="M", name="process_name", args={"name": f"session {connection.session_id() or 'unknown'}"}, **where)
-        self.put(ph="M", name="thread_name", args={"name": f"#{connection.number + 1} {connection.source.name}"}, **where)
+        self.put(ph="M", name="thread_name", args={"name": f"{connection.label} {connection.source.name}"}, **where)
 
     def close(self):
         self.out.waiting += b"\n]}\n"
