@@ -120,7 +120,7 @@ function drawBar(plot, { number, span }, to, top, high, marks) {
   shape("rect", { class: each.refused ? "refused" : "open", x: from, y: top + 3, width: until - from, height: high - 6, rx: 3 }, link);
   drawTroubles(link, number, to, top, high, marks);
   if (until - from > 34 && high > 14) shape("text", { x: Math.max(from, MARGIN.left) + 6, y: top + high / 2 + 4 }, link).textContent = connectionName(number);
-  drawEnd(link, endOf(each), until, top, high);
+  if (!goesOn(number)) drawEnd(link, endOf(each), until, top, high);
   link.addEventListener("click", event => { event.preventDefault(); openMessages(number, 1); });
   link.addEventListener("pointermove", event => tell(told, event.clientX, event.clientY));
   link.addEventListener("pointerleave", () => tell(null));
@@ -132,6 +132,11 @@ function endOf(each) {
   if (each.closed.startsWith("client: closeSession")) return "closed";
   if (each.closed.includes("reset") || each.refused) return "reset";
   return /^(open|not)/.test(each.closed) ? "still" : "closed";
+}
+
+// Whether a part of the connection follows a hole, which is drawn as such.
+function goesOn(number) {
+  return data.sessions[sessionOf[number]].holes.some(([before]) => before === number);
 }
 
 // The sign of an end, at the end of a bar.

@@ -11,6 +11,7 @@ from report import gather
 
 SLOWEST, ROWS, MOST_SESSIONS = 20, 50, 200
 SIDES = {"C": "client", "S": "server"}
+NOTHING = ("0", "C:0,S:0")
 PLAIN_NOTES = ("client", "server", "packets", "closed", "reset", "open")
 QUANTILES = {"p50": 0.5, "p95": 0.95, "p99": 0.99}
 
@@ -18,7 +19,8 @@ QUANTILES = {"p50": 0.5, "p95": 0.95, "p99": 0.99}
 class Column(NamedTuple):
     name: str
     heading: str
-    kind: str       # text, count, ms, length, time, path, session, connection, op, error, or counts by name
+    kind: str       # text, count, ms, length, time, path, session, connection, op, error, note,
+                    # or counts by name
 
 
 COLUMNS = {
@@ -34,7 +36,7 @@ COLUMNS = {
         Column("lasted", "lasted", "length"),
         Column("asked", "requests", "count"), Column("failed", "failed", "count"),
         Column("unanswered", "unanswered", "count"), Column("events", "events", "count"),
-        Column("closed", "closed by", "text"), Column("end", "recording", "text")],
+        Column("closed", "closed by", "text"), Column("end", "recording", "note")],
     "operations": [
         Column("op", "operation", "op"), Column("asked", "asked", "count"), Column("answered", "answered", "count"),
         Column("failed", "failed", "count"), Column("unanswered", "unanswered", "count"),
@@ -121,7 +123,7 @@ def ending_of(connection):
     """How the recording of a connection ends, and what is missing of it."""
     ending = connection.ending
     notes = [f"{word}={value}" if value else word for word, value in connection.source.notes.items()
-             if word not in PLAIN_NOTES and (word, value) != ("resent", "0")]
+             if word not in PLAIN_NOTES and value not in NOTHING]
     if ending is None:
         told = "no ending line" if connection.source.path else "nothing recorded"
     else:
