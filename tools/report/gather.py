@@ -2,7 +2,9 @@
 
 import collections
 import json
+import re
 
+import listing
 import zkjson
 import zkstat
 from report import kept, paths
@@ -11,6 +13,7 @@ WATCHING = ("exists", "getData", "getChildren", "getChildren2")
 WATCH_LISTS = ("dataWatches", "existWatches", "childWatches")
 MADE_UP = "-1"      # the version in the connect messages that pcap2zkr.py makes up
 MOST_WATCHES = 20_000
+PATHS = re.compile(rf' path=({listing.TEXT})|"[^"]*"')      # a path, or another text, in which there may be " path="
 
 
 class Latencies(zkstat.Latencies):
@@ -155,7 +158,7 @@ class Reading:
         elif asked:
             self.reply(made, asked)
         else:
-            self.event(line, made, asked)
+            self.event(line, made)
 
     def connect(self, line, made, asked):
         """Takes a connect message, and says whether it is one that pcap2zkr.py made up."""
@@ -179,10 +182,11 @@ class Reading:
             if is_watching(line):
                 self.watching.add(made.n)
         elif made.op == "multi":
-            for part in object_of(line, made).get("parts", ()):
-                self.name_path(paths.path_of_text(part.get("path")), made)
+            for each in paths_of_parts(line):
+                self.name_path(each, made)
         elif made.op == "setWatches":
-            self.set_again(object_of(line, made), made)
+            for each in watched_paths(line):
+                self.set_again(each, made)
         elif made.op == "closeSession":
             connection.closing = made.n
 
@@ -192,12 +196,11 @@ class Reading:
         if entry[4] is None:
             entry[3:] = self.connection.number, made.n
 
-    def set_again(self, fields, made):
-        """Counts the watches that a client sets again behind a reconnection."""
-        for path in (path for name in WATCH_LISTS for path in fields.get(name) or ()):
-            entry = self.watch(paths.path_of_text(path), made)
-            entry[0] += 1
-            entry[1] += 1
+    def set_again(self, path, made):
+        """Counts a watch that a client sets again behind a reconnection."""
+        entry = self.watch(path, made)
+        entry[0] += 1
+        entry[1] += 1
 
     def watch(self, path, made):
         entry = self.run.watches.entry((self.connection.number, path))
@@ -234,9 +237,9 @@ class Reading:
             if made.ms is not None and made.ms > entry[2]:
                 entry[2:] = made.ms, self.connection.number, asked.n
 
-    def event(self, line, made, asked):
+    def event(self, line, made):
         self.connection.events += 1
-        path = paths.path_of_text(object_of(line, made, asked).get("path"))
+        path = path_of_event(line)
         entry = self.watch(path, made)
         entry[2][made.error] = entry[2].get(made.error, 0) + 1
         entry[3] = made.n
@@ -269,6 +272,26 @@ def is_watching(line):
 
 def path_of(line, made):
     """The path of a request."""
+    return paths.path_of_text(json.loads(line).get("path")) if line.startswith("{") else paths.path_of(made.path)
+
+
+def path_of_event(line):
+    """The path of an event: its last field."""
     if line.startswith("{"):
         return paths.path_of_text(json.loads(line).get("path"))
-    return paths.path_of(made.path)
+    return paths.path_of(line.partition(" path=")[2])
+
+
+def paths_of_parts(line):
+    """The paths of a multi's parts."""
+    if line.startswith("{"):
+        return [paths.path_of_text(part.get("path")) for part in json.loads(line).get("parts", ())]
+    return [paths.path_of(found) for found in PATHS.findall(line) if found]
+
+
+def watched_paths(line):
+    """The paths of a setWatches: it has no other texts."""
+    if line.startswith("{"):
+        made = json.loads(line)
+        return [paths.path_of_text(path) for name in WATCH_LISTS for path in made.get(name) or ()]
+    return [paths.path_of(found) for found in listing.QUOTED.findall(line)]
