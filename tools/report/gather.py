@@ -114,6 +114,8 @@ class Run:
             for line, made, asked in talk:
                 reading.take(line, made, asked)
             connection.ending = talk.ending
+            if talk.ending is None and source.is_shown():
+                raise OSError(f"{program} has not shown {source.path} to its end")
             for made in talk.waiting.left():
                 reading.left(made)
         if tracing:

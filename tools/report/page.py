@@ -112,8 +112,7 @@ def connection_of(each):
 def session_of(session):
     return {"id": session.id, "connections": [each.number for each in session.connections], "end": session.end(),
             "gaps": [[before.number, after.number, gap] for before, after, gap in session.gaps()],
-            "holes": [[before.number, after.number] for before, after in zip(session.connections, session.connections[1:])
-                      if summary.is_hole(before, after)]}
+            "holes": [[before.number, after.number] for before, after in session.holes()]}
 
 
 def density_of(found):

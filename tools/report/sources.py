@@ -53,8 +53,10 @@ class Source:
                 talk = listing.Conversation(listing.lines_of(show.stdout, nothing), False, self.times(), progress)
                 yield talk
                 show.stdout.close()
-            if talk.ending is None and show.returncode not in (0, 1, 3, -13):
-                raise OSError(f"{program} has ended with status {show.returncode}")
+
+    def is_shown(self):
+        """Whether it is a recording, of which the program makes the listing."""
+        return self.path is not None and not self.is_listing
 
     def times(self):
         """The side and the time of each message, or None where the recording has no times."""

@@ -72,11 +72,26 @@ class Session:
         self.connections = sorted(connections, key=lambda each: (each.span()[0] or 0, each.number))
 
     def gaps(self):
-        """The gaps between its connections: the one before, the one behind, and the milliseconds; the last is negative
-        where two were open at once. Between parts of one connection there is no gap, but a hole of the recording."""
-        return [(before, after, round(after.span()[0] - before.span()[1], 3))
-                for before, after in zip(self.connections, self.connections[1:])
-                if before.span()[1] is not None and after.span()[0] is not None and not is_hole(before, after)]
+        """The times at which none of its connections is open: the connection before, the one behind, and how many
+        milliseconds it lasts. Between parts of one connection there is no gap, but a hole of the recording."""
+        last = None
+        for each in self.connections:
+            begun, ended = each.span()
+            if begun is None:
+                continue
+            if last and begun > last.span()[1] and not is_hole(last, each):
+                yield last, each, round(begun - last.span()[1], 3)
+            if last is None or ended > last.span()[1]:
+                last = each
+
+    def holes(self):
+        """The parts of one connection between which bytes are missing: the one before and the one behind."""
+        last = {}
+        for each in self.connections:
+            first = each.first or each
+            if first in last:
+                yield last[first], each
+            last[first] = each
 
     def count(self):
         """How many connections it has, whatever their parts."""
@@ -158,12 +173,12 @@ def error_rows(operations):
 
 def session_rows(sessions):
     for session in sessions:
-        connections, gaps = session.connections, session.gaps()
+        connections = session.connections
         begun, ended = span(connections)
         timeout = next((each.timeout for each in reversed(connections) if each.timeout), None)
         yield [session.id, timeout, session.count(), begun, ended, sum(each.total("asked") for each in connections),
                sum(each.failed() for each in connections), sum(each.total("unanswered") for each in connections),
-               max((gap for _, _, gap in gaps), default=None), session.end(), connections[0].number, 1]
+               max((gap for _, _, gap in session.gaps()), default=None), session.end(), connections[0].number, 1]
 
 
 def connection_rows(run):

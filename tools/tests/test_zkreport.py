@@ -13,7 +13,7 @@ session  timeout ms  connections  begun                     ended               
 0x7           10000            2  2023-11-14T22:13:20.000Z  2023-11-14T22:13:25.201Z        10       3           1          5 s  closed by the client
 
 Connections
-connection  session  name        client  begun                      lasted  requests  failed  unanswered  events  closed by             recording
+connection  session  name        server  begun                      lasted  requests  failed  unanswered  events  closed by             recording
         #1  0x7      one.json    -       2023-11-14T22:13:20.000Z   0.07 s         5       1           1       1  not recorded          cut side=S frame=4 got=3
         #2  0x7      other.json  -       2023-11-14T22:13:25.070Z  0.131 s         5       2           0       0  client: closeSession  whole
 
