@@ -15,11 +15,15 @@ differ.
 The page has no passwords of sessions and no credentials, but it has data of nodes: its owner alone may read it.
 """
 
+import contextlib
+import os
 import sys
 import tempfile
 
 import zkr
 from report import against, gather, messages, page, sources, summary, text, trace
+
+NAMED = 6       # the files that a page's title names
 
 
 def read(run, inputs, words, folder, tracing=None):
@@ -30,7 +34,24 @@ def read(run, inputs, words, folder, tracing=None):
     return run
 
 
-def write_page(words, found, compared):
+@contextlib.contextmanager
+def new_file(path):
+    """A new file to write to, or None where there is no path. It is gone again where its writing fails."""
+    if path is None:
+        yield None
+        return
+    out = zkr.NewFile(path)
+    try:
+        yield out
+        out.flush()
+    except BaseException:
+        os.unlink(path)
+        raise
+    finally:
+        out.file.close()
+
+
+def write_page(words, out, found, compared):
     """Reads the connections again, for the messages that the tables lead to, and writes the page."""
     links = found.links()
     if compared and compared["first"]:
@@ -39,11 +60,14 @@ def write_page(words, found, compared):
     progress = zkr.Progress("zkreport")
     for connection in found.run.connections:
         windows.read(connection, words.zkdump, progress)
-    names = ", ".join(dict.fromkeys(words.inputs))
-    out = zkr.NewFile(words.output)
-    out.waiting += page.page(names, found, windows.to_json(), compared).encode()
-    out.flush()
-    out.file.close()
+    out.waiting += page.page(title(words.inputs), found, windows.to_json(), compared).encode()
+
+
+def title(inputs):
+    """What the page is called: the names of its files, or of the first ones."""
+    names = list(dict.fromkeys(os.path.basename(path) for path in inputs))
+    more = len(names) - NAMED
+    return ", ".join(names[:NAMED]) + (f" and {more} more" if more > 0 else "")
 
 
 def write_text(found, compared):
@@ -80,16 +104,16 @@ def words_of():
 
 def main():
     words = words_of()
-    with tempfile.TemporaryDirectory(prefix="zkreport-") as folder:
-        tracing = trace.Trace(zkr.NewFile(words.trace)) if words.trace else None
+    with contextlib.ExitStack() as stack:
+        folder = stack.enter_context(tempfile.TemporaryDirectory(prefix="zkreport-"))
+        out, traced = (stack.enter_context(new_file(path)) for path in (words.output, words.trace))
+        tracing = trace.Trace(traced) if traced else None
         found = summary.Summary(read(gather.Run(), words.inputs, words, folder, tracing))
         if tracing:
             tracing.close()
-            if not tracing.events:
-                raise ValueError("no times: a trace needs recordings with times")
         compared = compare(words, found, folder) if words.against else None
-        if words.output:
-            write_page(words, found, compared)
+        if out:
+            write_page(words, out, found, compared)
     if words.text:
         write_text(found, compared)
     return 1 if found.run.warnings or compared and compared["first"] else 0

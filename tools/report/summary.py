@@ -178,7 +178,8 @@ def session_rows(sessions):
         timeout = next((each.timeout for each in reversed(connections) if each.timeout), None)
         yield [session.id, timeout, session.count(), begun, ended, sum(each.total("asked") for each in connections),
                sum(each.failed() for each in connections), sum(each.total("unanswered") for each in connections),
-               max((gap for _, _, gap in session.gaps()), default=None), session.end(), connections[0].number, 1]
+               max((gap for _, _, gap in session.gaps()), default=None), session.end(), connections[0].number,
+               1 if connections[0].messages else None]
 
 
 def connection_rows(run):
@@ -187,7 +188,7 @@ def connection_rows(run):
         lasted = None if begun is None else round(ended - begun, 3)
         yield [each.label, each.session_id(), each.source.name, each.source.server, begun, lasted, each.total("asked"),
                each.failed(), each.total("unanswered"), each.events, closed_by(each), ending_of(each), each.number,
-               max(1, each.messages)]
+               each.messages or None]
 
 
 def slowest_rows(run):

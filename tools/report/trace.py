@@ -66,9 +66,10 @@ class Trace:
         self.put(ph="M", name="thread_name", args={"name": f"{connection.label} {connection.source.name}"}, **where)
 
     def close(self):
+        """Ends the trace, which has to have something in it."""
+        if not self.events:
+            raise ValueError("no times: a trace needs recordings with times")
         self.out.waiting += b"\n]}\n"
-        self.out.flush()
-        self.out.file.close()
 
 
 def microseconds(milliseconds):

@@ -37,7 +37,7 @@ class Browser:
         url = f"{self.base}/{self.session}{path}" if self.session else self.base
         data = None if body is None else json.dumps(body).encode()
         request = urllib.request.Request(url, data, {"Content-Type": "application/json"}, method=method)
-        with urllib.request.build_opener(urllib.request.ProxyHandler({})).open(request, timeout=30) as answer:
+        with urllib.request.build_opener(urllib.request.ProxyHandler({})).open(request, timeout=120) as answer:
             return json.load(answer)["value"]
 
     def open(self, path, fragment=""):

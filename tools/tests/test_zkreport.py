@@ -143,6 +143,7 @@ class Zkreport(ToolCase):
         path = self.listing("a.show", LISTING.format(**HERE))
         status, out, err = self.run_tool("zkreport.py", "--trace", self.folder / "t", path)
         self.assertEqual((status, out, err), (1, "", "zkreport.py: no times: a trace needs recordings with times\n"))
+        self.assertFalse((self.folder / "t").exists())
 
     def test_no_difference(self):
         here = self.listing("here.show", LISTING.format(**HERE))
