@@ -1,7 +1,7 @@
 #!/usr/bin/env python3
 """Reports what happened on many connections, as a page for a browser, as text, or as a trace.
 
-    zkreport.py [-o REPORT.html] [--text] [--trace TRACE.json] [--against OTHER] [--port N] [--zkdump PATH] INPUT ..
+    zkreport.py [-o REPORT.html] [--text] [--trace TRACE.json] [--against OTHER] [--port N] [CHOICE ..] INPUT ..
 
 An INPUT is a capture of tcpdump or Wireshark, a recording, or a listing of one, also as the lines of zkjson; a capture
 has any number of connections. Recordings have times within (ZKR2) or beside them (RECORDING.times), and captures always.
@@ -16,22 +16,45 @@ The page has no passwords of sessions and no credentials, but it has data of nod
 """
 
 import contextlib
+import itertools
 import os
 import sys
 import tempfile
 
+import conversations
+import selection
 import zkr
 from report import against, gather, messages, page, sources, summary, text, trace
 
 NAMED = 6       # the files that a page's title names
 
 
-def read(run, inputs, words, folder, tracing=None):
-    """Reads all connections of these files into the run."""
-    progress = zkr.Progress("zkreport")
-    for source in sources.sources_of(inputs, folder, words.port, run.warnings):
-        run.read(source, words.zkdump, progress, tracing)
-    return run
+class Reader:
+    """Reads runs: whatever the words choose of files."""
+
+    def __init__(self, parser, words, folder):
+        self.port, self.folder, self.chosen = words.port, folder, selection.Selection(words)
+        self.opener = sources.Opener(parser, words.zkdump)
+
+    def read(self, inputs, tracing=None):
+        """The summary of all connections of these files."""
+        run = gather.Run()
+        for source in sources.sources_of(inputs, self.folder, self.port, run.warnings):
+            run.read(source, self.opener, self.chosen, tracing)
+        return summary.Summary(run)
+
+    def windows(self, found, links):
+        """The messages around these; of a short run all."""
+        windows = messages.Windows(links, found.counts["messages"] <= messages.ALL)
+        for source, connections in itertools.groupby(found.run.connections, key=lambda each: each.source):
+            windows.read(source, list(connections), self.opener)
+        return windows.to_json()
+
+    def compare(self, found, inputs):
+        """Compares the run with that of the other files."""
+        other = self.read(inputs)
+        comparison = against.Comparison(found.run.connections, other.run.connections, self.opener)
+        return against.tables(found, other, comparison)
 
 
 @contextlib.contextmanager
@@ -51,16 +74,12 @@ def new_file(path):
         out.file.close()
 
 
-def write_page(words, out, found, compared):
-    """Reads the connections again, for the messages that the tables lead to, and writes the page."""
+def page_of(reader, found, compared, name):
+    """The page. The connections are read again, for the messages that the tables lead to."""
     links = found.links()
     if compared and compared["first"]:
         links[compared["first"]["connection"], compared["first"]["messages"][0]] = None
-    windows = messages.Windows(links, found.counts["messages"] <= messages.ALL)
-    progress = zkr.Progress("zkreport")
-    for connection in found.run.connections:
-        windows.read(connection, words.zkdump, progress)
-    out.waiting += page.page(title(words.inputs), found, windows.to_json(), compared).encode()
+    return page.page(name, found, reader.windows(found, links), compared)
 
 
 def title(inputs):
@@ -78,14 +97,6 @@ def write_text(found, compared):
     print("\n".join(lines))
 
 
-def compare(words, found, folder):
-    """Compares the run with the other one."""
-    other = summary.Summary(read(gather.Run(), words.against, words, folder))
-    comparison = against.Comparison(found.run.connections, other.run.connections, words.zkdump,
-                                    zkr.Progress("zkreport"))
-    return against.tables(found, other, comparison)
-
-
 def words_of():
     parser = zkr.Words(__doc__)
     parser.add_argument("inputs", metavar="INPUT", nargs="+", help="a capture, a recording or a listing")
@@ -94,26 +105,26 @@ def words_of():
     parser.add_argument("--trace", metavar="FILE", help="the trace to write")
     parser.add_argument("--against", metavar="OTHER", action="append", help="a file of the run to compare with")
     parser.add_number("--port", range(1, 65536), default=2181, help="the server's port in captures (2181)")
-    parser.add_argument("--zkdump", metavar="PATH", default=str(sources.BUILT) if sources.BUILT.exists() else "zkdump",
-                        help="the program (that of this repository, where it is built)")
+    conversations.add_program(parser)
+    selection.add_words(parser)
     words = parser.parse_args()
     if not (words.output or words.text or words.trace):
         parser.error("nothing to write: -o FILE, --text or --trace FILE")
-    return words
+    return parser, words
 
 
 def main():
-    words = words_of()
+    parser, words = words_of()
     with contextlib.ExitStack() as stack:
-        folder = stack.enter_context(tempfile.TemporaryDirectory(prefix="zkreport-"))
+        reader = Reader(parser, words, stack.enter_context(tempfile.TemporaryDirectory(prefix="zkreport-")))
         out, traced = (stack.enter_context(new_file(path)) for path in (words.output, words.trace))
         tracing = trace.Trace(traced) if traced else None
-        found = summary.Summary(read(gather.Run(), words.inputs, words, folder, tracing))
+        found = reader.read(words.inputs, tracing)
         if tracing:
             tracing.close()
-        compared = compare(words, found, folder) if words.against else None
+        compared = reader.compare(found, words.against) if words.against else None
         if out:
-            write_page(words, out, found, compared)
+            out.waiting += page_of(reader, found, compared, title(words.inputs)).encode()
     if words.text:
         write_text(found, compared)
     return 1 if found.run.warnings or compared and compared["first"] else 0

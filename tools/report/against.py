@@ -73,15 +73,15 @@ class Side:
 
     def exchanges(self):
         """The exchanges, in the order of their requests."""
-        waiting, by_number = collections.deque(), {}
+        waiting, by_request = collections.deque(), {}
         for line, made, asked in self.talk:
             if made.op in LEFT_OUT:
                 continue
             if made.side == "C":
-                by_number[made.n] = exchange = Exchange(plain(line, made, self.as_objects), made.n)
+                by_request[made] = exchange = Exchange(plain(line, made, self.as_objects), made.n)
                 waiting.append(exchange)
             elif asked:
-                exchange = by_number.pop(asked.n)
+                exchange = by_request.pop(asked)
                 exchange.reply, exchange.answer = made.n, plain(line, made, self.as_objects)
                 while waiting and waiting[0].answer is not None:
                     yield waiting.popleft()
@@ -93,14 +93,18 @@ class Side:
 class Comparison:
     """The comparison of two runs, each given as its connections. `first` is the first difference, or None."""
 
-    def __init__(self, ours, theirs, program, progress):
+    def __init__(self, ours, theirs, opener):
         self.equal, self.first = 0, None
-        as_objects = any(is_objects(connection.source) for connection in (*ours, *theirs))
+        as_objects = any(connection.source.has_objects for connection in (*ours, *theirs))
+        for run in (ours, theirs):
+            for before, after in zip(run, run[1:]):
+                if before.source is after.source:
+                    raise ValueError(f"{after.source.path} has several connections, which are not compared")
         for number, (mine, other) in enumerate(itertools.zip_longest(ours, theirs)):
             if mine is None or other is None:
-                self.differ(number, mine or other, "connection", (mine and mine.source.name, None), (other and other.source.name, None))
+                self.differ(number, mine or other, "connection", (mine and mine.name, None), (other and other.name, None))
                 continue
-            with mine.source.conversation(program, progress) as one, other.source.conversation(program, progress) as two:
+            with opener.conversation(mine.source) as one, opener.conversation(other.source) as two:
                 self.compare(number, mine, Side(one, as_objects), Side(two, as_objects))
 
     def compare(self, number, connection, mine, other):
@@ -124,14 +128,6 @@ class Comparison:
                           "texts": around(one[0], two[0])}
 
 
-def is_objects(source):
-    """Whether a source has the lines of zkjson."""
-    if not source.is_listing:
-        return False
-    with open(source.path, "rb") as stream:
-        return stream.read(1) == b"{"
-
-
 def around(one, two):
     """Both texts around the first place where they differ."""
     if one is None or two is None:
@@ -151,10 +147,10 @@ def tables(found, other, comparison):
     for name in dict.fromkeys((*found.operations, *other.operations)):
         counts = [side.operations.get(name) or gather.Operation() for side in (found, other)]
         row = [name]
-        for value in (lambda each: each.asked, lambda each: sum(each.errors.values()), lambda each: each.unanswered):
+        for value in (lambda each: each.asked, gather.Operation.failed, lambda each: each.unanswered):
             row += [value(each) for each in counts]
-        for share in (0.5, 0.99):
-            row += [each.latencies.quantile(share) if each.latencies.counts else None for each in counts]
+        for percent in (50, 99):
+            row += [each.ms(percent) for each in counts]
         rows.append([*row, None, None])
     return {"equal": comparison.equal, "first": comparison.first, "rows": rows,
             "columns": COLUMNS}

@@ -2,34 +2,38 @@
 
 import collections
 import json
-import re
 
 import listing
 import zkjson
-import zkstat
+from histogram import Histogram
 from report import kept, paths
 
 WATCHING = ("exists", "getData", "getChildren", "getChildren2")
 WATCH_LISTS = ("dataWatches", "existWatches", "childWatches")
 MADE_UP = "-1"      # the version in the connect messages that pcap2zkr.py makes up
+NO_CONNECTION = '{"connection": 0'
 MOST_WATCHES = 20_000
-PATHS = re.compile(rf' path=({listing.TEXT})|"[^"]*"')      # a path, or another text, in which there may be " path="
 
 
-class Latencies(zkstat.Latencies):
-    def merge(self, other):
-        self.counts.update(other.counts)
-        self.longest = max(self.longest, other.longest)
-
-
-class Operation(zkstat.Operation):
-    """What is counted of an operation. `slowest` is its slowest request, or its first where there are no times, and
-    `failures` the first request that failed with each error."""
+class Operation:
+    """What is counted of an operation. `slowest` is the latency, the connection and the number of its slowest request,
+    or of its first where there are no times; `failures` has the first request that failed with each error."""
 
     def __init__(self):
-        super().__init__()
-        self.latencies = Latencies()
-        self.unanswered, self.slowest, self.failures = 0, None, {}
+        self.asked = self.answered = self.unanswered = 0
+        self.errors, self.latencies = collections.Counter(), Histogram()
+        self.slowest, self.failures = None, {}
+
+    def failed(self):
+        return sum(self.errors.values())
+
+    def ms(self, percent):
+        """The latency that `percent` of a hundred replies didn't exceed; None where there are none."""
+        found = self.latencies.percentile(percent)
+        return None if found is None else found / 1000
+
+    def longest(self):
+        return None if self.latencies.greatest is None else self.latencies.greatest / 1000
 
     def merge(self, other):
         self.asked, self.answered = self.asked + other.asked, self.answered + other.answered
@@ -62,19 +66,23 @@ class Connection:
     none. `label` is what it is called: the number of the connection, and of a later part that of the part; `first` is
     the part that the connection begins with."""
 
-    def __init__(self, number, source, label, first):
-        self.number, self.source, self.label, self.first = number, source, label, first
-        self.asked_session = self.session = self.timeout = self.read_only = None
-        self.begun = self.ended = None
+    def __init__(self, number, source, name, label, first):
+        self.number, self.source, self.name, self.label, self.first = number, source, name, label, first
+        self.asked_session = self.session = self.timeout = None
+        self.begun = self.ended = self.known = None
         self.messages = self.events = 0
-        self.closing, self.is_late, self.ending = None, False, None
+        self.closing, self.is_late = None, False
         self.operations = collections.defaultdict(Operation)
 
     def total(self, name):
         return sum(getattr(operation, name) for operation in self.operations.values())
 
     def failed(self):
-        return sum(sum(operation.errors.values()) for operation in self.operations.values())
+        return sum(operation.failed() for operation in self.operations.values())
+
+    def ending(self):
+        """The ending of its listing, or None."""
+        return self.known and self.known.ending
 
     def session_id(self):
         """The session as ZooKeeper's logs print it; None where the recording has none."""
@@ -106,26 +114,34 @@ class Run:
         self.paths = kept.Counted(Path)
         self.watches = kept.Counted(Watch, MOST_WATCHES)
 
-    def read(self, source, program, progress, tracing=None):
-        """Reads a connection. `tracing` is given what happens, for a trace."""
-        connection = self.connection(source)
-        reading = Reading(self, connection, tracing)
-        with source.conversation(program, progress) as talk:
-            for line, made, asked in talk:
-                reading.take(line, made, asked)
-            connection.ending = talk.ending
-            if talk.ending is None and source.is_shown():
-                raise OSError(f"{program} has not shown {source.path} to its end")
-            for made in talk.waiting.left():
-                reading.left(made)
-        if tracing:
-            tracing.end(connection)
+    def read(self, source, opener, chosen, tracing=None):
+        """Reads what is chosen of a source. `tracing` is given what happens, for a trace."""
+        readings = {}
 
-    def connection(self, source):
+        def reading(known):
+            if known not in readings:
+                name = source.name if known.name == source.path else known.name
+                readings[known] = Reading(self, self.connection(source, name), tracing)
+                readings[known].connection.known = known
+            return readings[known]
+        with opener.conversation(source) as talk:
+            for line, made, asked in chosen.chosen(talk):
+                reading(made.connection).take(talk, line, made, asked)
+            for made in chosen.left(talk):
+                reading(made.connection).left(made)
+            if chosen.all:
+                for known in talk.connections():
+                    reading(known)
+        if chosen.all and not readings:
+            self.connection(source, source.name)
+        for each in readings.values():
+            each.end()
+
+    def connection(self, source, name):
         """The next connection, or the next part of one."""
         first = self.by_source.get(source.first)
         label = f"{first.label}.{source.part}" if first else f"#{self.count() + 1}"
-        found = self.by_source[source] = Connection(len(self.connections), source, label, first)
+        found = self.by_source[source] = Connection(len(self.connections), source, name, label, first)
         self.connections.append(found)
         return found
 
@@ -139,58 +155,57 @@ class Reading:
 
     def __init__(self, run, connection, tracing):
         self.run, self.connection, self.tracing = run, connection, tracing
-        self.watching = set()
 
-    def take(self, line, made, asked):
+    def take(self, talk, line, made, asked):
         """Takes the next message, and the request that it answers."""
-        connection = self.connection
+        connection, moment = self.connection, made.moment
         connection.messages += 1
-        if made.at is not None:
-            made.at = at = float(made.at)
+        if moment is not None:
             if connection.begun is None:
-                connection.begun = connection.ended = at
-            elif at > connection.ended:
-                connection.ended = at
-            elif at < connection.begun:
-                connection.begun = at
-        if made.op == "connect" and self.connect(line, made, asked):
+                connection.begun = connection.ended = moment
+            elif moment > connection.ended:
+                connection.ended = moment
+            elif moment < connection.begun:
+                connection.begun = moment
+        if made.op == listing.CONNECT and self.connect(line, made):
             return
-        if made.side == "C":
-            self.request(line, made)
-        elif asked:
+        if asked:
             self.reply(made, asked)
-        else:
+        elif made.op == listing.EVENT:
             self.event(line, made)
+        else:
+            self.request(talk, line, made)
 
-    def connect(self, line, made, asked):
+    def connect(self, line, made):
         """Takes a connect message, and says whether it is one that pcap2zkr.py made up."""
-        connection, fields = self.connection, object_of(line, made, asked)
+        connection, fields = self.connection, object_of(line, made)
         if str(fields.get("version")) == MADE_UP:
             connection.is_late = True
         elif made.side == "C":
             connection.asked_session = fields.get("session")
         else:
             connection.session, connection.timeout = fields.get("session"), fields.get("timeout")
-            connection.read_only = fields.get("ro")
         return connection.is_late
 
-    def request(self, line, made):
-        connection = self.connection
-        connection.operations[made.op].asked += 1
-        made.path = path = path_of(line, made)
+    def request(self, talk, line, made):
+        made.seen, op = True, made.op
+        self.name(made)
+        if op in WATCHING:
+            made.is_watching = is_watching(line)
+        elif op == "multi":
+            for spelled in talk.paths(line, made):
+                self.name_path(paths.path_of(spelled), made)
+        elif op == "setWatches":
+            for path in watched_paths(line):
+                self.set_again(path, made)
+        elif op == "closeSession":
+            self.connection.closing = made.n
+
+    def name(self, made):
+        """Counts the path of a request, which stays with it in place of its spelling."""
+        made.path = path = paths.path_of(made.path)
         if path is not None:
             self.name_path(path, made)
-        if made.op in WATCHING:
-            if is_watching(line):
-                self.watching.add(made.n)
-        elif made.op == "multi":
-            for each in paths_of_parts(line):
-                self.name_path(each, made)
-        elif made.op == "setWatches":
-            for each in watched_paths(line):
-                self.set_again(each, made)
-        elif made.op == "closeSession":
-            connection.closing = made.n
 
     def name_path(self, path, made):
         entry = self.run.paths.entry(path)
@@ -211,37 +226,42 @@ class Reading:
         return entry
 
     def reply(self, made, asked):
-        run, connection, ms = self.run, self.connection, made.ms
+        run, connection, error, microseconds = self.run, self.connection, made.error, made.microseconds
+        if not hasattr(asked, "seen"):      # the request itself isn't there, or not chosen
+            self.name(asked)
+        ms = None if microseconds is None else microseconds / 1000
         operation = connection.operations[made.op]
-        operation.add(made)
+        operation.asked += 1
+        operation.answered += 1
+        if microseconds is not None:
+            operation.latencies.add(microseconds)
         if operation.slowest is None or (ms or 0) > operation.slowest[0]:
             operation.slowest = ms or 0, connection.number, asked.n
-        if made.error:
-            operation.failures.setdefault(made.error, (connection.number, asked.n))
-        if run.kept.takes(ms, made.error):
-            run.kept.put(kept.Request(connection.number, asked.n, made.n, asked.at, ms, made.op, made.error, asked.path))
-        if ms is not None:
-            run.density.add(connection.number, asked.at, ms, 1 if made.error else 0)
+        if error:
+            operation.errors[error] += 1
+            operation.failures.setdefault(error, (connection.number, asked.n))
+        if run.kept.takes(ms, error):
+            run.kept.put(kept.Request(connection.number, asked.n, made.n, asked.moment, ms, made.op, error, asked.path))
+        if ms is not None and asked.moment is not None:
+            run.density.add(connection.number, asked.moment, ms, 1 if error else 0)
         if asked.path is not None:
-            self.judge_path(asked, made)
-        if asked.n in self.watching:
-            self.watching.discard(asked.n)
-            # A node that isn't there can be watched by exists alone.
-            if made.error is None or made.op == "exists" and made.error == "NONODE":
-                self.watch(asked.path, asked)[0] += 1
+            self.judge_path(asked, ms, error)
+        # A node that isn't there can be watched by exists alone.
+        if getattr(asked, "is_watching", False) and (error is None or made.op == "exists" and error == "NONODE"):
+            self.watch(asked.path, asked)[0] += 1
         if self.tracing:
             self.tracing.request(connection, asked, made)
 
-    def judge_path(self, asked, made):
+    def judge_path(self, asked, ms, error):
         entry = self.run.paths.entries.get(asked.path)
         if entry:
-            entry[1] += made.error is not None
-            if made.ms is not None and made.ms > entry[2]:
-                entry[2:] = made.ms, self.connection.number, asked.n
+            entry[1] += error is not None
+            if ms is not None and ms > entry[2]:
+                entry[2:] = ms, self.connection.number, asked.n
 
     def event(self, line, made):
         self.connection.events += 1
-        path = path_of_event(line)
+        path = paths.path_of(made.path if line.startswith("{") else line.partition(" path=")[2])
         entry = self.watch(path, made)
         entry[2][made.error] = entry[2].get(made.error, 0) + 1
         entry[3] = made.n
@@ -251,49 +271,42 @@ class Reading:
     def left(self, made):
         """Takes a request that was never answered."""
         connection = self.connection
-        if connection.is_late and made.op == "connect":
+        if connection.is_late and made.op == listing.CONNECT:
             return
-        connection.operations[made.op].unanswered += 1
+        operation = connection.operations[made.op]
+        operation.asked += 1
+        operation.unanswered += 1
         self.run.kept.put_unanswered(
-            kept.Request(connection.number, made.n, None, made.at, None, made.op, None, made.path))
-        if made.at is not None:
-            self.run.density.add(connection.number, made.at, None, 2)
+            kept.Request(connection.number, made.n, None, made.moment, None, made.op, None, made.path))
+        if made.moment is not None:
+            self.run.density.add(connection.number, made.moment, None, 2)
         if self.tracing:
             self.tracing.request(connection, made, None)
+
+    def end(self):
+        if self.tracing:
+            self.tracing.end(self.connection)
 
 
 def object_of(line, made, asked=None):
     """A message as an object, with the names of zkjson."""
-    return json.loads(line if line.startswith("{") else zkjson.spelled(line, made, asked))
+    if line.startswith("{"):
+        found = json.loads(line)
+    else:
+        made.connection.json = NO_CONNECTION
+        found = json.loads("".join(zkjson.pieces(line, made, asked)))
+    found.pop("connection", None)
+    return found
 
 
 def is_watching(line):
     """Whether a request asks for a watch: the field is the last one of its line."""
-    return line.endswith(" watch=1") or line.startswith("{") and json.loads(line)["watch"]
-
-
-def path_of(line, made):
-    """The path of a request."""
-    return paths.path_of_text(json.loads(line).get("path")) if line.startswith("{") else paths.path_of(made.path)
-
-
-def path_of_event(line):
-    """The path of an event: its last field."""
-    if line.startswith("{"):
-        return paths.path_of_text(json.loads(line).get("path"))
-    return paths.path_of(line.partition(" path=")[2])
-
-
-def paths_of_parts(line):
-    """The paths of a multi's parts."""
-    if line.startswith("{"):
-        return [paths.path_of_text(part.get("path")) for part in json.loads(line).get("parts", ())]
-    return [paths.path_of(found) for found in PATHS.findall(line) if found]
+    return line.endswith(" watch=1") or line.startswith("{") and bool(json.loads(line).get("watch"))
 
 
 def watched_paths(line):
     """The paths of a setWatches: it has no other texts."""
     if line.startswith("{"):
         made = json.loads(line)
-        return [paths.path_of_text(path) for name in WATCH_LISTS for path in made.get(name) or ()]
+        return [paths.path_of(listing.spelled(path)) for name in WATCH_LISTS for path in made.get(name) or ()]
     return [paths.path_of(found) for found in listing.QUOTED.findall(line)]

@@ -5,12 +5,13 @@ import json
 import re
 import secrets
 
+import listing
 from report import gather, paths
 
 AROUND = 5
 ALL = 2_000                  # a run of no more messages has all of them in its page
 SECRET = ("passwd", "auth")  # their values are left out: a report is handed on
-LONG_LINE = 1 << 16
+LONG_LINE, LONG_VALUE = 1 << 16, 1 << 14
 BUDGET = 1_700_000
 # What may be shown of a value: characters of a text, bytes of data, elements of a list. The first that fits is taken.
 SHOWN = ((1_000, 1_024, 100), (300, 256, 20), (120, 64, 8), (80, 16, 3), (40, 8, 1))
@@ -22,20 +23,18 @@ class Shortening:
 
     def __init__(self):
         self.mark = secrets.token_hex(16)
-        most_text, most_data, _ = SHOWN[0]
-        self.long = re.compile(rf'"([^"]{{{3 * most_text}}})[^"]*"|#([0-9a-f]{{{2 * most_data}}})[0-9a-f]*')
+        self.long = re.compile(rf'"[^"]{{{LONG_VALUE},}}"|#[0-9a-f]{{{LONG_VALUE},}}')
         self.cut = re.compile(rf"(.*){self.mark}:(\d+)", re.S)
 
     def line(self, line):
         return line if len(line) <= LONG_LINE or line.startswith("{") else self.long.sub(self.shorter, line)
 
     def shorter(self, found):
-        text, data = found.groups()
-        if text is not None:
-            size = len(found[0]) - 2 - 2 * found[0].count("\\")
-            return f'"{paths.whole_characters(text)}{self.mark}:{size}"'
-        size = len(found[0]) // 2
-        return f"#{data}{f'{self.mark}:{size}'.encode().hex()}"
+        spelled = found[0]
+        if spelled.startswith('"'):
+            front = listing.spelled(paths.front_of(spelled, SHOWN[0][0]))
+            return f'{front[:-1]}{self.mark}:{paths.length_of(spelled)}"'
+        return f"{spelled[:1 + 2 * SHOWN[0][1]]}{f'{self.mark}:{len(spelled) // 2}'.encode().hex()}"
 
     def whole(self, text):
         """What is left of a text, and the length that it had, or None where it was not cut."""
@@ -85,6 +84,33 @@ def left_out(value):
     return {"secret": size}
 
 
+class Window:
+    """The messages around the linked ones of one connection."""
+
+    def __init__(self, linked, everything, object_of):
+        self.linked, self.everything, self.object_of = linked, everything, object_of
+        self.before, self.until, self.last = collections.deque(maxlen=AROUND), 0, max(linked, default=0)
+        self.found = []
+
+    def take(self, line, made, asked):
+        """Takes the next message, and the request that it answers."""
+        linked = self.linked
+        if self.everything or made.n in linked or asked and asked.n in linked:
+            self.found.extend(self.object_of(*each) for each in self.before)
+            self.before.clear()
+            self.found.append(self.object_of(line, made, asked))
+            self.until = made.n + AROUND
+            linked -= {asked.n, made.n} if asked else {made.n} if made.op == listing.EVENT else set()
+        elif made.n <= self.until:
+            self.found.append(self.object_of(line, made, asked))
+        else:
+            self.before.append((line, made, asked))
+
+    def is_over(self, n):
+        """Whether nothing more is wanted behind message n."""
+        return not self.everything and not self.linked and n > max(self.last, self.until)
+
+
 class Windows:
     """The messages around the linked ones, connection by connection."""
 
@@ -92,32 +118,29 @@ class Windows:
         self.linked = collections.defaultdict(set)
         for connection, n in links:
             self.linked[connection].add(n)
-        self.everything = everything
-        self.shortening = Shortening()
-        self.found = {}
+        self.everything, self.shortening, self.windows = everything, Shortening(), {}
 
-    def read(self, connection, program, progress):
-        """Reads a connection again."""
-        linked = self.linked[connection.number]
-        if not linked and not self.everything:
+    def read(self, source, connections, opener):
+        """Reads a source again, which has these connections."""
+        by_name = {each.known.name: Window(self.linked[each.number], self.everything, self.object)
+                   for each in connections if each.known}
+        self.windows.update((each.number, by_name[each.known.name]) for each in connections if each.known)
+        wanted = {name for name, window in by_name.items() if not window.is_over(1)}
+        if not wanted:
             return
-        found = self.found[connection.number] = []
-        before, until, last = collections.deque(maxlen=AROUND), 0, max(linked, default=0)
-        with connection.source.conversation(program, progress) as talk:
+        with opener.conversation(source) as talk:
             for line, made, asked in talk:
-                each = self.shortening.line(line), made, asked
-                if self.everything or made.n in linked or asked and asked.n in linked:
-                    found.extend(self.object(*one) for one in before)
-                    before.clear()
-                    found.append(self.object(*each))
-                    until = made.n + AROUND
-                    linked -= {asked.n, made.n} if asked else {made.n} if made.op == "event" else set()
-                elif made.n <= until:
-                    found.append(self.object(*each))
-                elif made.n > last and not linked:
-                    break
-                else:
-                    before.append(each)
+                name = made.connection.name
+                if name not in wanted:
+                    continue
+                if made.path and len(made.path) > LONG_VALUE:
+                    made.path = self.shortening.line(made.path)
+                window = by_name[name]
+                window.take(self.shortening.line(line), made, asked)
+                if window.is_over(made.n):
+                    wanted.discard(name)
+                    if not wanted:
+                        break
 
     def object(self, line, made, asked):
         made = gather.object_of(line, made, asked)
@@ -125,9 +148,10 @@ class Windows:
 
     def to_json(self):
         """By connection, its messages: as much of each value as all of them have room for."""
+        found = {number: window.found for number, window in self.windows.items() if window.found}
         for shown in SHOWN:
             text = json.dumps({number: [self.shortening.value(None, each, shown) for each in found]
-                               for number, found in self.found.items()}, separators=(",", ":"))
+                               for number, found in found.items()}, separators=(",", ":"))
             if len(text) <= BUDGET:
                 break
         return text

@@ -101,12 +101,12 @@ def requests_of(found, names):
 
 
 def connection_of(each):
-    source = each.source
+    source, ending = each.source, each.ending()
     begun, ended = each.span()
-    return {"name": source.name, "label": each.label, "server": source.server, "begun": begun, "ended": ended,
+    return {"name": each.name, "label": each.label, "server": source.server, "begun": begun, "ended": ended,
             "messages": each.messages, "refused": each.is_refused(), "closed": summary.closed_by(each),
             "end": summary.ending_of(each), "first": each.first and each.first.number,
-            "hole": "hole" in source.notes or bool(each.ending) and each.ending["ending"] != "whole"}
+            "hole": "hole" in source.notes or bool(ending) and ending["ending"] != "whole"}
 
 
 def session_of(session):

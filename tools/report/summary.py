@@ -7,13 +7,13 @@ the connection's number and the message's number that the row leads to.
 import collections
 from typing import NamedTuple
 
+import tables
 from report import gather
 
 SLOWEST, ROWS, MOST_SESSIONS = 20, 50, 200
 SIDES = {"C": "client", "S": "server"}
 NOTHING = ("0", "C:0,S:0")
 PLAIN_NOTES = ("client", "server", "packets", "closed", "reset", "open")
-QUANTILES = {"p50": 0.5, "p95": 0.95, "p99": 0.99}
 
 
 class Column(NamedTuple):
@@ -40,7 +40,7 @@ COLUMNS = {
     "operations": [
         Column("op", "operation", "op"), Column("asked", "asked", "count"), Column("answered", "answered", "count"),
         Column("failed", "failed", "count"), Column("unanswered", "unanswered", "count"),
-        *(Column(name, f"{name} ms", "ms") for name in (*QUANTILES, "max"))],
+        *(Column(name, f"{name} ms", "ms") for name in tables.TIMES)],
     "errors": [
         Column("op", "operation", "op"), Column("error", "error", "error"), Column("count", "count", "count")],
     "slowest": [
@@ -136,7 +136,7 @@ def closed_by(connection):
 
 def ending_of(connection):
     """How the recording of a connection ends, and what is missing of it."""
-    ending = connection.ending
+    ending = connection.ending()
     notes = [f"{word}={value}" if value else word for word, value in connection.source.notes.items()
              if word not in PLAIN_NOTES and value not in NOTHING]
     if ending is None:
@@ -144,6 +144,8 @@ def ending_of(connection):
     else:
         told = " ".join([ending["ending"], *(f"{name}={value}" for name, value in ending.items()
                                              if name not in ("ending", "unanswered", "waiting"))])
+    if connection.known and connection.known.backwards:
+        notes.append(f"{connection.known.backwards} replies have a time before their request's")
     return ", ".join([told, *notes])
 
 
@@ -158,10 +160,8 @@ def operations_of(connections):
 
 def operation_rows(operations):
     for name, operation in operations.items():
-        latencies = operation.latencies
-        times = ([latencies.quantile(share) for share in QUANTILES.values()] + [latencies.longest]
-                 if latencies.counts else [None] * 4)
-        yield [name, operation.asked, operation.answered, sum(operation.errors.values()), operation.unanswered, *times,
+        yield [name, operation.asked, operation.answered, operation.failed(), operation.unanswered,
+               *map(operation.ms, tables.PERCENTS), operation.longest(),
                *(operation.slowest[1:] if operation.slowest else (None, None))]
 
 
@@ -186,7 +186,7 @@ def connection_rows(run):
     for each in run.connections:
         begun, ended = each.span()
         lasted = None if begun is None else round(ended - begun, 3)
-        yield [each.label, each.session_id(), each.source.name, each.source.server, begun, lasted, each.total("asked"),
+        yield [each.label, each.session_id(), each.name, each.source.server, begun, lasted, each.total("asked"),
                each.failed(), each.total("unanswered"), each.events, closed_by(each), ending_of(each), each.number,
                each.messages or None]
 
@@ -238,8 +238,10 @@ class Summary:
         self.counts = {
             "messages": sum(each.messages for each in run.connections),
             "asked": sum(each.asked for each in self.operations.values()),
-            "failed": sum(sum(each.errors.values()) for each in self.operations.values()),
-            "unanswered": run.kept.unanswered_count,
+            "answered": sum(each.answered for each in self.operations.values()),
+            "timed": sum(each.latencies.total() for each in self.operations.values()),
+            "failed": sum(each.failed() for each in self.operations.values()),
+            "unanswered": sum(each.unanswered for each in self.operations.values()),
             "events": sum(each.events for each in run.connections),
         }
 

@@ -1,5 +1,6 @@
 """The tables of a report as text for a terminal: ASCII, and nothing in it that a terminal would obey."""
 
+import tables
 import zkr
 from report import paths, summary
 
@@ -15,6 +16,8 @@ def lines_of(found):
            f"{counts['events']} events")
     if found.begun is not None:
         yield f"from {zkr.clock(found.begun)} to {zkr.clock(found.ended)}"
+    if 0 < counts["timed"] < counts["answered"]:
+        yield f"{counts['timed']} of {counts['answered']} replies timed"
     for warning in found.run.warnings:
         yield f"not read: {printable(warning)}"
     left_out = found.rows_left_out()
@@ -33,10 +36,9 @@ def lines_of(found):
 def table(columns, rows):
     """The lines of one table."""
     cells = [[cell(column.kind, value) for column, value in zip(columns, row)] for row in rows]
-    widths = [max(len(column.heading), *(len(row[at]) for row in cells)) for at, column in enumerate(columns)]
-    for row in ([column.heading for column in columns], *cells):
-        yield "  ".join(text.rjust(width) if column.kind in NUMBERS else text.ljust(width)
-                        for text, width, column in zip(row, widths, columns)).rstrip()
+    left = {at for at, column in enumerate(columns) if column.kind not in NUMBERS}
+    for line in tables.aligned([[column.heading for column in columns], *cells], left):
+        yield line.rstrip()
 
 
 def cell(kind, value):

@@ -26,26 +26,26 @@ class Trace:
 
     def request(self, connection, asked, made):
         """Takes a request and its reply, or None where it has none."""
-        if asked.at is None or made and made.at is None:
+        if asked.moment is None or made and made.moment is None:
             return
         self.ids += 1
         self.events += 1
         name = asked.op if not (made and made.error) else f"{asked.op} {made.error}"
         where = {"cat": "request", "name": name, "id": self.ids, **self.place(connection)}
         told = {"message": asked.n, "xid": asked.xid, "path": None if asked.path is None else paths.shown(asked.path)}
-        self.put(ph="b", ts=microseconds(asked.at), args=told, **where)
+        self.put(ph="b", ts=microseconds(asked.moment), args=told, **where)
         if made:
-            end, told = made.at, {"message": made.n, "ms": made.ms, "error": made.error}
+            end, told = made.moment, {"message": made.n, "error": made.error}
         else:
-            end, told = max(connection.ended, asked.at), {"answered": False}
+            end, told = max(connection.ended, asked.moment), {"answered": False}
         self.put(ph="e", ts=microseconds(end), args=told, **where)
 
     def event(self, connection, made, path):
         """Takes an event of a watch."""
-        if made.at is None:
+        if made.moment is None:
             return
         self.events += 1
-        self.put(ph="i", s="t", cat="watch", name=f"event {made.error}", ts=microseconds(made.at),
+        self.put(ph="i", s="t", cat="watch", name=f"event {made.error}", ts=microseconds(made.moment),
                  args={"message": made.n, "path": None if path is None else paths.shown(path)},
                  **self.place(connection))
 
@@ -60,10 +60,10 @@ class Trace:
         where = self.place(connection)
         begun, ended = connection.span()
         if begun is not None:
-            self.put(ph="X", cat="connection", name=f"connection {connection.source.name}", ts=microseconds(begun),
+            self.put(ph="X", cat="connection", name=f"connection {connection.name}", ts=microseconds(begun),
                      dur=microseconds(ended - begun), **where)
         self.put(ph="M", name="process_name", args={"name": f"session {connection.session_id() or 'unknown'}"}, **where)
-        self.put(ph="M", name="thread_name", args={"name": f"{connection.label} {connection.source.name}"}, **where)
+        self.put(ph="M", name="thread_name", args={"name": f"{connection.label} {connection.name}"}, **where)
 
     def close(self):
         """Ends the trace, which has to have something in it."""

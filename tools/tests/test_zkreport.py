@@ -115,10 +115,14 @@ class Zkreport(ToolCase):
     def test_a_terminal_gets_nothing_that_it_would_obey(self):
         lines = report_lines.Lines()
         lines.connect(0, 1)
-        lines.ask(1, report_lines.HOSTILE, 1, path=report_lines.HOSTILE * 9)
+        lines.ask(1, "exists", 1, path=report_lines.HOSTILE * 9, watch=False)
         lines.ask(2, "getData", 2, path=report_lines.HOSTILE, watch=False)
-        path = lines.write(self.folder / "hostile.json", ending="whole", unanswered=2, waiting=[3, 4])
-        found = self.run_raw("zkreport.py", "--text", path).stdout
+        lines.event(3, 3, "NodeDataChanged", report_lines.HOSTILE)
+        name = self.folder / "a\x1b[2Jb.json"
+        path = lines.write(name, ending="whole", unanswered=2, waiting=[3, 4])
+        done = self.run_raw("zkreport.py", "--text", path)
+        found = done.stdout
+        self.assertEqual((done.returncode, found.count(b"[2J"), found.count(rb"0;owned\07")), (0, 1, 5))
         self.assertEqual([byte for byte in found if not 0x20 <= byte < 0x7f and byte != 0x0a], [])
 
     def test_trace(self):

@@ -3,7 +3,7 @@
 import wire
 from support import CAPTURES, PROGRAM, ToolCase, pieces
 
-from report import gather, sources, summary  # found by support
+from report import gather, sources, summary
 
 TOLD = """\
 /t/x-1.zkr 10.0.0.7:41822 > 10.0.0.9:2181 begun 2026-11-22T20:31:07.000Z ended 2026-11-22T20:31:08.000Z client=6 server=6 packets=1-88 resent=0 reset=S
@@ -19,7 +19,8 @@ class Captures(ToolCase):
         """A run of the connections of these lines, none of which has been read."""
         run, parts = gather.Run(), {}
         for line in lines:
-            run.connection(sources.source_of(line, "x.pcap", "/t/x", parts))
+            source = sources.source_of(line, "x.pcap", "/t/x", parts)
+            run.connection(source, source.name)
         return run
 
     def test_the_lines_of_pcap2zkr(self):
@@ -96,4 +97,4 @@ class Captures(ToolCase):
         path = self.folder / "a.zkr"
         path.write_bytes(b"ZKR1")
         status, out, err = self.run_tool("zkreport.py", "--text", "--zkdump", "/bin/false", path)
-        self.assertEqual((status, out, err.count("\n")), (3, "", 1))
+        self.assertEqual((status, out, err.count("\n")), (1, "", 1))
