@@ -96,6 +96,40 @@ class Zkreport(ToolCase):
     def test_tables(self):
         self.assertEqual(self.report("--text", self.one, self.other), TABLES)
 
+    def rows(self, found, heading):
+        """The rows of a table in the text, each as its words."""
+        after = found.partition(f"\n{heading}\n")[2].partition("\n\n")[0]
+        return [line.split() for line in after.splitlines()[1:]]
+
+    def test_choices(self):
+        for words, operations in ((["--path", "/b"], {"setData": "1", "multi": "1"}), (["--op", "exists"], {"exists": "1"}),
+                                  (["--session", "0x8"], {}), (["--slower", "29"], {"create": "1", "setData": "1"}),
+                                  (["--from", "2023-11-14T22:13:25.200Z"], {"closeSession": "1"}),
+                                  (["--to", "2023-11-14T22:13:20.010Z"], {"connect": "1", "exists": "1"})):
+            with self.subTest(words=words):
+                found = self.report("--text", *words, self.one, self.other)
+                self.assertEqual({row[0]: row[1] for row in self.rows(found, "Operations")}, operations)
+
+    def test_several_connections_in_the_lines_of_zkjson(self):
+        path = self.folder / "both.json"
+        path.write_text("".join(json.dumps({"connection": each.stem, **json.loads(line)}) + "\n"
+                                for each in (self.one, self.other) for line in each.read_text().splitlines()))
+        found = self.report("--text", path)
+        self.assertEqual([row[:3] for row in self.rows(found, "Connections")], [["#1", "0x7", "one"], ["#2", "0x7", "other"]])
+        self.assertEqual(self.rows(found, "Slowest requests"), self.rows(TABLES, "Slowest requests"))
+        status, out, err = self.run_tool("zkreport.py", "--text", path, "--against", path)
+        self.assertEqual((status, out, err), (1, "", f"zkreport.py: {path} has several connections, which are not compared\n"))
+
+    def test_latencies_by_the_rule_of_hdrhistogram(self):
+        """Of 5.001, 9 and 20 ms the middle one is counted with those that differ by less than a thousandth, up to
+        9.007 ms; the longest is exact."""
+        lines = report_lines.Lines()
+        for n, took in enumerate((5.001, 9, 20), 1):
+            lines.ask(100 * n, "sync", n, path="/")
+            lines.answer(100 * n + took, n, zxid="0x1", path="/")
+        found = self.report("--text", lines.write(self.folder / "three.json", ending="whole", unanswered=0))
+        self.assertEqual(self.rows(found, "Operations"), [["sync", "3", "3", "0", "0", "9.007", "20", "20", "20"]])
+
     def test_a_listing_without_times(self):
         found = self.report("--text", self.listing("a.show", LISTING.format(**HERE)))
         self.assertIn("\n1 connections, 1 sessions, 9 messages, 4 requests, 0 failed, 0 unanswered, 1 events\n", "\n" + found)
