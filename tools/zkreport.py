@@ -53,7 +53,7 @@ class Reader:
     def compare(self, found, inputs):
         """Compares the run with that of the other files."""
         other = self.read(inputs)
-        comparison = against.Comparison(found.run.connections, other.run.connections, self.opener)
+        comparison = against.Comparison(found.run.connections, other.run.connections, self.opener, self.chosen)
         return against.tables(found, other, comparison)
 
 
@@ -110,6 +110,8 @@ def words_of():
     words = parser.parse_args()
     if not (words.output or words.text or words.trace):
         parser.error("nothing to write: -o FILE, --text or --trace FILE")
+    if words.against and (words.session, words.slower, words.begin, words.end) != (None,) * 4:
+        parser.error("of the choices --path and --op alone go with --against")
     return parser, words
 
 

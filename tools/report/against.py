@@ -66,15 +66,15 @@ def plain_object(value):
 
 
 class Side:
-    """One connection of a run, as what is compared: `events` has those so far."""
+    """What is compared of one connection of a run, given as its messages: `events` has those so far."""
 
-    def __init__(self, talk, as_objects):
-        self.talk, self.as_objects, self.events = talk, as_objects, []
+    def __init__(self, messages, as_objects):
+        self.messages, self.as_objects, self.events = messages, as_objects, []
 
     def exchanges(self):
         """The exchanges, in the order of their requests."""
         waiting, by_request = collections.deque(), {}
-        for line, made, asked in self.talk:
+        for line, made, asked in self.messages:
             if made.op in LEFT_OUT:
                 continue
             if made.side == "C":
@@ -93,7 +93,7 @@ class Side:
 class Comparison:
     """The comparison of two runs, each given as its connections. `first` is the first difference, or None."""
 
-    def __init__(self, ours, theirs, opener):
+    def __init__(self, ours, theirs, opener, chosen):
         self.equal, self.first = 0, None
         as_objects = any(connection.source.has_objects for connection in (*ours, *theirs))
         for run in (ours, theirs):
@@ -105,7 +105,7 @@ class Comparison:
                 self.differ(number, mine or other, "connection", (mine and mine.name, None), (other and other.name, None))
                 continue
             with opener.conversation(mine.source) as one, opener.conversation(other.source) as two:
-                self.compare(number, mine, Side(one, as_objects), Side(two, as_objects))
+                self.compare(number, mine, *(Side(chosen.chosen(talk), as_objects) for talk in (one, two)))
 
     def compare(self, number, connection, mine, other):
         """Compares a pair of connections."""

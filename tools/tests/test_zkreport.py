@@ -215,6 +215,14 @@ class Zkreport(ToolCase):
         self.report("--text", self.listing("a.show", together), "--against", self.listing("b.show", apart))
         self.report("--text", self.listing("a.show", together), "--against", self.listing("b.show", head), status=1)
 
+    def test_a_difference_that_is_not_chosen(self):
+        here = self.listing("here.show", LISTING.format(**HERE))
+        there = self.listing("there.show", LISTING.format(**THERE).replace("flags=1", "flags=3"))
+        self.report("--text", here, "--against", there, status=1)
+        self.report("--text", here, "--against", there, "--path", "/a")
+        self.report("--text", here, "--against", there, "--op", "create", status=1)
+        self.assert_bad_words("zkreport.py", "--text", here, "--against", there, "--slower", "1")
+
     def test_one_connection_more(self):
         found = self.report("--text", self.one, "--against", self.one, "--against", self.other, status=1)
         self.assertIn("the first difference is a connection of connection #2", found)
