@@ -106,10 +106,10 @@ class Connection:
 
 
 class Run:
-    """What is found of all connections of a report."""
+    """What is found of all connections of a report. `whole` counts connections, whatever their parts."""
 
     def __init__(self):
-        self.connections, self.by_source, self.warnings = [], {}, []
+        self.connections, self.by_source, self.warnings, self.whole = [], {}, [], 0
         self.kept, self.density = kept.Kept(), kept.Density()
         self.paths = kept.Counted(Path)
         self.watches = kept.Counted(Watch, MOST_WATCHES)
@@ -140,14 +140,11 @@ class Run:
     def connection(self, source, name):
         """The next connection, or the next part of one."""
         first = self.by_source.get(source.first)
-        label = f"{first.label}.{source.part}" if first else f"#{self.count() + 1}"
+        self.whole += first is None
+        label = f"{first.label}.{source.part}" if first else f"#{self.whole}"
         found = self.by_source[source] = Connection(len(self.connections), source, name, label, first)
         self.connections.append(found)
         return found
-
-    def count(self):
-        """How many connections there are, whatever their parts."""
-        return sum(connection.first is None for connection in self.connections)
 
 
 class Reading:

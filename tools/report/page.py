@@ -48,7 +48,7 @@ def data_of(title, found):
                      "rows": [[plain(value) for value in row] for row in rows]}
               for name, rows in found.tables.items()}
     return {
-        "title": title, "warnings": run.warnings, "begun": found.begun, "ended": found.ended, "counts": {**found.counts, "connections": run.count()}, "tables": tables,
+        "title": title, "warnings": run.warnings, "begun": found.begun, "ended": found.ended, "counts": {**found.counts, "connections": run.whole}, "tables": tables,
         "leftOut": found.rows_left_out(), "pathsShort": run.paths.short, "complete": run.kept.is_complete(),
         "connections": [connection_of(each) for each in run.connections],
         "sessions": [session_of(each) for each in found.sessions],

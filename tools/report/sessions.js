@@ -134,9 +134,14 @@ function endOf(each) {
   return /^(open|not)/.test(each.closed) ? "still" : "closed";
 }
 
-// Whether a part of the connection follows a hole, which is drawn as such.
+// Whether a part of the connection follows, with a hole between that is drawn as such.
 function goesOn(number) {
-  return data.sessions[sessionOf[number]].holes.some(([before]) => before === number);
+  return data.sessions[sessionOf[number]].holes.some(([before, after]) => before === number && isApart(before, after));
+}
+
+// Whether one bar ends before another begins. Parts may overlap, where replies of one come during the next.
+function isApart(before, after) {
+  return bar(before) && bar(after) && bar(before)[1] <= bar(after)[0];
 }
 
 // The sign of an end, at the end of a bar.
@@ -176,6 +181,7 @@ function drawLegend() {
 // The gaps between a session's connections, and the holes within a connection.
 function drawGaps(plot, session, to, top, high) {
   for (const [before, after] of session.holes) {
+    if (!isApart(before, after)) continue;
     const from = to(bar(before)[1]), until = to(bar(after)[0]);
     shape("rect", { class: "hole", x: from, y: top + 2, width: Math.max(3, until - from), height: high - 4 }, shape("g", { class: "bar" }, plot),
       `bytes are missing between ${connectionName(before)} and ${connectionName(after)}`);

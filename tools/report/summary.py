@@ -10,7 +10,7 @@ from typing import NamedTuple
 import tables
 from report import gather
 
-SLOWEST, ROWS, MOST_SESSIONS = 20, 50, 200
+SLOWEST, ROWS, MOST_CONNECTIONS, MOST_SESSIONS = 20, 50, 300, 200
 SIDES = {"C": "client", "S": "server"}
 NOTHING = ("0", "C:0,S:0")
 PLAIN_NOTES = ("client", "server", "packets", "closed", "reset", "open")
@@ -172,7 +172,7 @@ def error_rows(operations):
 
 
 def session_rows(sessions):
-    for session in sessions:
+    for session in sessions[:MOST_CONNECTIONS]:
         connections = session.connections
         begun, ended = span(connections)
         timeout = next((each.timeout for each in reversed(connections) if each.timeout), None)
@@ -183,7 +183,7 @@ def session_rows(sessions):
 
 
 def connection_rows(run):
-    for each in run.connections:
+    for each in run.connections[:MOST_CONNECTIONS]:
         begun, ended = each.span()
         lasted = None if begun is None else round(ended - begun, 3)
         yield [each.label, each.session_id(), each.name, each.source.server, begun, lasted, each.total("asked"),
@@ -247,7 +247,9 @@ class Summary:
 
     def rows_left_out(self):
         """By table, how many rows it doesn't have."""
-        return {"paths": len(self.run.paths.entries) - len(self.tables["paths"]),
+        return {"sessions": len(self.sessions) - len(self.tables["sessions"]),
+                "connections": len(self.run.connections) - len(self.tables["connections"]),
+                "paths": len(self.run.paths.entries) - len(self.tables["paths"]),
                 "watches": len(self.run.watches.entries) - len(self.tables["watches"]),
                 "unanswered": self.run.kept.unanswered_count - len(self.tables["unanswered"])}
 

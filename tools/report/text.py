@@ -11,7 +11,7 @@ ROWS, WHOLE = 20, ("sessions", "connections", "operations", "errors")
 def lines_of(found):
     """The lines of all tables of a summary."""
     counts = found.counts
-    yield (f"{found.run.count()} connections, {len(found.sessions)} sessions, {counts['messages']} messages, "
+    yield (f"{found.run.whole} connections, {len(found.sessions)} sessions, {counts['messages']} messages, "
            f"{counts['asked']} requests, {counts['failed']} failed, {counts['unanswered']} unanswered, "
            f"{counts['events']} events")
     if found.begun is not None:

@@ -26,7 +26,7 @@ class Captures(ToolCase):
     def test_the_lines_of_pcap2zkr(self):
         run = self.run_of(TOLD.splitlines())
         self.assertEqual([each.label for each in run.connections], ["#1", "#2", "#2.2", "#3", "#4"])
-        self.assertEqual(run.count(), 4)
+        self.assertEqual(run.whole, 4)
         begun = 1795379467000
         self.assertEqual([each.span() for each in run.connections],
                          [(begun, begun + 1000), (begun, begun + 2000), (begun + 2250, begun + 3000),
