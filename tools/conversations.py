@@ -20,6 +20,11 @@ def add_words(parser):
     parser.add_argument("--recording", metavar="FILE", help="the recording that the listing is of, for its times")
     parser.add_argument("--times", metavar="FILE", help="the times of its pieces (RECORDING.times)")
     parser.add_argument("--profile", choices=zkr.PROFILES, help="the release that zkdump judges recordings by (3.4)")
+    add_program(parser)
+
+
+def add_program(parser):
+    """Adds the word that names the program."""
     parser.add_argument("--zkdump", metavar="PATH", default=str(BUILT) if BUILT.exists() else "zkdump",
                         help="the program (that of this repository, where it is built)")
 
@@ -68,9 +73,11 @@ def lines_of_show(parser, words, path, before_read):
     """The lines of a recording."""
     if not shutil.which(words.zkdump):
         parser.error(f"there is no program {words.zkdump}: --zkdump PATH names it")
-    profile = ["--profile", words.profile] if words.profile else []
+    options = ["--profile", words.profile] if words.profile else []
+    if limit := getattr(words, "limit", None):
+        options += ["--limit", str(limit)]
     with open(path, "rb") as recording:
-        show = subprocess.Popen([words.zkdump, "show", *profile], stdin=recording, stdout=subprocess.PIPE)
+        show = subprocess.Popen([words.zkdump, "show", *options], stdin=recording, stdout=subprocess.PIPE)
     try:
         yield from listing.lines_of(show.stdout, before_read)
     finally:

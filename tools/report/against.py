@@ -1,0 +1,176 @@
+"""Compares two runs: what was asked and answered, without xids, zxids, sessions and times.
+
+The connections of both are compared in pairs, in their order. Of each pair the requests are compared in their order,
+each with its reply, however many others were under way; and the events of watches, in theirs. Pings are left out, since
+they tell of time alone.
+"""
+
+import collections
+import itertools
+import json
+import re
+
+from report import gather, summary, text
+
+STAT = re.compile(r'"[^"]*"|stat=\((?:-?\d+,){4}((?:-?\d+,){3})(-?\d+),(-?\d+,-?\d+),-?\d+\)')
+CONNECT_FIELDS = re.compile(r" (?:zxid=-?\d+|session=-?\d+|passwd=\S+)")
+ZXID = re.compile(r" zxid=-?\d+")
+TIMED_FIELDS = {"n", "xid", "zxid", "session", "passwd", "at", "ms", "of", "asked", "connection", "czxid", "mzxid",
+                "pzxid", "ctime", "mtime"}
+LEFT_OUT = ("ping",)
+SHOWN = 160
+
+
+class Exchange:
+    """A request and its reply as they are compared, with the numbers of their messages."""
+
+    __slots__ = ("request", "n", "reply", "answer")
+
+    def __init__(self, request, n):
+        self.request, self.n, self.reply, self.answer = request, n, None, None
+
+    def texts(self):
+        return self.request, self.answer
+
+
+def plain(line, made, as_objects):
+    """A message without what differs from run to run."""
+    if as_objects:
+        return json.dumps(plain_object(gather.object_of(line, made)), sort_keys=True)
+    rest = line[made.end:]
+    if made.op == "connect":
+        return f"{made.op}{CONNECT_FIELDS.sub('', rest)}"
+    if made.side == "S":
+        rest = STAT.sub(plain_stat, ZXID.sub("", rest, count=1))
+    elif made.op == "setWatches":
+        rest = ZXID.sub("", rest, count=1)
+    return made.op + rest
+
+
+def plain_stat(found):
+    """A stat with its versions, whether it has an owner, its length and its number of children; a text as it is."""
+    if found[1] is None:
+        return found[0]
+    return f"stat=({found[1]}{'0' if found[2] == '0' else 'owner'},{found[3]})"
+
+
+def plain_object(value):
+    if isinstance(value, list):
+        return [plain_object(each) for each in value]
+    if not isinstance(value, dict):
+        return value
+    told = {name: plain_object(each) for name, each in value.items() if name not in TIMED_FIELDS}
+    if "ephemeralOwner" in told:
+        told["ephemeralOwner"] = told["ephemeralOwner"] != "0x0"
+    return told
+
+
+class Side:
+    """What is compared of one connection of a run, given as its messages: `events` has those so far."""
+
+    def __init__(self, messages, as_objects):
+        self.messages, self.as_objects, self.events = messages, as_objects, []
+
+    def exchanges(self):
+        """The exchanges, in the order of their requests."""
+        waiting, by_request = collections.deque(), {}
+        for line, made, asked in self.messages:
+            if made.op in LEFT_OUT:
+                continue
+            if made.side == "C":
+                by_request[made] = exchange = Exchange(plain(line, made, self.as_objects), made.n)
+                waiting.append(exchange)
+            elif asked:
+                exchange = by_request.pop(asked)
+                exchange.reply, exchange.answer = made.n, plain(line, made, self.as_objects)
+                while waiting and waiting[0].answer is not None:
+                    yield waiting.popleft()
+            else:
+                self.events.append((plain(line, made, self.as_objects), made.n))
+        yield from waiting
+
+
+class Comparison:
+    """The comparison of two runs, each given as its connections. `first` is the first difference, or None."""
+
+    def __init__(self, ours, theirs, opener, chosen):
+        self.equal, self.first = 0, None
+        as_objects = any(connection.source.has_objects for connection in (*ours, *theirs))
+        for run in (ours, theirs):
+            for before, after in zip(run, run[1:]):
+                if before.source is after.source:
+                    raise ValueError(f"{after.source.path} has several connections, which are not compared")
+        for number, (mine, other) in enumerate(itertools.zip_longest(ours, theirs)):
+            if mine is None or other is None:
+                self.differ(number, mine or other, "connection", (mine and mine.name, None), (other and other.name, None))
+                continue
+            with opener.conversation(mine.source) as one, opener.conversation(other.source) as two:
+                self.compare(number, mine, *(Side(chosen.chosen(talk), as_objects) for talk in (one, two)))
+
+    def compare(self, number, connection, mine, other):
+        """Compares a pair of connections."""
+        for one, two in itertools.zip_longest(mine.exchanges(), other.exchanges()):
+            if one and two and one.texts() == two.texts():
+                self.equal += 1
+            elif one and two and one.request == two.request:
+                self.differ(number, connection, "reply", (one.answer, one.reply or one.n), (two.answer, two.reply or two.n))
+            else:
+                self.differ(number, connection, "request", (one and one.request, one and one.n), (two and two.request, two and two.n))
+        for one, two in itertools.zip_longest(mine.events, other.events, fillvalue=(None, None)):
+            if one[0] == two[0]:
+                self.equal += 1
+            else:
+                self.differ(number, connection, "event", one, two)
+
+    def differ(self, number, connection, kind, one, two):
+        if self.first is None:
+            self.first = {"connection": number, "label": connection.label, "kind": kind, "equal": self.equal, "messages": [one[1], two[1]],
+                          "texts": around(one[0], two[0])}
+
+
+def around(one, two):
+    """Both texts around the first place where they differ."""
+    if one is None or two is None:
+        return [each and each[:SHOWN] + cut(each, SHOWN) for each in (one, two)]
+    at = next((at for at, (a, b) in enumerate(zip(one, two)) if a != b), min(len(one), len(two)))
+    begin = max(0, at - SHOWN // 2) if at > SHOWN // 2 else 0
+    return [(".." if begin else "") + each[begin:begin + SHOWN] + cut(each, begin + SHOWN) for each in (one, two)]
+
+
+def cut(whole, at):
+    return f".. ({len(whole)} characters)" if len(whole) > at else ""
+
+
+def tables(found, other, comparison):
+    """What is shown of a comparison: the first difference, and the counts of both runs by operation."""
+    rows = []
+    for name in dict.fromkeys((*found.operations, *other.operations)):
+        counts = [side.operations.get(name) or gather.Operation() for side in (found, other)]
+        row = [name]
+        for value in (lambda each: each.asked, gather.Operation.failed, lambda each: each.unanswered):
+            row += [value(each) for each in counts]
+        for percent in (50, 99):
+            row += [each.ms(percent) for each in counts]
+        rows.append([*row, None, None])
+    return {"equal": comparison.equal, "first": comparison.first, "rows": rows,
+            "columns": COLUMNS}
+
+
+COLUMNS = [summary.Column("op", "operation", "op")] + [
+    summary.Column(f"{name}{side}", f"{heading}, {told}", kind)
+    for name, heading, kind in (("asked", "asked", "count"), ("failed", "failed", "count"),
+                                ("unanswered", "unanswered", "count"), ("p50", "p50 ms", "ms"), ("p99", "p99 ms", "ms"))
+    for side, told in (("", "here"), ("Other", "there"))]
+
+
+def lines_of(told):
+    """The lines of a comparison's first difference."""
+    first = told["first"]
+    if first is None:
+        yield f"no difference: {told['equal']} exchanges and events are the same"
+        return
+    yield (f"the first difference is a {first['kind']} of connection {first['label']}, after {first['equal']} "
+           "exchanges and events that are the same:")
+    for name, n, each in zip(("here", "there"), first["messages"], first["texts"]):
+        where = f" message {n}" if n else ""
+        yield f"    {name}{where}: {'nothing' if each is None else text.printable(each)}"

@@ -1,0 +1,309 @@
+"""Reads the conversations of a report once, and counts what its tables and pictures show."""
+
+import collections
+import json
+
+import listing
+import zkjson
+from histogram import Histogram
+from report import kept, paths
+
+WATCHING = ("exists", "getData", "getChildren", "getChildren2")
+WATCH_LISTS = ("dataWatches", "existWatches", "childWatches")
+MADE_UP = "-1"      # the version in the connect messages that pcap2zkr.py makes up
+NO_CONNECTION = '{"connection": 0'
+MOST_WATCHES = 20_000
+
+
+class Operation:
+    """What is counted of an operation. `slowest` is the latency, the connection and the number of its slowest request,
+    or of its first where there are no times; `failures` has the first request that failed with each error."""
+
+    def __init__(self):
+        self.asked = self.answered = self.unanswered = 0
+        self.errors, self.latencies = collections.Counter(), Histogram()
+        self.slowest, self.failures = None, {}
+
+    def failed(self):
+        return sum(self.errors.values())
+
+    def ms(self, percent):
+        """The latency that `percent` of a hundred replies didn't exceed; None where there are none."""
+        found = self.latencies.percentile(percent)
+        return None if found is None else found / 1000
+
+    def longest(self):
+        return None if self.latencies.greatest is None else self.latencies.greatest / 1000
+
+    def merge(self, other):
+        self.asked, self.answered = self.asked + other.asked, self.answered + other.answered
+        self.unanswered += other.unanswered
+        self.errors.update(other.errors)
+        self.latencies.merge(other.latencies)
+        if other.slowest and (self.slowest is None or other.slowest[0] > self.slowest[0]):
+            self.slowest = other.slowest
+        for error, link in other.failures.items():
+            self.failures.setdefault(error, link)
+
+
+class Path(list):
+    """Of a path: how many requests named it, how many failed, the longest latency, and the connection and the number of
+    the request that took it."""
+
+    def __init__(self):
+        super().__init__([0, 0, -1, None, None])
+
+
+class Watch(list):
+    """Of a connection's watches at a path: how many were set and set again, the events by kind, and a message of it."""
+
+    def __init__(self):
+        super().__init__([0, 0, {}, None])
+
+
+class Connection:
+    """What is found of one connection, or of a part of it. Times are milliseconds since 1970, and None where there are
+    none. `label` is what it is called: the number of the connection, and of a later part that of the part; `first` is
+    the part that the connection begins with."""
+
+    def __init__(self, number, source, name, label, first):
+        self.number, self.source, self.name, self.label, self.first = number, source, name, label, first
+        self.asked_session = self.session = self.timeout = None
+        self.begun = self.ended = self.known = None
+        self.messages = self.events = 0
+        self.closing, self.is_late = None, False
+        self.operations = collections.defaultdict(Operation)
+
+    def total(self, name):
+        return sum(getattr(operation, name) for operation in self.operations.values())
+
+    def failed(self):
+        return sum(operation.failed() for operation in self.operations.values())
+
+    def ending(self):
+        """The ending of its listing, or None."""
+        return self.known and self.known.ending
+
+    def session_id(self):
+        """The session as ZooKeeper's logs print it; None where the recording has none."""
+        if self.first:
+            return self.first.session_id()
+        for number in (self.session, self.asked_session):
+            if number not in (None, "0x0") and not self.is_late:
+                return number
+        return None
+
+    def span(self):
+        """When it begins and ends, by its capture or else by its messages."""
+        source = self.source
+        begun = self.begun if source.begun is None else source.begun
+        ended = self.ended if source.ended is None else source.ended
+        return begun, max(begun, ended) if ended is not None else begun
+
+    def is_refused(self):
+        """Whether the server no longer knew the session."""
+        return self.session == "0x0"
+
+
+class Run:
+    """What is found of all connections of a report. `whole` counts connections, whatever their parts."""
+
+    def __init__(self):
+        self.connections, self.by_source, self.warnings, self.whole = [], {}, [], 0
+        self.kept, self.density = kept.Kept(), kept.Density()
+        self.paths = kept.Counted(Path)
+        self.watches = kept.Counted(Watch, MOST_WATCHES)
+
+    def read(self, source, opener, chosen, tracing=None):
+        """Reads what is chosen of a source. `tracing` is given what happens, for a trace."""
+        readings = {}
+
+        def reading(known):
+            if known not in readings:
+                name = source.name if known.name == source.path else known.name
+                readings[known] = Reading(self, self.connection(source, name), tracing)
+                readings[known].connection.known = known
+            return readings[known]
+        with opener.conversation(source) as talk:
+            for line, made, asked in chosen.chosen(talk):
+                reading(made.connection).take(talk, line, made, asked)
+            for made in chosen.left(talk):
+                reading(made.connection).left(made)
+            if chosen.all:
+                for known in talk.connections():
+                    reading(known)
+        if chosen.all and not readings:
+            self.connection(source, source.name)
+        for each in readings.values():
+            each.end()
+
+    def connection(self, source, name):
+        """The next connection, or the next part of one."""
+        first = self.by_source.get(source.first)
+        self.whole += first is None
+        label = f"{first.label}.{source.part}" if first else f"#{self.whole}"
+        found = self.by_source[source] = Connection(len(self.connections), source, name, label, first)
+        self.connections.append(found)
+        return found
+
+
+class Reading:
+    """The reading of one connection."""
+
+    def __init__(self, run, connection, tracing):
+        self.run, self.connection, self.tracing = run, connection, tracing
+
+    def take(self, talk, line, made, asked):
+        """Takes the next message, and the request that it answers."""
+        connection, moment = self.connection, made.moment
+        connection.messages += 1
+        if moment is not None:
+            if connection.begun is None:
+                connection.begun = connection.ended = moment
+            elif moment > connection.ended:
+                connection.ended = moment
+            elif moment < connection.begun:
+                connection.begun = moment
+        if made.op == listing.CONNECT and self.connect(line, made):
+            return
+        if asked:
+            self.reply(made, asked)
+        elif made.op == listing.EVENT:
+            self.event(line, made)
+        else:
+            self.request(talk, line, made)
+
+    def connect(self, line, made):
+        """Takes a connect message, and says whether it is one that pcap2zkr.py made up."""
+        connection, fields = self.connection, object_of(line, made)
+        if str(fields.get("version")) == MADE_UP:
+            connection.is_late = True
+        elif made.side == "C":
+            connection.asked_session = fields.get("session")
+        else:
+            connection.session, connection.timeout = fields.get("session"), fields.get("timeout")
+        return connection.is_late
+
+    def request(self, talk, line, made):
+        made.seen, op = True, made.op
+        self.name(made)
+        if op in WATCHING:
+            made.is_watching = is_watching(line)
+        elif op == "multi":
+            for spelled in talk.paths(line, made):
+                self.name_path(paths.path_of(spelled), made)
+        elif op == "setWatches":
+            for path in watched_paths(line):
+                self.set_again(path, made)
+        elif op == "closeSession":
+            self.connection.closing = made.n
+
+    def name(self, made):
+        """Counts the path of a request, which stays with it in place of its spelling."""
+        made.path = path = paths.path_of(made.path)
+        if path is not None:
+            self.name_path(path, made)
+
+    def name_path(self, path, made):
+        entry = self.run.paths.entry(path)
+        entry[0] += 1
+        if entry[4] is None:
+            entry[3:] = self.connection.number, made.n
+
+    def set_again(self, path, made):
+        """Counts a watch that a client sets again behind a reconnection."""
+        entry = self.watch(path, made)
+        entry[0] += 1
+        entry[1] += 1
+
+    def watch(self, path, made):
+        entry = self.run.watches.entry((self.connection.number, path))
+        if entry[3] is None:
+            entry[3] = made.n
+        return entry
+
+    def reply(self, made, asked):
+        run, connection, error, microseconds = self.run, self.connection, made.error, made.microseconds
+        if not hasattr(asked, "seen"):      # the request itself isn't there, or not chosen
+            self.name(asked)
+        ms = None if microseconds is None else microseconds / 1000
+        operation = connection.operations[made.op]
+        operation.asked += 1
+        operation.answered += 1
+        if microseconds is not None:
+            operation.latencies.add(microseconds)
+        if operation.slowest is None or (ms or 0) > operation.slowest[0]:
+            operation.slowest = ms or 0, connection.number, asked.n
+        if error:
+            operation.errors[error] += 1
+            operation.failures.setdefault(error, (connection.number, asked.n))
+        if run.kept.takes(ms, error):
+            run.kept.put(kept.Request(connection.number, asked.n, made.n, asked.moment, ms, made.op, error, asked.path))
+        if ms is not None and asked.moment is not None:
+            run.density.add(connection.number, asked.moment, ms, 1 if error else 0)
+        if asked.path is not None:
+            self.judge_path(asked, ms, error)
+        # A node that isn't there can be watched by exists alone.
+        if getattr(asked, "is_watching", False) and (error is None or made.op == "exists" and error == "NONODE"):
+            self.watch(asked.path, asked)[0] += 1
+        if self.tracing:
+            self.tracing.request(connection, asked, made)
+
+    def judge_path(self, asked, ms, error):
+        entry = self.run.paths.entries.get(asked.path)
+        if entry:
+            entry[1] += error is not None
+            if ms is not None and ms > entry[2]:
+                entry[2:] = ms, self.connection.number, asked.n
+
+    def event(self, line, made):
+        self.connection.events += 1
+        path = paths.path_of(made.path if line.startswith("{") else line.partition(" path=")[2])
+        entry = self.watch(path, made)
+        entry[2][made.error] = entry[2].get(made.error, 0) + 1
+        entry[3] = made.n
+        if self.tracing:
+            self.tracing.event(self.connection, made, path)
+
+    def left(self, made):
+        """Takes a request that was never answered."""
+        connection = self.connection
+        if connection.is_late and made.op == listing.CONNECT:
+            return
+        operation = connection.operations[made.op]
+        operation.asked += 1
+        operation.unanswered += 1
+        self.run.kept.put_unanswered(
+            kept.Request(connection.number, made.n, None, made.moment, None, made.op, None, made.path))
+        if made.moment is not None:
+            self.run.density.add(connection.number, made.moment, None, 2)
+        if self.tracing:
+            self.tracing.request(connection, made, None)
+
+    def end(self):
+        if self.tracing:
+            self.tracing.end(self.connection)
+
+
+def object_of(line, made, asked=None):
+    """A message as an object, with the names of zkjson."""
+    if line.startswith("{"):
+        found = json.loads(line)
+    else:
+        made.connection.json = NO_CONNECTION
+        found = json.loads("".join(zkjson.pieces(line, made, asked)))
+    found.pop("connection", None)
+    return found
+
+
+def is_watching(line):
+    """Whether a request asks for a watch: the field is the last one of its line."""
+    return line.endswith(" watch=1") or line.startswith("{") and bool(json.loads(line).get("watch"))
+
+
+def watched_paths(line):
+    """The paths of a setWatches: it has no other texts."""
+    if line.startswith("{"):
+        made = json.loads(line)
+        return [paths.path_of(listing.spelled(path)) for name in WATCH_LISTS for path in made.get(name) or ()]
+    return [paths.path_of(found) for found in listing.QUOTED.findall(line)]

@@ -1,0 +1,227 @@
+// The picture of the requests: latency against time. Where the page has not every request, a shade tells how many there
+// were; the slowest, the failed and the unanswered ones are marks in any case.
+
+const TALL = 260, BAND = 22, FOOT = 40;
+const BINS_OF_TEN = 8, LEAST_EXPONENT = -3;
+const latency = { canvas: null, marks: [], indices: [], at: -1, drag: null };
+
+function colours() {
+  const style = getComputedStyle(document.documentElement);
+  return name => style.getPropertyValue(`--${name}`).trim();
+}
+
+// The axis of latencies: whole powers of ten around what there is.
+function latencyAxis(indices) {
+  let low = Infinity, high = 0;
+  for (const i of indices) {
+    if (requests.ms[i] > 0) low = Math.min(low, requests.ms[i]);
+    if (requests.ms[i] > high) high = requests.ms[i];
+  }
+  if (showsDensity()) low = Math.min(low, 10 ** (leastBin() / BINS_OF_TEN + LEAST_EXPONENT));
+  if (low === Infinity) return null;
+  const from = Math.floor(Math.log10(low)), to = Math.max(from + 1, Math.ceil(Math.log10(high)));
+  const on = scale([from, to], [TALL - FOOT, BAND + 8]);
+  return { from, to, y: ms => on(ms > 0 ? Math.log10(ms) : from) };
+}
+
+function showsDensity() {
+  return !data.complete && filter.path === "" && filter.op === "" && filter.outcome === "" && filter.slower === null;
+}
+
+function leastBin() {
+  let least = 63;
+  for (const cells of Object.values(data.density.cells)) {
+    for (let i = 1; i < cells.length; i += 3) least = Math.min(least, cells[i]);
+  }
+  return least;
+}
+
+function drawLatency(indices) {
+  const box = document.getElementById("latency");
+  if (!latency.canvas) prepare(box);
+  const canvas = latency.canvas, width = box.clientWidth, ratio = devicePixelRatio || 1, axis = latencyAxis(indices);
+  const hasBand = indices.some(i => outcome(i) === UNANSWERED);
+  canvas.width = width * ratio;
+  canvas.height = TALL * ratio;
+  canvas.style.width = `${width}px`;
+  canvas.style.height = `${TALL}px`;
+  const pen = canvas.getContext("2d"), colour = colours();
+  pen.scale(ratio, ratio);
+  pen.font = `12px ${getComputedStyle(document.body).fontFamily}`;
+  const to = scale(range(), [MARGIN.left, width - MARGIN.right]);
+  drawAxes(pen, width, axis, to, colour, hasBand);
+  pen.save();
+  pen.beginPath();
+  pen.rect(MARGIN.left - 5, 0, width - MARGIN.left - MARGIN.right + 10, TALL - FOOT + 6);
+  pen.clip();
+  if (axis && showsDensity()) drawDensity(pen, axis, to, colour);
+  latency.indices = indices;
+  latency.marks = [];
+  for (const kind of [OK, FAILED, UNANSWERED]) {
+    pen.fillStyle = pen.strokeStyle = colour(OUTCOMES[kind]);
+    const all = indices.filter(i => outcome(i) === kind), size = all.length > 1500 ? 0.6 : 1;
+    for (const i of all) drawMark(pen, i, kind, axis, to, size);
+  }
+  if (latency.at >= 0) ring(pen, latency.at, colour);
+  pen.restore();
+  if (latency.drag) {
+    pen.fillStyle = colour("select");
+    const [from, until] = [latency.drag.from, latency.drag.to].sort((a, b) => a - b);
+    pen.fillRect(from, 0, until - from, TALL - FOOT);
+  }
+}
+
+function drawAxes(pen, width, axis, to, colour, hasBand) {
+  const right = width - MARGIN.right, foot = TALL - FOOT;
+  pen.lineWidth = 1;
+  pen.strokeStyle = colour("line");
+  pen.fillStyle = colour("soft");
+  pen.textBaseline = "middle";
+  pen.textAlign = "right";
+  const line = (x1, y1, x2, y2) => { pen.beginPath(); pen.moveTo(x1, y1); pen.lineTo(x2, y2); pen.stroke(); };
+  for (let power = axis?.from; power <= axis?.to; power++) {
+    const y = Math.round(axis.y(10 ** power)) + 0.5;
+    line(MARGIN.left, y, right, y);
+    pen.fillText(duration(10 ** power), MARGIN.left - 8, y);
+  }
+  if (hasBand) {
+    pen.fillStyle = colour("unanswered");
+    pen.fillText("unanswered", MARGIN.left - 8, BAND / 2 + 1);
+  }
+  pen.fillStyle = colour("soft");
+  pen.textAlign = "center";
+  for (const { x, label } of ticks(range(), (width - MARGIN.left) / 100)) {
+    const at = Math.round(to(x)) + 0.5;
+    line(at, 0, at, foot + 4);
+    pen.fillText(label, Math.min(at, right - pen.measureText(label).width / 2 + 18), foot + 13);
+  }
+  pen.textAlign = "left";
+  pen.fillText(axis ? "latency" : "no latencies: the recordings have no times", 0, BAND / 2 + 30);
+  pen.textAlign = "right";
+  pen.fillText(axisName(), right, foot + 31);
+}
+
+function drawDensity(pen, axis, to, colour) {
+  const { width, first, cells } = data.density;
+  const sums = new Map();
+  let most = 1;
+  for (const [connection, found] of Object.entries(cells)) {
+    if (!inSession(connection)) continue;
+    for (let i = 0; i < found.length; i += 3) {
+      const key = found[i] * 64 + found[i + 1], sum = (sums.get(key) ?? 0) + found[i + 2];
+      sums.set(key, sum);
+      most = Math.max(most, sum);
+    }
+  }
+  pen.fillStyle = colour("ok");
+  for (const [key, sum] of sums) {
+    const x = first - data.begun + Math.floor(key / 64) * width, bin = key % 64;
+    const top = axis.y(10 ** ((bin + 1) / BINS_OF_TEN + LEAST_EXPONENT)), foot = axis.y(10 ** (bin / BINS_OF_TEN + LEAST_EXPONENT));
+    pen.globalAlpha = 0.08 + 0.5 * Math.log(1 + sum) / Math.log(1 + most);
+    pen.fillRect(to(x), top, Math.max(1, to(x + width) - to(x)), foot - top);
+  }
+  pen.globalAlpha = 1;
+}
+
+function drawMark(pen, i, kind, axis, to, size) {
+  const x = to(requests.x[i]);
+  if (Number.isNaN(x) || kind !== UNANSWERED && (!axis || Number.isNaN(requests.ms[i]))) return;
+  const y = kind === UNANSWERED ? BAND / 2 : axis.y(requests.ms[i]);
+  latency.marks.push([x, y, i]);
+  pen.beginPath();
+  if (kind === OK) {
+    pen.globalAlpha = 0.65;
+    pen.arc(x, y, 2.2 * size, 0, 7);
+  } else if (kind === FAILED) {
+    const r = 4.2 * size;
+    pen.globalAlpha = size < 1 ? 0.6 : 1;
+    pen.moveTo(x, y - r);
+    pen.lineTo(x + r, y);
+    pen.lineTo(x, y + r);
+    pen.lineTo(x - r, y);
+  } else {
+    pen.moveTo(x - 4.5, y - 4);
+    pen.lineTo(x + 4.5, y - 4);
+    pen.lineTo(x, y + 4.5);
+  }
+  pen.fill();
+  pen.globalAlpha = 1;
+}
+
+function ring(pen, i, colour) {
+  const mark = latency.marks.find(each => each[2] === i);
+  if (!mark) return;
+  pen.strokeStyle = colour("ink");
+  pen.lineWidth = 1.5;
+  pen.beginPath();
+  pen.arc(mark[0], mark[1], 7, 0, 7);
+  pen.stroke();
+}
+
+function told(i) {
+  const error = data.errors[requests.error[i]];
+  return [`${data.ops[requests.op[i]]} ${requests.path[i] < 0 ? "" : shownText(data.paths[requests.path[i]])}`,
+    outcome(i) === UNANSWERED ? "never answered" : `${duration(requests.ms[i])}${error ? `, ${error}` : ""}`,
+    `${place(requests.x[i])}, connection ${connectionName(requests.connection[i])}, message ${count(requests.n[i])}`];
+}
+
+// The canvas, with what a pointer and the keys do on it.
+function prepare(box) {
+  const canvas = latency.canvas = element("canvas", { tabindex: 0, role: "img",
+    "aria-label": "Latency of requests in time. Arrow keys go from mark to mark, Enter shows the messages." });
+  box.append(canvas);
+  const near = event => {
+    const box_ = canvas.getBoundingClientRect(), x = event.clientX - box_.left, y = event.clientY - box_.top;
+    let best = null, least = 144;
+    for (const [atX, atY, i] of latency.marks) {
+      const far = (atX - x) ** 2 + (atY - y) ** 2;
+      if (far <= least) [best, least] = [i, far];
+    }
+    return { x: Math.max(MARGIN.left, Math.min(x, box_.width - MARGIN.right)), best };
+  };
+  canvas.addEventListener("pointerdown", event => {
+    canvas.setPointerCapture(event.pointerId);
+    latency.drag = { from: near(event).x, to: near(event).x };
+  });
+  canvas.addEventListener("pointermove", event => {
+    const { x, best } = near(event);
+    if (latency.drag) {
+      latency.drag.to = x;
+      drawLatency(latency.indices);
+    }
+    canvas.style.cursor = best === null ? "crosshair" : "pointer";
+    tell(best === null ? null : told(best), event.clientX, event.clientY);
+  });
+  canvas.addEventListener("pointerleave", () => tell(null));
+  canvas.addEventListener("pointerup", event => {
+    const { best } = near(event), drag = latency.drag;
+    latency.drag = null;
+    const width = canvas.clientWidth, to = scale(range(), [MARGIN.left, width - MARGIN.right]);
+    if (drag && Math.abs(drag.to - drag.from) > 4) {
+      const [from, until] = [drag.from, drag.to].sort((a, b) => a - b).map(to.back);
+      setTimes(from, until);
+    } else if (best !== null) {
+      openMessages(...link(best));
+    } else {
+      drawLatency(latency.indices);
+    }
+  });
+  canvas.addEventListener("dblclick", () => setTimes(null, null));
+  canvas.addEventListener("keydown", event => step(canvas, event));
+}
+
+// The arrow keys go from mark to mark in time.
+function step(canvas, event) {
+  const ahead = { ArrowRight: 1, ArrowLeft: -1 }[event.key];
+  if (ahead) {
+    const order = latency.marks.slice().sort((a, b) => a[0] - b[0]).map(each => each[2]);
+    const at = order.indexOf(latency.at);
+    latency.at = order[at < 0 ? (ahead > 0 ? 0 : order.length - 1) : Math.max(0, Math.min(order.length - 1, at + ahead))] ?? -1;
+    drawLatency(latency.indices);
+    const mark = latency.marks.find(each => each[2] === latency.at), box = canvas.getBoundingClientRect();
+    if (mark) tell(told(latency.at), box.left + mark[0], box.top + mark[1]);
+    event.preventDefault();
+  } else if (event.key === "Enter" && latency.at >= 0) {
+    openMessages(...link(latency.at));
+  }
+}

@@ -1,0 +1,170 @@
+// What the page knows: the data, the filters, and which of the kept requests they let through.
+
+const data = JSON.parse(document.getElementById("data").textContent);
+const timed = data.begun !== null;
+const requests = unpack(data.requests);
+const OK = 0, FAILED = 1, UNANSWERED = 2, OUTCOMES = ["ok", "failed", "unanswered"];
+const sessionOf = [];       // by connection, the number of its session
+data.sessions.forEach((session, number) => session.connections.forEach(each => { sessionOf[each] = number; }));
+
+// By session, what a filter and a link call it.
+const sessionKeys = data.sessions.map(session => session.id ?? connectionName(session.connections[0]));
+
+// The columns of the requests, with times in milliseconds since the run began and latencies in milliseconds.
+function unpack(columns) {
+  const count = columns.n.length, x = new Float64Array(count), ms = new Float64Array(count);
+  let at = 0;
+  for (let i = 0; i < count; i++) {
+    at += columns.at[i] ?? 0;
+    x[i] = data.begun === null ? columns.n[i] : columns.at[i] === null ? NaN : at / 1000;
+    ms[i] = columns.ms[i] === null ? NaN : columns.ms[i] / 1000;
+  }
+  return { ...columns, count, x, ms };
+}
+
+function outcome(i) {
+  return requests.reply[i] === null ? UNANSWERED : requests.error[i] >= 0 ? FAILED : OK;
+}
+
+// The part of the run that is drawn when no time is chosen.
+const whole = timed ? [0, Math.max(1, data.ended - data.begun)]
+  : [1, Math.max(2, ...data.connections.map(each => each.messages))];
+
+const filter = { path: "", session: "", op: "", outcome: "", slower: null, from: null, to: null };
+
+function isFiltered() {
+  return Object.values(filter).some(value => value !== "" && value !== null);
+}
+
+// Whether a connection is one of the session that the filter names.
+function inSession(connection) {
+  return filter.session === "" || sessionKeys[sessionOf[connection]] === filter.session;
+}
+
+function sessionName(number) {
+  return data.sessions[number].id ?? `unknown (${sessionKeys[number]})`;
+}
+
+function connectionName(number) {
+  return data.connections[number].label;
+}
+
+// A text with every character that isn't seen, or that would turn the text around, as an escape.
+function visible(text) {
+  return text.replace(/[\p{C}\p{Zl}\p{Zp}]/gu, each => `\\u{${each.codePointAt(0).toString(16)}}`);
+}
+
+// A path, or another text that may have been cut, with its length told behind it.
+function shownText(value) {
+  if (value === null || value === undefined) return "null";
+  if (typeof value === "string") return visible(value);
+  return `${visible(value.text)}… (${count(value.size)} bytes)`;
+}
+
+function plainText(value) {
+  return value === null || value === undefined ? "" : typeof value === "string" ? value : value.text;
+}
+
+// The kept requests that the filters let through.
+function matching() {
+  const found = [], wanted = filter.path.toLowerCase();
+  const ofPath = data.paths.map(path => plainText(path).toLowerCase().includes(wanted));
+  const op = filter.op === "" ? -1 : data.ops.indexOf(filter.op);
+  for (let i = 0; i < requests.count; i++) {
+    if (wanted && !(requests.path[i] >= 0 && ofPath[requests.path[i]])) continue;
+    if (!inSession(requests.connection[i])) continue;
+    if (filter.op !== "" && requests.op[i] !== op) continue;
+    if (filter.outcome !== "" && OUTCOMES[outcome(i)] !== filter.outcome) continue;
+    if (filter.slower !== null && !(requests.ms[i] > filter.slower)) continue;
+    if (filter.from !== null && !(requests.x[i] >= filter.from)) continue;
+    if (filter.to !== null && !(requests.x[i] <= filter.to)) continue;
+    found.push(i);
+  }
+  return found;
+}
+
+// The latency that this share of the sorted latencies doesn't exceed.
+function quantile(sorted, share) {
+  return sorted.length ? sorted[Math.max(0, Math.ceil(share * sorted.length) - 1)] : null;
+}
+
+function groups(indices, key) {
+  const found = new Map();
+  for (const i of indices) {
+    const name = key(i);
+    if (!found.has(name)) found.set(name, []);
+    found.get(name).push(i);
+  }
+  return found;
+}
+
+function link(i) {
+  return [requests.connection[i], requests.n[i]];
+}
+
+function slowestOf(indices) {
+  let best = indices[0];
+  for (const i of indices) if (requests.ms[i] > requests.ms[best] || Number.isNaN(requests.ms[best])) best = i;
+  return best;
+}
+
+// The rows of tables, of the requests that the filters let through: their columns are those of the data's tables.
+const derive = {
+  operations(indices) {
+    return [...groups(indices, i => requests.op[i])].map(([op, all]) => {
+      const answered = all.filter(i => outcome(i) !== UNANSWERED);
+      const times = answered.map(i => requests.ms[i]).filter(ms => !Number.isNaN(ms)).sort((a, b) => a - b);
+      return [data.ops[op], all.length, answered.length, all.filter(i => outcome(i) === FAILED).length,
+        all.length - answered.length, quantile(times, 0.5), quantile(times, 0.95), quantile(times, 0.99),
+        quantile(times, 1), ...link(slowestOf(all))];
+    }).sort((a, b) => b[1] - a[1] || (a[0] < b[0] ? -1 : 1));
+  },
+  errors(indices) {
+    const failed = indices.filter(i => outcome(i) === FAILED);
+    return [...groups(failed, i => `${requests.op[i]} ${requests.error[i]}`).values()].map(all =>
+      [data.ops[requests.op[all[0]]], data.errors[requests.error[all[0]]], all.length, ...link(all[0])])
+      .sort((a, b) => b[2] - a[2]);
+  },
+  slowest(indices) {
+    return indices.filter(i => !Number.isNaN(requests.ms[i])).sort((a, b) => requests.ms[b] - requests.ms[a])
+      .slice(0, 20).map(i => [requests.ms[i], timed ? data.begun + requests.x[i] : null, connectionName(requests.connection[i]),
+        requests.n[i], data.ops[requests.op[i]], data.errors[requests.error[i]] ?? null, data.paths[requests.path[i]] ?? null,
+        ...link(i)]);
+  },
+  paths(indices) {
+    const named = indices.filter(i => requests.path[i] >= 0);
+    return [...groups(named, i => requests.path[i])].sort((a, b) => b[1].length - a[1].length).slice(0, 50)
+      .map(([path, all]) => {
+        const slowest = slowestOf(all);
+        return [all.length, all.filter(i => outcome(i) === FAILED).length,
+          Number.isNaN(requests.ms[slowest]) ? null : requests.ms[slowest], data.paths[path], ...link(slowest)];
+      });
+  },
+  unanswered(indices) {
+    return indices.filter(i => outcome(i) === UNANSWERED).slice(0, 50).map(i => [
+      timed && !Number.isNaN(requests.x[i]) ? data.begun + requests.x[i] : null, connectionName(requests.connection[i]),
+      requests.n[i], data.ops[requests.op[i]], data.paths[requests.path[i]] ?? null, ...link(i)]);
+  },
+};
+
+// The rows of a table under the filters, and what they don't go by, if anything.
+function rowsOf(name, indices) {
+  const table = data.tables[name], column = table.columns.findIndex(each => each[0] === "path");
+  const bySession = row => inSession(row[row.length - 2]);
+  const byPath = row => !filter.path || plainText(row[column]).toLowerCase().includes(filter.path.toLowerCase());
+  if (!isFiltered()) return table.rows;
+  if (name === "sessions" || name === "connections") return table.rows.filter(bySession);
+  if (name === "watches") return table.rows.filter(row => bySession(row) && byPath(row));
+  if (data.complete || name === "slowest" || name === "unanswered") return derive[name](indices);
+  if (name === "paths") return table.rows.filter(byPath);
+  const rows = filter.session === "" ? table.rows : data.bySession[sessionKeys.indexOf(filter.session)]?.[name] ?? [];
+  return filter.op === "" ? rows : rows.filter(row => row[0] === filter.op);
+}
+
+// What is said where the page has not every request, so that some tables can't follow the filters.
+function shortcoming() {
+  if (data.complete || !isFiltered()) return "";
+  const others = filter.path || filter.outcome || filter.slower !== null || filter.from !== null || filter.to !== null;
+  const told = `This page has ${count(requests.count)} of ${count(data.counts.asked)} requests: the slowest, the unanswered, and the failed or some of them.`;
+  return others ? `${told} Operations and errors follow the filters by session and operation alone, busiest paths the one by path; for the others make the report of a part of the run.` : told;
+}

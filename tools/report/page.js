@@ -1,0 +1,124 @@
+// Puts the page together: the head, the filters, and the fragment of the address, which has the filters and the message
+// that is open, so that a link leads to the same view.
+
+const field = name => document.getElementById(`f-${name}`);
+const NAMES = ["path", "session", "op", "outcome", "slower", "from", "to"];
+let writing = false;
+
+// A place on the axis of time, of what a person wrote: a time of day, a whole time, or a message's number.
+function placeOf(text) {
+  const told = text.trim();
+  if (!told) return null;
+  if (!timed) return /^\d+$/.test(told) ? +told : NaN;
+  const day = iso(data.begun).slice(0, 10);
+  const full = /^\d\d:\d\d(:\d\d(\.\d+)?)?$/.test(told) ? `${day}T${told}Z` : told.replace(" ", "T").replace(/Z?$/, "Z");
+  const at = Date.parse(full) - data.begun;
+  return /^\d\d:/.test(told) && at < -1 && at + 864e5 <= whole[1] ? at + 864e5 : at;
+}
+
+function placeText(x) {
+  return !timed ? String(Math.round(x)) : iso(data.begun).slice(0, 10) === iso(data.ended).slice(0, 10) ? place(x)
+    : iso(data.begun + x).slice(0, 23);
+}
+
+// Takes the filters from the form; what isn't understood is marked, and has no effect.
+function readForm() {
+  for (const name of NAMES) {
+    const value = field(name).value;
+    const number = name === "slower" ? (value.trim() === "" ? null : +value) : placeOf(value);
+    const isNumber = name === "slower" || name === "from" || name === "to";
+    field(name).setAttribute("aria-invalid", isNumber && Number.isNaN(number));
+    filter[name] = !isNumber ? value : Number.isNaN(number) ? null : number;
+  }
+}
+
+function draw() {
+  const indices = matching();
+  drawSessions(indices);
+  drawLatency(indices);
+  drawTables(indices);
+  document.getElementById("matched").textContent = isFiltered()
+    ? `${count(indices.length)} of ${count(requests.count)} requests${data.complete ? "" : " that are in the page"}` : "";
+}
+
+function refresh() {
+  readForm();
+  latency.at = -1;
+  draw();
+  writeHash();
+}
+
+function setFilter(name, value) {
+  field(name).value = value;
+  refresh();
+}
+
+function setTimes(from, to) {
+  field("from").value = from === null ? "" : placeText(from);
+  field("to").value = to === null ? "" : placeText(to);
+  refresh();
+}
+
+function hashOf(changes = {}) {
+  const words = new URLSearchParams();
+  for (const name of NAMES) if (field(name).value) words.set(name, field(name).value);
+  const all = { ...Object.fromEntries(words), ...(opened ? { m: `${opened.connection + 1}:${opened.n}` } : {}), ...changes };
+  return `#${new URLSearchParams(all)}`;
+}
+
+function writeHash() {
+  const hash = hashOf();
+  if (location.hash === hash || hash === "#" && !location.hash) return;
+  writing = true;
+  history.replaceState(null, "", hash === "#" ? location.pathname : hash);
+  writing = false;
+}
+
+function readHash() {
+  if (writing) return;
+  const words = new URLSearchParams(location.hash.slice(1));
+  for (const name of NAMES) field(name).value = words.get(name) ?? "";
+  readForm();
+  draw();
+  const [connection, n] = (words.get("m") ?? "").split(":").map(Number);
+  if (connection >= 1 && connection <= data.connections.length && n >= 1) openMessages(connection - 1, n);
+  else if (opened) closeMessages();
+}
+
+function head() {
+  document.getElementById("files").textContent = [visible(data.title),
+    timed ? `${iso(data.begun).replace("T", " ").replace("Z", "")} to ${iso(data.ended).slice(11, 23)} UTC, ${duration(data.ended - data.begun)}`
+      : "no times"].join(" · ");
+  document.getElementById("warnings").append(...data.warnings.map(text => element("p", { class: "failed", text: `Not read: ${visible(text)}` })));
+  const one = (name, value, kind = "") => element("li", { class: value ? kind : "" },
+    element("b", { text: count(value) }), ` ${name}`);
+  document.getElementById("counts").append(
+    one("sessions", data.sessions.length), one("connections", data.counts.connections), one("requests", data.counts.asked),
+    one("failed", data.counts.failed, "failed"), one("unanswered", data.counts.unanswered, "unanswered"),
+    one("events", data.counts.events), one("messages", data.counts.messages));
+  data.sessions.forEach((_, number) => field("session").append(element("option", { value: sessionKeys[number], text: visible(sessionName(number)) })));
+  [...data.tables.operations.rows].map(row => row[0]).sort().forEach(op => field("op").append(element("option", { value: op, text: visible(op) })));
+  field("from").placeholder = timed ? place(0) : "1";
+  field("to").placeholder = timed ? place(whole[1]) : String(whole[1]);
+  document.getElementById("hint").textContent = `${data.complete ? "Each mark is a request." : "There were too many requests to draw each: the shade tells how many there were, marks are the slowest, the unanswered, and the failed or some of them. What is red of a bar is the share that failed."} Drag over the picture to choose a time; a double click takes that back. A bar or a mark leads to its messages.`;
+}
+
+head();
+drawLegend();
+readHash();
+addEventListener("hashchange", readHash);
+addEventListener("resize", draw);
+matchMedia("(prefers-color-scheme: dark)").addEventListener("change", draw);
+const form = document.getElementById("filters");
+form.addEventListener("input", refresh);
+form.addEventListener("submit", event => event.preventDefault());
+form.addEventListener("reset", () => setTimeout(refresh));
+addEventListener("keydown", event => {
+  const isTyping = /^(INPUT|SELECT|TEXTAREA)$/.test(document.activeElement?.tagName ?? "");
+  if (event.key === "/" && !isTyping) {
+    event.preventDefault();
+    field("path").focus();
+  } else if (event.key === "Escape" && opened) {
+    closeMessages();
+  }
+});

@@ -1,0 +1,141 @@
+"""Makes the page of a report: one file of HTML that needs nothing else."""
+
+import base64
+import hashlib
+import json
+import pathlib
+import re
+
+import zkr
+from report import paths, summary, text
+
+HERE = pathlib.Path(__file__).resolve().parent
+SCRIPTS = ("model.js", "draw.js", "sessions.js", "latency.js", "tables.js", "messages.js", "page.js")
+
+
+def page(title, found, messages, compared=None):
+    """The page, of a summary, of the JSON of its messages, and of what was compared with another run."""
+    style = (HERE / "page.css").read_text(encoding="utf-8")
+    script = "(() => {\n\"use strict\";\n" + "".join((HERE / name).read_text(encoding="utf-8")
+                                                    for name in SCRIPTS) + "})();\n"
+    data = json.dumps({**data_of(title, found), "compared": compared}, separators=(",", ":"))
+    parts = {
+        "title": escaped(title), "style": style, "script": script,
+        # Within a script element only "<" could end the data.
+        "data": f'{data[:-1]},"messages":{messages}}}'.replace("<", "\\u003c"),
+        "policy": f"default-src 'none'; style-src '{digest(style)}'; script-src '{digest(script)}'",
+        "text": escaped("\n".join(text.lines_of(found))),
+    }
+    template = (HERE / "page.html").read_text(encoding="utf-8")
+    return re.sub(r"<!-- (\w+) -->", lambda mark: parts[mark[1]], template)
+
+
+def escaped(text_):
+    """A text as HTML has it between tags."""
+    return text_.replace("&", "&amp;").replace("<", "&lt;").replace(">", "&gt;").replace('"', "&quot;")
+
+
+def digest(source):
+    """What the page's policy calls this style or script."""
+    return "sha256-" + base64.b64encode(hashlib.sha256(source.encode()).digest()).decode()
+
+
+def data_of(title, found):
+    """What the page's script is given, but for messages."""
+    run, names = found.run, Names()
+    requests = requests_of(found, names)
+    tables = {name: {"heading": summary.HEADINGS[name], "columns": summary.COLUMNS[name],
+                     "rows": [[plain(value) for value in row] for row in rows]}
+              for name, rows in found.tables.items()}
+    return {
+        "title": title, "warnings": run.warnings, "begun": found.begun, "ended": found.ended, "counts": {**found.counts, "connections": run.whole}, "tables": tables,
+        "leftOut": found.rows_left_out(), "pathsShort": run.paths.short, "complete": run.kept.is_complete(),
+        "connections": [connection_of(each) for each in run.connections],
+        "sessions": [session_of(each) for each in found.sessions],
+        "requests": requests, "ops": names.ops, "errors": names.errors, "paths": names.paths,
+        "density": density_of(found),
+        "bySession": [] if run.kept.is_complete() else by_session(found),
+    }
+
+
+def plain(value):
+    """A value of a row as JSON."""
+    return {"text": value.front, "size": value.size} if isinstance(value, paths.Cut) else value
+
+
+class Names:
+    """Numbers for operations, errors and paths, which requests repeat."""
+
+    def __init__(self):
+        self.ops, self.errors, self.paths, self.numbers = [], [], [], {}
+
+    def number(self, names, value):
+        if value is None:
+            return -1
+        key = id(names), value
+        if key not in self.numbers:
+            self.numbers[key] = len(names)
+            names.append(plain(value))
+        return self.numbers[key]
+
+
+def requests_of(found, names):
+    """The kept requests as columns, in the order of their times. Times are whole microseconds, each since the one
+    before."""
+    begun = found.begun or 0
+    requests = sorted(found.run.kept.requests(), key=lambda each: (each.at or 0, each.connection, each.n))
+    columns = {name: [] for name in ("connection", "n", "reply", "at", "ms", "op", "error", "path")}
+    last = 0
+    for each in requests:
+        at = None if each.at is None else round((each.at - begun) * 1000)
+        columns["at"].append(None if at is None else at - last)
+        last = last if at is None else at
+        columns["connection"].append(each.connection)
+        columns["n"].append(each.n)
+        columns["reply"].append(each.reply and each.reply - each.n)
+        columns["ms"].append(None if each.ms is None else round(each.ms * 1000))
+        columns["op"].append(names.number(names.ops, each.op))
+        columns["error"].append(names.number(names.errors, each.error))
+        columns["path"].append(names.number(names.paths, each.path))
+    return columns
+
+
+def connection_of(each):
+    source, ending = each.source, each.ending()
+    begun, ended = each.span()
+    return {"name": each.name, "label": each.label, "server": source.server, "begun": begun, "ended": ended,
+            "messages": each.messages, "refused": each.is_refused(), "closed": summary.closed_by(each),
+            "end": summary.ending_of(each), "first": each.first and each.first.number,
+            "hole": "hole" in source.notes or bool(ending) and ending["ending"] != "whole"}
+
+
+def session_of(session):
+    return {"id": session.id, "connections": [each.number for each in session.connections], "end": session.end(),
+            "gaps": [[before.number, after.number, gap] for before, after, gap in session.gaps()],
+            "holes": [[before.number, after.number] for before, after in session.holes()]}
+
+
+def density_of(found):
+    """The cells of the density by connection: bucket, bin and count, one behind another. Buckets count from `first`.
+    `troubles` has in the same way bucket, 1 for failed or 2 for unanswered, and count."""
+    density = found.run.density
+    return {"width": density.width, "first": None if density.low is None else density.low * density.width,
+            "cells": by_connection(density.cells, density.low), "troubles": by_connection(density.troubles, density.low)}
+
+
+def by_connection(cells, low):
+    found = {}
+    for (connection, bucket, row), count in sorted(cells.items()):
+        found.setdefault(connection, []).extend((bucket - low, row, count))
+    return found
+
+
+def by_session(found):
+    """The rows of operations and errors of each session, of the busiest ones."""
+    busiest = sorted(found.sessions, key=lambda each: -sum(one.messages for one in each.connections))
+    told = {}
+    for session in busiest[:summary.MOST_SESSIONS]:
+        operations = summary.operations_of(session.connections)
+        told[session.number] = {"operations": list(summary.operation_rows(operations)),
+                                "errors": summary.error_rows(operations)}
+    return told

@@ -1,0 +1,127 @@
+"""Where a report's connections come from: captures, recordings, and listings or the lines of zkjson."""
+
+import argparse
+import contextlib
+import datetime
+import os
+import pathlib
+import re
+import subprocess
+import sys
+import tempfile
+
+import conversations
+import listing
+import zkr
+
+TOOLS = pathlib.Path(__file__).resolve().parent.parent
+RECORDINGS = (b"ZKR1", b"ZKR2")
+CAPTURES = (b"\xa1\xb2\xc3\xd4", b"\xd4\xc3\xb2\xa1", b"\xa1\xb2\x3c\x4d", b"\x4d\x3c\xb2\xa1", b"\x0a\x0d\x0d\x0a",
+            b"\x1f\x8b")
+LISTINGS = re.compile(rb"[CS] |\. |\{")
+CAPTURED = re.compile(r"(.+) (\S+) > (\S+) begun (\S+)(?: ended (\S+))?((?: \S+)*)")
+PART = re.compile(r"-(\d+)(?:\.(\d+))?\.zkr")
+
+
+class Source:
+    """A file, and what is known of its connection beside it. Lines of zkjson may have several connections.
+
+    `path` is None where nothing is recorded. Of a capture there are the ends of the connection, when it began and
+    ended, and in `notes` the other words of pcap2zkr's line, each with its value, or with None. What follows a loss is
+    a part of its own: `first` is the part that the connection begins with.
+    """
+
+    def __init__(self, path, name, mark=b""):
+        self.path, self.name, self.has_objects = path, name, mark.startswith(b"{")
+        self.server = self.begun = self.ended = self.first = None
+        self.part, self.notes = 1, {}
+
+
+class Opener:
+    """Opens sources. Recordings are read with the widest limits, since a report shows what there is; the head of a ZKR2
+    recording has its own."""
+
+    def __init__(self, parser, zkdump):
+        self.parser, self.progress = parser, zkr.Progress("zkreport")
+        self.words = argparse.Namespace(recording=None, times=None, zkdump=zkdump, profile="3.5", limit=zkr.LIMITS[-1])
+
+    @contextlib.contextmanager
+    def conversation(self, source):
+        """The messages of a source: a Listing, or a Joined. What is wrong with them is told with the file's name."""
+        if source.path is None:
+            yield Nothing(source.name, (), self.progress)
+            return
+        with open(source.path, "rb") as stream:
+            try:
+                talk = conversations.conversation(self.parser, self.words, source.path, stream, True, self.progress,
+                                                  lambda: None)
+            except zkr.Damaged as damage:
+                raise ValueError(f"{source.path}: {damage}") from None
+            talk.file = source.path
+            with talk.complaints():
+                yield talk
+
+
+class Nothing(listing.Conversations):
+    """No messages."""
+
+    def __iter__(self):
+        return iter(())
+
+    def left(self):
+        return []
+
+    def connections(self):
+        return []
+
+
+def sources_of(paths, folder, port, warnings):
+    """The sources of all these files, in order. Recordings that are made of captures go to the folder; what could not
+    be read of a capture goes to the warnings."""
+    for path in paths:
+        with open(path, "rb") as stream:
+            mark = stream.read(4)
+        name = os.path.basename(path)
+        if mark in RECORDINGS:
+            yield Source(path, name.removesuffix(".zkr"))
+        elif mark.startswith(CAPTURES):
+            yield from captured(path, name, os.path.join(tempfile.mkdtemp(dir=folder), "capture"), port, warnings)
+        elif LISTINGS.match(mark):
+            yield Source(path, name.removesuffix(".show"), mark)
+        else:
+            raise ValueError(f"{path} is no capture, no recording and no listing")
+
+
+def captured(path, name, prefix, port, warnings):
+    """The connections of a capture: recordings that begin with the prefix."""
+    words = [sys.executable, TOOLS / "pcap2zkr.py", "--times", "--late", "--port", str(port), path, prefix]
+    done = subprocess.run(words, stdout=subprocess.PIPE, stderr=subprocess.PIPE, check=False)
+    lines, told = done.stdout.decode().splitlines(), done.stderr.decode().strip().removeprefix("pcap2zkr.py: ")
+    if not lines:
+        raise ValueError(told or f"{path}: no connection")
+    if told:
+        warnings.append(told)
+    parts = {}
+    for line in lines:
+        yield source_of(line, name, prefix, parts)
+
+
+def source_of(line, name, prefix, parts):
+    """What a line of pcap2zkr says. `parts` has the first part of each connection by its number so far."""
+    recording, client, server, begun, ended, words = CAPTURED.fullmatch(line).groups()
+    found = Source(None if recording == "-" else recording, f"{name} {client}")
+    found.server, found.begun, found.ended = server, milliseconds(begun), ended and milliseconds(ended)
+    for word, equals, value in (each.partition("=") for each in words.split()):
+        found.notes[word] = value if equals else None
+    if found.path:
+        number, part = PART.fullmatch(recording.removeprefix(prefix)).groups()
+        found.part = int(part or 1)
+        first = parts.setdefault(number, found)
+        found.first = None if first is found else first
+    return found
+
+
+def milliseconds(text):
+    """Milliseconds since 1970 of a time as zkr.clock spells it."""
+    moment = datetime.datetime.fromisoformat(text.removesuffix("Z"))
+    return (moment - datetime.datetime(1970, 1, 1)) / datetime.timedelta(milliseconds=1)

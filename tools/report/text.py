@@ -1,0 +1,63 @@
+"""The tables of a report as text for a terminal: ASCII, and nothing in it that a terminal would obey."""
+
+import tables
+import zkr
+from report import paths, summary
+
+NUMBERS = ("count", "ms", "length", "connection")
+ROWS, WHOLE = 20, ("sessions", "connections", "operations", "errors")
+
+
+def lines_of(found):
+    """The lines of all tables of a summary."""
+    counts = found.counts
+    yield (f"{found.run.whole} connections, {len(found.sessions)} sessions, {counts['messages']} messages, "
+           f"{counts['asked']} requests, {counts['failed']} failed, {counts['unanswered']} unanswered, "
+           f"{counts['events']} events")
+    if found.begun is not None:
+        yield f"from {zkr.clock(found.begun)} to {zkr.clock(found.ended)}"
+    if 0 < counts["timed"] < counts["answered"]:
+        yield f"{counts['timed']} of {counts['answered']} replies timed"
+    for warning in found.run.warnings:
+        yield f"not read: {printable(warning)}"
+    left_out = found.rows_left_out()
+    for name, rows in found.tables.items():
+        if rows:
+            yield ""
+            yield summary.HEADINGS[name]
+            shown = rows if name in WHOLE else rows[:ROWS]
+            yield from table(summary.COLUMNS[name], shown)
+            if more := left_out.get(name, 0) + len(rows) - len(shown):
+                yield f"and {more} more"
+    if found.run.paths.short:
+        yield f"Counts of paths may be up to {found.run.paths.short} too low: there were too many paths to count each."
+
+
+def table(columns, rows):
+    """The lines of one table."""
+    cells = [[cell(column.kind, value) for column, value in zip(columns, row)] for row in rows]
+    left = {at for at, column in enumerate(columns) if column.kind not in NUMBERS}
+    for line in tables.aligned([[column.heading for column in columns], *cells], left):
+        yield line.rstrip()
+
+
+def cell(kind, value):
+    """A value as a table has it."""
+    if value is None or value == {}:
+        return "-"
+    if kind == "time":
+        return zkr.clock(value)
+    if kind == "ms":
+        return f"{value:.7g}"
+    if kind == "length":
+        return f"{value / 1000:.7g} s"
+    if kind == "counts":
+        return " ".join(f"{printable(name)}={count}" for name, count in value.items())
+    if kind == "path":
+        return paths.shown(value)
+    return printable(str(value))
+
+
+def printable(text):
+    """A text in characters of ASCII that no terminal obeys."""
+    return text if text.isascii() and text.isprintable() else ascii(text)[1:-1]

@@ -1,0 +1,100 @@
+"""Tests of zkreport over captures and recordings: how connections began and ended, and where bytes are missing."""
+
+import wire
+from support import CAPTURES, PROGRAM, ToolCase, pieces
+
+from report import gather, sources, summary
+
+TOLD = """\
+/t/x-1.zkr 10.0.0.7:41822 > 10.0.0.9:2181 begun 2026-11-22T20:31:07.000Z ended 2026-11-22T20:31:08.000Z client=6 server=6 packets=1-88 resent=0 reset=S
+/t/x-2.zkr 10.0.0.7:41823 > 10.0.0.9:2181 begun 2026-11-22T20:31:07.000Z ended 2026-11-22T20:31:09.000Z client=6 server=3 packets=90-101 resent=2 hole=S
+/t/x-2.2.zkr 10.0.0.7:41823 > 10.0.0.9:2181 begun 2026-11-22T20:31:09.250Z ended 2026-11-22T20:31:10.000Z client=2 server=8 packets=102-182 resent=0 closed=C lost=C:0,S:81 skipped=C:0,S:0 unasked=0
+- 10.0.0.7:41824 > [fe80::1]:2181 begun 2026-11-22T20:31:07.000Z ended 2026-11-22T20:31:07.500Z client=0 server=0 packets=1-2 resent=0 open late
+/t/x-3.zkr 10.0.0.7:41825 > 10.0.0.9:2181 begun 2026-11-22T20:31:07.000Z client=6 server=6
+"""
+
+
+class Captures(ToolCase):
+    def run_of(self, lines):
+        """A run of the connections of these lines, none of which has been read."""
+        run, parts = gather.Run(), {}
+        for line in lines:
+            source = sources.source_of(line, "x.pcap", "/t/x", parts)
+            run.connection(source, source.name)
+        return run
+
+    def test_the_lines_of_pcap2zkr(self):
+        run = self.run_of(TOLD.splitlines())
+        self.assertEqual([each.label for each in run.connections], ["#1", "#2", "#2.2", "#3", "#4"])
+        self.assertEqual(run.whole, 4)
+        begun = 1795379467000
+        self.assertEqual([each.span() for each in run.connections],
+                         [(begun, begun + 1000), (begun, begun + 2000), (begun + 2250, begun + 3000),
+                          (begun, begun + 500), (begun, begun)])
+        self.assertEqual([summary.closed_by(each) for each in run.connections],
+                         ["server: reset", "not known: a hole", "client: FIN", "open at the end", "not recorded"])
+        self.assertEqual([summary.ending_of(each) for each in run.connections],
+                         ["no ending line", "no ending line, resent=2, hole=S", "no ending line, lost=C:0,S:81",
+                          "nothing recorded, late", "no ending line"])
+
+    def test_parts_of_a_connection_are_of_its_session_and_have_no_gap(self):
+        run = self.run_of(TOLD.splitlines())
+        first, other, later = run.connections[1], run.connections[4], run.connections[2]
+        first.session, other.session, later.session, later.is_late = "0x7", "0x7", "0xffffffffffffffff", True
+        self.assertEqual(later.session_id(), "0x7")
+        session = next(each for each in summary.sessions_of(run) if each.id == "0x7")
+        self.assertEqual((len(session.connections), session.count()), (3, 2))
+        self.assertEqual([(before.label, after.label) for before, after in session.holes()], [("#2", "#2.2")])
+        self.assertEqual(list(session.gaps()), [])
+
+    def test_gaps(self):
+        run = self.run_of(TOLD.splitlines()[:3:2])
+        for each in run.connections:
+            each.session = "0x7"
+        session, = summary.sessions_of(run)
+        self.assertEqual([(before.label, after.label, ms) for before, after, ms in session.gaps()], [("#1", "#2", 1250)])
+
+    def capture(self, *recordings, close=True):
+        """A capture of these recordings' connections, one behind another."""
+        packets = []
+        for number, recording in enumerate(recordings):
+            for sent in wire.conversation(pieces(recording.read_bytes()), close=close):
+                packets.append((sent.milliseconds + 3_600_000 * number, wire.packet(sent, client=41822 + number)))
+        path = self.folder / "some.pcap"
+        path.write_bytes(wire.pcap(packets))
+        return path
+
+    def test_a_capture_is_reported_as_its_listings_are(self):
+        if not PROGRAM.exists():
+            self.skipTest("the program zkdump is not built")
+        recordings = [each for each in CAPTURES if each.stem in ("kazoo_basic", "c_watches_in_small_pieces", "java_multi")]
+        listings = [each.with_suffix(".show") for each in recordings]
+        of_capture, of_listings = (self.run_tool("zkreport.py", "--text", *each)[1].splitlines()
+                                   for each in ([self.capture(*recordings)], listings))
+        self.assertEqual(of_capture[0], of_listings[0])
+        at = of_capture.index("Errors")
+        self.assertEqual(of_capture[at:at + 9], of_listings[of_listings.index("Errors"):][:9])
+        self.assertIn("from 2023-11-14T22:13:20.000Z to 2023-11-15T00:13", of_capture[1])
+
+    def test_a_capture_that_ends_within_a_packet(self):
+        if not PROGRAM.exists():
+            self.skipTest("the program zkdump is not built")
+        path = self.capture(next(each for each in CAPTURES if each.stem == "kazoo_basic"))
+        path.write_bytes(path.read_bytes()[:-7])
+        status, out, err = self.run_tool("zkreport.py", "--text", path)
+        self.assertEqual((status, err), (1, ""))
+        self.assertIn(f"\nnot read: {path}: the capture ends within a packet\n", out)
+
+    def test_a_capture_without_a_connection(self):
+        path = self.folder / "none.pcap"
+        path.write_bytes(wire.pcap([]))
+        status, out, err = self.run_tool("zkreport.py", "--text", path)
+        self.assertEqual((status, out), (1, ""))
+        self.assertRegex(err, r"^zkreport\.py: .*: no connection to port 2181")
+
+    def test_a_recording_without_an_ending(self):
+        """One that zkdump can't show is no empty connection."""
+        path = self.folder / "a.zkr"
+        path.write_bytes(b"ZKR1")
+        status, out, err = self.run_tool("zkreport.py", "--text", "--zkdump", "/bin/false", path)
+        self.assertEqual((status, out, err.count("\n")), (1, "", 1))

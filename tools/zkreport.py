@@ -1,0 +1,136 @@
+#!/usr/bin/env python3
+"""Reports what happened on many connections, as a page for a browser, as text, or as a trace.
+
+    zkreport.py [-o REPORT.html] [--text] [--trace TRACE.json] [--against OTHER] [--port N] [CHOICE ..] INPUT ..
+
+An INPUT is a capture of tcpdump or Wireshark, a recording, or a listing of one, also as the lines of zkjson; a capture
+has any number of connections. Recordings have times within (ZKR2) or beside them (RECORDING.times), and captures always.
+
+-o writes one page that needs no other file and no network: the sessions in time, the latency of requests, and tables,
+each row of which leads to the messages around it. --text writes the tables to standard output. --trace writes the
+requests as trace events, which Perfetto (ui.perfetto.dev) and Chrome open. --against compares the run with another one,
+which may be given several times for several files: without xids, zxids, sessions and times; the status is 1 where they
+differ.
+
+The page has no passwords of sessions and no credentials, but it has data of nodes: its owner alone may read it.
+"""
+
+import contextlib
+import itertools
+import os
+import sys
+import tempfile
+
+import conversations
+import selection
+import zkr
+from report import against, gather, messages, page, sources, summary, text, trace
+
+NAMED = 6       # the files that a page's title names
+
+
+class Reader:
+    """Reads runs: whatever the words choose of files."""
+
+    def __init__(self, parser, words, folder):
+        self.port, self.folder, self.chosen = words.port, folder, selection.Selection(words)
+        self.opener = sources.Opener(parser, words.zkdump)
+
+    def read(self, inputs, tracing=None):
+        """The summary of all connections of these files."""
+        run = gather.Run()
+        for source in sources.sources_of(inputs, self.folder, self.port, run.warnings):
+            run.read(source, self.opener, self.chosen, tracing)
+        return summary.Summary(run)
+
+    def windows(self, found, links):
+        """The messages around these; of a short run all."""
+        windows = messages.Windows(links, found.counts["messages"] <= messages.ALL)
+        for source, connections in itertools.groupby(found.run.connections, key=lambda each: each.source):
+            windows.read(source, list(connections), self.opener)
+        return windows.to_json()
+
+    def compare(self, found, inputs):
+        """Compares the run with that of the other files."""
+        other = self.read(inputs)
+        comparison = against.Comparison(found.run.connections, other.run.connections, self.opener, self.chosen)
+        return against.tables(found, other, comparison)
+
+
+@contextlib.contextmanager
+def new_file(path):
+    """A new file to write to, or None where there is no path. It is gone again where its writing fails."""
+    if path is None:
+        yield None
+        return
+    out = zkr.NewFile(path)
+    try:
+        yield out
+        out.flush()
+    except BaseException:
+        os.unlink(path)
+        raise
+    finally:
+        out.file.close()
+
+
+def page_of(reader, found, compared, name):
+    """The page. The connections are read again, for the messages that the tables lead to."""
+    links = found.links()
+    if compared and compared["first"]:
+        links[compared["first"]["connection"], compared["first"]["messages"][0]] = None
+    return page.page(name, found, reader.windows(found, links), compared)
+
+
+def title(inputs):
+    """What the page is called: the names of its files, or of the first ones."""
+    names = list(dict.fromkeys(os.path.basename(path) for path in inputs))
+    more = len(names) - NAMED
+    return ", ".join(names[:NAMED]) + (f" and {more} more" if more > 0 else "")
+
+
+def write_text(found, compared):
+    """Writes the tables, and what was compared, to standard output."""
+    lines = list(text.lines_of(found))
+    if compared:
+        lines += ["", "Compared", *against.lines_of(compared), *text.table(compared["columns"], compared["rows"])]
+    print("\n".join(lines))
+
+
+def words_of():
+    parser = zkr.Words(__doc__)
+    parser.add_argument("inputs", metavar="INPUT", nargs="+", help="a capture, a recording or a listing")
+    parser.add_argument("-o", "--output", metavar="FILE", help="the page to write")
+    parser.add_argument("--text", action="store_true", help="write the tables to standard output")
+    parser.add_argument("--trace", metavar="FILE", help="the trace to write")
+    parser.add_argument("--against", metavar="OTHER", action="append", help="a file of the run to compare with")
+    parser.add_number("--port", range(1, 65536), default=2181, help="the server's port in captures (2181)")
+    conversations.add_program(parser)
+    selection.add_words(parser)
+    words = parser.parse_args()
+    if not (words.output or words.text or words.trace):
+        parser.error("nothing to write: -o FILE, --text or --trace FILE")
+    if words.against and (words.session, words.slower, words.begin, words.end) != (None,) * 4:
+        parser.error("of the choices --path and --op alone go with --against")
+    return parser, words
+
+
+def main():
+    parser, words = words_of()
+    with contextlib.ExitStack() as stack:
+        reader = Reader(parser, words, stack.enter_context(tempfile.TemporaryDirectory(prefix="zkreport-")))
+        out, traced = (stack.enter_context(new_file(path)) for path in (words.output, words.trace))
+        tracing = trace.Trace(traced) if traced else None
+        found = reader.read(words.inputs, tracing)
+        if tracing:
+            tracing.close()
+        compared = reader.compare(found, words.against) if words.against else None
+        if out:
+            out.waiting += page_of(reader, found, compared, title(words.inputs)).encode()
+    if words.text:
+        write_text(found, compared)
+    return 1 if found.run.warnings or compared and compared["first"] else 0
+
+
+if __name__ == "__main__":
+    sys.exit(zkr.tool(main))
