@@ -61,13 +61,10 @@ fn faults(rt: HostRuntime) -> Result<(), Fail> {
     for row in FAULTS.lines() {
         let (column, rest) = row.split_once(' ').ok_or("no column")?;
         let (name, line) = rest.split_once(' ').ok_or("no reason")?;
+        let want = format!(in rt.alloc(); "{column} {name}")?;
         let (at, reason) = fault_of(rt.alloc(), line.as_bytes()).ok_or("read")?;
-        let told = format!(in rt.alloc(); "{at}")?;
-        assert_eq!(rt;
-            (told.as_str(), line_reason_name(&reason)),
-            (column, name),
-            "of {line}"
-        );
+        let told = format!(in rt.alloc(); "{at} {reason}")?;
+        assert_eq!(rt; told.as_str(), want.as_str(), "of {line}");
     }
     Ok(())
 }
@@ -115,6 +112,7 @@ fn faults_in_words(rt: HostRuntime) -> Result<(), Fail> {
     };
     let told = format!(in rt.alloc(); "{word}")?;
     assert_eq!(rt; told.as_str(), "column 28: Word");
+    assert_eq!(rt; line_reason_name(&LineReason::Word), "Word");
     Ok(())
 }
 
