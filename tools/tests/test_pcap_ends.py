@@ -148,6 +148,12 @@ class Many(PcapCase):
             self.assertEqual((status, len(told)), (1, 1))
             self.assertIn(" 10.0.0.7:2181 > 10.0.0.9:2181 ", told[0])
 
+    def test_packets_from_an_end_to_itself_are_passed_over(self):
+        packet = bytearray(packed(opened()[3:4], client=2181)[0][1])
+        packet[26:30] = packet[30:34]
+        status, told, _ = self.convert(wire.pcap([(0, bytes(packet))]))
+        self.assertEqual((status, told), (1, []))
+
     def test_what_waits_has_one_bound_for_all(self):
         """Twenty connections, each of which lacks its first bytes and has 6,000 behind them."""
         packets, most = [], []
