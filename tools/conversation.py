@@ -204,6 +204,8 @@ class Conversation:
         """Ends the first stretch, which has another behind it."""
         stretch = self.stretches.pop(0)
         stretch.end(False)
+        if stretch.whole:
+            self.unfinished = 0
         if stretch.recording:
             self.tell(stretch, stretch.recording.last, stretch.recording.ended)
         else:

@@ -72,7 +72,7 @@ class Capture:
 
     def read(self, stream):
         """Reads a capture up to its end, or up to Ctrl-C."""
-        progress, halves, failed = zkr.Progress("pcap2zkr.py"), self.halves, None
+        progress, halves, failed = zkr.Progress("pcap2zkr.py", bool(sys.stderr)), self.halves, None
         try:
             for segment in packets.segments(stream):
                 number, milliseconds, ends, _, _, sequence, acknowledged, flags, data, snapped = segment
