@@ -49,14 +49,15 @@ class Conversation:
         if self.holes:
             self.go_on(number, milliseconds)
         stretch = self.stretches[0]
+        if not (self.sought or self.unfinished or self.cutter.held[side]) and side in self.connected \
+                and stretch is self.stretches[-1] and int.from_bytes(data[:4], "big") == len(data) - 4 > 4 \
+                and stretch.passes(side, data[4:8]):
+            self.record(stretch, side, number, milliseconds, data)  # it is just one frame, as nearly always
+            return
         if not stretch.whole or stretch.holes:
             self.take(side, number, milliseconds, data)
             return
         self.record(stretch, side, number, milliseconds, data)
-        if not self.cutter.held[side] and side in self.connected and side not in self.cutter.broken \
-                and int.from_bytes(data[:4], "big") == len(data) - 4 > 4:
-            stretch.note(side, data[4:8])  # it is just one frame, as nearly always
-            return
         for frame in self.cutter.take(zkr.Piece(side, milliseconds, data)):
             if side in self.connected:
                 stretch.note(side, frame.payload[:4])
@@ -203,6 +204,8 @@ class Conversation:
         """Ends the first stretch, which has another behind it."""
         stretch = self.stretches.pop(0)
         stretch.end(False)
+        if stretch.whole:
+            self.unfinished = 0
         if stretch.recording:
             self.tell(stretch, stretch.recording.last, stretch.recording.ended)
         else:

