@@ -14,7 +14,7 @@ PASSES = """
     $ tools/record.py 2182 localhost:2181 mine
     record.py: listens on 127.0.0.1:2182; Ctrl-C ends it
     mine-1.zkr 127.0.0.1:1 begun 2000-01-01T00:00:00.000Z
-    mine-1.zkr 127.0.0.1:1 ended 2000-01-01T00:00:00.000Z client=68 server=61
+    mine-1.zkr 127.0.0.1:1 ended 2000-01-01T00:00:00.000Z client=68 server=61 closed=C
 """
 OTHER_CLIENT = """
 <!-- played: captures/kazoo_basic.zkr -->
