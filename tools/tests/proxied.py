@@ -153,10 +153,13 @@ class TroubleCase(ToolCase):
         self.assertEqual(receive(client, len(data)), data)
         return time.monotonic() - begun
 
-    def assert_pace(self, client, rounds=20, seconds=0.15):
-        """That this client has its answers soon."""
-        took = sorted(self.ask(client) for _ in range(rounds))
-        self.assertLess(took[rounds // 2], seconds, took)
+    def assert_pace(self, client, rounds=20):
+        """That this client has its answers soon: within 0.1 s, or, on a busy machine, little later than a client that
+        asks the server itself."""
+        direct = self.client(self.echo.port)
+        took = sorted((self.ask(client), self.ask(direct)) for _ in range(rounds))
+        usual = sorted(seconds for _, seconds in took)[rounds // 2]
+        self.assertLess(took[rounds // 2][0], 0.1 + 5 * usual, took)
 
     def lines(self, count, stream=None):
         """The lines on a stream, which is standard output, once they are so many."""

@@ -131,7 +131,7 @@ class Disk(TroubleCase):
         for _ in range(5):
             self.assert_pace(self.client(port))
         self.assert_pace(first)
-        told = self.complaints()
+        told = self.lines(3, self.err)[1:]
         self.assertEqual(len(told), 2, told)
         self.assertEqual([len(pieces(path.read_bytes())) for path in self.folder.glob("r-*.zkr")], [2])
         self.tool.terminate()
