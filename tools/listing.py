@@ -149,21 +149,21 @@ def ending_of(line, n):
 
 def lines_of(stream, before_read=lambda: None):
     """The lines of a stream of bytes, each as soon as it is there. Before each read `before_read` is called."""
-    decoder, begun = codecs.getincrementaldecoder("utf-8")("surrogateescape"), []
+    begun = bytearray()
     while before_read() or (block := stream.read1(BLOCK)):
-        first, end, rest = decoder.decode(block).partition("\n")
-        begun.append(first)
+        first, end, rest = block.partition(b"\n")
+        begun += first
         if not end:
             continue
-        line = "".join(begun)
-        begun.clear()
+        line = begun.decode(errors="surrogateescape")
+        begun = bytearray()
         yield line
-        *lines, rest = rest.split("\n")
-        begun.append(rest)
-        yield from lines
-    begun.append(decoder.decode(b"", True))
-    if any(begun):
-        yield "".join(begun)
+        whole, end, rest = rest.rpartition(b"\n")
+        begun += rest
+        if end:
+            yield from whole.decode(errors="surrogateescape").split("\n")
+    if begun:
+        yield begun.decode(errors="surrogateescape")
 
 
 class Conversations:
