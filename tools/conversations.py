@@ -61,11 +61,12 @@ def conversation(parser, words, path, stream, objects, progress, before_read):
         elif words.times:
             parser.error("--times goes with a recording")
         lines = listing.lines_of(stream, before_read)
-        if objects:
-            first = next(lines, "")
-            lines = itertools.chain([first], lines) if first else lines
-            if first.startswith("{"):
-                return joined.Joined(name, lines, progress)
+    first = next(lines, None)
+    if first is None:
+        raise listing.NoListing("the listing is empty" if path == listing.STANDARD_INPUT else f"{path} is empty")
+    lines = itertools.chain([first], lines)
+    if objects and first.startswith("{"):
+        return joined.Joined(name, lines, progress)
     return listing.Listing(name, lines, times, progress)
 
 

@@ -17,7 +17,9 @@ READABLE, ASCII = json.JSONEncoder(ensure_ascii=False).encode, json.JSONEncoder(
 BLANKS = {9: " ", 10: " ", 13: " "}
 STAT = ("czxid", "mzxid", "ctime", "mtime", "version", "cversion", "aversion", "ephemeralOwner", "dataLength",
         "numChildren", "pzxid")
-STAT_FORM = "{" + ", ".join(f'"{name}": %s' for name in STAT) + "}"
+HEXADECIMAL = {"czxid", "mzxid", "ephemeralOwner", "pzxid"}
+STAT_FORM = "{" + ", ".join(f'"{name}": "0x%x"' if name in HEXADECIMAL else f'"{name}": %d' for name in STAT) + "}"
+MASK = 0xffff_ffff_ffff_ffff
 USUAL = 64      # lists that are no longer are often the same again
 BITS = {"0": "false", "1": "true", "-": "null"}
 
@@ -109,9 +111,12 @@ def hexadecimal(digits):
 
 def stat(spelled):
     """A Stat: its numbers under their names."""
-    czxid, mzxid, ctime, mtime, version, cversion, aversion, owner, length, children, pzxid = spelled[1:-1].split(",")
-    return STAT_FORM % (hexadecimal(czxid), hexadecimal(mzxid), ctime, mtime, version, cversion, aversion,
-                        hexadecimal(owner), length, children, hexadecimal(pzxid))
+    numbers = tuple(map(int, spelled[1:-1].split(",")))
+    if len(numbers) != len(STAT):
+        raise ValueError("a Stat has eleven numbers")
+    if "-" in spelled:
+        numbers = tuple(number & MASK if name in HEXADECIMAL else number for name, number in zip(STAT, numbers))
+    return STAT_FORM % numbers
 
 
 def code(field):
@@ -185,7 +190,7 @@ class List:
 DATA = "(?:~|#[0-9a-f]*)"
 KINDS = {
     "number": Kind(NUMBER, str), "hexadecimal": Kind(NUMBER, hexadecimal), "bit": Kind("[01]", BITS.get),
-    "readonly": Kind("[01-]", BITS.get), "stat": Kind(rf"\({NUMBER}(?:,{NUMBER}){{10}}\)", stat),
+    "readonly": Kind("[01-]", BITS.get), "stat": Kind(r"\([\d,-]+\)", stat),
     "err": Kind(rf"{NUMBER}(?:/[A-Za-z]+)?", code("err")), "kind": Kind(rf"{NUMBER}(?:/[A-Za-z]+)?", code("kind")),
     "text": Kind(TEXT, text, pieces_of_text), "data": Kind(DATA, data, pieces_of_data),
     "secret": Kind(DATA, functools.partial(data, secret=True), functools.partial(pieces_of_data, secret=True)),

@@ -71,14 +71,6 @@ class Connection:
         if self.begun is None:
             self.begun = moment
 
-    def measure(self, asked, made):
-        """Says how long a reply took, unless its time lies before that of its request."""
-        microseconds = round((made.moment - asked.moment) * 1000)
-        if microseconds >= 0:
-            made.microseconds = microseconds
-        else:
-            self.backwards += 1
-
 
 class Message:
     """How a message's line begins: its number, its side, and its xid, operation and path as the line has them; None for
@@ -86,12 +78,14 @@ class Message:
 
     `connection` is the Connection that it belongs to. `error` is the name of a reply's error, or its number: of a
     failed multi, that of the part that failed; and of an event, its kind. `at` is the message's time as it is spelled,
-    `moment` the same as a number of milliseconds since 1970, and `microseconds` how long a reply took. `end` is the
+    `moment` the same as a number of milliseconds since 1970, and `microseconds`, or `ms`, how long a reply took, unless
+    its time lies before that of its request. `end` is the
     place behind the operation in the line; `parts` is for who reads the rest of it, and `chosen` for who chooses.
     """
 
     at = moment = microseconds = chosen = None
     parts = ()
+    ms = property(lambda self: None if self.microseconds is None else self.microseconds / 1000)
 
     def __init__(self, connection, n, side, xid, op, path, error, end=0):
         self.connection, self.n, self.side, self.xid, self.op, self.path = connection, n, side, xid, op, path
@@ -155,21 +149,21 @@ def ending_of(line, n):
 
 def lines_of(stream, before_read=lambda: None):
     """The lines of a stream of bytes, each as soon as it is there. Before each read `before_read` is called."""
-    decoder, begun = codecs.getincrementaldecoder("utf-8")("surrogateescape"), []
+    begun = bytearray()
     while before_read() or (block := stream.read1(BLOCK)):
-        first, end, rest = decoder.decode(block).partition("\n")
-        begun.append(first)
+        first, end, rest = block.partition(b"\n")
+        begun += first
         if not end:
             continue
-        line = "".join(begun)
-        begun.clear()
+        line = begun.decode(errors="surrogateescape")
+        begun = bytearray()
         yield line
-        *lines, rest = rest.split("\n")
-        begun.append(rest)
-        yield from lines
-    begun.append(decoder.decode(b"", True))
-    if any(begun):
-        yield "".join(begun)
+        whole, end, rest = rest.rpartition(b"\n")
+        begun += rest
+        if end:
+            yield from whole.decode(errors="surrogateescape").split("\n")
+    if begun:
+        yield begun.decode(errors="surrogateescape")
 
 
 class Conversations:
@@ -216,28 +210,31 @@ class Listing(Conversations):
                 if of_side != side or of_xid != int(xid or EVENT_XID) and op != CONNECT:
                     self.times.refuse(n, of_side, lines)
                 if at is not None:
-                    made.at, made.moment = at, float(at)
-                    connection.timed(made.moment)
-            asked, lane = None, lanes.get(xid, plain)
+                    made.at = at
+                    made.moment = connection.ended = moment = float(at)
+                    if connection.begun is None:
+                        connection.begun = moment
+            lane, asked = plain if xid not in lanes else lanes[xid], None
             if side == "C":
                 lane.append(made)
             elif op != EVENT:
                 if not lane or lane[0].xid != xid or lane[0].op != op:
                     raise NoListing(f"line {n}: a reply without its request")
                 asked = lane.popleft()
-                if asked.moment is not None and made.moment is not None:
-                    connection.measure(asked, made)
+                if made.moment is not None and asked.moment is not None:
+                    made.microseconds = microseconds = round((moment - asked.moment) * 1000)
+                    if microseconds < 0:
+                        made.microseconds = None
+                        connection.backwards += 1
                 if op == "multi" and made.error is None:
-                    failed = [name or number for number, name in FAILED_PART.findall(QUOTED.sub("", line))]
-                    made.error = error_of_parts(failed)
+                    made.error = error_of_parts([name or number for number, name in
+                                                 FAILED_PART.findall(QUOTED.sub("", line))])
             if op == CONNECT:
                 session = SESSION.search(line, made.end)
                 connection.connect(side, session and int(session[1]))
             yield line, made, asked
             if n % 1000 == 0:
                 self.progress.tell(f"{n:,} lines")
-        if not n:
-            raise NoListing("the listing is empty")
         if frames:
             self.times.compare(connection.ending)
         self.progress.end()

@@ -11,35 +11,67 @@ LENGTH_AND_XID = struct.Struct(">ii")
 LARGEST = zkr.LIMITS[-1]
 
 
+class Beginning:
+    """The bytes of a side that are no whole frame yet: how many there are, and the first eight of them."""
+
+    def __init__(self):
+        self.got, self.size, self.first = 0, None, b""
+
+    def take(self, data, at):
+        """Takes bytes from there on, to the frame's end at most, and gives the place behind them. A length that no frame
+        has has no end."""
+        if self.got < 4:
+            part = data[at:at + 4 - self.got]
+            self.first += part
+            self.got += len(part)
+            at += len(part)
+            if self.got < 4:
+                return at
+            length = int.from_bytes(self.first, "big", signed=True)
+            self.size = 4 + length if 0 <= length <= LARGEST else float("inf")
+        to = min(len(data), at + self.size - self.got)
+        if self.got < 8:
+            self.first += data[at:min(to, at + 8 - self.got)]
+        self.got += to - at
+        return to
+
+    def is_whole(self):
+        return self.got == self.size
+
+
 class Times:
     """The frames of a recording, each with its time, which is that of its last byte.
 
-    `times` are those of the recording's pieces, one each; where it is None, those that the pieces have. There 0 is no
-    time. Whatever the listing has that the recording has not, or the other way round, is a NoListing.
+    `frames` gives of each frame, in the order of their last bytes, its side, its xid and its time, or None. `times` are
+    those of the recording's pieces, one each; where it is None, those that the pieces have. There 0 is no time. Whatever
+    the listing has that the recording has not, or the other way round, is a NoListing.
     """
 
     def __init__(self, pieces, times):
-        self.pieces, self.times = pieces, times
-        self.cutter, self.damage, self.count = zkr.Cutter(zkr.LARGEST_FRAMES), None, {"C": 0, "S": 0}
-        self.frames = self.read()
+        self.damage, self.count = None, {"C": 0, "S": 0}
+        self.begun = {"C": Beginning(), "S": Beginning()}
+        self.frames = self.read(pieces, times)
 
-    def read(self):
-        """Gives of each frame, in the order of their last bytes, its side, its xid and its time, or None."""
-        times, cutter, count, length_and_xid = self.times, self.cutter, self.count, LENGTH_AND_XID.unpack_from
-        held = cutter.held
+    def read(self, pieces, times):
+        count, begun, length_and_xid = self.count, self.begun, LENGTH_AND_XID.unpack_from
         try:
-            for side, milliseconds, data in self.pieces:
-                at = next(times, None) if times else milliseconds or None
-                letter = LETTERS[side]
-                if not held[side] and len(data) >= 8:
-                    length, xid = length_and_xid(data)
-                    if length == len(data) - 4 <= LARGEST:
+            for side, milliseconds, data in pieces:
+                moment = next(times, None) if times else milliseconds or None
+                letter, at, end = LETTERS[side], 0, len(data)
+                while at < end:
+                    if end - at >= 8 and not begun[letter].got:
+                        length, xid = length_and_xid(data, at)
+                        if 4 <= length <= LARGEST and at + 4 + length <= end:
+                            at += 4 + length
+                            count[letter] += 1
+                            yield letter, xid, moment
+                            continue
+                    beginning = begun[letter]
+                    at = beginning.take(data, at)
+                    if beginning.is_whole():
+                        begun[letter] = Beginning()
                         count[letter] += 1
-                        yield letter, xid, at
-                        continue
-                for frame in cutter.take(zkr.Piece(side, milliseconds, data)):
-                    count[letter] += 1
-                    yield letter, int.from_bytes(frame.payload[:4], "big", signed=True), at
+                        yield letter, int.from_bytes(beginning.first[4:], "big", signed=True), moment
         except zkr.Damaged as damage:
             self.damage = damage
 
@@ -56,7 +88,7 @@ class Times:
             return
         read, more = sum(self.count.values()), sum(1 for _ in self.frames)
         if ending["ending"] == "refused":
-            fits = more or self.cutter.held[ending["side"].encode()]
+            fits = more or self.begun[ending["side"]].got
         elif more:
             raise listing.NoListing(f"the listing has {read} messages, and the recording {read + more}")
         else:
@@ -68,12 +100,11 @@ class Times:
         """Whether the recording, of which all has been read, ends in this way."""
         if ending["ending"] == "recording":
             return self.damage and (ending.get("offset"), ending.get("reason")) == (self.damage.offset, self.damage.reason)
-        held = {LETTERS[side]: len(data) for side, data in self.cutter.held.items()}
         if ending["ending"] == "cut":
-            side = ending.get("side")
-            fits = (ending.get("frame"), ending.get("got")) == (self.count.get(side), held.get(side))
+            side = ending["side"]
+            fits = (ending.get("frame"), ending.get("got")) == (self.count[side], self.begun[side].got)
         else:
-            fits = not any(held.values())
+            fits = not any(beginning.got for beginning in self.begun.values())
         return fits and not self.damage
 
 

@@ -45,15 +45,13 @@ def short(line, made, asked):
         raise forms.NoField(end)
     xid = f', "xid": {made.xid}' if made.xid else ""
     at = "" if made.at is None else f', "at": {made.at}'
-    head = f'{made.connection.json}, "n": {made.n}, "side": "{made.side}"{xid}, "op": "{made.op}"'
-    return f"{head}{found}{at}{answers(made, asked) if asked else ''}}}\n"
-
-
-def answers(made, asked):
-    """What a reply has of its request, as JSON."""
+    head = f'{made.connection.json}, "n": {made.n}, "side": "{made.side}"{xid}, "op": "{made.op}"{found}{at}'
+    if not asked:
+        return head + "}\n"
     ms = "" if made.microseconds is None else f', "ms": {made.microseconds / 1000}'
-    path = f', "asked": {forms.text(asked.path)}' if asked.path else ""
-    return f'{ms}, "of": {asked.n}{path}'
+    if not asked.path:
+        return f'{head}{ms}, "of": {asked.n}}}\n'
+    return f'{head}{ms}, "of": {asked.n}, "asked": {forms.text(asked.path)}}}\n'
 
 
 def pieces(line, made, asked):

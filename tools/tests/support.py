@@ -1,5 +1,6 @@
 """What the tests of the tools share."""
 
+import importlib
 import io
 import pathlib
 import signal
@@ -7,6 +8,7 @@ import subprocess
 import sys
 import tempfile
 import unittest
+import unittest.mock
 
 TOOLS = pathlib.Path(__file__).resolve().parent.parent
 TOP = TOOLS.parent
@@ -40,6 +42,21 @@ class ToolCase(unittest.TestCase):
         """Runs a tool of this folder to its end: its status, standard output and standard error."""
         done = self.run_raw(tool, *words, stdin=stdin, seconds=seconds)
         return done.returncode, done.stdout.decode(), done.stderr.decode()
+
+    def run_inside(self, tool, *words, stdin=b"", seconds=60):
+        """Runs a tool as run_tool does, but within this process, which takes less time."""
+        module = importlib.import_module(tool.removesuffix(".py"))
+        out, err = io.BytesIO(), io.BytesIO()
+        streams = [io.TextIOWrapper(each, "utf-8") for each in (io.BufferedReader(io.BytesIO(stdin)), out, err)]
+        with unittest.mock.patch.multiple("sys", argv=[tool, *map(str, words)], stdin=streams[0], stdout=streams[1],
+                                          stderr=streams[2]):
+            try:
+                status = zkr.tool(module.main)
+            except SystemExit as ended:
+                status = ended.code
+        for stream in streams[1:]:
+            stream.flush()
+        return status or 0, out.getvalue().decode(), err.getvalue().decode()
 
     def assert_bad_words(self, tool, *words):
         """That these words are refused with one line on standard error and status 2, and nothing else is said."""

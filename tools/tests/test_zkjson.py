@@ -81,6 +81,8 @@ ENDINGS = {
 
 
 class Zkjson(ToolCase):
+    run_tool = ToolCase.run_inside
+
     def json_of(self, lines, *words):
         """The objects that zkjson makes of these lines, without their connection, which is the same for all."""
         status, out, err = self.run_tool("zkjson.py", *words, stdin="".join(f"{line}\n" for line in lines).encode())
@@ -138,6 +140,40 @@ class Zkjson(ToolCase):
                 status, out, err = self.run_tool("zkjson.py", stdin=f"C -2 ping\n{line}\n".encode())
                 self.assertEqual((status, out.count("\n"), err.count("\n")), (1, 1, 1))
                 self.assertTrue(err.startswith("zkjson.py: line 2: ") and told in err, err)
+
+    def test_what_is_made_by_hand_is_json_or_refused(self):
+        for line in ('C 1 delete path="/a" version=007', 'C 1 delete path="/a" version=-0', 'C 1 delete path="/a" version=+1',
+                     'C 1 delete path="/a" version=1_0', 'C 1 delete path="/a" version=\u0661', "C 01 ping", "C \u0661 ping",
+                     'C 1 delete path="/a" version=1 n=5', 'C 1 delete path="/a" version=1 version=2', "C 1 ping ms=5",
+                     'C 1 exists path="/\x1b[2J" watch=1', 'C 1 exists path="/\u202e" watch=1', 'C 1 exists path="/\xe9" watch=1',
+                     r'C 1 exists path="/\zz" watch=1', r'C 1 exists path="/\c3" watch=1', 'C 1 exists path="/\\" watch=1',
+                     'C 1 exists path="/a" watch=2', 'C 1 setData path="/a" blob=#6G version=1', 'C 1 setData path="/a" blob=#666 version=1',
+                     'C 1 multi {check path="/a" version=1{', 'C 1 multi {check path="/a" version=1;}', "C 1 multi {ping}",
+                     "C 1 getACL path=\"/a\" ", "S event zxid=-1 kind=3/\x1b state=3 path=\"/a\"", ". whole unanswered=\x1b[2J"):
+            status, out, err = self.run_tool("zkjson.py", stdin=f"C -2 ping\n{line}\n".encode("utf-8", "surrogateescape"))
+            with self.subTest(line=line):
+                self.assertEqual((status, out.count("\n"), err.count("\n")), (1, 1, 1))
+                self.assertTrue(err.startswith("zkjson.py: line 2: ") and err[:-1].isprintable(), err)
+        asked = 'C 1 exists path="/a" watch=1\n'
+        for stat in (STAT.replace("1000", "--1"), STAT.replace("1000", "1-1"), STAT.replace("1000", ""), STAT.replace(",0,", ",")):
+            self.assertEqual(self.run_tool("zkjson.py", stdin=f"{asked}S 1 exists zxid=5 stat={stat}\n".encode())[0], 1, stat)
+
+    def test_long_lines_become_the_same_as_short_ones(self):
+        text, names = r"/\c3\a9\22a" * 20_000, ",".join(['"a\\5cb"', "~"] * 20_000)
+        lines = [f'C 1 setData path="{text}" blob=#{"c3a9" * 30_000} version=1', "S 1 setData zxid=6 err=-101/NONODE",
+                 f'C 2 setData path="{text}" blob=#{"c3" * 50_000} version=1', "S 2 setData zxid=6 err=-101/NONODE",
+                 'C 3 getChildren path="/" watch=1', f"S 3 getChildren zxid=5 names=[{names}]",
+                 f'C 4 multi {{check path="{text}" version=1}}', "S 4 multi zxid=5 {fail err=-103/BADVERSION}"]
+        found = self.json_of(lines)
+        path = '/é"a' * 20_000
+        self.assertEqual([made["path"] for made in found[:4:2]], [path] * 2)
+        self.assertEqual([made["asked"] for made in found[1:4:2]], [path] * 2)
+        self.assertEqual([made["blob"] for made in found[:4:2]], ["é" * 30_000, {"hex": "c3" * 50_000}])
+        self.assertEqual(found[5]["names"], ["a\\b", None] * 20_000)
+        self.assertEqual([found[6]["parts"][0]["path"], found[7]["parts"][0]["asked"]], [path] * 2)
+        for wrong in (lines[0].replace(" version", "0 version"), lines[0].replace("a9", "zz"), lines[0] + " "):
+            status, out, err = self.run_tool("zkjson.py", stdin=wrong.encode())
+            self.assertEqual((status, out, err.count("\n")), (1, "", 1))
 
     def test_lines_behind_the_ending_line_and_of_zkjson(self):
         lines = "C -2 ping\n. whole unanswered=1\nS -2 ping zxid=5\n"
@@ -202,6 +238,7 @@ class Zkjson(ToolCase):
 class Times(ToolCase):
     """Two requests and their replies, in pieces that are parts of frames and several frames."""
 
+    run_tool = ToolCase.run_inside
     FRAMES = {"request": bytes.fromhex("0000000f 00000001 00000003 00000002 2f61 01"),
               "reply": bytes.fromhex("00000010 00000001 0000000000000005 ffffff9b")}
     LISTING = 'C 1 exists path="/a" watch=1\nS 1 exists zxid=5 err=-101/NONODE\n' * 2

@@ -30,6 +30,20 @@ class Reading(ToolCase):
                 pieces(recording)
             self.assertEqual((caught.exception.offset, caught.exception.reason), (offset, reason))
 
+    def test_pieces_are_counted_as_they_are_read(self):
+        whole = b"ZKR1C\0\0\0\2abS\0\0\0\1c"
+        for recording in (whole, whole[:-1], whole[:-2], whole + b"X", whole[:11], TWO, TWO + b"C" + bytes(11) + b"\1a",
+                          TWO + b"C" + b"\xff" * 12, *(capture.read_bytes() for capture in CAPTURES)):
+            found = []
+            try:
+                found.extend(zkr.Reader(io.BytesIO(recording)))
+            except zkr.Damaged:
+                found = []
+                with self.assertRaises(zkr.Damaged):
+                    for piece in zkr.Reader(io.BytesIO(recording)):
+                        found.append(piece)
+            self.assertEqual(zkr.Reader(io.BytesIO(recording)).count(), len(found))
+
     def test_a_piece_cut_short_is_read_as_far_as_it_is_there(self):
         taken = []
         with self.assertRaises(zkr.Damaged):
@@ -84,8 +98,8 @@ class Writing(ToolCase):
 
     def test_what_is_no_file_of_times(self):
         path = self.folder / "times"
-        for line in ("", "-1", "1e3", "nan", "1.", ".5", "1 "):
-            path.write_bytes(f"1\n2.5\n{line}\n".encode())
+        for line in ("", "-1", "1e3", "nan", "1.", ".5", "1 ", "9" * 20, "1." + "0" * 10, "9" * 400, "\xb2"):
+            path.write_bytes(f"1\n2.5\n{line}\n".encode("latin-1"))
             with self.subTest(line=line), self.assertRaisesRegex(ValueError, "line 3 is no time$"):
                 list(zkr.read_times(path))
 

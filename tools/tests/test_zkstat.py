@@ -84,6 +84,8 @@ LINES = ["C connect version=0 zxid=0 timeout=30000 session=0 passwd=# ro=-",
 
 
 class Zkstat(ToolCase):
+    run_tool = ToolCase.run_inside
+
     def stat(self, *words, stdin=b""):
         status, out, err = self.run_tool("zkstat.py", *words, stdin=stdin)
         self.assertEqual((status, err), (0, ""))
