@@ -194,7 +194,8 @@ def connection_rows(run):
 def slowest_rows(run):
     timed = [each for each in run.kept.requests() if each.ms is not None]
     for each in sorted(timed, key=lambda each: (-each.ms, each.connection, each.n))[:SLOWEST]:
-        yield [each.ms, each.at, run.connections[each.connection].label, each.n, each.op, each.error, each.path, each.connection, each.n]
+        yield [each.ms, each.at, run.connections[each.connection].label, each.n, each.op, each.error, each.path,
+               each.connection, each.n]
 
 
 def path_rows(run):
