@@ -88,7 +88,9 @@ function readHash() {
 function head() {
   document.getElementById("files").textContent = [visible(data.title),
     timed ? `${iso(data.begun).replace("T", " ").replace("Z", "")} to ${iso(data.ended).slice(11, 23)} UTC, ${duration(data.ended - data.begun)}`
-      : "no times"].join(" · ");
+      : "no times",
+    timed && data.counts.timed < data.counts.answered && `${count(data.counts.timed)} of ${count(data.counts.answered)} replies timed`]
+    .filter(Boolean).join(" · ");
   document.getElementById("warnings").append(...data.warnings.map(text => element("p", { class: "failed", text: `Not read: ${visible(text)}` })));
   const one = (name, value, kind = "") => element("li", { class: value ? kind : "" },
     element("b", { text: count(value) }), ` ${name}`);

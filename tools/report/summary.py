@@ -188,7 +188,7 @@ def connection_rows(run):
         lasted = None if begun is None else round(ended - begun, 3)
         yield [each.label, each.session_id(), each.name, each.source.server, begun, lasted, each.total("asked"),
                each.failed(), each.total("unanswered"), each.events, closed_by(each), ending_of(each), each.number,
-               each.messages or None]
+               each.last]
 
 
 def slowest_rows(run):

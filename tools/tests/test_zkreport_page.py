@@ -17,7 +17,7 @@ import report_lines
 from support import TOOLS, ToolCase
 
 MESSAGES = 30_000
-SECONDS = 300      # for a test in the browser, where many others use the machine
+SECONDS = 300      # for a test, where many others use the machine
 
 
 class Elements(html.parser.HTMLParser):
@@ -52,12 +52,16 @@ class PageCase(ToolCase):
         cls.addClassCleanup(folder.cleanup)
         cls.made, cls.pages = pathlib.Path(folder.name), {}
 
+    def setUp(self):
+        super().setUp()
+        signal.alarm(SECONDS)
+
     def page(self, name, *sources, words=(), status=0):
         """The page of these connections, each a function that writes one: its path."""
         if name not in self.pages:
             path = self.made / f"{name}.html"
             inputs = [source(self.made / f"{name}{number}.json") for number, source in enumerate(sources)]
-            self.assertEqual(self.run_tool("zkreport.py", "-o", path, *words, *inputs), (status, "", ""))
+            self.assertEqual(self.run_tool("zkreport.py", "-o", path, *words, *inputs, seconds=SECONDS), (status, "", ""))
             self.pages[name] = path
         return self.pages[name]
 
@@ -146,6 +150,14 @@ class Page(PageCase):
         self.assertEqual(sum(data["density"]["cells"]["0"][2::3]), MESSAGES // 2)
 
 
+    def test_a_part_of_a_long_run(self):
+        """Messages are counted by the choice, and those around a row are there whether they are chosen or not."""
+        data = self.data(self.page("part", long_run, words=["--slower", "899"]))
+        self.assertEqual((data["counts"]["messages"], data["counts"]["asked"], data["complete"]), (3, 3, True))
+        shown = [message["n"] for message in data["messages"]["0"]]
+        self.assertEqual(shown, [*range(1, 8), *range(10, 22), *range(10_010, 10_022), *range(20_010, 20_022)])
+
+
 @unittest.skipIf(browser.MISSING, browser.MISSING)
 class InBrowser(PageCase):
     @classmethod
@@ -153,10 +165,6 @@ class InBrowser(PageCase):
         super().setUpClass()
         cls.browser = browser.Browser()
         cls.addClassCleanup(cls.browser.close)
-
-    def setUp(self):
-        super().setUp()
-        signal.alarm(SECONDS)
 
     def rows(self, table):
         """The texts of a table's cells, row by row."""
