@@ -4,13 +4,12 @@
     zkreport.py [-o REPORT.html] [--text] [--trace TRACE.json] [--against OTHER] [--port N] [CHOICE ..] INPUT ..
 
 An INPUT is a capture of tcpdump or Wireshark, a recording, or a listing of one, also as the lines of zkjson; a capture
-has any number of connections. Recordings have times within (ZKR2) or beside them (RECORDING.times), and captures always.
+has any number of connections. Captures have times; recordings have them within (ZKR2) or beside (RECORDING.times).
 
 -o writes one page that needs no other file and no network: the sessions in time, the latency of requests, and tables,
 each row of which leads to the messages around it. --text writes the tables to standard output. --trace writes the
 requests as trace events, which Perfetto (ui.perfetto.dev) and Chrome open. --against compares the run with another one,
-which may be given several times for several files: without xids, zxids, sessions and times; the status is 1 where they
-differ.
+without xids, zxids, sessions and times, and is given for each file of that; the status is 1 where they differ.
 
 The page has no passwords of sessions and no credentials, but it has data of nodes: its owner alone may read it.
 """
@@ -45,7 +44,7 @@ class Reader:
 
     def windows(self, found, links):
         """The messages around these; of a short run all."""
-        windows = messages.Windows(links, found.counts["messages"] <= messages.ALL)
+        windows = messages.Windows(links, self.chosen.all and found.counts["messages"] <= messages.ALL)
         for source, connections in itertools.groupby(found.run.connections, key=lambda each: each.source):
             windows.read(source, list(connections), self.opener)
         return windows.to_json()

@@ -102,7 +102,8 @@ class Comparison:
                     raise ValueError(f"{after.source.path} has several connections, which are not compared")
         for number, (mine, other) in enumerate(itertools.zip_longest(ours, theirs)):
             if mine is None or other is None:
-                self.differ(number, mine or other, "connection", (mine and mine.name, None), (other and other.name, None))
+                names = ((each and each.name, None) for each in (mine, other))
+                self.differ(number, mine or other, "connection", *names)
                 continue
             with opener.conversation(mine.source) as one, opener.conversation(other.source) as two:
                 self.compare(number, mine, *(Side(chosen.chosen(talk), as_objects) for talk in (one, two)))
@@ -113,9 +114,10 @@ class Comparison:
             if one and two and one.texts() == two.texts():
                 self.equal += 1
             elif one and two and one.request == two.request:
-                self.differ(number, connection, "reply", (one.answer, one.reply or one.n), (two.answer, two.reply or two.n))
+                self.differ(number, connection, "reply", *((each.answer, each.reply or each.n) for each in (one, two)))
             else:
-                self.differ(number, connection, "request", (one and one.request, one and one.n), (two and two.request, two and two.n))
+                requests = ((each.request, each.n) if each else (None, None) for each in (one, two))
+                self.differ(number, connection, "request", *requests)
         for one, two in itertools.zip_longest(mine.events, other.events, fillvalue=(None, None)):
             if one[0] == two[0]:
                 self.equal += 1
@@ -124,8 +126,8 @@ class Comparison:
 
     def differ(self, number, connection, kind, one, two):
         if self.first is None:
-            self.first = {"connection": number, "label": connection.label, "kind": kind, "equal": self.equal, "messages": [one[1], two[1]],
-                          "texts": around(one[0], two[0])}
+            self.first = {"connection": number, "label": connection.label, "kind": kind, "equal": self.equal,
+                          "messages": [one[1], two[1]], "texts": around(one[0], two[0])}
 
 
 def around(one, two):

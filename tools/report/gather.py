@@ -71,6 +71,7 @@ class Connection:
         self.asked_session = self.session = self.timeout = None
         self.begun = self.ended = self.known = None
         self.messages = self.events = 0
+        self.last = None        # the number of its last message
         self.closing, self.is_late = None, False
         self.operations = collections.defaultdict(Operation)
 
@@ -157,6 +158,7 @@ class Reading:
         """Takes the next message, and the request that it answers."""
         connection, moment = self.connection, made.moment
         connection.messages += 1
+        connection.last = made.n
         if moment is not None:
             if connection.begun is None:
                 connection.begun = connection.ended = moment

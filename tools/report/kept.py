@@ -11,7 +11,7 @@ from typing import NamedTuple, Optional
 
 SLOWEST, SLOWEST_FAILED, OTHER_FAILED, MOST_UNANSWERED = 8_000, 1_000, 4_000, 2_000
 MOST_PATHS = 40_000
-BINS_OF_TEN, LEAST_EXPONENT, BINS = 8, -3, 64       # of latencies: from 1 microsecond on, eight bins for a factor of ten
+BINS_OF_TEN, LEAST_EXPONENT, BINS = 8, -3, 64       # of latencies: from 1 microsecond on, eight for a factor of ten
 MOST_BUCKETS, MOST_CELLS = 256, 40_000
 
 

@@ -2,7 +2,7 @@
 // were; the slowest, the failed and the unanswered ones are marks in any case.
 
 const TALL = 260, BAND = 22, FOOT = 40;
-const BINS_OF_TEN = 8, LEAST_EXPONENT = -3;
+const { bins: BINS, binsOfTen: BINS_OF_TEN, leastExponent: LEAST_EXPONENT } = data.density;
 const latency = { canvas: null, marks: [], indices: [], at: -1, drag: null };
 
 function colours() {
@@ -29,7 +29,7 @@ function showsDensity() {
 }
 
 function leastBin() {
-  let least = 63;
+  let least = BINS - 1;
   for (const cells of Object.values(data.density.cells)) {
     for (let i = 1; i < cells.length; i += 3) least = Math.min(least, cells[i]);
   }
@@ -108,14 +108,14 @@ function drawDensity(pen, axis, to, colour) {
   for (const [connection, found] of Object.entries(cells)) {
     if (!inSession(connection)) continue;
     for (let i = 0; i < found.length; i += 3) {
-      const key = found[i] * 64 + found[i + 1], sum = (sums.get(key) ?? 0) + found[i + 2];
+      const key = found[i] * BINS + found[i + 1], sum = (sums.get(key) ?? 0) + found[i + 2];
       sums.set(key, sum);
       most = Math.max(most, sum);
     }
   }
   pen.fillStyle = colour("ok");
   for (const [key, sum] of sums) {
-    const x = first - data.begun + Math.floor(key / 64) * width, bin = key % 64;
+    const x = first - data.begun + Math.floor(key / BINS) * width, bin = key % BINS;
     const top = axis.y(10 ** ((bin + 1) / BINS_OF_TEN + LEAST_EXPONENT)), foot = axis.y(10 ** (bin / BINS_OF_TEN + LEAST_EXPONENT));
     pen.globalAlpha = 0.08 + 0.5 * Math.log(1 + sum) / Math.log(1 + most);
     pen.fillRect(to(x), top, Math.max(1, to(x + width) - to(x)), foot - top);

@@ -42,7 +42,7 @@ class Shortening:
         return (found[1], int(found[2])) if found else (text, None)
 
     def value(self, name, value, shown):
-        """A value of an object of zkjson, cut. What was cut is an object with its length: of a text or data in bytes."""
+        """A value of an object of zkjson. What is cut becomes an object with its length, of a text or data in bytes."""
         most_text, most_data, most_elements = shown
         if isinstance(value, str):
             text, size = self.whole(value)

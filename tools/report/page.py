@@ -6,8 +6,7 @@ import json
 import pathlib
 import re
 
-import zkr
-from report import paths, summary, text
+from report import kept, paths, summary, text
 
 HERE = pathlib.Path(__file__).resolve().parent
 SCRIPTS = ("model.js", "draw.js", "sessions.js", "latency.js", "tables.js", "messages.js", "page.js")
@@ -48,7 +47,8 @@ def data_of(title, found):
                      "rows": [[plain(value) for value in row] for row in rows]}
               for name, rows in found.tables.items()}
     return {
-        "title": title, "warnings": run.warnings, "begun": found.begun, "ended": found.ended, "counts": {**found.counts, "connections": run.whole}, "tables": tables,
+        "title": title, "warnings": run.warnings, "begun": found.begun, "ended": found.ended, "tables": tables,
+        "counts": {**found.counts, "connections": run.whole},
         "leftOut": found.rows_left_out(), "pathsShort": run.paths.short, "complete": run.kept.is_complete(),
         "connections": [connection_of(each) for each in run.connections],
         "sessions": [session_of(each) for each in found.sessions],
@@ -119,8 +119,10 @@ def density_of(found):
     """The cells of the density by connection: bucket, bin and count, one behind another. Buckets count from `first`.
     `troubles` has in the same way bucket, 1 for failed or 2 for unanswered, and count."""
     density = found.run.density
-    return {"width": density.width, "first": None if density.low is None else density.low * density.width,
-            "cells": by_connection(density.cells, density.low), "troubles": by_connection(density.troubles, density.low)}
+    return {"bins": kept.BINS, "binsOfTen": kept.BINS_OF_TEN, "leastExponent": kept.LEAST_EXPONENT,
+            "width": density.width, "first": None if density.low is None else density.low * density.width,
+            "cells": by_connection(density.cells, density.low),
+            "troubles": by_connection(density.troubles, density.low)}
 
 
 def by_connection(cells, low):

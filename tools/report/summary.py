@@ -188,13 +188,14 @@ def connection_rows(run):
         lasted = None if begun is None else round(ended - begun, 3)
         yield [each.label, each.session_id(), each.name, each.source.server, begun, lasted, each.total("asked"),
                each.failed(), each.total("unanswered"), each.events, closed_by(each), ending_of(each), each.number,
-               each.messages or None]
+               each.last]
 
 
 def slowest_rows(run):
     timed = [each for each in run.kept.requests() if each.ms is not None]
     for each in sorted(timed, key=lambda each: (-each.ms, each.connection, each.n))[:SLOWEST]:
-        yield [each.ms, each.at, run.connections[each.connection].label, each.n, each.op, each.error, each.path, each.connection, each.n]
+        yield [each.ms, each.at, run.connections[each.connection].label, each.n, each.op, each.error, each.path,
+               each.connection, each.n]
 
 
 def path_rows(run):

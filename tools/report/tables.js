@@ -3,9 +3,9 @@
 const orders = {};      // by table, the column that it is sorted by and the direction
 const NUMBERS = new Set(["count", "ms", "length", "connection"]);
 const HELP = {
-  operations: "p50, p95 and p99 are the latencies that so many of a hundred replies didn't exceed.",
+  operations: "p50, p95 and p99: the latency that 50, 95 or 99 of a hundred replies didn't exceed.",
   paths: "A part of a multi counts as a request of its path.",
-  watches: "Set: by a request that asked for a watch and could set one, or again by setWatches behind a reconnection.",
+  watches: "Set: by a request that asked for a watch and could set one, or again by setWatches after a reconnection.",
   unanswered: "Requests that had no reply when the recording or the connection ended. Where a recording has a hole, the reply may have been among the bytes that are missing.",
 };
 

@@ -38,7 +38,8 @@ class Lines:
 
     def connect(self, at, took, asked="0x0", given="0x7", timeout=10_000):
         until = None if at is None else at + took
-        self.ask(at, "connect", version=0, zxid="0x0", timeout=timeout, session=asked, passwd={"hex": "00" * 16}, ro=False)
+        self.ask(at, "connect", version=0, zxid="0x0", timeout=timeout, session=asked, passwd={"hex": "00" * 16},
+                 ro=False)
         self.answer(until, version=0, timeout=timeout, session=given, passwd={"hex": "5e" * 16}, ro=False)
 
     def write(self, path, **ending):

@@ -1,4 +1,4 @@
-"""Tests of zkreport: the tables as text, the trace, and two runs compared. Those of the page are in test_zkreport_page."""
+"""Tests of zkreport: the tables as text, the trace, and two runs compared."""
 
 import json
 
@@ -102,7 +102,8 @@ class Zkreport(ToolCase):
         return [line.split() for line in after.splitlines()[1:]]
 
     def test_choices(self):
-        for words, operations in ((["--path", "/b"], {"setData": "1", "multi": "1"}), (["--op", "exists"], {"exists": "1"}),
+        for words, operations in ((["--path", "/b"], {"setData": "1", "multi": "1"}),
+                                  (["--op", "exists"], {"exists": "1"}),
                                   (["--session", "0x8"], {}), (["--slower", "29"], {"create": "1", "setData": "1"}),
                                   (["--from", "2023-11-14T22:13:25.200Z"], {"closeSession": "1"}),
                                   (["--to", "2023-11-14T22:13:20.010Z"], {"connect": "1", "exists": "1"})):
@@ -115,10 +116,12 @@ class Zkreport(ToolCase):
         path.write_text("".join(json.dumps({"connection": each.stem, **json.loads(line)}) + "\n"
                                 for each in (self.one, self.other) for line in each.read_text().splitlines()))
         found = self.report("--text", path)
-        self.assertEqual([row[:3] for row in self.rows(found, "Connections")], [["#1", "0x7", "one"], ["#2", "0x7", "other"]])
+        self.assertEqual([row[:3] for row in self.rows(found, "Connections")],
+                         [["#1", "0x7", "one"], ["#2", "0x7", "other"]])
         self.assertEqual(self.rows(found, "Slowest requests"), self.rows(TABLES, "Slowest requests"))
         status, out, err = self.run_tool("zkreport.py", "--text", path, "--against", path)
-        self.assertEqual((status, out, err), (1, "", f"zkreport.py: {path} has several connections, which are not compared\n"))
+        told = f"zkreport.py: {path} has several connections, which are not compared\n"
+        self.assertEqual((status, out, err), (1, "", told))
 
     def test_latencies_by_the_rule_of_hdrhistogram(self):
         """Of 5.001, 9 and 20 ms the middle one is counted with those that differ by less than a thousandth, up to
@@ -132,7 +135,8 @@ class Zkreport(ToolCase):
 
     def test_a_listing_without_times(self):
         found = self.report("--text", self.listing("a.show", LISTING.format(**HERE)))
-        self.assertIn("\n1 connections, 1 sessions, 9 messages, 4 requests, 0 failed, 0 unanswered, 1 events\n", "\n" + found)
+        self.assertEqual(found.partition("\n")[0], "1 connections, 1 sessions, 9 messages, 4 requests, 0 failed, "
+                                                    "0 unanswered, 1 events")
         self.assertIn("create         1         1       0           0       -       -       -       -\n", found)
         self.assertNotIn("Slowest", found)
 
@@ -143,8 +147,8 @@ class Zkreport(ToolCase):
         asked = sum(line[0] == "C" for line in lines)
         events = sum(line.startswith("S event") for line in lines)
         left = asked + events - sum(line[0] == "S" for line in lines)
-        self.assertRegex(first_line, rf"^{len(shown)} connections, \d+ sessions, {len(lines)} messages, {asked} requests, "
-                                     rf"\d+ failed, {-left if left < 0 else left} unanswered, {events} events$")
+        self.assertRegex(first_line, rf"^{len(shown)} connections, \d+ sessions, {len(lines)} messages, {asked} "
+                                     rf"requests, \d+ failed, {left} unanswered, {events} events$")
 
     def test_a_terminal_gets_nothing_that_it_would_obey(self):
         lines = report_lines.Lines()
@@ -172,7 +176,8 @@ class Zkreport(ToolCase):
         self.assertEqual([(each["name"], each["ts"]) for each in unanswered],
                          [("setData", (report_lines.T + 70) * 1000)])
         self.assertEqual([event["args"]["path"] for event in events if event["ph"] == "i"], ['"/a"'])
-        self.assertEqual({event["args"]["name"] for event in events if event["name"] == "process_name"}, {"session 0x7"})
+        processes = {event["args"]["name"] for event in events if event["name"] == "process_name"}
+        self.assertEqual(processes, {"session 0x7"})
         self.assertEqual([event["dur"] for event in events if event["ph"] == "X"], [70_000, 131_000])
         for event in events:
             self.assertTrue(isinstance(event["pid"], int) and isinstance(event["tid"], int) and event["name"])
@@ -193,8 +198,10 @@ class Zkreport(ToolCase):
         here = self.listing("here.show", LISTING.format(**HERE))
         changed = LISTING.format(**THERE)
         for old, new, kind, one, two in (
-                ("(90,90,2000,2000,1,", "(90,90,2000,2000,2,", "reply", 'exists stat=(1,0,0,owner,3,0)', 'exists stat=(2,0,0,owner,3,0)'),
-                ("8 exists path=\"/a\"", "8 exists path=\"/b\"", "request", 'exists path="/a" watch=0', 'exists path="/b" watch=0'),
+                ("(90,90,2000,2000,1,", "(90,90,2000,2000,2,", "reply",
+                 'exists stat=(1,0,0,owner,3,0)', 'exists stat=(2,0,0,owner,3,0)'),
+                ("8 exists path=\"/a\"", "8 exists path=\"/b\"", "request",
+                 'exists path="/a" watch=0', 'exists path="/b" watch=0'),
                 ("(1,2,3,4,5", "(1,2,3,4,6", "request", None, None),
                 ("kind=1/NodeCreated", "kind=2/NodeDeleted", "event", None, None),
                 (" flags=1", " flags=3", "request", None, None)):
@@ -228,7 +235,8 @@ class Zkreport(ToolCase):
         self.assertIn("the first difference is a connection of connection #2", found)
 
     def test_words(self):
-        for words in ([], [self.one], ["--text"], ["--text", self.one, "--nonsense"], ["--port", "0", "--text", self.one]):
+        for words in ([], [self.one], ["--text"], ["--text", self.one, "--nonsense"],
+                      ["--port", "0", "--text", self.one]):
             self.assert_bad_words("zkreport.py", *words)
 
     def test_what_is_no_input(self):

@@ -52,7 +52,8 @@ class Captures(ToolCase):
         for each in run.connections:
             each.session = "0x7"
         session, = summary.sessions_of(run)
-        self.assertEqual([(before.label, after.label, ms) for before, after, ms in session.gaps()], [("#1", "#2", 1250)])
+        gaps = [(before.label, after.label, ms) for before, after, ms in session.gaps()]
+        self.assertEqual(gaps, [("#1", "#2", 1250)])
 
     def capture(self, *recordings, close=True):
         """A capture of these recordings' connections, one behind another."""
@@ -67,7 +68,8 @@ class Captures(ToolCase):
     def test_a_capture_is_reported_as_its_listings_are(self):
         if not PROGRAM.exists():
             self.skipTest("the program zkdump is not built")
-        recordings = [each for each in CAPTURES if each.stem in ("kazoo_basic", "c_watches_in_small_pieces", "java_multi")]
+        names = ("kazoo_basic", "c_watches_in_small_pieces", "java_multi")
+        recordings = [each for each in CAPTURES if each.stem in names]
         listings = [each.with_suffix(".show") for each in recordings]
         of_capture, of_listings = (self.run_tool("zkreport.py", "--text", *each)[1].splitlines()
                                    for each in ([self.capture(*recordings)], listings))

@@ -17,7 +17,7 @@ import report_lines
 from support import TOOLS, ToolCase
 
 MESSAGES = 30_000
-SECONDS = 300      # for a test in the browser, where many others use the machine
+SECONDS = 300      # for a test, where many others use the machine
 
 
 class Elements(html.parser.HTMLParser):
@@ -52,12 +52,16 @@ class PageCase(ToolCase):
         cls.addClassCleanup(folder.cleanup)
         cls.made, cls.pages = pathlib.Path(folder.name), {}
 
+    def setUp(self):
+        super().setUp()
+        signal.alarm(SECONDS)
+
     def page(self, name, *sources, words=(), status=0):
         """The page of these connections, each a function that writes one: its path."""
         if name not in self.pages:
             path = self.made / f"{name}.html"
             inputs = [source(self.made / f"{name}{number}.json") for number, source in enumerate(sources)]
-            self.assertEqual(self.run_tool("zkreport.py", "-o", path, *words, *inputs), (status, "", ""))
+            self.assertEqual(self.run_tool("zkreport.py", "-o", path, *words, *inputs, seconds=SECONDS), (status, "", ""))
             self.pages[name] = path
         return self.pages[name]
 
@@ -73,14 +77,15 @@ class Page(PageCase):
     def test_it_needs_nothing_else_and_runs_no_other_script(self):
         text = self.hostile().read_text(encoding="utf-8")
         found = Elements(text)
-        self.assertEqual([tag for tag, _ in found.elements if tag in ("script", "style", "img", "link", "iframe", "base")],
-                         ["style", "script", "script"])
+        foreign = ("script", "style", "img", "link", "iframe", "base")
+        self.assertEqual([tag for tag, _ in found.elements if tag in foreign], ["style", "script", "script"])
         for tag, attributes in found.elements:
-            self.assertLessEqual(attributes.keys() & {"src", "href", "style", "onload", "onerror", "onclick"}, set(), tag)
-        policy = next(each["content"] for tag, each in found.elements if each.get("http-equiv") == "Content-Security-Policy")
+            self.assertEqual(attributes.keys() & {"src", "href", "style", "onload", "onerror", "onclick"}, set(), tag)
+        policy = next(each["content"] for _, each in found.elements if "http-equiv" in each)
         self.assertRegex(policy, r"^default-src 'none'; style-src 'sha256-\S{44}'; script-src 'sha256-\S{44}'$")
         self.assertNotIn("url(h", found.texts["style"][0])
-        self.assertEqual(re.findall(r"(?:https?:)?//[a-z]+\.[a-z.]+", text.replace("http://www.w3.org/2000/svg", "")), [])
+        text = text.replace("http://www.w3.org/2000/svg", "")       # the name of SVG's elements
+        self.assertEqual(re.findall(r"(?:https?:)?//[a-z]+\.[a-z.]+", text), [])
 
     def test_hostile_texts_are_in_its_data_as_they_were(self):
         data = self.data(self.hostile())
@@ -106,7 +111,8 @@ class Page(PageCase):
         """A path of 16 MB, with a character of two bytes where it is cut, and data of 1 MB."""
         long = "/" + r"\c3\a9" * (1 << 23)
         listing = self.folder / "long.show"
-        listing.write_text(f'C 1 exists path="{long}" watch=0\nC 2 setData path="/a" blob=#{"3c" * (1 << 20)} version=1\n'
+        listing.write_text(f'C 1 exists path="{long}" watch=0\n'
+                           f'C 2 setData path="/a" blob=#{"3c" * (1 << 20)} version=1\n'
                            f'C 3 setData path="/b" blob=#{"ff" * (1 << 20)} version=1\n')
         path = self.page("long", lambda _: listing)
         self.assertLess(path.stat().st_size, 200_000)
@@ -144,6 +150,14 @@ class Page(PageCase):
         self.assertEqual(sum(data["density"]["cells"]["0"][2::3]), MESSAGES // 2)
 
 
+    def test_a_part_of_a_long_run(self):
+        """Messages are counted by the choice, and those around a row are there whether they are chosen or not."""
+        data = self.data(self.page("part", long_run, words=["--slower", "899"]))
+        self.assertEqual((data["counts"]["messages"], data["counts"]["asked"], data["complete"]), (3, 3, True))
+        shown = [message["n"] for message in data["messages"]["0"]]
+        self.assertEqual(shown, [*range(1, 8), *range(10, 22), *range(10_010, 10_022), *range(20_010, 20_022)])
+
+
 @unittest.skipIf(browser.MISSING, browser.MISSING)
 class InBrowser(PageCase):
     @classmethod
@@ -151,10 +165,6 @@ class InBrowser(PageCase):
         super().setUpClass()
         cls.browser = browser.Browser()
         cls.addClassCleanup(cls.browser.close)
-
-    def setUp(self):
-        super().setUp()
-        signal.alarm(SECONDS)
 
     def rows(self, table):
         """The texts of a table's cells, row by row."""
@@ -175,7 +185,8 @@ class InBrowser(PageCase):
         self.small()
         self.assertEqual(self.rows("operations")[0], ["connect", "2", "2", "0", "0", "1.5", "2", "2", "2"])
         self.assertEqual(self.rows("errors")[0], ["exists", "NONODE", "1"])
-        self.assertEqual(self.rows("paths"), [["5", "2", "100", "/a"], ["1", "0", "–", "/b/\\u{1b}[2J"], ["1", "0", "–", "/b"]])
+        self.assertEqual(self.rows("paths"), [["5", "2", "100", "/a"], ["1", "0", "–", "/b/\\u{1b}[2J"],
+                                              ["1", "0", "–", "/b"]])
         self.assertEqual(self.rows("unanswered"), [["2023-11-14 22:13:20.070", "#1", "10", "setData", "/b/\\u{1b}[2J"]])
         bars = self.browser.run("return document.querySelectorAll('#sessions .bar').length")
         gap = self.browser.run("return document.querySelector('#sessions .gap title').textContent")
@@ -200,7 +211,8 @@ class InBrowser(PageCase):
 
     def test_filters_in_the_address(self):
         for fragment, asked in (("#op=setData", {"setData": "2"}), ("#op=setData&outcome=unanswered", {"setData": "1"}),
-                                ("#from=22:13:25&op=connect", {"connect": "1"}), ("#to=22:13:20.020&outcome=ok", {"connect": "1", "create": "1"}),
+                                ("#from=22:13:25&op=connect", {"connect": "1"}),
+                                ("#to=22:13:20.020&outcome=ok", {"connect": "1", "create": "1"}),
                                 ("#outcome=failed", {"exists": "1", "setData": "1", "multi": "1"})):
             with self.subTest(fragment=fragment):
                 self.small(fragment)
@@ -208,7 +220,8 @@ class InBrowser(PageCase):
 
     def test_what_is_no_time_is_marked_and_changes_nothing(self):
         self.small("#from=nonsense")
-        self.assertEqual(self.browser.run("return document.getElementById('f-from').getAttribute('aria-invalid')"), "true")
+        marked = self.browser.run("return document.getElementById('f-from').getAttribute('aria-invalid')")
+        self.assertEqual(marked, "true")
         self.assertEqual(len(self.rows("operations")), 8)
 
     def test_a_row_leads_to_its_messages(self):
@@ -223,7 +236,7 @@ class InBrowser(PageCase):
 
     def test_text_and_hexadecimal(self):
         self.small("#m=1:5")
-        found = self.browser.run("return [...document.querySelectorAll('.message.chosen pre')].map(each => each.textContent)")
+        found = self.browser.run("return [...document.querySelectorAll('.chosen pre')].map(each => each.textContent)")
         self.assertEqual(found, ["hello", "000000  68 65 6c 6c 6f" + " " * 35 + "hello"])
 
     def test_hostile_texts_do_nothing(self):
@@ -246,7 +259,8 @@ class InBrowser(PageCase):
         self.type("session", "0x7")
         self.assertEqual(sum(int(row[1].replace(",", "")) for row in self.rows("operations")), MESSAGES // 2)
         self.type("path", "/node-0007")
-        self.assertIn("8,150 of 15,000 requests", self.browser.run("return document.getElementById('note').textContent"))
+        note = self.browser.run("return document.getElementById('note').textContent")
+        self.assertIn("8,150 of 15,000 requests", note)
 
     def test_two_runs(self):
         other = report_lines.second(self.made / "other.json")
