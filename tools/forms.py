@@ -208,7 +208,8 @@ class Form:
         pattern = "".join(f"{before}({kind.pattern})" for before, _, kind in self.fields)
         self.match = re.compile(pattern, re.ASCII).match
         self.form = "".join(f"{name}%s" for _, name, _ in self.fields)
-        self.made = [(number, kind.json) for number, (*_, kind) in enumerate(self.fields) if kind is not KINDS["number"]]
+        self.made = [(number, kind.json) for number, (*_, kind) in enumerate(self.fields)
+                     if kind is not KINDS["number"]]
 
     def json(self, line, at):
         """The fields that stand in the line, as JSON, and the place behind them; a ValueError where they don't."""

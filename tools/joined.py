@@ -145,7 +145,8 @@ class Known:
         connection.known = connection.known or side == "S"
         if op == listing.CONNECT:
             connection.connect(side, session_of(made))
-        message = listing.Message(connection, n, side, None if xid is None else str(xid), op, path_of(made, "path"), error)
+        xid = None if xid is None else str(xid)
+        message = listing.Message(connection, n, side, xid, op, path_of(made, "path"), error)
         if at is not None:
             message.moment = at
             connection.timed(at)
@@ -173,8 +174,8 @@ class Known:
             raise ValueError("a line behind the ending line")
         waiting = made.pop("waiting", None)
         made.pop("connection", None)
-        if made["ending"] not in listing.ENDINGS or not all(type(each) is int or type(each) is str and WORD.fullmatch(each)
-                                                            for each in made.values()):
+        if made["ending"] not in listing.ENDINGS or not all(
+                type(each) is int or type(each) is str and WORD.fullmatch(each) for each in made.values()):
             raise ValueError("this is no ending of zkjson")
         self.connection.ending = made
         if type(waiting) is list:

@@ -33,7 +33,9 @@ QUOTED = re.compile('"[^"]*"')
 PATHS = re.compile(rf' path=({TEXT})|"[^"]*"', re.ASCII)
 SESSION = re.compile(rf" session=({NUMBER})(?= |$)", re.ASCII)
 ZXID = re.compile(rf" zxid=({NUMBER})(?= |$)", re.ASCII)
-ENDING = re.compile(rf"\. ([a-z]+)((?: [a-z]+=(?:{NUMBER}|[A-Za-z0-9]+))*)", re.ASCII)
+ENDING = re.compile(rf"\. (?:whole unanswered={NUMBER}|cut side=[CS] frame={NUMBER} got={NUMBER}|"
+                    rf"refused side=[CS] frame={NUMBER} offset={NUMBER} place={NUMBER} reason=\w+"
+                    rf"(?: expected={NUMBER} got={NUMBER})?|recording offset={NUMBER} reason=\w+)", re.ASCII)
 
 
 class NoListing(ValueError):
@@ -138,11 +140,11 @@ def spelled(value):
 
 def ending_of(line, n):
     """An ending line, its numbers as numbers."""
-    found = ENDING.fullmatch(line)
-    if not found or found[1] not in ENDINGS:
+    if not ENDING.fullmatch(line):
         raise NoListing(f"line {n}: this is no ending line")
-    made = {"ending": found[1]}
-    for name, _, value in (field.partition("=") for field in found[2].split()):
+    word, *fields = line[2:].split(" ")
+    made = {"ending": word}
+    for name, _, value in (field.partition("=") for field in fields):
         made[name] = value if name in ("side", "reason") else int(value)
     return made
 

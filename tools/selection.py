@@ -87,7 +87,8 @@ class Selection:
             if asked:
                 if asked.chosen is None:    # the request itself isn't there
                     asked.chosen = self.takes(asked, [asked.path])
-                if asked.chosen and (self.slower is None or made.microseconds is not None and made.microseconds > self.slower):
+                took = made.microseconds
+                if asked.chosen and (self.slower is None or took is not None and took > self.slower):
                     yield line, made, asked
                 continue
             made.chosen = self.takes(made, talk.paths(line, made) if self.paths else ())

@@ -18,8 +18,8 @@ class Beginning:
         self.got, self.size, self.first = 0, None, b""
 
     def take(self, data, at):
-        """Takes bytes from there on, to the frame's end at most, and gives the place behind them. A length that no frame
-        has has no end."""
+        """Takes bytes from there on, to the frame's end at most, and gives the place behind them. Where no frame has
+        its length, it has no end."""
         if self.got < 4:
             part = data[at:at + 4 - self.got]
             self.first += part
@@ -43,8 +43,8 @@ class Times:
     """The frames of a recording, each with its time, which is that of its last byte.
 
     `frames` gives of each frame, in the order of their last bytes, its side, its xid and its time, or None. `times` are
-    those of the recording's pieces, one each; where it is None, those that the pieces have. There 0 is no time. Whatever
-    the listing has that the recording has not, or the other way round, is a NoListing.
+    those of the recording's pieces, one each; where it is None, those that the pieces have. There 0 is no time.
+    Whatever the listing has that the recording has not, or the other way round, is a NoListing.
     """
 
     def __init__(self, pieces, times):
@@ -79,8 +79,8 @@ class Times:
         """Says why message n of the listing, behind which there are these lines, isn't the recording's next."""
         if side:
             raise listing.NoListing(f"line {n}: the recording has another message there")
-        raise listing.NoListing(f"the listing has {n + sum(not line.startswith('.') for line in lines)} messages, and the "
-                                f"recording {n - 1}")
+        messages = n + sum(not line.startswith(".") for line in lines)
+        raise listing.NoListing(f"the listing has {messages} messages, and the recording {n - 1}")
 
     def compare(self, ending):
         """Looks whether the recording ends as the listing does. A listing without an ending line may be a front."""
@@ -99,10 +99,10 @@ class Times:
     def fits(self, ending):
         """Whether the recording, of which all has been read, ends in this way."""
         if ending["ending"] == "recording":
-            return self.damage and (ending.get("offset"), ending.get("reason")) == (self.damage.offset, self.damage.reason)
+            return self.damage and (ending["offset"], ending["reason"]) == (self.damage.offset, self.damage.reason)
         if ending["ending"] == "cut":
             side = ending["side"]
-            fits = (ending.get("frame"), ending.get("got")) == (self.count[side], self.begun[side].got)
+            fits = (ending["frame"], ending["got"]) == (self.count[side], self.begun[side].got)
         else:
             fits = not any(beginning.got for beginning in self.begun.values())
         return fits and not self.damage

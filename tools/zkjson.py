@@ -87,8 +87,8 @@ def fields(line, made, asked):
 
 
 def parts(line, at, made, asked):
-    """The parts of a multi, or their results, as pieces of JSON; gives the place behind them. A failed part has the path
-    that its request's part has."""
+    """The parts of a multi, or their results, as pieces of JSON; gives the place behind them. A failed part has the
+    path that its request's part has."""
     if not line.startswith(" {", at):
         raise forms.NoField(at)
     yield ', "parts": ['

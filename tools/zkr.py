@@ -113,7 +113,7 @@ class Reader:
             self.offset += size
 
     def count(self):
-        """How many pieces there are from here to the end, or to where the recording is damaged; none of them is read."""
+        """How many pieces there are from here to the end, or to where the recording is damaged. None is read."""
         form, stream, pieces = PIECE_HEADS[self.head.form], self.stream, 0
         at, end = stream.tell(), stream.seek(0, os.SEEK_END)
         stream.seek(at)

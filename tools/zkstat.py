@@ -126,7 +126,8 @@ class Statistics:
         sessions = collections.defaultdict(list)
         for each in self.connections:
             sessions[each.session or each].append(each)
-        for group in sorted((sorted(group, key=begun) for group in sessions.values()), key=lambda group: begun(group[0])):
+        groups = [sorted(group, key=begun) for group in sessions.values()]
+        for group in sorted(groups, key=lambda group: begun(group[0])):
             last = None
             for each in group:
                 gap = None

@@ -46,9 +46,9 @@ class Memory(ToolCase):
                             ("S 1 exists zxid=5 err=-101/NONODE\n", 1))
 
     def many_names(self):
-        """A listing with a list of 400,000 names, not all of which JSON spells as the line does."""
+        """A listing with a list of 100,000 names, not all of which JSON spells as the line does."""
         return self.listing(('C 1 getChildren path="/" watch=0\nS 1 getChildren zxid=5 names=["\\5c"', 1),
-                            (',"abc"' * 1000, 400), ("]\n", 1))
+                            (',"abc"' * 1000, 100), ("]\n", 1))
 
     def test_zkstat_and_a_long_path(self):
         self.assertLess(self.most_of("zkstat.py", self.long_path())[0], 128 * MEGABYTE)

@@ -134,7 +134,8 @@ class Zkjson(ToolCase):
                            ("C 1 ping}", "column 9 on"), ("C 1 ping  x=1", "column 9 on"),
                            ('C 1 setACL path="/a" acl=[1:"a"]', "column 21 on"),
                            ('C 1 getData path="/a"watch=0', "column 12 on"),
-                           ('C 1 setData path="/a" blob=#6', "column 22 on"), (". whole x", "this is no ending line"),
+                           ('C 1 setData path="/a" blob=#6', "column 22 on"), (". whole x", "this is no ending line"), (". cut", "this is no ending line"),
+                           (". refused side=X", "this is no ending line"),
                            ("C 1 nonsense", "column 13 on")):
             with self.subTest(line=line):
                 status, out, err = self.run_tool("zkjson.py", stdin=f"C -2 ping\n{line}\n".encode())
