@@ -74,7 +74,9 @@ def split(whole, folder):
         package = next(package for package, pattern in FILES if fnmatch.fnmatch(where, pattern))
         to = folder / package / "usr" / where
         to.parent.mkdir(parents=True, exist_ok=True)
-        if where.startswith("share/man/"):
+        if where.startswith("share/man/") and path.is_symlink():
+            to.with_name(f"{to.name}.gz").symlink_to(f"{os.readlink(path)}.gz")
+        elif where.startswith("share/man/"):
             archive.compress(path, f"{to}.gz")
         else:
             shutil.move(path, to)
@@ -86,7 +88,7 @@ def describe(package, folder):
     page.mkdir(parents=True)
     control.mkdir()
     (page / "copyright").write_text(COPYRIGHT)
-    archive.compress(TOP / "CHANGELOG.md", page / "changelog.gz")
+    archive.compress(TOP / "CHANGELOG.md", page / "CHANGELOG.md.gz")
     files = [path for path in sorted(folder.rglob("*")) if path.is_file() and not path.is_symlink()]
     used = [path for path in files if path.name == "zkdump" and path.parent.name == "bin" or ".so." in path.name]
     fields = FIELDS[package].format(libc=libc(*used) if used else "", version=VERSION)

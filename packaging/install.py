@@ -42,7 +42,7 @@ def commands():
     """The tools that are commands: the name of each link among the programs, and its script."""
     for path in sorted((TOP / "tools").glob("*.py")):
         if os.access(path, os.X_OK):
-            yield path.stem if "zk" in path.stem else f"zk{path.stem}", path.name
+            yield path.stem if "zk" in path.stem else f"zk{path.stem}", path
 
 
 def folder_files(name, pattern):
@@ -65,7 +65,9 @@ def layout(libdir="lib"):
     }
     files.update((f"{libdir}/{folder}/{name}", Made(name)) for name, folder in TEMPLATES.items())
     files.update((f"share/man/man{page[-1]}/{page}", Made(page)) for page in make_manual.PAGES)
-    files.update((f"bin/{name}", Link(f"../{OWN}/tools/{script}")) for name, script in commands())
+    for name, script in commands():
+        files[f"bin/{name}"] = Link(f"../{OWN}/tools/{script.name}")
+        files[f"share/man/man1/{name}.1"] = Link("zkdump.1")
     files.update((f"{OWN}/{name}", TOP / name) for name in ("README.md", "CHANGELOG.md", "SECURITY.md", "LICENSE"))
     for folder, pattern in (("docs", "*.md"), ("tools", "*"), ("examples", "*")):
         files.update((f"{OWN}/{path.relative_to(TOP)}", path) for path in folder_files(folder, pattern))
@@ -95,7 +97,7 @@ def make(folder, libdir, gate):
     if make_manual.missing():
         yield f"the manual pages, as {make_manual.missing()[0]} is missing"
     else:
-        make_manual.make(folder, VERSION)
+        make_manual.make(folder, VERSION, commands())
     (folder / "BUILD").write_text(f"zkdump {VERSION}\ntoolchain: {toolchain()}\n{gate}")
 
 
@@ -104,15 +106,23 @@ def install(top, libdir="lib", gate=""):
     with tempfile.TemporaryDirectory() as temporary:
         folder = pathlib.Path(temporary)
         yield from make(folder, libdir, gate)
-        for where, what in layout(libdir).items():
+        files = layout(libdir)
+        # Links come last, so that one to what is left out is left out, too.
+        for where, what in sorted(files.items(), key=lambda item: isinstance(item[1], Link)):
             to = pathlib.Path(top, where)
+            if isinstance(what, Made):
+                source = folder / what.name
+            elif isinstance(what, Link):
+                source = to.parent / what.to
+            else:
+                source = what
+            if not source.exists():
+                continue
             to.parent.mkdir(parents=True, exist_ok=True)
             to.unlink(missing_ok=True)
             if isinstance(what, Link):
                 to.symlink_to(what.to)
-                continue
-            source = folder / what.name if isinstance(what, Made) else what
-            if source.exists():
+            else:
                 shutil.copyfile(source, to)
                 to.chmod(0o755 if os.access(source, os.X_OK) else 0o644)
 

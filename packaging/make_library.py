@@ -67,7 +67,8 @@ def make(folder, library=LIBRARY, allocator=None):
     archive.unlink(missing_ok=True)
     run("ar", "rcsD", archive, whole)
     run("cc", "-shared", "-o", shared, whole, "-Wl,-soname,libzk.so.1", f"-Wl,--version-script={MAP}", "-Wl,-z,defs",
-        "-Wl,-z,relro", "-Wl,-z,now", "-Wl,-z,noexecstack", "-Wl,--as-needed")
+        "-Wl,-z,relro", "-Wl,-z,now", "-Wl,-z,noexecstack", "-Wl,--as-needed", "-Wl,--strip-all")
+    shared.chmod(0o644)
     whole.unlink()
     return archive, shared
 

@@ -1,5 +1,6 @@
 """The manual pages, of docs/man and of the header, by scdoc."""
 
+import ast
 import os
 import re
 import shutil
@@ -28,11 +29,20 @@ def calls():
         yield f"*{escaped(function)}*\n\t{escaped(said.replace(chr(10) + ' *', ' '))}\n"
 
 
-def make(folder, version):
+def tools(commands):
+    """Each command, with the first line of what its script says of itself."""
+    for name, script in commands:
+        said = ast.get_docstring(ast.parse(script.read_text())) or name
+        yield f"*{name}*\n\t{escaped(said.splitlines()[0])}\n"
+
+
+def make(folder, version, commands):
     """Makes the pages in the folder."""
+    values = {"VERSION": version, "CALLS": "\n".join(calls()), "TOOLS": "\n".join(tools(commands))}
     dated = {**os.environ, "SOURCE_DATE_EPOCH": str(archive.time())}
     for page in PAGES:
         text = (TOP / "docs" / "man" / f"{page}.scd").read_text()
-        text = text.replace("@VERSION@", version).replace("@CALLS@", "\n".join(calls()))
+        for word, value in values.items():
+            text = text.replace(f"@{word}@", value)
         made = subprocess.run(["scdoc"], input=text, stdout=subprocess.PIPE, text=True, check=True, env=dated)
         (folder / page).write_text(made.stdout)
