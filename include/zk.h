@@ -219,10 +219,15 @@ struct zk_line zk_listing(const struct zk_piece *pieces, size_t count, const uin
 
 /* A fault of so many things of this size at a pointer, or ZK_WELL. */
 static inline uint32_t zk_fault_at(const void *at, size_t count, size_t size) {
-    if (at == NULL && count > 0) {
+    if (at == NULL) {
         return ZK_NULL;
     }
     return count > (size_t)PTRDIFF_MAX / size ? ZK_RANGE : ZK_WELL;
+}
+
+/* The same of things of which there may be none, with or without a pointer. */
+static inline uint32_t zk_fault_of(const void *at, size_t count, size_t size) {
+    return count == 0 ? (uint32_t)ZK_WELL : zk_fault_at(at, count, size);
 }
 
 /* A pointer to read from, which isn't null; aligned for all that the library reads. */
@@ -249,7 +254,7 @@ static inline uint32_t zk_safe_talk_new(struct zk_talk *talk, uint32_t client, u
 
 static inline struct zk_step zk_safe_talk_step(struct zk_talk *talk, uint32_t side, const uint8_t *piece, size_t length) {
     struct zk_step answer = ZK_ZEROS;
-    answer.status = zk_first_of(zk_fault_at(talk, 1, sizeof *talk), zk_fault_at(piece, length, sizeof *piece));
+    answer.status = zk_first_of(zk_fault_at(talk, 1, sizeof *talk), zk_fault_of(piece, length, sizeof *piece));
     return answer.status != ZK_WELL ? answer : zk_talk_step(talk, side, (const uint8_t *)zk_from(piece), length);
 }
 
@@ -261,7 +266,7 @@ static inline struct zk_message zk_safe_talk_view(struct zk_talk *talk, uint32_t
 
 static inline struct zk_line zk_safe_talk_line(struct zk_talk *talk, uint32_t side, uint8_t *out, size_t room) {
     struct zk_line answer = ZK_ZEROS;
-    answer.status = zk_first_of(zk_fault_at(talk, 1, sizeof *talk), zk_fault_at(out, room, sizeof *out));
+    answer.status = zk_first_of(zk_fault_at(talk, 1, sizeof *talk), zk_fault_of(out, room, sizeof *out));
     return answer.status != ZK_WELL ? answer : zk_talk_line(talk, side, zk_into(out), room);
 }
 
@@ -273,7 +278,7 @@ static inline struct zk_ending zk_safe_talk_finish(struct zk_talk *talk) {
 
 static inline struct zk_line zk_safe_talk_ending_line(struct zk_talk *talk, uint8_t *out, size_t room) {
     struct zk_line answer = ZK_ZEROS;
-    answer.status = zk_first_of(zk_fault_at(talk, 1, sizeof *talk), zk_fault_at(out, room, sizeof *out));
+    answer.status = zk_first_of(zk_fault_at(talk, 1, sizeof *talk), zk_fault_of(out, room, sizeof *out));
     return answer.status != ZK_WELL ? answer : zk_talk_ending_line(talk, zk_into(out), room);
 }
 
@@ -290,13 +295,13 @@ static inline uint32_t zk_safe_speaker_new(struct zk_speaker *speaker, uint32_t 
 
 static inline struct zk_say zk_safe_speaker_say(struct zk_speaker *speaker, const uint8_t *line, size_t length) {
     struct zk_say answer = ZK_ZEROS;
-    answer.status = zk_first_of(zk_fault_at(speaker, 1, sizeof *speaker), zk_fault_at(line, length, sizeof *line));
+    answer.status = zk_first_of(zk_fault_at(speaker, 1, sizeof *speaker), zk_fault_of(line, length, sizeof *line));
     return answer.status != ZK_WELL ? answer : zk_speaker_say(speaker, (const uint8_t *)zk_from(line), length);
 }
 
 static inline struct zk_line zk_safe_speaker_frame(struct zk_speaker *speaker, uint8_t *out, size_t room) {
     struct zk_line answer = ZK_ZEROS;
-    answer.status = zk_first_of(zk_fault_at(speaker, 1, sizeof *speaker), zk_fault_at(out, room, sizeof *out));
+    answer.status = zk_first_of(zk_fault_at(speaker, 1, sizeof *speaker), zk_fault_of(out, room, sizeof *out));
     return answer.status != ZK_WELL ? answer : zk_speaker_frame(speaker, zk_into(out), room);
 }
 
@@ -308,37 +313,37 @@ static inline void zk_safe_speaker_free(struct zk_speaker *speaker) {
 
 static inline struct zk_payload zk_safe_judge_first(const uint8_t *bytes, size_t length) {
     struct zk_payload answer = ZK_ZEROS;
-    answer.status = zk_fault_at(bytes, length, sizeof *bytes);
+    answer.status = zk_fault_of(bytes, length, sizeof *bytes);
     return answer.status != ZK_WELL ? answer : zk_judge_first((const uint8_t *)zk_from(bytes), length);
 }
 
 static inline struct zk_payload zk_safe_judge_request(uint32_t profile, const uint8_t *bytes, size_t length) {
     struct zk_payload answer = ZK_ZEROS;
-    answer.status = zk_fault_at(bytes, length, sizeof *bytes);
+    answer.status = zk_fault_of(bytes, length, sizeof *bytes);
     return answer.status != ZK_WELL ? answer : zk_judge_request(profile, (const uint8_t *)zk_from(bytes), length);
 }
 
 static inline struct zk_payload zk_safe_judge_connected(const uint8_t *bytes, size_t length) {
     struct zk_payload answer = ZK_ZEROS;
-    answer.status = zk_fault_at(bytes, length, sizeof *bytes);
+    answer.status = zk_fault_of(bytes, length, sizeof *bytes);
     return answer.status != ZK_WELL ? answer : zk_judge_connected((const uint8_t *)zk_from(bytes), length);
 }
 
 static inline struct zk_payload zk_safe_judge_reply(int32_t operation, const int32_t *parts, size_t count, const uint8_t *bytes, size_t length) {
     struct zk_payload answer = ZK_ZEROS;
-    answer.status = zk_first_of(zk_fault_at(parts, count, sizeof *parts), zk_fault_at(bytes, length, sizeof *bytes));
+    answer.status = zk_first_of(zk_fault_of(parts, count, sizeof *parts), zk_fault_of(bytes, length, sizeof *bytes));
     return answer.status != ZK_WELL ? answer : zk_judge_reply(operation, (const int32_t *)zk_from(parts), count, (const uint8_t *)zk_from(bytes), length);
 }
 
 static inline struct zk_payload zk_safe_judge_event(const uint8_t *bytes, size_t length) {
     struct zk_payload answer = ZK_ZEROS;
-    answer.status = zk_fault_at(bytes, length, sizeof *bytes);
+    answer.status = zk_fault_of(bytes, length, sizeof *bytes);
     return answer.status != ZK_WELL ? answer : zk_judge_event((const uint8_t *)zk_from(bytes), length);
 }
 
 static inline struct zk_line zk_safe_listing(const struct zk_piece *pieces, size_t count, const uint8_t *bytes, size_t length, uint32_t client, uint32_t server, uint32_t waiting, uint32_t profile, uint8_t *out, size_t room) {
     struct zk_line answer = ZK_ZEROS;
-    answer.status = zk_first_of(zk_fault_at(pieces, count, sizeof *pieces), zk_first_of(zk_fault_at(bytes, length, sizeof *bytes), zk_fault_at(out, room, sizeof *out)));
+    answer.status = zk_first_of(zk_fault_of(pieces, count, sizeof *pieces), zk_first_of(zk_fault_of(bytes, length, sizeof *bytes), zk_fault_of(out, room, sizeof *out)));
     return answer.status != ZK_WELL ? answer : zk_listing((const struct zk_piece *)zk_from(pieces), count, (const uint8_t *)zk_from(bytes), length, client, server, waiting, profile, zk_into(out), room);
 }
 
