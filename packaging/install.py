@@ -149,6 +149,7 @@ def main():
     if not PROGRAM.exists():
         print("install.py: the program is not built; ./zkdump builds it", file=sys.stderr)
         return 1
+    os.umask(0o022)
     try:
         for line in install(top, words.libdir):
             print(f"left out: {line}")
