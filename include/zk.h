@@ -1,4 +1,4 @@
-/* A conversation of ZooKeeper's client protocol, read as it comes, by the proved library libzk_c.a.
+/* A conversation of ZooKeeper's client protocol, read as it comes, by the proved library libzk.
  *
  * docs/LIBRARY.md says how a program is linked with it, and what each call promises. tests/library.py holds this header
  * against the library's source (crates/zk_c/src).

@@ -27,7 +27,8 @@ import tempfile
 
 TOP = pathlib.Path(__file__).resolve().parent.parent
 sys.path.append(str(TOP / "packaging"))
-from build_library import CRATE, built, kit  # noqa: E402
+import make_library  # noqa: E402
+from build_library import CRATE, built  # noqa: E402
 
 HEADER = TOP / "include" / "zk.h"
 EXAMPLES = TOP / "examples"
@@ -151,26 +152,28 @@ def compare_header():
                f"number {name}: the crate has {number}, the header {c_numbers.get(name)}")
 
 
-def made(folder, library, archive):
-    """The examples as programs: a name and the words that run it, or None where it can't be made."""
-    c = next(filter(shutil.which, filter(None, (os.environ.get("CC"), "cc", "gcc", "clang"))), None)
-    proxy, nulls, listing, shared = (os.path.join(folder, name) for name in ("proxy", "nulls", "listing", "libzk.so"))
+def made(folder, library):
+    """The examples as programs, linked with the libraries that are made of this one: a name and the words that run it,
+    or None where it can't be made."""
+    c = next(filter(shutil.which, filter(None, (os.environ.get("CC"), "cc"))), None)
+    c = None if make_library.missing() else c
+    proxy, nulls, listing = (os.path.join(folder, name) for name in ("proxy", "nulls", "listing"))
     if c:
+        archive, shared = make_library.make(folder, library)
         warned = [c, "-O2", "-Wall", "-Wextra", "-Werror", f"-I{HEADER.parent}"]
         for program, source in ((proxy, EXAMPLES / "proxy.c"), (nulls, TOP / "tests" / "nulls.c")):
-            words = [*warned, "-o", program, source, library, archive]
+            words = [*warned, "-o", program, source, archive]
             if subprocess.run([*words, "-fsanitize=address"], stderr=subprocess.DEVNULL).returncode != 0:
                 print(f"skipped: {source.name} is not looked at for memory that isn't given up")
                 subprocess.run(words, check=True)
-        subprocess.run([c, "-shared", "-o", shared, "-Wl,--whole-archive", library, "-Wl,--no-whole-archive", archive],
-                       check=True)
     yield "null pointers", [nulls] if c else None
     yield "C", [proxy] if c else None
-    if shutil.which("rustc"):
-        subprocess.run(["rustc", "-O", "--edition", "2024", "-o", listing, EXAMPLES / "listing.rs",
-                        "-C", f"link-arg={library}", "-C", f"link-arg={archive}"], check=True)
-    yield "Rust", [listing] if shutil.which("rustc") else None
-    yield "Python", [sys.executable, EXAMPLES / "talk.py", shared] if c else None
+    rust = c and shutil.which("rustc")
+    if rust:
+        subprocess.run([rust, "-O", "--edition", "2024", "-o", listing, EXAMPLES / "listing.rs",
+                        "-C", f"link-arg={archive}"], check=True)
+    yield "Rust", [listing] if rust else None
+    yield "Python", [sys.executable, EXAMPLES / "talk.py", str(shared)] if c else None
 
 
 def sides(recording):
@@ -245,7 +248,7 @@ def main():
         options.library = built()
     results = list(compare_header())
     with tempfile.TemporaryDirectory() as folder:
-        for name, words in made(folder, options.library, kit() / "c" / "liblibc_c.a"):
+        for name, words in made(folder, options.library):
             if words is None:
                 print(f"skipped: there is no compiler for the example in {name}")
                 continue
