@@ -4,8 +4,8 @@
  * against the library's source (crates/zk_c/src).
  *
  * What a caller owes: a pointer points to as much as is said; a handle is all zeros before its first zk_talk_new
- * (`struct zk_talk talk = ZK_ZEROS;`), is written by these calls alone, is used by one call at a time on the thread that
- * made it, and is never copied and then used twice. All else is refused by a number: a null pointer too, and a length
+ * (`struct zk_talk talk = ZK_ZEROS;`), is written by these calls alone, is used by one call at a time, whichever threads
+ * make them, and is never copied and then used twice. All else is refused by a number: a null pointer too, and a length
  * that no bytes have, by the functions at the end of this header, which stand before the library's own. Only together
  * with the length 0 is a null pointer taken, as no bytes. */
 #ifndef ZK_H
