@@ -112,7 +112,7 @@ int main(int count, char **words) {
     }
     close(client[0]);
     close(server[0]);
-    struct zk_talk talk = {0};
+    struct zk_talk talk = ZK_ZEROS;
     if (zk_talk_new(&talk, 4194304, 4194304, 65536, ZK_PROFILE_34) != ZK_WELL) fail("zk_talk_new");
     proxy(&talk, client[1], server[1]);
     put_line(zk_talk_ending_line(&talk, text, ROOM - 1));

@@ -5,7 +5,7 @@
     talk.py LIBRARY --say LISTING the recording of a listing's messages, a piece a frame
     talk.py LIBRARY --kazoo       judges the requests that kazoo's own serializers make, where kazoo is installed
 
-LIBRARY is a shared library that was linked from libzk_c.a (docs/LIBRARY.md).
+LIBRARY is libzk.so.1 (docs/LIBRARY.md).
 """
 
 import ctypes

@@ -1,19 +1,28 @@
-/* A conversation of ZooKeeper's client protocol, read as it comes, by the proved library libzk_c.a.
+/* A conversation of ZooKeeper's client protocol, read as it comes, by the proved library libzk.
  *
  * docs/LIBRARY.md says how a program is linked with it, and what each call promises. tests/library.py holds this header
  * against the library's source (crates/zk_c/src).
  *
  * What a caller owes: a pointer points to as much as is said; a handle is all zeros before its first zk_talk_new
- * (`struct zk_talk talk = {0};`), is written by these calls alone, is used by one call at a time on the thread that made
- * it, and is never copied and then used twice. All else is refused by a number: a null pointer too, and a length that no
- * bytes have, by the functions at the end of this header, which stand before the library's own. For no bytes pass any
- * pointer that isn't null, and 0. */
+ * (`struct zk_talk talk = ZK_ZEROS;`), is written by these calls alone, is used by one call at a time, whichever threads
+ * make them, and is never copied and then used twice. All else is refused by a number: a null pointer too, and a length
+ * that no bytes have, by the functions at the end of this header, which stand before the library's own. Only together
+ * with the length 0 is a null pointer taken, as no bytes. */
 #ifndef ZK_H
 #define ZK_H
+
+#define ZK_VERSION "0.9.0"
 
 #include <stdbool.h>
 #include <stddef.h>
 #include <stdint.h>
+
+/* The initializer of an empty handle, in C and in C++. */
+#ifdef __cplusplus
+#define ZK_ZEROS {}
+#else
+#define ZK_ZEROS {0}
+#endif
 
 #ifdef __cplusplus
 extern "C" {
@@ -190,7 +199,7 @@ struct zk_payload zk_judge_connected(const uint8_t *bytes, size_t length);
 
 /* Whether the payload is that of a reply to a request of this operation; of a multi with so many parts, of which these
  * are the operations. ZK_RANGE where a number is none's, or another operation has parts; ZK_MISFIT where the xid is -1,
- * an event's. For no parts pass any pointer that isn't null, and 0. */
+ * an event's. */
 struct zk_payload zk_judge_reply(int32_t operation, const int32_t *parts, size_t count, const uint8_t *bytes, size_t length);
 
 /* Whether the payload is that of an event. ZK_MISFIT where the xid isn't -1: a reply's. */
@@ -204,8 +213,9 @@ struct zk_line zk_listing(const struct zk_piece *pieces, size_t count, const uin
 
 /* ---- Null pointers, and lengths of more than PTRDIFF_MAX bytes
  *
- * The library's calls take what is there. The functions below look at each pointer and length first, and answer ZK_NULL
- * or ZK_RANGE; the names above stand for them from here on. Nothing is changed then. */
+ * The library's calls take what is there, and no null pointer. The functions below look at each pointer and length first,
+ * and answer ZK_NULL or ZK_RANGE; the names above stand for them from here on. Nothing is changed then. Where the length
+ * is 0, another pointer takes the place of a null pointer. */
 
 /* A fault of so many things of this size at a pointer, or ZK_WELL. */
 static inline uint32_t zk_fault_at(const void *at, size_t count, size_t size) {
@@ -213,6 +223,23 @@ static inline uint32_t zk_fault_at(const void *at, size_t count, size_t size) {
         return ZK_NULL;
     }
     return count > (size_t)PTRDIFF_MAX / size ? ZK_RANGE : ZK_WELL;
+}
+
+/* The same of things of which there may be none, with or without a pointer. */
+static inline uint32_t zk_fault_of(const void *at, size_t count, size_t size) {
+    return count == 0 ? (uint32_t)ZK_WELL : zk_fault_at(at, count, size);
+}
+
+/* A pointer to read from, which isn't null; aligned for all that the library reads. */
+static inline const void *zk_from(const void *at) {
+    static const uint64_t none = 0;
+    return at != NULL ? at : &none;
+}
+
+/* A pointer to write to, which isn't null. */
+static inline uint8_t *zk_into(uint8_t *at) {
+    static uint8_t none;
+    return at != NULL ? at : &none;
 }
 
 /* The first of two that is a fault. */
@@ -226,33 +253,33 @@ static inline uint32_t zk_safe_talk_new(struct zk_talk *talk, uint32_t client, u
 }
 
 static inline struct zk_step zk_safe_talk_step(struct zk_talk *talk, uint32_t side, const uint8_t *piece, size_t length) {
-    struct zk_step answer = {0};
-    answer.status = zk_first_of(zk_fault_at(talk, 1, sizeof *talk), zk_fault_at(piece, length, sizeof *piece));
-    return answer.status != ZK_WELL ? answer : zk_talk_step(talk, side, piece, length);
+    struct zk_step answer = ZK_ZEROS;
+    answer.status = zk_first_of(zk_fault_at(talk, 1, sizeof *talk), zk_fault_of(piece, length, sizeof *piece));
+    return answer.status != ZK_WELL ? answer : zk_talk_step(talk, side, (const uint8_t *)zk_from(piece), length);
 }
 
 static inline struct zk_message zk_safe_talk_view(struct zk_talk *talk, uint32_t side) {
-    struct zk_message answer = {0};
+    struct zk_message answer = ZK_ZEROS;
     answer.status = zk_fault_at(talk, 1, sizeof *talk);
     return answer.status != ZK_WELL ? answer : zk_talk_view(talk, side);
 }
 
 static inline struct zk_line zk_safe_talk_line(struct zk_talk *talk, uint32_t side, uint8_t *out, size_t room) {
-    struct zk_line answer = {0};
-    answer.status = zk_first_of(zk_fault_at(talk, 1, sizeof *talk), zk_fault_at(out, room, sizeof *out));
-    return answer.status != ZK_WELL ? answer : zk_talk_line(talk, side, out, room);
+    struct zk_line answer = ZK_ZEROS;
+    answer.status = zk_first_of(zk_fault_at(talk, 1, sizeof *talk), zk_fault_of(out, room, sizeof *out));
+    return answer.status != ZK_WELL ? answer : zk_talk_line(talk, side, zk_into(out), room);
 }
 
 static inline struct zk_ending zk_safe_talk_finish(struct zk_talk *talk) {
-    struct zk_ending answer = {0};
+    struct zk_ending answer = ZK_ZEROS;
     answer.status = zk_fault_at(talk, 1, sizeof *talk);
     return answer.status != ZK_WELL ? answer : zk_talk_finish(talk);
 }
 
 static inline struct zk_line zk_safe_talk_ending_line(struct zk_talk *talk, uint8_t *out, size_t room) {
-    struct zk_line answer = {0};
-    answer.status = zk_first_of(zk_fault_at(talk, 1, sizeof *talk), zk_fault_at(out, room, sizeof *out));
-    return answer.status != ZK_WELL ? answer : zk_talk_ending_line(talk, out, room);
+    struct zk_line answer = ZK_ZEROS;
+    answer.status = zk_first_of(zk_fault_at(talk, 1, sizeof *talk), zk_fault_of(out, room, sizeof *out));
+    return answer.status != ZK_WELL ? answer : zk_talk_ending_line(talk, zk_into(out), room);
 }
 
 static inline void zk_safe_talk_free(struct zk_talk *talk) {
@@ -267,15 +294,15 @@ static inline uint32_t zk_safe_speaker_new(struct zk_speaker *speaker, uint32_t 
 }
 
 static inline struct zk_say zk_safe_speaker_say(struct zk_speaker *speaker, const uint8_t *line, size_t length) {
-    struct zk_say answer = {0};
-    answer.status = zk_first_of(zk_fault_at(speaker, 1, sizeof *speaker), zk_fault_at(line, length, sizeof *line));
-    return answer.status != ZK_WELL ? answer : zk_speaker_say(speaker, line, length);
+    struct zk_say answer = ZK_ZEROS;
+    answer.status = zk_first_of(zk_fault_at(speaker, 1, sizeof *speaker), zk_fault_of(line, length, sizeof *line));
+    return answer.status != ZK_WELL ? answer : zk_speaker_say(speaker, (const uint8_t *)zk_from(line), length);
 }
 
 static inline struct zk_line zk_safe_speaker_frame(struct zk_speaker *speaker, uint8_t *out, size_t room) {
-    struct zk_line answer = {0};
-    answer.status = zk_first_of(zk_fault_at(speaker, 1, sizeof *speaker), zk_fault_at(out, room, sizeof *out));
-    return answer.status != ZK_WELL ? answer : zk_speaker_frame(speaker, out, room);
+    struct zk_line answer = ZK_ZEROS;
+    answer.status = zk_first_of(zk_fault_at(speaker, 1, sizeof *speaker), zk_fault_of(out, room, sizeof *out));
+    return answer.status != ZK_WELL ? answer : zk_speaker_frame(speaker, zk_into(out), room);
 }
 
 static inline void zk_safe_speaker_free(struct zk_speaker *speaker) {
@@ -285,39 +312,39 @@ static inline void zk_safe_speaker_free(struct zk_speaker *speaker) {
 }
 
 static inline struct zk_payload zk_safe_judge_first(const uint8_t *bytes, size_t length) {
-    struct zk_payload answer = {0};
-    answer.status = zk_fault_at(bytes, length, sizeof *bytes);
-    return answer.status != ZK_WELL ? answer : zk_judge_first(bytes, length);
+    struct zk_payload answer = ZK_ZEROS;
+    answer.status = zk_fault_of(bytes, length, sizeof *bytes);
+    return answer.status != ZK_WELL ? answer : zk_judge_first((const uint8_t *)zk_from(bytes), length);
 }
 
 static inline struct zk_payload zk_safe_judge_request(uint32_t profile, const uint8_t *bytes, size_t length) {
-    struct zk_payload answer = {0};
-    answer.status = zk_fault_at(bytes, length, sizeof *bytes);
-    return answer.status != ZK_WELL ? answer : zk_judge_request(profile, bytes, length);
+    struct zk_payload answer = ZK_ZEROS;
+    answer.status = zk_fault_of(bytes, length, sizeof *bytes);
+    return answer.status != ZK_WELL ? answer : zk_judge_request(profile, (const uint8_t *)zk_from(bytes), length);
 }
 
 static inline struct zk_payload zk_safe_judge_connected(const uint8_t *bytes, size_t length) {
-    struct zk_payload answer = {0};
-    answer.status = zk_fault_at(bytes, length, sizeof *bytes);
-    return answer.status != ZK_WELL ? answer : zk_judge_connected(bytes, length);
+    struct zk_payload answer = ZK_ZEROS;
+    answer.status = zk_fault_of(bytes, length, sizeof *bytes);
+    return answer.status != ZK_WELL ? answer : zk_judge_connected((const uint8_t *)zk_from(bytes), length);
 }
 
 static inline struct zk_payload zk_safe_judge_reply(int32_t operation, const int32_t *parts, size_t count, const uint8_t *bytes, size_t length) {
-    struct zk_payload answer = {0};
-    answer.status = zk_first_of(zk_fault_at(parts, count, sizeof *parts), zk_fault_at(bytes, length, sizeof *bytes));
-    return answer.status != ZK_WELL ? answer : zk_judge_reply(operation, parts, count, bytes, length);
+    struct zk_payload answer = ZK_ZEROS;
+    answer.status = zk_first_of(zk_fault_of(parts, count, sizeof *parts), zk_fault_of(bytes, length, sizeof *bytes));
+    return answer.status != ZK_WELL ? answer : zk_judge_reply(operation, (const int32_t *)zk_from(parts), count, (const uint8_t *)zk_from(bytes), length);
 }
 
 static inline struct zk_payload zk_safe_judge_event(const uint8_t *bytes, size_t length) {
-    struct zk_payload answer = {0};
-    answer.status = zk_fault_at(bytes, length, sizeof *bytes);
-    return answer.status != ZK_WELL ? answer : zk_judge_event(bytes, length);
+    struct zk_payload answer = ZK_ZEROS;
+    answer.status = zk_fault_of(bytes, length, sizeof *bytes);
+    return answer.status != ZK_WELL ? answer : zk_judge_event((const uint8_t *)zk_from(bytes), length);
 }
 
 static inline struct zk_line zk_safe_listing(const struct zk_piece *pieces, size_t count, const uint8_t *bytes, size_t length, uint32_t client, uint32_t server, uint32_t waiting, uint32_t profile, uint8_t *out, size_t room) {
-    struct zk_line answer = {0};
-    answer.status = zk_first_of(zk_fault_at(pieces, count, sizeof *pieces), zk_first_of(zk_fault_at(bytes, length, sizeof *bytes), zk_fault_at(out, room, sizeof *out)));
-    return answer.status != ZK_WELL ? answer : zk_listing(pieces, count, bytes, length, client, server, waiting, profile, out, room);
+    struct zk_line answer = ZK_ZEROS;
+    answer.status = zk_first_of(zk_fault_of(pieces, count, sizeof *pieces), zk_first_of(zk_fault_of(bytes, length, sizeof *bytes), zk_fault_of(out, room, sizeof *out)));
+    return answer.status != ZK_WELL ? answer : zk_listing((const struct zk_piece *)zk_from(pieces), count, (const uint8_t *)zk_from(bytes), length, client, server, waiting, profile, zk_into(out), room);
 }
 
 #define zk_talk_new zk_safe_talk_new

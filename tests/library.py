@@ -26,7 +26,10 @@ import sys
 import tempfile
 
 TOP = pathlib.Path(__file__).resolve().parent.parent
-CRATE = TOP / "crates" / "zk_c"
+sys.path.append(str(TOP / "packaging"))
+import make_library  # noqa: E402
+from build_library import CRATE, built  # noqa: E402
+
 HEADER = TOP / "include" / "zk.h"
 EXAMPLES = TOP / "examples"
 C_TYPES = {"u8": "uint8_t", "u32": "uint32_t", "i32": "int32_t", "u64": "uint64_t", "usize": "size_t", "bool": "bool",
@@ -149,71 +152,28 @@ def compare_header():
                f"number {name}: the crate has {number}, the header {c_numbers.get(name)}")
 
 
-def kit():
-    """The toolchain's folder."""
-    page = subprocess.run(["rt", "doc"], capture_output=True, text=True, check=True).stdout.strip()
-    return pathlib.Path(page).parent
-
-
-def below(name):
-    """The libraries that a crate stands on, those of the repository and the toolchain's, by crates.txt."""
-    uses = {}
-    for line in (TOP / "crates.txt").read_text().splitlines():
-        crate, colon, libraries = line.split("#")[0].partition(":")
-        if colon:
-            uses[crate.split()[0]] = libraries.split()
-    own = {one: TOP / "crates" / one / "out" / "rlib" / f"{one}.rlib" for one in uses if one in uses[name]}
-    found, left = {}, list(own)
-    while left:
-        one = left.pop()
-        if one not in found:
-            found[one] = TOP / "crates" / one / "out" / "rlib" / f"{one}.rlib"
-            left += [low for low in uses[one] if low in uses]
-    return own, found, [one for one in uses[name] if one not in uses]
-
-
-def built():
-    """The library, proved and built."""
-    archive, (own, every, others) = CRATE / "out" / "libzk_c.a", below("zk_c")
-    if not all(path.is_dir() for path in every.values()):
-        subprocess.run(["rt", "lib"], cwd=CRATE, check=True, stdout=subprocess.DEVNULL)
-        return archive
-    home = kit()
-    words = [home / "bin" / "rattle", "build", "--crate-name", "zk_c", "src/lib.rt", "--crate-type", "staticlib",
-             "--links", "zk_c=", "--jobs", str(min(4, os.cpu_count() or 1)), "--toolchain", home / "toolchain",
-             "--antt-project", home / "rattle" / "logic" / "antt-project.json", "--logic-built", home / "logic_built",
-             "--backend", "llvm", "-o", archive, "-L", f"dependency={home / 'rlibs'}"]
-    for name in ["std", *others]:
-        words += ["--extern", f"{name}={home / 'rlibs' / name}.rlib"]
-    for name, path in own.items():
-        words += ["--extern", f"{name}={path}"]
-    for path in every.values():
-        words += ["-L", f"dependency={path.parent}"]
-    archive.parent.mkdir(exist_ok=True)
-    subprocess.run(words, cwd=CRATE, check=True, stdout=subprocess.DEVNULL)
-    return archive
-
-
-def made(folder, library, archive):
-    """The examples as programs: a name and the words that run it, or None where it can't be made."""
-    c = next(filter(shutil.which, filter(None, (os.environ.get("CC"), "cc", "gcc", "clang"))), None)
-    proxy, nulls, listing, shared = (os.path.join(folder, name) for name in ("proxy", "nulls", "listing", "libzk.so"))
+def made(folder, library):
+    """The examples as programs, linked with the libraries that are made of this one: a name and the words that run it,
+    or None where it can't be made."""
+    c = next(filter(shutil.which, filter(None, (os.environ.get("CC"), "cc"))), None)
+    c = None if make_library.missing() else c
+    proxy, nulls, listing = (os.path.join(folder, name) for name in ("proxy", "nulls", "listing"))
     if c:
+        archive, shared = make_library.make(folder, library)
         warned = [c, "-O2", "-Wall", "-Wextra", "-Werror", f"-I{HEADER.parent}"]
         for program, source in ((proxy, EXAMPLES / "proxy.c"), (nulls, TOP / "tests" / "nulls.c")):
-            words = [*warned, "-o", program, source, library, archive]
+            words = [*warned, "-o", program, source, archive]
             if subprocess.run([*words, "-fsanitize=address"], stderr=subprocess.DEVNULL).returncode != 0:
                 print(f"skipped: {source.name} is not looked at for memory that isn't given up")
                 subprocess.run(words, check=True)
-        subprocess.run([c, "-shared", "-o", shared, "-Wl,--whole-archive", library, "-Wl,--no-whole-archive", archive],
-                       check=True)
     yield "null pointers", [nulls] if c else None
     yield "C", [proxy] if c else None
-    if shutil.which("rustc"):
-        subprocess.run(["rustc", "-O", "--edition", "2024", "-o", listing, EXAMPLES / "listing.rs",
-                        "-C", f"link-arg={library}", "-C", f"link-arg={archive}"], check=True)
-    yield "Rust", [listing] if shutil.which("rustc") else None
-    yield "Python", [sys.executable, EXAMPLES / "talk.py", shared] if c else None
+    rust = c and shutil.which("rustc")
+    if rust:
+        subprocess.run([rust, "-O", "--edition", "2024", "-o", listing, EXAMPLES / "listing.rs",
+                        "-C", f"link-arg={archive}"], check=True)
+    yield "Rust", [listing] if rust else None
+    yield "Python", [sys.executable, EXAMPLES / "talk.py", str(shared)] if c else None
 
 
 def sides(recording):
@@ -288,7 +248,7 @@ def main():
         options.library = built()
     results = list(compare_header())
     with tempfile.TemporaryDirectory() as folder:
-        for name, words in made(folder, options.library, kit() / "c" / "liblibc_c.a"):
+        for name, words in made(folder, options.library):
             if words is None:
                 print(f"skipped: there is no compiler for the example in {name}")
                 continue

@@ -1,0 +1,21 @@
+# For who builds: `make` proves and builds the program and the library, `make install` installs what was built.
+#
+#     make install DESTDIR= PREFIX=/usr/local LIBDIR=lib
+#     make uninstall, with the same words
+
+PREFIX = /usr/local
+LIBDIR = lib
+DESTDIR =
+INSTALL = python3 packaging/install.py --destdir "$(DESTDIR)" --prefix "$(PREFIX)" --libdir "$(LIBDIR)"
+
+all:
+	./zkdump check < crates/zkdump/stdin
+	python3 packaging/build_library.py
+
+install:
+	$(INSTALL)
+
+uninstall:
+	$(INSTALL) --remove
+
+.PHONY: all install uninstall

@@ -1,0 +1,58 @@
+"""The proved library for C, as `rt lib` makes it, and where the toolchain lies. As a script it proves and builds it."""
+
+import os
+import pathlib
+import subprocess
+
+TOP = pathlib.Path(__file__).resolve().parent.parent
+CRATE = TOP / "crates" / "zk_c"
+LIBRARY = CRATE / "out" / "libzk_c.a"
+
+
+def kit():
+    """The toolchain's folder."""
+    page = subprocess.run(["rt", "doc"], capture_output=True, text=True, check=True).stdout.strip()
+    return pathlib.Path(page).parent
+
+
+def below(name):
+    """The libraries that a crate stands on, those of the repository and the toolchain's, by crates.txt."""
+    uses = {}
+    for line in (TOP / "crates.txt").read_text().splitlines():
+        crate, colon, libraries = line.split("#")[0].partition(":")
+        if colon:
+            uses[crate.split()[0]] = libraries.split()
+    own = {one: TOP / "crates" / one / "out" / "rlib" / f"{one}.rlib" for one in uses if one in uses[name]}
+    found, left = {}, list(own)
+    while left:
+        one = left.pop()
+        if one not in found:
+            found[one] = TOP / "crates" / one / "out" / "rlib" / f"{one}.rlib"
+            left += [low for low in uses[one] if low in uses]
+    return own, found, [one for one in uses[name] if one not in uses]
+
+
+def built():
+    """The library, proved and built."""
+    own, every, others = below("zk_c")
+    if not all(path.is_dir() for path in every.values()):
+        subprocess.run(["rt", "lib"], cwd=CRATE, check=True, stdout=subprocess.DEVNULL)
+        return LIBRARY
+    home = kit()
+    words = [home / "bin" / "rattle", "build", "--crate-name", "zk_c", "src/lib.rt", "--crate-type", "staticlib",
+             "--links", "zk_c=", "--jobs", str(min(4, os.cpu_count() or 1)), "--toolchain", home / "toolchain",
+             "--antt-project", home / "rattle" / "logic" / "antt-project.json", "--logic-built", home / "logic_built",
+             "--backend", "llvm", "-o", LIBRARY, "-L", f"dependency={home / 'rlibs'}"]
+    for name in ["std", *others]:
+        words += ["--extern", f"{name}={home / 'rlibs' / name}.rlib"]
+    for name, path in own.items():
+        words += ["--extern", f"{name}={path}"]
+    for path in every.values():
+        words += ["-L", f"dependency={path.parent}"]
+    LIBRARY.parent.mkdir(exist_ok=True)
+    subprocess.run(words, cwd=CRATE, check=True, stdout=subprocess.DEVNULL)
+    return LIBRARY
+
+
+if __name__ == "__main__":
+    built()

@@ -1,0 +1,127 @@
+"""The Debian packages: zkdump, libzk1 and libzk-dev, of what is installed below /usr."""
+
+import fnmatch
+import hashlib
+import os
+import pathlib
+import re
+import shutil
+import subprocess
+
+import archive
+from build_library import TOP
+from install import OWN, VERSION, install
+
+LIBDIR = "lib/x86_64-linux-gnu"
+TOOLS = ("dpkg-deb", "objdump")
+# Which files below /usr a package has, by the first row that fits; and its fields.
+FILES = (("libzk1", f"{LIBDIR}/libzk.so.*"), ("libzk-dev", f"{LIBDIR}/*"), ("libzk-dev", "include/*"),
+         ("libzk-dev", "share/man/man3/*"), ("libzk-dev", f"{OWN}/examples/*"), ("zkdump", "*"))
+FIELDS = {
+    "zkdump": """Section: net
+Depends: {libc}
+Recommends: python3
+Description: proved dissector of conversations on ZooKeeper's client port
+ It shows, checks, builds and migrates recordings of what a ZooKeeper client
+ and its server said to each other, and has tools that record them.
+""",
+    "libzk1": """Section: libs
+Depends: {libc}
+Multi-Arch: same
+Description: proved codec of ZooKeeper's client protocol, shared library
+ It reads, judges and makes conversations on ZooKeeper's client port.
+""",
+    "libzk-dev": """Section: libdevel
+Depends: libzk1 (= {version})
+Suggests: zkdump
+Description: proved codec of ZooKeeper's client protocol, for development
+ It reads, judges and makes conversations on ZooKeeper's client port. This
+ package has the header, the static library and examples.
+""",
+}
+COPYRIGHT = """Format: https://www.debian.org/doc/packaging-manuals/copyright-format/1.0/
+Upstream-Name: zkdump
+
+Files: *
+Copyright: the authors of zkdump
+License: Apache-2.0
+ On Debian systems the text of this license is in
+ /usr/share/common-licenses/Apache-2.0.
+"""
+# What Python keeps of the tools goes with them.
+REMOVAL = f"""#!/bin/sh
+set -e
+find "$DPKG_ROOT/usr/{OWN}/tools" -name __pycache__ -exec rm -rf {{}} +
+"""
+
+
+def missing():
+    """The tools that are needed and not there."""
+    return [tool for tool in TOOLS if not shutil.which(tool)]
+
+
+def libc(*paths):
+    """What is needed of the C library, by the versions of the names that these files use."""
+    text = "".join(subprocess.run(["objdump", "-T", path], capture_output=True, text=True, check=True).stdout for path in paths)
+    newest = max((tuple(map(int, version.split("."))) for version in re.findall(r"\bGLIBC_([\d.]+)", text)), default=(2, 2))
+    return f"libc6 (>= {'.'.join(map(str, newest))})"
+
+
+def split(whole, folder):
+    """Moves each file of what is installed to its package's folder."""
+    for path in sorted(path for path in whole.rglob("*") if path.is_symlink() or path.is_file()):
+        where = str(path.relative_to(whole))
+        package = next(package for package, pattern in FILES if fnmatch.fnmatch(where, pattern))
+        to = folder / package / "usr" / where
+        to.parent.mkdir(parents=True, exist_ok=True)
+        if where.startswith("share/man/") and path.is_symlink():
+            to.with_name(f"{to.name}.gz").symlink_to(f"{os.readlink(path)}.gz")
+        elif where.startswith("share/man/"):
+            archive.compress(path, f"{to}.gz")
+        else:
+            shutil.move(path, to)
+
+
+def describe(package, folder):
+    """Writes a package's control files, and what every package says of itself."""
+    page, control = folder / "usr/share/doc" / package, folder / "DEBIAN"
+    page.mkdir(parents=True)
+    control.mkdir()
+    (page / "copyright").write_text(COPYRIGHT)
+    archive.compress(TOP / "CHANGELOG.md", page / "CHANGELOG.md.gz")
+    files = [path for path in sorted(folder.rglob("*")) if path.is_file() and not path.is_symlink()]
+    used = [path for path in files if path.name == "zkdump" and path.parent.name == "bin" or ".so." in path.name]
+    fields = FIELDS[package].format(libc=libc(*used) if used else "", version=VERSION)
+    (control / "control").write_text(f"Package: {package}\nSource: zkdump\nVersion: {VERSION}\nArchitecture: amd64\n"
+                                     "Maintainer: the maintainers of zkdump\nPriority: optional\n"
+                                     f"Installed-Size: {sum(-(-path.stat().st_size // 1024) for path in files)}\n{fields}")
+    (control / "md5sums").write_text("".join(
+        f"{hashlib.md5(path.read_bytes()).hexdigest()}  {path.relative_to(folder)}\n" for path in files))
+    if package == "libzk1":
+        (control / "shlibs").write_text(f"libzk 1 libzk1 (>= {VERSION})\n")
+        (control / "triggers").write_text("activate-noawait ldconfig\n")
+    if package == "zkdump":
+        (control / "prerm").write_text(REMOVAL)
+
+
+def settle(folder):
+    """One time and plain modes for all of a package."""
+    for path in [folder, *folder.rglob("*")]:
+        if not path.is_symlink():
+            path.chmod(0o755 if path.is_dir() or os.access(path, os.X_OK) or path.name == "prerm" else 0o644)
+        os.utime(path, (archive.time(), archive.time()), follow_symlinks=False)
+
+
+def packages(work, to, gate=""):
+    """Makes the packages, by way of the folder work. A line for each part that is left out."""
+    whole, folder = pathlib.Path(work, "usr"), pathlib.Path(work, "packages")
+    yield from install(whole, LIBDIR, gate)
+    split(whole, folder)
+    for package in FIELDS:
+        if not (folder / package).exists():
+            continue
+        describe(package, folder / package)
+        settle(folder / package)
+        subprocess.run(["dpkg-deb", "--root-owner-group", "-Zgzip", "--build", folder / package,
+                        pathlib.Path(to, f"{package}_{VERSION}_amd64.deb")], check=True, stdout=subprocess.DEVNULL,
+                       env={**os.environ, "SOURCE_DATE_EPOCH": str(archive.time())})

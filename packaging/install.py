@@ -1,0 +1,163 @@
+#!/usr/bin/env python3
+"""Installs what was built, or removes it.
+
+    install.py [--destdir FOLDER] [--prefix PREFIX] [--libdir LIB] [--remove]
+
+PREFIX is /usr/local where no other is named, and LIB is a folder below it, lib where no other is named. All is put below
+FOLDER, for who makes a package. The program and the proved library have to be built; any other part that can't be made
+is told, and left out. The same words with --remove take away what was installed.
+"""
+
+import argparse
+import os
+import pathlib
+import shutil
+import subprocess
+import sys
+import tempfile
+from typing import NamedTuple, Union
+
+import make_library
+import make_manual
+from build_library import LIBRARY, TOP
+
+PROGRAM = TOP / "crates" / "zkdump" / "out" / "zkdump"
+VERSION = (TOP / "VERSION").read_text().strip()
+OWN = "share/zkdump"
+# Templates, and the folder below LIB that each is filled in for.
+TEMPLATES = {"zk.pc": "pkgconfig", "zkConfig.cmake": "cmake/zk", "zkConfigVersion.cmake": "cmake/zk"}
+
+
+class Made(NamedTuple):
+    """A file that is made when it is installed."""
+    name: str
+
+
+class Link(NamedTuple):
+    """A symbolic link."""
+    to: str
+
+
+def commands():
+    """The tools that are commands: the name of each link among the programs, and its script."""
+    for path in sorted((TOP / "tools").glob("*.py")):
+        if os.access(path, os.X_OK):
+            yield path.stem if "zk" in path.stem else f"zk{path.stem}", path
+
+
+def folder_files(name, pattern):
+    """The files of a folder of the repository that users need."""
+    for path in sorted((TOP / name).rglob(pattern)):
+        if path.is_file() and not {"tests", "__pycache__", "out"} & set(path.relative_to(TOP).parts):
+            yield path
+
+
+def layout(libdir="lib"):
+    """Where each file is below the prefix, in order, and what it is: a file of the repository, Made or Link."""
+    files: "dict[str, Union[pathlib.Path, Made, Link]]" = {
+        "bin/zkdump": PROGRAM,
+        "include/zk.h": make_library.HEADER,
+        f"{libdir}/libzk.a": Made("libzk.a"),
+        f"{libdir}/libzk.so.1": Made("libzk.so.1"),
+        f"{libdir}/libzk.so": Link("libzk.so.1"),
+        f"{OWN}/BUILD": Made("BUILD"),
+        "share/bash-completion/completions/zkdump": TOP / "completion" / "zkdump.bash",
+    }
+    files.update((f"{libdir}/{folder}/{name}", Made(name)) for name, folder in TEMPLATES.items())
+    files.update((f"share/man/man{page[-1]}/{page}", Made(page)) for page in make_manual.PAGES)
+    for name, script in commands():
+        files[f"bin/{name}"] = Link(f"../{OWN}/tools/{script.name}")
+        files[f"share/man/man1/{name}.1"] = Link("zkdump.1")
+    files.update((f"{OWN}/{name}", TOP / name) for name in ("README.md", "CHANGELOG.md", "SECURITY.md", "LICENSE"))
+    for folder, pattern in (("docs", "*.md"), ("tools", "*"), ("examples", "*")):
+        files.update((f"{OWN}/{path.relative_to(TOP)}", path) for path in folder_files(folder, pattern))
+    return dict(sorted(files.items()))
+
+
+def toolchain():
+    """The toolchain's line."""
+    if not shutil.which("rt"):
+        return "not known"
+    return subprocess.run(["rt", "version"], capture_output=True, text=True, check=True).stdout.strip()
+
+
+def make(folder, libdir, gate):
+    """Makes in a folder what is made. A line for each part that is left out."""
+    if make_library.missing() or not LIBRARY.exists():
+        yield f"the libraries, as {', '.join(make_library.missing()) or LIBRARY.relative_to(TOP)} is missing"
+    else:
+        make_library.make(folder)
+    for name, below in TEMPLATES.items():
+        text = (TOP / "packaging" / f"{name}.in").read_text()
+        values = {"UP": os.path.relpath(".", f"{libdir}/{below}"), "LIBDIR": libdir, "VERSION": VERSION,
+                  "MAJOR": VERSION.split(".")[0]}
+        for word, value in values.items():
+            text = text.replace(f"@{word}@", value)
+        (folder / name).write_text(text)
+    if make_manual.missing():
+        yield f"the manual pages, as {make_manual.missing()[0]} is missing"
+    else:
+        make_manual.make(folder, VERSION, commands())
+    (folder / "BUILD").write_text(f"zkdump {VERSION}\ntoolchain: {toolchain()}\n{gate}")
+
+
+def install(top, libdir="lib", gate=""):
+    """Installs below this folder; BUILD ends with what is told of the gate. A line for each part that is left out."""
+    with tempfile.TemporaryDirectory() as temporary:
+        folder = pathlib.Path(temporary)
+        yield from make(folder, libdir, gate)
+        files = layout(libdir)
+        # Links come last, so that one to what is left out is left out, too.
+        for where, what in sorted(files.items(), key=lambda item: isinstance(item[1], Link)):
+            to = pathlib.Path(top, where)
+            if isinstance(what, Made):
+                source = folder / what.name
+            elif isinstance(what, Link):
+                source = to.parent / what.to
+            else:
+                source = what
+            if not source.exists():
+                continue
+            to.parent.mkdir(parents=True, exist_ok=True)
+            to.unlink(missing_ok=True)
+            if isinstance(what, Link):
+                to.symlink_to(what.to)
+            else:
+                shutil.copyfile(source, to)
+                to.chmod(0o755 if os.access(source, os.X_OK) else 0o644)
+
+
+def remove(top, libdir="lib"):
+    """Takes away what was installed below this folder, and the folders that are the installation's alone."""
+    for where in layout(libdir):
+        pathlib.Path(top, where).unlink(missing_ok=True)
+    for own in (OWN, f"{libdir}/cmake/zk"):
+        shutil.rmtree(pathlib.Path(top, own), ignore_errors=True)
+
+
+def main():
+    parser = argparse.ArgumentParser(description="Installs what was built, or removes it.")
+    parser.add_argument("--destdir", default="")
+    parser.add_argument("--prefix", default="/usr/local")
+    parser.add_argument("--libdir", default="lib")
+    parser.add_argument("--remove", action="store_true")
+    words = parser.parse_args()
+    top = os.path.join(words.destdir, words.prefix.lstrip("/")) if words.destdir else words.prefix
+    if words.remove:
+        remove(top, words.libdir)
+        return 0
+    if not PROGRAM.exists():
+        print("install.py: the program is not built; ./zkdump builds it", file=sys.stderr)
+        return 1
+    os.umask(0o022)
+    try:
+        for line in install(top, words.libdir):
+            print(f"left out: {line}")
+    except make_library.NotMade as fault:
+        print(f"install.py: {fault}", file=sys.stderr)
+        return 1
+    return 0
+
+
+if __name__ == "__main__":
+    sys.exit(main())

@@ -1,0 +1,235 @@
+#!/usr/bin/env python3
+"""Makes a release of the program and the library that the gate left, and uses it as one who installs it would.
+
+    release.py
+
+The number in VERSION is that of zk.h and of CHANGELOG.md. The header compiles without a warning as C11 and as C++17. The
+archive is unpacked: its program gives the listing of a recording, and examples/proxy.c, linked with each of its
+libraries, too. The libraries show the header's functions and no other name. The Debian packages are installed below a
+folder, used and removed. A second release has the same bytes. What is left out, since a tool is missing, is told.
+
+It prints what failed and one last line. The status is 0 where nothing did.
+"""
+
+import os
+import pathlib
+import re
+import shutil
+import subprocess
+import sys
+import tarfile
+import tempfile
+
+TOP = pathlib.Path(__file__).resolve().parent.parent
+sys.path.append(str(TOP / "packaging"))
+import debian  # noqa: E402
+import distribution  # noqa: E402
+import install  # noqa: E402
+import make_library  # noqa: E402
+
+RECORDING = TOP / "captures" / "kazoo_basic.zkr"
+LISTING = RECORDING.with_suffix(".show").read_bytes()
+STRICT = ("-Wall", "-Wextra", "-Wpedantic", "-Werror")
+# What of the C library may be called, and what is kept outside of handles: a byte to which nothing is written.
+CALLED = {"malloc", "realloc", "free", "memcpy", "memmove", "memset", "memcmp", "bcmp", "strlen",
+          "__x86_get_cpuid_feature_leaf"}
+KEPT = {"nothing"}
+# A program that takes each kind of answer, in C and in C++.
+USES = """#include <zk.h>
+int main(void) {
+    struct zk_talk talk = ZK_ZEROS;
+    struct zk_speaker speaker = ZK_ZEROS;
+    struct zk_step step = zk_talk_step(&talk, ZK_CLIENT, NULL, 0);
+    struct zk_say say = zk_speaker_say(&speaker, NULL, 0);
+    return step.status == ZK_EMPTY && say.status == ZK_EMPTY && sizeof ZK_VERSION > 1 ? 0 : 1;
+}
+"""
+CMAKE = """cmake_minimum_required(VERSION 3.13)
+project(uses C)
+find_package(zk @VERSION@ REQUIRED)
+add_executable(shared uses.c)
+target_link_libraries(shared zk::zk)
+add_executable(static uses.c)
+target_link_libraries(static zk::static)
+"""
+# What is typed, and what bash offers for its last word.
+COMPLETED = (
+    (("zkdump", ""), "show check build migrate"),
+    (("zkdump", "sh"), "show"),
+    (("zkdump", "show", ""), "--limit --waiting --profile"),
+    (("zkdump", "check", "--e"), "--earliest"),
+    (("zkdump", "show", "--profile", ""), "3.4 3.5"),
+    (("zkdump", "show", "--profile", "=", "3.5"), "3.5"),
+    (("zkdump", "show", "--limit", ""), ""),
+    (("zkdump", "show", "<", "c"), ""),
+)
+
+
+def run(*words, **options):
+    """The run of a command, which is given up after a minute."""
+    try:
+        return subprocess.run(words, capture_output=True, timeout=60, **options)
+    except subprocess.TimeoutExpired:
+        return subprocess.CompletedProcess(words, None, b"", b"it did not end")
+
+
+def skip(what, *tools):
+    """Whether a tool is missing, which is then told."""
+    lacking = [tool for tool in tools if not shutil.which(tool)]
+    if lacking:
+        print(f"skipped: {what}: {', '.join(lacking)} is missing")
+    return bool(lacking)
+
+
+def lists(name, *words, **environment):
+    """Whether the program gives the listing; the recording is its standard input and its last word."""
+    with open(RECORDING, "rb") as source:
+        found = run(*words, stdin=source, env={**os.environ, **environment})
+    good = (found.returncode, found.stdout) == (0, LISTING)
+    return name, good, f"{name}: status {found.returncode}, {found.stderr[-300:]}"
+
+
+def ends_well(name, *words, **options):
+    found = run(*words, **options)
+    return name, found.returncode == 0, f"{name}: status {found.returncode}, {(found.stdout + found.stderr)[-500:]}"
+
+
+def numbers():
+    """The version, where else it is written."""
+    header = re.findall(r'^#define ZK_VERSION "(.*)"$', (TOP / "include" / "zk.h").read_text(), re.M)
+    yield "zk.h", header == [install.VERSION], f"zk.h has the version {header}, VERSION {install.VERSION}"
+    changes = re.findall(r"^## \[(.*)\]", (TOP / "CHANGELOG.md").read_text(), re.M)
+    yield "CHANGELOG.md", changes[:2] == ["Unreleased", install.VERSION], f"CHANGELOG.md begins with {changes[:2]}"
+    found = run(sys.executable, TOP / "release", install.VERSION + "0")
+    yield "another version", found.returncode == 2, f"release: status {found.returncode} for another version"
+
+
+def completion():
+    script = TOP / "completion" / "zkdump.bash"
+    for words, wanted in COMPLETED:
+        text = f'. "{script}"; COMP_WORDS=("$@"); COMP_CWORD=$(($# - 1)); _zkdump; echo "${{COMPREPLY[*]}}"'
+        found = run("bash", "-c", text, "bash", *words).stdout.decode().rstrip("\n")
+        yield words, found == wanted, f"completion of {words}: {found}, not {wanted}"
+    usage = run(install.PROGRAM).stderr.decode()
+    named = re.findall(r"--[a-z]+|[a-z]{4,}|\d\.\d", usage.partition("usage: zkdump ")[2])
+    lacking = [word for word in named if word not in script.read_text()]
+    yield "usage", named and not lacking, f"of the usage line completion lacks {lacking or usage}"
+
+
+def header(top, work):
+    """The header, in C and in C++."""
+    for language, suffix, compilers in (("c11", "c", ("gcc", "clang")), ("c++17", "cpp", ("g++", "clang++"))):
+        source = work / f"uses.{suffix}"
+        source.write_text(USES)
+        for compiler in filter(shutil.which, compilers):
+            yield ends_well(f"zk.h, {compiler} -std={language}", compiler, f"-std={language}", *STRICT,
+                            f"-I{top / 'include'}", "-c", "-o", os.devnull, source)
+
+
+def libraries(top, work):
+    """Programs over both libraries of a prefix, and the names that these show."""
+    archive, shared = top / "lib" / "libzk.a", top / "lib" / "libzk.so.1"
+    example, loaded = TOP / "examples" / "proxy.c", {"LD_LIBRARY_PATH": str(top / "lib")}
+    for name, words in (("libzk.a", ("-g", "--defined-only", archive)), ("libzk.so.1", ("-D", "--defined-only", shared))):
+        shown = {line.split()[2].split("@")[0] for line in run("nm", *words).stdout.decode().splitlines()
+                 if len(line.split()) == 3 and line.split()[1] != "A"}
+        yield name, shown == set(make_library.calls()), f"{name} shows {sorted(shown ^ set(make_library.calls()))}"
+    named = [line.split()[-2:] for line in run("nm", archive).stdout.decode().splitlines() if len(line.split()) > 1]
+    called = {name for kind, name in named if kind == "U"} - {"_GLOBAL_OFFSET_TABLE_"}
+    yield "called", called <= CALLED, f"libzk.a calls {sorted(called - CALLED)}"
+    kept = {name for kind, name in named if kind in "bBdDC"} - KEPT
+    kept |= set(re.findall(r" (\.tdata\S*|\.tbss\S*) ", run("readelf", "-SW", archive).stdout.decode()))
+    yield "kept", not kept, f"libzk.a keeps {sorted(kept)}"
+    needed = re.findall(r"\((NEEDED|SONAME)\).*\[(.*)\]", run("readelf", "-d", shared).stdout.decode())
+    good = set(needed) - {("NEEDED", "ld-linux-x86-64.so.2")} == {("NEEDED", "libc.so.6"), ("SONAME", "libzk.so.1")}
+    yield "needed", good, f"libzk.so.1: {needed}"
+    stack = re.search(r"GNU_STACK.*", run("readelf", "-lW", shared).stdout.decode())
+    yield "stack", stack is not None and "E" not in stack[0].split()[-2], f"libzk.so.1: {stack and stack[0]}"
+    yield ends_well("cc with libzk.a", "cc", *STRICT, f"-I{top / 'include'}", "-o", work / "proxy", example, archive)
+    yield lists("proxy.c over libzk.a", work / "proxy", RECORDING)
+    if not skip("zk.pc", "pkg-config"):
+        found = run("pkg-config", "--cflags", "--libs", "zk", env={**os.environ, "PKG_CONFIG_PATH": str(top / "lib/pkgconfig")})
+        words = found.stdout.decode().split()
+        yield ends_well("cc with zk.pc", "cc", *STRICT, "-o", work / "proxy", example, *words)
+        yield lists("proxy.c over libzk.so.1", work / "proxy", RECORDING, **loaded)
+    if not skip("the CMake files", "cmake"):
+        (work / "CMakeLists.txt").write_text(CMAKE.replace("@VERSION@", install.VERSION))
+        yield ends_well("cmake", "cmake", "-S", work, "-B", work / "made", f"-DCMAKE_PREFIX_PATH={top}")
+        yield ends_well("cmake --build", "cmake", "--build", work / "made")
+        for name in ("shared", "static"):
+            yield ends_well(f"cmake, {name}", work / "made" / name)
+
+
+def files(top):
+    """Names below a folder, without folders."""
+    return {str(path.relative_to(top)) for path in top.rglob("*") if path.is_symlink() or not path.is_dir()}
+
+
+def packages(dist, root):
+    """The Debian packages: installed below a folder, used, and removed."""
+    if skip("the Debian packages", "dpkg", "dpkg-deb"):
+        return
+    if os.geteuid() != 0:
+        print("skipped: the Debian packages are not installed: that needs root")
+        return
+    state = root / "var" / "lib" / "dpkg"
+    for folder in ("info", "updates"):
+        (state / folder).mkdir(parents=True)
+    (state / "status").touch()
+    dpkg = ("dpkg", f"--root={root}", f"--log={root}.log", "--force-depends", "--force-script-chrootless", "--force-not-root")
+    yield ends_well("dpkg --install", *dpkg, "--install", *sorted(dist.glob("*.deb")))
+    yield lists("the package's program", root / "usr/bin/zkdump", "show")
+    yield ends_well("the package's tool", root / "usr/bin/zkjson", "--help")
+    names = files(root / "usr")
+    wanted = {name for name in install.layout(debian.LIBDIR)} if shutil.which("scdoc") else set()
+    wanted = {f"{name}.gz" if name.startswith("share/man/") else name for name in wanted}
+    yield "packages", wanted <= names, f"the packages lack {sorted(wanted - names)}"
+    yield ends_well("dpkg --remove", *dpkg, "--remove", *debian.FIELDS)
+    yield "removed", not (root / "usr").exists() or not files(root / "usr"), f"there is still {sorted(files(root))[:9]}"
+
+
+def installed(work):
+    """What `make install` puts below a folder, and `make uninstall` takes away."""
+    if skip("make install", "make"):
+        return
+    place, words = work / "place", (f"DESTDIR={work / 'place'}", "PREFIX=/opt/zk")
+    yield ends_well("make install", "make", "-C", TOP, "install", *words)
+    yield lists("the installed program", place / "opt/zk/bin/zkdump", "show")
+    yield ends_well("make uninstall", "make", "-C", TOP, "uninstall", *words)
+    yield "uninstalled", not files(place), f"there is still {sorted(files(place))[:9]}"
+
+
+def main():
+    for path in (install.PROGRAM, install.LIBRARY):
+        if not path.exists():
+            print(f"{path.relative_to(TOP)} is not there: ./test makes it\n0 passed, 1 failed")
+            return 1
+    results = [*numbers(), *completion()]
+    with tempfile.TemporaryDirectory() as folder:
+        work, dist, again = (pathlib.Path(folder, name) for name in ("work", "dist", "again"))
+        for made in (work, dist, again):
+            made.mkdir()
+        for line in distribution.make(dist):
+            print(f"skipped: {line}")
+        os.umask(0o077)
+        list(distribution.make(again))
+        os.umask(0o022)
+        sums = [(made / "SHA256SUMS").read_text() for made in (dist, again)]
+        results.append(("the same bytes", sums[0] == sums[1], f"two releases differ:\n{sums[0]}{sums[1]}"))
+        results.append(ends_well("SHA256SUMS", "sha256sum", "--check", "SHA256SUMS", cwd=dist))
+        with tarfile.open(dist / f"{distribution.NAME}.tar.gz") as archive:
+            archive.extractall(work)
+        top = work / distribution.NAME
+        results.append(lists("the archive's program", top / "bin" / "zkdump", "show"))
+        if not skip("the libraries", *make_library.TOOLS):
+            results += [*header(top, work), *libraries(top, work)]
+        results += packages(dist, work / "root")
+        results += installed(work)
+    failures = [told for _, good, told in results if not good]
+    print("\n".join(failures), end="\n" if failures else "")
+    print(f"{len(results) - len(failures)} passed, {len(failures)} failed")
+    return 1 if failures else 0
+
+
+if __name__ == "__main__":
+    sys.exit(main())
