@@ -58,8 +58,10 @@ class BadInput(ToolCase):
                              (3, f"{tool}: no\\x1b[2J\\n: No such file or directory\n"))
 
     def test_any_bytes(self):
-        for data in (b"\0", b"\xff\xfe", b"{", b"C", b"\n\n", b"\x1b[2J", b"ZKR1", b"ZKR2", b"\xd4\xc3\xb2\xa1" + bytes(20),
-                     b"\x1f\x8b\x08", b"C 1 exists path=\"/" + b"\\" * 1001 + b"\" watch=1\n", b"C " + b"1" * 10_000 + b" ping\n",
+        for data in (b"\0", b"\xff\xfe", b"{", b"C", b"\n\n", b"\x1b[2J", b"ZKR1", b"ZKR2",
+                     b"\xd4\xc3\xb2\xa1" + bytes(20),
+                     b"\x1f\x8b\x08", b"C " + b"1" * 10_000 + b" ping\n",
+                     b"C 1 exists path=\"/" + b"\\" * 1001 + b"\" watch=1\n",
                      b'C 1 setData path="/a" blob=#' + b"6" * 70_001 + b" version=1\n",
                      b'C 1 exists path="/' + b"\\c3" * 70_001 + b'" watch=1\n',
                      b'C 1 exists path="/\\zz" watch=1\n', b"C connect session=" + b"9" * 5000 + b"\n",

@@ -134,7 +134,8 @@ class Zkjson(ToolCase):
                            ("C 1 ping}", "column 9 on"), ("C 1 ping  x=1", "column 9 on"),
                            ('C 1 setACL path="/a" acl=[1:"a"]', "column 21 on"),
                            ('C 1 getData path="/a"watch=0', "column 12 on"),
-                           ('C 1 setData path="/a" blob=#6', "column 22 on"), (". whole x", "this is no ending line"), (". cut", "this is no ending line"),
+                           ('C 1 setData path="/a" blob=#6', "column 22 on"), (". whole x", "this is no ending line"),
+                           (". cut", "this is no ending line"),
                            (". refused side=X", "this is no ending line"),
                            ("C 1 nonsense", "column 13 on")):
             with self.subTest(line=line):
@@ -143,21 +144,23 @@ class Zkjson(ToolCase):
                 self.assertTrue(err.startswith("zkjson.py: line 2: ") and told in err, err)
 
     def test_what_is_made_by_hand_is_json_or_refused(self):
-        for line in ('C 1 delete path="/a" version=007', 'C 1 delete path="/a" version=-0', 'C 1 delete path="/a" version=+1',
-                     'C 1 delete path="/a" version=1_0', 'C 1 delete path="/a" version=\u0661', "C 01 ping", "C \u0661 ping",
-                     'C 1 delete path="/a" version=1 n=5', 'C 1 delete path="/a" version=1 version=2', "C 1 ping ms=5",
-                     'C 1 exists path="/\x1b[2J" watch=1', 'C 1 exists path="/\u202e" watch=1', 'C 1 exists path="/\xe9" watch=1',
-                     r'C 1 exists path="/\zz" watch=1', r'C 1 exists path="/\c3" watch=1', 'C 1 exists path="/\\" watch=1',
-                     'C 1 exists path="/a" watch=2', 'C 1 setData path="/a" blob=#6G version=1', 'C 1 setData path="/a" blob=#666 version=1',
-                     'C 1 multi {check path="/a" version=1{', 'C 1 multi {check path="/a" version=1;}', "C 1 multi {ping}",
-                     "C 1 getACL path=\"/a\" ", "S event zxid=-1 kind=3/\x1b state=3 path=\"/a\"", ". whole unanswered=\x1b[2J"):
-            status, out, err = self.run_tool("zkjson.py", stdin=f"C -2 ping\n{line}\n".encode("utf-8", "surrogateescape"))
+        made = [f'C 1 delete path="/a" version={version}' for version in (
+            "007", "-0", "+1", "1_0", "\u0661", "1 n=5", "1 version=2", "1 ", "")]
+        made += [f'C 1 exists path="/{path}" watch=1' for path in (
+            "\x1b[2J", "\u202e", "\xe9", "\\zz", "\\c3", "\\", "\\0", '"')]
+        made += [f'C 1 setData path="/a" blob={blob} version=1' for blob in ("#6G", "#666", "6666", "#66 ")]
+        made += [f'C 1 multi {{check path="/a" version=1{end}' for end in ("{", ";}", ";ping}", "")]
+        made += ["C 01 ping", "C \u0661 ping", "C 1 ping ms=5", 'C 1 exists path="/a" watch=2',
+                 ". whole unanswered=\x1b", 'S event zxid=-1 kind=3/\x1b state=3 path="/a"']
+        for line in made:
+            status, out, err = self.run_tool("zkjson.py", stdin=f"C -2 ping\n{line}\n".encode())
             with self.subTest(line=line):
                 self.assertEqual((status, out.count("\n"), err.count("\n")), (1, 1, 1))
                 self.assertTrue(err.startswith("zkjson.py: line 2: ") and err[:-1].isprintable(), err)
         asked = 'C 1 exists path="/a" watch=1\n'
-        for stat in (STAT.replace("1000", "--1"), STAT.replace("1000", "1-1"), STAT.replace("1000", ""), STAT.replace(",0,", ",")):
-            self.assertEqual(self.run_tool("zkjson.py", stdin=f"{asked}S 1 exists zxid=5 stat={stat}\n".encode())[0], 1, stat)
+        for number in ("--1", "1-1", "", "1,1"):
+            reply = f"S 1 exists zxid=5 stat={STAT.replace('1000', number)}\n"
+            self.assertEqual(self.run_tool("zkjson.py", stdin=(asked + reply).encode())[0], 1, reply)
 
     def test_long_lines_become_the_same_as_short_ones(self):
         text, names = r"/\c3\a9\22a" * 20_000, ",".join(['"a\\5cb"', "~"] * 20_000)
@@ -295,7 +298,8 @@ class Times(ToolCase):
                 ([request, reply, reply], f"line 3: {other}"), ([request.replace("C 1", "C 2")], f"line 1: {other}"),
                 ([request, reply] * 3 + [". whole unanswered=0"], "the listing has 6 messages, and the recording 4"),
                 ([request, reply, ". whole unanswered=0"], "the listing has 2 messages, and the recording 4"),
-                ([request, reply] * 2 + [". cut side=S frame=2 got=1"], "the recording doesn't end as the listing does"),
+                ([request, reply] * 2 + [". cut side=S frame=2 got=1"],
+                 "the recording doesn't end as the listing does"),
                 ([request, reply] * 2 + [". recording offset=9 reason=Short"],
                  "the recording doesn't end as the listing does"),
                 ([request, reply] * 2 + [". refused side=S frame=2 offset=9 place=0 reason=Short"],

@@ -68,8 +68,8 @@ connection  session            begun  ended  asked  answered  failed  p50 ms  p9
 -           0x100000000000001  -      -          9         6       3       -       -       -       -  cut side=S frame=8 got=3
 """
 
-# Times of day in milliseconds since 1970, and the frames that came then: of two connections of a session, each a connect
-# request and response, a request, and in the first the reply to it.
+# Times of day in milliseconds since 1970, and the frames that came then: of two connections of a session, each a
+# connect request and response, a request, and in the first the reply to it.
 SESSION = "0x100000000000001"
 BEGUN = 1_795_332_633_000
 CONNECT = bytes.fromhex("00000000 0000000000000000 00007530 0000000000000000 00000000")
@@ -104,17 +104,21 @@ class Zkstat(ToolCase):
         many = [("{", "this is no JSON from column 2 on"), ('{"a":' + "[" * 100_000, "this is nested too deep"),
                 ('{"n": NaN}', "NaN is no number of JSON"), ("[]", "this is no object of zkjson"),
                 ('{"n": 2, "side": "C"}', "this object has no 'op'"), ('{"op": "ping"}', "this object has no 'n'"),
-                ('{"n": 2, "op": "ping"}', "this object has no 'side'"), ('{"ending": "x"}', "this is no ending of zkjson"),
-                ('{"ending": "whole", "unanswered": "\\u001b"}', "this is no ending of zkjson"), ("C -2 ping", "this is no JSON")]
+                ('{"n": 2, "op": "ping"}', "this object has no 'side'"),
+                ('{"ending": "x"}', "this is no ending of zkjson"), ("C -2 ping", "this is no JSON"),
+                ('{"ending": "whole", "unanswered": "\\u001b"}', "this is no ending of zkjson")]
         many += [(json.dumps({**ping, **wrong}), "this is no object of zkjson") for wrong in (
-            {"op": []}, {"op": "\x1b"}, {"op": "multi", "side": "S", "parts": 3}, {"op": "multi", "side": "S", "parts": [3]},
+            {"op": []}, {"op": "\x1b"}, {"op": "multi", "side": "S", "parts": 3},
+            {"op": "multi", "side": "S", "parts": [3]},
             {"ms": -5}, {"at": "x"}, {"ms": 10**400}, {"n": True}, {"n": "2"}, {"connection": 3}, {"path": 3},
             {"xid": "1"}, {"err": "x", "side": "S"}, {"err": 1, "errName": "a b"}, {"side": "X"},
             {"op": "connect", "session": 1}, {"op": "connect", "session": "0xx"})]
-        many += [(json.dumps({**ping, "side": "S"}), "this object has no 'of'"), (json.dumps({**ping, "n": 1}), "message 1 of")]
+        many += [(json.dumps({**ping, "side": "S"}), "this object has no 'of'"),
+                 (json.dumps({**ping, "n": 1}), "message 1 of")]
         for line, told in many:
             with self.subTest(line=line[:60]):
-                status, out, err = self.run_tool("zkstat.py", stdin=f'{{"n": 1, "side": "C", "op": "ping"}}\n{line}\n'.encode())
+                lines = f'{{"n": 1, "side": "C", "op": "ping"}}\n{line}\n'
+                status, out, err = self.run_tool("zkstat.py", stdin=lines.encode())
                 self.assertEqual((status, out, err.count("\n")), (1, "", 1), err)
                 self.assertTrue(err.startswith(f"zkstat.py: line 2: {told}"), err)
 
@@ -132,8 +136,9 @@ class Zkstat(ToolCase):
         self.assertTrue(all(line.isprintable() for line in found.splitlines()), found)
         _, objects, _ = self.run_tool("zkjson.py", stdin=forged.encode())
         self.assertEqual(self.stat(stdin=objects.encode()), found)
-        for raw in ('C 1 exists path="/\x1b[2J" watch=1', 'C 1 exists path="/\u202e" watch=1', 'C 1 exists path="/\xff" watch=1',
-                    "C 1 exists\x1b[2J", ". whole\x1b[2J=1", ". whole unanswered=\x1b[2J", "\x1b[2J", ". Whole unanswered=0"):
+        for raw in ('C 1 exists path="/\x1b[2J" watch=1', 'C 1 exists path="/\u202e" watch=1',
+                    'C 1 exists path="/\xff" watch=1', "C 1 exists\x1b[2J", ". whole\x1b[2J=1",
+                    ". whole unanswered=\x1b[2J", "\x1b[2J", ". Whole unanswered=0"):
             status, out, err = self.run_tool("zkstat.py", stdin=raw.encode())
             self.assertEqual((status, out, err.count("\n")), (1, "", 1), raw)
             self.assertTrue(err[:-1].isprintable(), err)
@@ -203,12 +208,15 @@ class Zkstat(ToolCase):
     def test_what_is_chosen(self):
         self.recordings()
         joined = self.joined()
-        for words, asked in ((["--path", "/a"], {"exists": 2}), (["--path", "/"], {"exists": 2}), (["--path", "/b"], {}),
+        for words, asked in ((["--path", "/a"], {"exists": 2}), (["--path", "/"], {"exists": 2}),
+                             (["--path", "/b"], {}),
                              (["--path", "/a/"], {"exists": 2}), (["--op", "connect"], {"connect": 2}),
                              (["--op", "connect", "--op", "exists"], {"connect": 2, "exists": 2}),
-                             (["--slower", "1.25"], {"connect": 2}), (["--slower", "1.249"], {"connect": 2, "exists": 1}),
+                             (["--slower", "1.25"], {"connect": 2}),
+                             (["--slower", "1.249"], {"connect": 2, "exists": 1}),
                              (["--session", SESSION], {"connect": 2, "exists": 2}),
-                             (["--session", "72057594037927937"], {"connect": 2, "exists": 2}), (["--session", "1"], {}),
+                             (["--session", "72057594037927937"], {"connect": 2, "exists": 2}),
+                             (["--session", "1"], {}),
                              (["--from", "2026-11-22T07:30:34Z"], {"connect": 1, "exists": 2}),
                              (["--to", "2026-11-22T07:30:33.000Z"], {"connect": 1}),
                              (["--from", "2026-11-22T08:30:33.001+01:00", "--to", str(BEGUN + 5000)],
@@ -221,15 +229,17 @@ class Zkstat(ToolCase):
                     self.assertEqual(chosen[each], found[each])
 
     def test_the_paths_of_a_multi(self):
-        lines = 'C 1 multi {check path="/x path=~ y" version=1;delete path="/b/c" version=1}\nC 2 exists path="/bc" watch=1\n'
+        lines = ('C 1 multi {check path="/x path=~ y" version=1;delete path="/b/c" version=1}\n'
+                 'C 2 exists path="/bc" watch=1\n')
         for path, count in (("/b", 1), ("/b/c", 1), ("/x path=~ y", 1), ("/x", 0), ("/bc", 1), ("/", 2)):
             found = json.loads(self.stat("--json", "--path", path, stdin=lines.encode()))
             self.assertEqual(sum(each["asked"] for each in found["operations"].values()), count, path)
 
     def test_latencies(self):
         head = zkr.Head("zkr2")
-        payloads = [(at, b"C", struct.pack(">iii?", n, 3, -1, False)) for n, at in ((1, 1000), (2, 1001), (3, 1010), (4, 1020))]
-        payloads += [(at, b"S", struct.pack(">iqi", n, 5, -101)) for n, at in ((1, 1003), (2, 1005), (3, 3345), (4, 1010))]
+        payloads = [(at, b"C", struct.pack(">iii?", n, 3, -1, False))
+                    for n, at in enumerate((1000, 1001, 1010, 1020), 1)]
+        payloads += [(at, b"S", struct.pack(">iqi", n, 5, -101)) for n, at in enumerate((1003, 1005, 3345, 1010), 1)]
         recording = self.folder / "four.zkr"
         recording.write_bytes(head.to_bytes() + b"".join(
             head.piece(side, at, len(payload).to_bytes(4, "big") + payload) for at, side, payload in payloads))
