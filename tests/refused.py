@@ -8,28 +8,45 @@ tests/refused/NAME.txt is the text of a crate over the repository's crates, of w
 repository, as a must-fail edit does, and says in its lines `refused: CODE` how each new text, and no other line, must be
 refused. It prints what fails and `N passed, M failed`; its status is 1 where one failed.
 """
-import os
 import re
 import shutil
-import signal
 import subprocess
 import sys
 import tempfile
 from pathlib import Path
 
-SECONDS = 300
 ROOT = Path(__file__).resolve().parent.parent
+sys.path.insert(0, str(ROOT / "packaging"))
+import build_library  # noqa: E402 (the folder is named above)
 
 
-def check(folder):
-    """What `rt check` says in the folder; it is ended once it goes on to build libraries."""
-    run = subprocess.Popen(["rt", "check"], cwd=folder, stdout=subprocess.PIPE, stderr=subprocess.STDOUT,
-                           text=True, start_new_session=True)
-    try:
-        return run.communicate(timeout=SECONDS)[0]
-    except subprocess.TimeoutExpired:
-        os.killpg(run.pid, signal.SIGKILL)
-        return run.communicate()[0]
+def uses(crates):
+    """By each crate of a list of crates the libraries that it stands on."""
+    lines = [line.split("#")[0].partition(":") for line in crates.read_text().splitlines()]
+    return {crate.split()[0]: libraries.split() for crate, colon, libraries in lines if colon}
+
+
+def check(crate):
+    """What is said of the crate before any proof; those below it are read as their sources."""
+    every, home = uses(crate.parent.parent / "crates.txt"), build_library.kit()
+    below, left, kits = {}, list(every[crate.name]), {"core", "std"}
+    while left:
+        name = left.pop()
+        if name not in every:
+            kits.add(name)
+        elif name not in below:
+            below[name] = ",".join(["core", "std", *every[name]])
+            left += every[name]
+    words = [home / "bin" / "rattle", "check", "--crate-name", crate.name, "src/lib.rt", "--only", "",
+             "--antt-project", home / "rattle" / "logic" / "antt-project.json", "--logic-built", home / "logic_built",
+             "-L", f"dependency={home / 'rlibs'}"]
+    for name in sorted(kits):
+        words += ["--extern", f"{name}={home / 'rlibs' / name}.rlib"]
+    # (each library stands behind those that it uses, as in the list of crates)
+    for name in (one for one in every if one in below):
+        words += ["--lib", f"{name}:{below[name]}={crate.parent / name / 'src' / 'lib.rt'}"]
+    said = subprocess.run(words, cwd=crate, stdout=subprocess.PIPE, stderr=subprocess.STDOUT, text=True, check=False)
+    return said.stdout
 
 
 def copied(folder):
