@@ -209,7 +209,12 @@ class Play:
                 return PING.startswith(head)
             if head == PING:
                 self.answer_ping()
-            elif not PING.startswith(head) or self.take(until):
+            elif not PING.startswith(head):
+                return True
+            elif reason := self.take(until):
+                if not head:
+                    # (what comes from now on comes too late)
+                    raise self.refused(f"{reason}, {due[0]:02x} is due", 0)
                 return True
 
     def answer_ping(self):

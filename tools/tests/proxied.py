@@ -169,9 +169,14 @@ class TroubleCase(ToolCase):
             time.sleep(0.01)
         return list(stream)
 
-    def complaints(self):
-        """The lines on standard error, but for those that tell where record.py listens."""
-        return [line for line in self.err if "listens on" not in line]
+    def complaints(self, count=0):
+        """The lines on standard error, but for those that tell where record.py listens, once they are so many."""
+        until = time.monotonic() + SECONDS
+        while True:
+            found = [line for line in self.err if "listens on" not in line]
+            if len(found) >= count or time.monotonic() > until:
+                return found
+            time.sleep(0.01)
 
     def reset(self, client):
         client.setsockopt(socket.SOL_SOCKET, socket.SO_LINGER, struct.pack("ii", 1, 0))

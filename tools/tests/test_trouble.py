@@ -19,7 +19,7 @@ class Descriptors(TroubleCase):
         self.assert_pace(first)
         time.sleep(0.3)
         self.assert_pace(first)
-        self.assertEqual([told in line for line in self.complaints()], [True], self.err)
+        self.assertEqual([told in line for line in self.complaints(1)], [True], self.err)
         for other in others:
             other.close()
         self.assert_pace(self.client(port))

@@ -43,7 +43,7 @@ class Output(TroubleCase):
                     self.assert_pace(client)
                     client.shutdown(socket.SHUT_WR)
                     self.assertEqual(client.recv(1), b"")
-                self.assertEqual([line.partition(": ")[2] for line in self.complaints()],
+                self.assertEqual([line.partition(": ")[2] for line in self.complaints(1)],
                                  ["standard output: No space left on device; the connections go on"])
 
     def test_closed_standard_streams(self):
