@@ -1,4 +1,4 @@
-//! The frame that one direction is at.
+//! `Frames`: the newest frame of one direction, taken piece by piece.
 ghost use Rattle.std.specs.Prelude.{◌≡◌, ◌≤◌, ◌+◌, ◌-◌, ℕ, List, [], ◌++◌, ◌↔◌, length, take, drop, IfOk, IfErr, IfSome, IfNone, OnOk, IsTrue, Err};
 ghost use Rattle.std.specs.Prelude.{vec_capacity};
 ghost use Rattle.zk_frames.specs.declared.frames.FrameFault.TheVariants.{LengthRange};
@@ -10,23 +10,23 @@ use crate::cutter::{Standing, cut};
 use std::alloc::{AllocError, Global};
 use std::marker::Model;
 
-/// What a piece gave.
+/// What a call took of a piece.
 #[derive(Clone, Copy, Debug, PartialEq, Eq)]
 pub struct Took {
-    /// So many of the piece's bytes were taken.
+    /// The number of bytes that were taken, from the front of the piece.
     pub used: usize,
-    /// The last of them made a frame whole.
+    /// Whether the last of them made a frame whole.
     pub whole: bool,
 }
 
-/// Why nothing more is taken.
+/// Why no more bytes are taken.
 #[derive(Clone, Copy, Debug, PartialEq, Eq)]
 pub enum FrameFault {
     /// A frame's length is below 0 or above the limit (ZooKeeper's `jute.maxbuffer`).
     LengthRange,
 }
 
-/// The bytes of one direction's newest frame, those of its length included: one block of memory, which `new` takes.
+/// The newest frame of one direction, its four bytes of length included, in one block of memory that `new` allocates.
 #[derive(Drop)]
 pub struct Frames {
     limit: u32,
@@ -46,11 +46,12 @@ impl Model for Frames {
 }
 
 impl Frames {
-    /// No bytes so far, no payload above `limit` bytes, and room for a frame of that size with its length.
+    /// Holds no bytes yet. Payloads are at most `limit` bytes; memory for a frame of that size is allocated now, and no
+    /// later call allocates.
     ///
     /// # Errors
     ///
-    /// `AllocError` where that room is refused; no later call takes memory.
+    /// `AllocError` if that memory is refused.
     pub fn new(alloc: Global, limit: u32) -> Result<Self, AllocError>
         requires { limit ≤ 16777216 }
         ensures { IfOk result (λ f. f ≡ record { limit = limit; bytes = [] }) }
@@ -63,12 +64,13 @@ impl Frames {
         })
     }
 
-    /// Takes the piece up to the end of the first frame that becomes whole, or all of it.
-    /// A frame that was whole before the call is given up first, whatever the answer is.
+    /// Takes `piece` up to the end of the first frame that becomes whole, or all of it. A frame that was whole before the
+    /// call is dropped first, whatever the result.
     ///
     /// # Errors
     ///
-    /// `LengthRange` at the fourth byte of a length out of range: these four bytes are then held, and each later call answers so and takes nothing.
+    /// `LengthRange` at the fourth byte of a length below 0 or above the limit. These four bytes are then held, and each
+    /// later call returns the same and takes nothing.
     pub fn take(&mut self, piece: &[u8]) -> Result<Took, FrameFault>
         ensures limit { self.new.limit ≡ self.old.limit }
         ensures now { IfOk result (λ t. IsNow t.whole self.new) }
@@ -91,9 +93,8 @@ impl Frames {
         answer(advance.standing, advance.used)
     }
 
-    /// How many bytes the whole frame has that the piece begins with, where no byte is held; None says no more. Nothing is
-    /// taken.
-    // As in cutter.rt.
+    /// The number of bytes of the whole frame at the front of `piece`, its length included, if no byte is held; `None`:
+    /// undecided. Takes nothing.
     #[inline(always)]
     pub fn front(&self, piece: &[u8]) -> Option<usize>
         ensures { IfSome result (λ used. IsFront self.now.bytes piece.now used (record { limit = self.now.limit; bytes = take used piece.now })) }
@@ -108,8 +109,8 @@ impl Frames {
         }
     }
 
-    /// Takes the whole frame that the piece begins with, where no byte is held; else nothing, and None says no more.
-    // As in cutter.rt.
+    /// Takes the whole frame at the front of `piece`, if no byte is held, and returns the number of its bytes; `None`:
+    /// undecided, and nothing changed.
     #[inline(always)]
     pub fn take_front(&mut self, piece: &[u8]) -> Option<usize>
         ensures limit { self.new.limit ≡ self.old.limit }
@@ -122,7 +123,7 @@ impl Frames {
         Some(used)
     }
 
-    /// What the whole frame carries.
+    /// The payload of the whole frame: its bytes after the length.
     #[inline(always)]
     pub fn payload(&self) -> &[u8]
         requires { IsWhole self.now }
@@ -131,7 +132,7 @@ impl Frames {
         after_header(&self.bytes)
     }
 
-    /// Whether a frame is whole.
+    /// Whether the frame is whole.
     pub fn is_whole(&self) -> bool
         ensures { IsTrue result ↔ IsWhole self.now }
     {
@@ -152,7 +153,7 @@ impl Frames {
         self.bytes.len() as u32
     }
 
-    /// Forgets the last `count` bytes. A frame of which a byte is forgotten isn't whole any more.
+    /// Forgets the last `count` bytes. A frame that loses a byte isn't whole any more.
     pub fn untake(&mut self, count: u32)
         requires taken { IsRefused self.old → ⊥ }
         requires held { count ≤ length self.old.bytes }
@@ -166,7 +167,7 @@ impl Frames {
         self.standing = Standing::Open;
     }
 
-    /// Gives the whole frame up.
+    /// Drops the whole frame.
     #[inline(always)]
     pub fn drop_frame(&mut self)
         requires { IsWhole self.old }
@@ -177,7 +178,7 @@ impl Frames {
     }
 }
 
-/// Appends what there is room for.
+/// Appends `more`, for which there is room: allocates nothing.
 #[inline(always)]
 fn append(bytes: &mut Vec<u8>, more: &[u8])
     requires { length bytes.old.items + length more.now ≤ vec_capacity bytes.old }
@@ -190,7 +191,7 @@ fn append(bytes: &mut Vec<u8>, more: &[u8])
     }
 }
 
-/// Gives up a frame that is whole.
+/// Drops a frame that is whole.
 fn give_up(standing: Standing, bytes: &mut Vec<u8>)
     ensures left { bytes.new.items ≡ left_of standing bytes.old.items }
     ensures room { vec_capacity bytes.new ≡ vec_capacity bytes.old }
@@ -200,7 +201,7 @@ fn give_up(standing: Standing, bytes: &mut Vec<u8>)
     }
 }
 
-/// What a piece gave, by what is held now.
+/// The result of a call that used `used` bytes, by what is held now.
 fn answer(standing: Standing, used: usize) -> Result<Took, FrameFault>
     ensures { IsAnswer standing used result }
 {
