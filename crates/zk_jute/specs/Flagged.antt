@@ -15,7 +15,7 @@ flag_items (Some b) = ABoolean b ∷ []
 abbrev pub flag_layout : Layout
 flag_layout = One Boolean End
 
--- a value's items, and those of the boolean behind it
+-- a value's items, and those of the boolean after it
 abbrev pub flagged : {X : Type 0} → Wired X → X → Option Bool → List Item
 flagged wired value flag = wired.items value ++ flag_items flag
 
@@ -30,7 +30,7 @@ IsFlagged l items = (value : List Item) × (flag : Option Bool) × IsValueOf l v
 -- where and why bytes are those of no such items
 pub data IsFlaggedFault (l : Layout) : List ℕ → ℕ → Reason → Type 0 where
   in_value : (bytes : List ℕ) (place : ℕ) (reason : Reason) → IsFault (IsValueOf l) bytes place reason → IsFlaggedFault l bytes place reason
-  -- bytes behind the value are judged as the boolean
+  -- bytes after the value are judged as the boolean
   in_flag : (bytes rest : List ℕ) (value : List Item) (behind : ℕ) (reason : Reason) → IsValueOf l value → Opens bytes value rest → rest ≢ []
       → IsFault (IsValueOf flag_layout) rest behind reason → IsFlaggedFault l bytes (length (bytes_of value) + behind) reason
   behind_flag : (bytes rest : List ℕ) (value flag : List Item) → IsValueOf l value → IsValueOf flag_layout flag → Opens bytes (value ++ flag) rest → rest ≢ []
@@ -38,7 +38,7 @@ pub data IsFlaggedFault (l : Layout) : List ℕ → ℕ → Reason → Type 0 wh
 
 -- ---- the fault over the openings of the whole
 
--- the items are a value's, and those of a boolean behind it
+-- the items are a value's, and those of a boolean after it
 abbrev pub IsWithFlag : Layout → List Item → Type 0
 IsWithFlag l items = (value : List Item) × (flag : List Item) × IsValueOf l value × IsValueOf flag_layout flag × (items ≡ value ++ flag)
 

@@ -1,4 +1,4 @@
--- What texts, blobs and lists hold, wherever it lies: null, or bytes or elements.
+-- The values of texts, blobs and lists, owned or borrowed: null, or bytes or elements.
 use Rattle.std.specs.Prelude.{ℕ, List}
 use Rattle.zk_jute.specs.declared.value.Nullable.{Nullable}
 

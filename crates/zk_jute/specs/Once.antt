@@ -5,7 +5,7 @@ use Rattle.zk_jute.specs.Item.{Item, bytes_of, HaveBytes}
 use Rattle.zk_jute.specs.Layout.{Layout}
 use Rattle.zk_jute.specs.Reading.{items_at}
 
--- these items stand first in the bytes, and nothing else is read there
+-- these items come first in the bytes, and nothing else is read there
 abbrev pub IsReadFirst : Layout → List Item → List ℕ → Type 0
 IsReadFirst l items bytes = items_at l bytes 0 ≡ Ok (items, length (bytes_of items))
 

@@ -1,14 +1,14 @@
--- What an output that is given bytes does with them.
+-- What an output does with the bytes that it is given.
 use Rattle.std.specs.Prelude.{◌≡◌, ℕ, ◌+◌, ◌<◌, ◌≤◌, List, [], ◌++◌, length, take}
 use Rattle.std.proofs.Common.{refl, sym, ap, ◌∙◌, append_assoc, arith}
 use Rattle.std.proofs.lemmas.List.{append-nil, length-append, take_at, take-take}
 use Rattle.zk_jute.specs.Item.{Keeps}
 
--- the bytes stand behind what stood there
+-- the bytes are appended
 abbrev pub Appends : List ℕ → List ℕ → List ℕ → Type 0
 Appends before bytes after = after ≡ before ++ bytes
 
--- so many bytes might come, and so many fewer may come now
+-- of a room for `before` bytes these are used, and `after` are left
 abbrev pub Uses : ℕ → List ℕ → ℕ → Type 0
 Uses before bytes after = before ≡ length bytes + after
 

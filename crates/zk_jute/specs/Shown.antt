@@ -1,4 +1,4 @@
--- What lies in a payload, as a value of its bytes.
+-- What is borrowed from a payload, as a value of its bytes.
 use Rattle.std.specs.Prelude.{◌≡◌, ℕ, zero, suc, List, [], ◌∷◌, length, Option, Some, None, Ok, Err, refl}
 use Rattle.zk_jute.specs.declared.value.Nullable.TheVariants as nullable
 use Rattle.zk_jute.specs.Held.{Text, Blob, Vector}
@@ -14,11 +14,11 @@ abbrev pub text_of : Option (List ℕ) → Text
 text_of None = nullable.Null
 text_of (Some bytes) = nullable.Full bytes
 
--- the text that stands at a place
+-- the text at a place
 abbrev pub text_value : List ℕ → ℕ → Read Text
 text_value src place = read_map text_of (text_at src place)
 
--- the blob that stands at a place
+-- the blob at a place
 abbrev pub blob_value : List ℕ → ℕ → Read Blob
 blob_value src place = read_map text_of (run_at src place)
 
@@ -35,17 +35,17 @@ abbrev pub next_value : {X : Type 0} → Read X → (ℕ → List X) → List X
 next_value (Ok x) others = x.0 ∷ others x.1
 next_value (Err f) others = []
 
--- so many values, one after the other, from a place on, as far as they stand there
+-- at most n values, one after the other, from a place on: those before the first that isn't there
 abbrev pub values_at : {X : Type 0} → (ℕ → Read X) → ℕ → ℕ → List X
 values_at at zero place = []
 values_at at (suc n) place = next_value (at place) (values_at at n)
 
--- null, or so many values
+-- null, or n values
 abbrev pub list_at : {X : Type 0} → (ℕ → Read X) → Option ℕ → ℕ → Vector X
 list_at at None place = nullable.Null
 list_at at (Some n) place = nullable.Full (values_at at n place)
 
--- as many stand there
+-- all n values are there
 abbrev pub AllStand : {X : Type 0} → (ℕ → Read X) → Option ℕ → ℕ → Type 0
 AllStand at None place = Unit {0}
 AllStand at (Some n) place = length (values_at at n place) ≡ n
@@ -77,19 +77,19 @@ abbrev pub elements_from : {X : Type 0} → (ℕ → Read X) → Option ℕ × �
 elements_from at (None, after) = Ok (nullable.Null, after)
 elements_from at (Some n, after) = read_map nullable.Full (run_of at n after)
 
--- the list that stands at a place
+-- the list at a place
 abbrev pub list_value : {X : Type 0} → (List ℕ → ℕ → Read X) → List ℕ → ℕ → Read (Vector X)
 list_value at src place = size_at src place >>= elements_from (at src)
 
 -- ---- values whose layouts differ, one after the other
 
--- so many, from one place to another
+-- `count` values, from `place` to `at`
 pub record Stretch {X : Type 0} (items : X → List Item) (src : List ℕ) (place at count : ℕ) : Type 0 where
   pub values : List X
   pub count_is : count ≡ length values
   pub have : HaveBytes (flat_map items values)
   pub stands : StandsAt (flat_map items values) src place at
 
--- so many, from a place on
+-- `count` values, from a place on
 abbrev pub Begins : {X : Type 0} → (X → List Item) → List ℕ → ℕ → ℕ → Type 0
 Begins items src count place = (place ≤ length src) × (at : ℕ) × Stretch items src place at count

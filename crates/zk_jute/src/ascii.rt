@@ -1,11 +1,10 @@
-//! Whether bytes are ASCII, seen many at a time.
+//! Tests whether bytes are ASCII, sixteen at a time.
 ghost use Rattle.std.specs.Prelude.{IsTrue};
 ghost use Rattle.std.specs.Str.{IsAscii};
 
 use std::simd::prelude::*;
 
 /// Whether each byte of the block is ASCII.
-// As in number.rt.
 #[inline(always)]
 fn is_low(block: u8x16) -> bool
     ensures { IsTrue result → IsAscii block }
@@ -13,7 +12,7 @@ fn is_low(block: u8x16) -> bool
     block.simd_ge(u8x16::splat(0x80)).to_bitmask() == 0
 }
 
-/// Whether each byte is ASCII. The last look takes in some bytes again.
+/// Whether each byte is ASCII. The last block overlaps the one before it.
 #[inline(always)]
 pub(crate) fn is_plain(bytes: &[u8]) -> bool
     ensures { IsTrue result → IsAscii bytes.now }

@@ -1,4 +1,4 @@
-//! Where a value ends that lies at a place of a payload; and values that are known to stand at one.
+//! `scan`, the end of a value at a place of a payload; `known_at` and `at`, values that are known to be at one.
 ghost use Rattle.std.specs.Prelude.{◌≡◌, ◌≤◌, ℕ, length, IfOk, IfErr};
 ghost use Rattle.zk_jute.specs.Held.{Text, Blob, Vector};
 ghost use Rattle.zk_jute.specs.Item.{HaveBytes};
@@ -13,8 +13,8 @@ use crate::series::TextList;
 use crate::stands::Stands;
 use crate::value::{BlobRef, TextRef};
 
-/// The place after the value that lies at `place`; else the first fault from the left, its place counted from the
-/// beginning of `src`. It decides as `Wire::read` does, and takes no memory: it is asked of what is borrowed.
+/// The place after the value at `place` of `src`; else the first fault from the left, its place counted from the
+/// beginning of `src`. Decides as `Wire::read` does, and allocates nothing: `T` is a borrowed type.
 pub fn scan<'a, T: Stands<Payload<'a>>>(src: &'a [u8], place: usize) -> Result<usize, ItemFault>
     requires { place ≤ length src.now }
     ensures found { IfOk result (λ end. (x : T) × HaveBytes (T.wired.items x) × StandsAt (T.wired.items x) src.now place end) }
@@ -25,7 +25,7 @@ pub fn scan<'a, T: Stands<Payload<'a>>>(src: &'a [u8], place: usize) -> Result<u
     Ok(end)
 }
 
-/// The value that is known to stand at `place`, and the place after it. It isn't judged again.
+/// The value that is known to be at `place` of `src`, and the place after it. It isn't judged again.
 pub fn known_at<'a, T: Stands<KnownPayload<'a>>>(src: &'a [u8], place: usize) -> (T, usize)
     requires place { place ≤ length src.now }
     requires stands { OneStands T.wired.items src.now place }
@@ -35,7 +35,7 @@ pub fn known_at<'a, T: Stands<KnownPayload<'a>>>(src: &'a [u8], place: usize) ->
 }
 
 impl<'a> TextRef<'a> {
-    /// The text that is known to stand at `place`, and the place after it.
+    /// The text that is known to be at `place` of `src`, and the place after it.
     pub fn at(src: &'a [u8], place: usize) -> (Self, usize)
         requires place { place ≤ length src.now }
         requires stands { OneStands text_items src.now place }
@@ -46,7 +46,7 @@ impl<'a> TextRef<'a> {
 }
 
 impl<'a> BlobRef<'a> {
-    /// The blob that is known to stand at `place`, and the place after it.
+    /// The blob that is known to be at `place` of `src`, and the place after it.
     pub fn at(src: &'a [u8], place: usize) -> (Self, usize)
         requires place { place ≤ length src.now }
         requires stands { OneStands blob_items src.now place }
@@ -57,7 +57,7 @@ impl<'a> BlobRef<'a> {
 }
 
 impl<'a> TextList<'a> {
-    /// The list that is known to stand at `place`, and the place after it.
+    /// The list that is known to be at `place` of `src`, and the place after it.
     pub fn at(src: &'a [u8], place: usize) -> (Self, usize)
         requires place { place ≤ length src.now }
         requires stands { OneStands (list_items text_items) src.now place }

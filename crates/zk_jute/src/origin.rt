@@ -1,43 +1,43 @@
-//! What is read from: a payload, and where it goes that what is read keeps of it.
+//! `Origin`: a payload that values are read from, borrowed or copied.
 ghost use Rattle.std.specs.Prelude.{◌≡◌, ℕ, Bool, true, false, List, IsOk};
 ghost use Rattle.zk_jute.specs.Standing.{Known};
 
 use crate::fault::ItemFault;
 use std::alloc::Global;
 
-/// A payload, as values are read from it.
+/// A payload that values are read from.
 pub trait Origin: Sized {
     /// The bytes of the payload.
     ghost payload: { Self → List ℕ };
 
-    /// Whether reading from it may want memory.
+    /// Whether reading from it may allocate.
     ghost grows: { Bool };
 
-    /// Whether what is read from it is known to stand there.
+    /// Whether it is known, before reading, that the value is there.
     ghost knows: { Bool };
 
     /// The bytes of the payload.
     fn payload(&self) -> &[u8]
         ensures { result.now ≡ payload self.now };
 
-    /// What reading answered. A value that is known to stand there is taken out of the answer
-    /// without a test.
+    /// The result of reading; an `Ok` that is known beforehand is unwrapped without a test.
     fn given<T>(answer: Result<T, ItemFault>) -> Result<T, ItemFault>
         requires { Known knows (IsOk answer) }
         ensures { result ≡ answer };
 }
 
-/// A payload that values are borrowed from: there is no memory to be had. What is read from it is
-/// judged, or is known to stand there, and then it is not judged again.
+/// A payload that values are borrowed from; reading allocates nothing. Its bytes are judged, or they are `KNOWN` to be
+/// the value's and not judged again.
 #[derive(Drop)]
 pub struct PayloadOf<'a, const KNOWN: bool> {
+    /// The whole payload.
     pub bytes: &'a [u8],
 }
 
 /// A payload that is judged.
 pub type Payload<'a> = PayloadOf<'a, false>;
 
-/// A payload of which it is known what stands there.
+/// A payload whose value is known to be there.
 pub type KnownPayload<'a> = PayloadOf<'a, true>;
 
 impl<'a, const KNOWN: bool> Origin for PayloadOf<'a, KNOWN> {
@@ -47,7 +47,6 @@ impl<'a, const KNOWN: bool> Origin for PayloadOf<'a, KNOWN> {
 
     ghost knows = { KNOWN };
 
-    // As in number.rt.
     #[inline(always)]
     fn payload(&self) -> &[u8] {
         self.bytes
@@ -62,10 +61,12 @@ impl<'a, const KNOWN: bool> Origin for PayloadOf<'a, KNOWN> {
     }
 }
 
-/// A payload that values are copied from, and where the copies go.
+/// A payload that values are copied from, and the allocator for the copies.
 #[derive(Drop)]
 pub struct Kept<'a> {
+    /// What the copies are allocated with.
     pub alloc: Global,
+    /// The whole payload.
     pub bytes: &'a [u8],
 }
 

@@ -1,4 +1,4 @@
-//! What a value's bytes are given to: memory, or a count of them.
+//! `Output`: where a value's bytes go, memory or a count of them.
 ghost use Rattle.std.specs.Prelude.{◌≡◌, ℕ, ◌++◌, List, [], OnOk, OnErr};
 ghost use Rattle.zk_jute.specs.Item.{Keeps};
 ghost use Rattle.zk_jute.specs.Outputs.{Appends, Uses, Lacks, appends_nothing, appends_both, keeps_front, uses_nothing, uses_both, lacks_first, lacks_later};
@@ -7,13 +7,13 @@ use std::alloc::AllocError;
 
 /// What takes bytes, as `OutputArchive` of ZooKeeper's jute does.
 pub trait Output: Sized {
-    /// Why bytes aren't taken.
+    /// Why bytes are refused.
     type Error: Drop;
 
-    /// What it is after it took the bytes.
+    /// The state after it took the bytes.
     ghost takes: { Self → List ℕ → Self → Type 0 };
 
-    /// What it is after it was to take the bytes, and did not take all of them.
+    /// The state after it was given the bytes and did not take all of them.
     ghost stops: { Self → List ℕ → Self → Type 0 };
 
     /// Takes the bytes.
@@ -21,7 +21,7 @@ pub trait Output: Sized {
         ensures ok { OnOk result (takes self.old bytes.now self.new) }
         ensures err { OnErr result (stops self.old bytes.now self.new) };
 
-    /// The error for what has no bytes: a run of 2 GiB or more.
+    /// The error for a value that has no bytes: one with a run of 2 GiB or more.
     fn refuse(&self) -> Self::Error;
 
     ghost takes_nothing: { (a : Self) → takes a [] a };
@@ -57,13 +57,14 @@ impl Output for Vec<u8> {
     ghost stops_later = { λ a b c x _ p q. keeps_front a.items b.items c.items x p q };
 }
 
-/// So many more bytes may come; they are counted, and not kept.
+/// A limit that bytes are counted against; none is kept.
 #[derive(Drop)]
 pub(crate) struct Room {
+    /// The number of bytes that may still come.
     pub left: u32,
 }
 
-/// More bytes came than there was room for.
+/// More bytes came than the limit allows.
 #[derive(Drop)]
 pub(crate) struct Full;
 

@@ -1,5 +1,6 @@
-//! A payload that is a value, and then nothing or one boolean: those that open a connection, where
-//! old peers leave the boolean out (`ClientCnxnSocket.readConnectResult` of ZooKeeper 3.4).
+//! A payload that is a value, and then nothing or one boolean: those that open a connection.
+//!
+//! Old peers leave the boolean out (`ClientCnxnSocket.readConnectResult` of ZooKeeper 3.4).
 ghost use Rattle.std.specs.Prelude.{◌≡◌, ◌≢◌, Option, Bool, Ok, IfOk, IfErr};
 ghost use Rattle.zk_jute.specs.declared.fault.Reason.TheVariants.{NoMemory};
 ghost use Rattle.zk_jute.specs.Standing.{IsPlain, Known};
@@ -44,17 +45,20 @@ fn flagged_of<P: Origin, T: Stands<P>>(src: &P) -> Result<(T, Option<bool>), Ite
     Ok((value, Some(flag)))
 }
 
-/// The value that the payload is, and the boolean behind it, where one is there; bytes behind that
-/// are `Trailing`.
+/// The value that `payload` is, and the boolean after it, if there is one.
+///
+/// # Errors
+///
+/// The first fault of the value or of the boolean; `Trailing` at bytes after the boolean; `NoMemory`.
 pub fn read_flagged<'a, T: Stands<Kept<'a>>>(
     alloc: Global,
     payload: &'a [u8],
 ) -> Result<(T, Option<bool>), ItemFault>
     // What is read is the whole payload.
     ensures found { IfOk result (λ x. HaveBytes (flagged T.wired x.0 x.1) × (payload.now ≡ bytes_of (flagged T.wired x.0 x.1))) }
-    // What has the form is read, unless memory is wanted.
+    // What has the form is read, unless memory is refused.
     ensures only { (x : T) (flag : Option Bool) → HaveBytes (flagged T.wired x flag) → payload.now ≡ bytes_of (flagged T.wired x flag) → IsReadAs (x, flag) result }
-    // Else the first case that applies is told, unless memory is wanted.
+    // Else the first case that applies is reported, unless memory is refused.
     ensures fault { IfErr result (λ e. IsTold (IsFlaggedFault T.wired.layout payload.now) e) }
 {
     flagged_of(&Kept {
@@ -63,7 +67,7 @@ pub fn read_flagged<'a, T: Stands<Kept<'a>>>(
     })
 }
 
-/// The value that the payload is, and the boolean behind it, where they lie; it takes no memory.
+/// The value that `payload` is, and the boolean after it, borrowed; errors as those of `read_flagged` but `NoMemory`.
 pub fn scan_flagged<'a, T: Stands<Payload<'a>>>(
     payload: &'a [u8],
 ) -> Result<(T, Option<bool>), ItemFault>
@@ -71,13 +75,13 @@ pub fn scan_flagged<'a, T: Stands<Payload<'a>>>(
     ensures found { IfOk result (λ x. HaveBytes (flagged T.wired x.0 x.1) × (payload.now ≡ bytes_of (flagged T.wired x.0 x.1))) }
     // What has the form is read.
     ensures only { (x : T) (flag : Option Bool) → HaveBytes (flagged T.wired x flag) → payload.now ≡ bytes_of (flagged T.wired x flag) → result ≡ Ok (x, flag) }
-    // Else the first case that applies is told.
+    // Else the first case that applies is reported.
     ensures fault { IfErr result (IsSurelyTold (IsFlaggedFault T.wired.layout payload.now)) }
 {
     flagged_of(&Payload { bytes: payload })
 }
 
-/// The value that the payload is known to be, and the boolean behind it, where they lie.
+/// The value that `payload` is known to be, and the boolean after it, borrowed.
 pub fn known_flagged<'a, T: Stands<KnownPayload<'a>>>(payload: &'a [u8]) -> (T, Option<bool>)
     requires { OneIsFlagged T.wired payload.now }
     ensures { (x : T) (flag : Option Bool) → HaveBytes (flagged T.wired x flag) → payload.now ≡ bytes_of (flagged T.wired x flag) → result ≡ (x, flag) }

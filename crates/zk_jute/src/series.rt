@@ -1,4 +1,4 @@
-//! Lists where they lie in a payload: they take no memory.
+//! `Series`: a list that is borrowed from a payload, and the iterator over its elements.
 ghost use Rattle.std.specs.Prelude.{◌≡◌, ◌≤◌, ◌↔◌, ℕ, List, length, Some, IsTrue, IsOk, IfOk, IfSome};
 ghost use Rattle.zk_jute.specs.Held.{Vector};
 ghost use Rattle.zk_jute.specs.Item.{HaveBytes};
@@ -18,9 +18,9 @@ use crate::stands::{Form, Stands};
 use crate::value::TextRef;
 use std::marker::{Model, PhantomData};
 
-/// An element of a list that lies in a payload: its value is told by the bytes.
+/// An element of a borrowed list: its value is read from the bytes.
 pub trait Element: Form {
-    /// The value that stands at a place.
+    /// The value at a place of a payload.
     ghost value: { List ℕ → ℕ → Read Self };
 
     ghost is_value: { (src : List ℕ) (place : ℕ) → items_at Self.wired.layout src place ≡ read_map Self.wired.items (value src place) };
@@ -32,7 +32,7 @@ impl<'a> Element for TextRef<'a> {
     ghost is_value = { text_is_value };
 }
 
-/// A `vector` where it lies: null, or elements.
+/// A borrowed `vector`: null, or elements.
 #[derive(Drop)]
 pub struct Series<'a, R: Element> {
     payload: &'a [u8],
@@ -53,11 +53,11 @@ impl<'a, R: Element> Model for Series<'a, R> {
     ghost invariant = { λ l. (l.place ≤ length l.payload.now) × AllStand (R.value l.payload.now) l.count l.place };
 }
 
-/// A list of texts where it lies.
+/// A borrowed list of texts.
 pub type TextList<'a> = Series<'a, TextRef<'a>>;
 
 impl<'a, R: Element> Series<'a, R> {
-    /// Whether it is null, and no list of no elements.
+    /// Whether the list is null; an empty list isn't.
     pub fn is_null(&self) -> bool
         ensures { IsTrue result ↔ IsNull self.now }
     {
@@ -84,7 +84,7 @@ impl<'a, R: Element> Series<'a, R> {
     }
 }
 
-/// The elements of a list that are left.
+/// The iterator over a borrowed list: the elements that are left.
 #[derive(Drop)]
 pub struct Elements<'a, R: Element> {
     payload: &'a [u8],
@@ -115,7 +115,7 @@ impl<'a, R: Element + Stands<KnownPayload<'a>>> Iterator for Elements<'a, R> {
         if self.left == 0 {
             return None;
         }
-        // All that are left stand there.
+        // All elements that are left are known to be there.
         let src = KnownPayload {
             bytes: self.payload,
         };
@@ -142,7 +142,7 @@ impl<'a, R: Element + Stands<KnownPayload<'a>>> ExactSizeIterator for Elements<'
     }
 }
 
-/// So many elements of the payload, from a place on.
+/// The list of `count` elements that are known to be in `payload` from `place` on; null for `None`.
 #[inline(always)]
 fn lying<'a, R: Element>(payload: &'a [u8], count: Option<usize>, place: usize) -> Series<'a, R>
     requires place { place ≤ length payload.now }
@@ -157,7 +157,7 @@ fn lying<'a, R: Element>(payload: &'a [u8], count: Option<usize>, place: usize) 
     }
 }
 
-/// The list that is known to stand at a place. It isn't walked to its end.
+/// The list that is known to be at `place` of `payload`. It isn't walked to its end.
 pub fn known_list<'a, R: Element>(payload: &'a [u8], place: usize) -> Series<'a, R>
     requires place { place ≤ length payload.now }
     requires stands { OneStands (list_items R.wired.items) payload.now place }
@@ -168,7 +168,7 @@ pub fn known_list<'a, R: Element>(payload: &'a [u8], place: usize) -> Series<'a,
 }
 
 #[tactic(auto, using(crate::proofs::Loops::scanning_goes_on, crate::proofs::Loops::scanning_ends))]
-/// The place after so many elements.
+/// The place after `count` elements of `src`, the first of them at `place`.
 fn elements_end<P: Origin, R: Stands<P>>(
     src: &P,
     count: usize,
@@ -195,7 +195,6 @@ impl<'a, R: Element> Form for Series<'a, R> {
 impl<'a, const KNOWN: bool, R: Element + Stands<PayloadOf<'a, KNOWN>>> Stands<PayloadOf<'a, KNOWN>>
     for Series<'a, R> {
     #[tactic(auto, using(crate::proofs::Fields::list_none, crate::proofs::Fields::list_fails, crate::proofs::Fields::list_refused, crate::proofs::Fields::elements_fail, crate::proofs::Lists::elements_refuse))]
-    // As in number.rt.
     #[inline(always)]
     fn decode(src: &PayloadOf<'a, KNOWN>, place: usize) -> Result<(Self, usize), ItemFault> {
         let (count, start) = PayloadOf::<KNOWN>::given(size_at(src.bytes, place))?;

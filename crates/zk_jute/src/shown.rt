@@ -1,4 +1,4 @@
-//! Texts and blobs where they lie in a payload: they take no memory.
+//! How texts and blobs are borrowed from a payload; nothing is allocated.
 ghost use Rattle.zk_jute.specs.Wired.{ustring, buffer};
 
 use crate::fault::ItemFault;
@@ -13,7 +13,6 @@ impl<'a> Form for TextRef<'a> {
 
 impl<'a, const KNOWN: bool> Stands<PayloadOf<'a, KNOWN>> for TextRef<'a> {
     #[tactic(auto, using(crate::proofs::Fields::text_is, crate::proofs::Fields::refuses_told, crate::proofs::Fields::fails_told))]
-    // As in number.rt.
     #[inline(always)]
     fn decode(src: &PayloadOf<'a, KNOWN>, place: usize) -> Result<(Self, usize), ItemFault> {
         let (text, after) = text_at::<KNOWN>(src.bytes, place)?;

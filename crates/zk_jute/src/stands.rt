@@ -1,4 +1,4 @@
-//! Values that are read from a payload, copied out of it or borrowed from it.
+//! `Stands`: how a value is read from a payload, copied out of it or borrowed from it.
 ghost use Rattle.std.specs.Prelude.{◌≡◌, false, ℕ, ◌≤◌, ◌<◌, List, length, get_or, IsOk, IfOk, IfErr, IfSome};
 ghost use Rattle.std.specs.List.{flat_map};
 ghost use Rattle.zk_jute.specs.Item.{HaveBytes};
@@ -14,16 +14,15 @@ use crate::origin::{Kept, Origin, Payload};
 use crate::run::{run_at, size_at, text_at};
 use crate::value::{Blob, Bytes, Chars, Items, List, Text};
 
-/// What stands as items, wherever its texts, blobs and lists lie.
+/// A type whose values are items, be their texts, blobs and lists owned or borrowed.
 pub trait Form: Sized + Drop {
     /// Its layout, the items of each value, and their laws.
     ghost wired: { Wired Self };
 }
 
-/// A value that is read from such a payload.
+/// A value that can be read from payloads of the type `P`.
 pub trait Stands<P: Origin>: Form {
-    /// The step of `read_in` that an impl writes: its fields, one after the other.
-    // As in number.rt.
+    /// The step of `read_in` that each impl writes: the fields, one after the other.
     #[inline(always)]
     fn decode(src: &P, place: usize) -> Result<(Self, usize), ItemFault>
         requires place { place ≤ length (P.payload src.now) }
@@ -32,20 +31,22 @@ pub trait Stands<P: Origin>: Form {
         ensures plain { IsPlain P.grows Self.wired.layout → IfErr result (λ e. Fails e (items_at Self.wired.layout (P.payload src.now) place)) }
         ensures within { IfOk result (λ x. x.1 ≤ length (P.payload src.now)) };
 
-    /// The value that stands at `place`, and the place after it; else the first fault from the left,
-    /// its place counted from the beginning of the payload.
-    // As in number.rt.
+    /// The value at `place` of `src`, and the place after it.
+    ///
+    /// # Errors
+    ///
+    /// The first fault from the left, its place counted from the beginning of the payload; `NoMemory`.
     #[inline(always)]
     final fn read_in(src: &P, place: usize) -> Result<(Self, usize), ItemFault>
         requires place { place ≤ length (P.payload src.now) }
         requires known { Known P.knows (OneStands Self.wired.items (P.payload src.now) place) }
-        // What is read stands there, each byte of it.
+        // What is read is there, each byte of it.
         ensures found { IfOk result (λ x. IsValueOf Self.wired.layout (Self.wired.items x.0) × StandsAt (Self.wired.items x.0) (P.payload src.now) place x.1) }
-        // What stands there is read, unless memory is wanted.
+        // What is there is read, unless memory is refused.
         ensures only { (x : Self) (end : ℕ) → HaveBytes (Self.wired.items x) → StandsAt (Self.wired.items x) (P.payload src.now) place end → IsReadAs (x, end) result }
-        // Nothing stands there where a fault is answered, and the items fix which one it is.
+        // Nothing is there where a fault is returned, and the items fix which one it is.
         ensures fault { IfErr result (λ e. IsToldFault (IsValueOf Self.wired.layout) (P.payload src.now) place e) }
-        // Numbers, booleans, and what is borrowed, never want memory.
+        // Numbers, booleans, and what is borrowed, never allocate.
         ensures plain { IsPlain P.grows Self.wired.layout → IfErr result (HasSureFault (IsValueOf Self.wired.layout) (P.payload src.now) place) }
         ensures within { IfOk result (λ x. x.1 ≤ length (P.payload src.now)) }
     {
@@ -54,8 +55,8 @@ pub trait Stands<P: Origin>: Form {
     }
 }
 
-/// What lies at a place of a payload, and the place after it; it takes no memory.
-// As in number.rt.
+/// The value at `place` of `src`, and the place after it; nothing is allocated. Errors as those of `read_in`, but
+/// `NoMemory`.
 #[inline(always)]
 pub fn read_ref<P: Origin, T: Stands<P>>(src: &P, place: usize) -> Result<(T, usize), ItemFault>
     requires place { place ≤ length (P.payload src.now) }
@@ -68,7 +69,7 @@ pub fn read_ref<P: Origin, T: Stands<P>>(src: &P, place: usize) -> Result<(T, us
     T::read_in(src, place)
 }
 
-/// The place after a value that lies at a place of a payload; None says no more. No value is made.
+/// The place after the value at `place` of `payload`; `None`: undecided. No value is made.
 pub fn end_of<'a, T: Stands<Payload<'a>>>(payload: &'a [u8], place: usize) -> Option<usize>
     requires { place ≤ length payload.now }
     ensures some { IfSome result (λ end. (x : T) × HaveBytes (T.wired.items x) × StandsAt (T.wired.items x) payload.now place end) }
@@ -176,7 +177,7 @@ impl<T: Form> Form for List<T> {
 }
 
 #[tactic(auto, using(crate::proofs::Loops::reading_ends, crate::proofs::Fields::refuses_memory))]
-/// So many elements from a place on, and the place after them.
+/// `count` elements of `src`, copied, the first of them at `place`; and the place after them.
 fn elements_in<'a, T: Stands<Kept<'a>>>(
     src: &Kept<'a>,
     count: usize,

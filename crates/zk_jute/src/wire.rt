@@ -1,5 +1,6 @@
-//! Values that stand as bytes in a payload: `BinaryInputArchive` and `BinaryOutputArchive` of
-//! ZooKeeper's jute.
+//! `Spell`, what is written as bytes; `Wire`, what is read and written alike; and their laws.
+//!
+//! They follow `BinaryInputArchive` and `BinaryOutputArchive` of ZooKeeper's jute.
 ghost use Rattle.std.specs.Prelude.{◌≡◌, ℕ, ◌≤◌, ◌<◌, ◌++◌, List, length, IfOk, IfErr, IsTrue, OnOk, OnErr};
 ghost use Rattle.zk_jute.specs.Faults.{IsFault};
 ghost use Rattle.zk_jute.specs.Item.{Item, bytes_of, HaveBytes, Fit, IsSizeWithin};
@@ -18,12 +19,16 @@ pub trait Spell {
     /// The items that it unfolds into.
     ghost items: { Self → List Item };
 
-    /// Gives the value's bytes to `out`, field by field.
+    /// Writes the value's bytes to `out`, field by field.
     fn put<O: Output>(&self, out: &mut O) -> Result<(), O::Error>
         ensures ok { OnOk result (HaveBytes (items self.now) × O.takes out.old (bytes_of (items self.now)) out.new) }
         ensures err { OnErr result (HaveBytes (items self.now) → O.stops out.old (bytes_of (items self.now)) out.new) };
 
-    /// Appends the value's bytes; where memory is refused, `out` is unchanged.
+    /// Appends the value's bytes to `out`.
+    ///
+    /// # Errors
+    ///
+    /// `AllocError` if memory is refused; then `out` is unchanged.
     final fn write(&self, out: &mut Vec<u8>) -> Result<(), AllocError>
         requires { Fit 2147483647 (items self.now) }
         ensures ok { OnOk result (out.new.items ≡ out.old.items ++ bytes_of (items self.now)) }
@@ -37,7 +42,7 @@ pub trait Spell {
         Ok(())
     }
 
-    /// The number of the value's bytes, where it has bytes and at most `limit` of them.
+    /// The number of the value's bytes; `None` if it has no bytes, or more than `limit`.
     final fn size_within(&self, limit: u32) -> Option<u32>
         ensures { IsSizeWithin limit (items self.now) result }
     {
@@ -49,13 +54,16 @@ pub trait Spell {
     }
 }
 
-/// A value of jute: a primitive, a list or a record; it is written as it is read.
+/// A value of jute: a primitive, a list or a record; what is written of it is what is read.
 pub trait Wire: Spell + Form {
-    /// What is written of a value are its items.
+    /// What is written of a value is its items.
     ghost written: { Self.items ≡ Self.wired.items };
 
-    /// The value that stands at `place`, and the place after it; else the first fault from the left,
-    /// its place counted from the beginning of `src`.
+    /// The value at `place` of `src`, and the place after it.
+    ///
+    /// # Errors
+    ///
+    /// The first fault from the left, its place counted from the beginning of `src`; `NoMemory`.
     final fn read<'a>(
         alloc: Global,
         src: &'a [u8],
@@ -64,13 +72,13 @@ pub trait Wire: Spell + Form {
     where
         Self: Stands<Kept<'a>>,
         requires { place ≤ length src.now }
-        // What is read stands there, each byte of it.
+        // What is read is there, each byte of it.
         ensures found { IfOk result (λ x. IsValueOf Self.wired.layout (Self.wired.items x.0) × StandsAt (Self.wired.items x.0) src.now place x.1) }
-        // What stands there is read, unless memory is wanted.
+        // What is there is read, unless memory is refused.
         ensures only { (x : Self) (end : ℕ) → HaveBytes (Self.wired.items x) → StandsAt (Self.wired.items x) src.now place end → IsReadAs (x, end) result }
-        // Nothing stands there where a fault is answered, and the items fix which one it is.
+        // Nothing is there where a fault is returned, and the items fix which one it is.
         ensures fault { IfErr result (λ e. IsToldFault (IsValueOf Self.wired.layout) src.now place e) }
-        // Numbers, booleans and records of these never want memory.
+        // Numbers, booleans and records of these never allocate.
         ensures plain { IsTrue (takes_none Self.wired.layout) → IfErr result (HasSureFault (IsValueOf Self.wired.layout) src.now place) }
         ensures within { IfOk result (λ x. x.1 ≤ length src.now) }
     {
@@ -80,11 +88,11 @@ pub trait Wire: Spell + Form {
 
 /// The laws of each type's values as bytes; the function does nothing.
 pub fn laws<T: Wire>()
-    // What is written of a value are the items that are read.
+    // What is written of a value is the items that are read.
     ensures written { (x : T) → T.items x ≡ T.wired.items x }
     // The bytes of a value are read again, whatever follows them.
     ensures again { (x : T) (more : List ℕ) → HaveBytes (T.items x) → IsReadFirst T.wired.layout (T.items x) (bytes_of (T.items x) ++ more) }
-    // No two values' bytes stand at one place, so those of no value begin those of another.
+    // No two values' bytes are at one place, so those of no value begin those of another.
     ensures only { (x y : T) (more others : List ℕ) → BeginAlike (T.items x) more (T.items y) others → (x ≡ y) × (more ≡ others) }
     // Bytes that are those of no value have one fault.
     ensures fault { HaveOneFault (IsFault (IsValueOf T.wired.layout)) }
