@@ -1,4 +1,4 @@
--- The records that hold texts, blobs or lists, wherever these lie.
+-- The records that hold texts, blobs or lists, owned or borrowed.
 use Rattle.zk_jute.specs.Held.{Text, Blob, Vector}
 use Rattle.zk_records.specs.declared.acl.IdOf.{IdOf}
 use Rattle.zk_records.specs.declared.acl.AclOf.{AclOf}

@@ -1,4 +1,4 @@
--- Access rights that lie in a payload, as values of its bytes.
+-- Borrowed access rights, as values of their payload's bytes.
 use Rattle.std.specs.Prelude.{◌≡◌, ℕ, ℤ, List, [], ◌∷◌, Option, Some, None, Ok, Err, refl}
 use Rattle.zk_jute.specs.Held.{Text}
 use Rattle.zk_jute.specs.Item.{Item, AnInt, AUstring}
@@ -8,11 +8,11 @@ use Rattle.zk_jute.specs.Shown.{text_of, text_value}
 use Rattle.zk_records.specs.Held.{Id, Acl}
 use Rattle.zk_records.specs.Records.{id, acl}
 
--- who stands at a place
+-- the `Id` at a place
 abbrev pub id_value : List ℕ → ℕ → Read Id
 id_value src place = text_value src place >>= λ s. read_map (λ i. record { scheme = s.0; ident = i }) (text_value src s.1)
 
--- the right that stands at a place
+-- the access right at a place
 abbrev pub acl_value : List ℕ → ℕ → Read Acl
 acl_value src place = int_at src place >>= λ p. read_map (λ w. record { perms = p.0; who = w }) (id_value src p.1)
 

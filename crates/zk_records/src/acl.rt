@@ -1,4 +1,4 @@
-//! Who may do what: the records `Id` and `ACL` of zookeeper.jute.
+//! Access rights: the records `Id` and `ACL` of zookeeper.jute.
 ghost use Rattle.std.specs.Prelude.{◌≡◌, refl};
 ghost use Rattle.zk_records.specs.Records.{id, acl, id_of, acl_of};
 ghost use Rattle.zk_records.specs.Shown.{acl_value, acl_is_value};
@@ -8,19 +8,19 @@ use zk_jute::{
     Element, Form, ItemFault, Origin, Output, Series, Spell, Stands, Text, TextRef, Wire,
 };
 
-/// Who someone is under a scheme: `Id`.
+/// Someone under a scheme of authentication: `Id`.
 #[derive(Debug, Drop)]
 pub struct IdOf<T> {
-    /// As `world`, `auth`, `digest`, `ip`.
+    /// The scheme, as `world`, `auth`, `digest` or `ip`.
     pub scheme: T,
-    /// `id` in jute.
+    /// Who it is under that scheme; `id` in jute.
     pub ident: T,
 }
 
-/// Id with memory of its own.
+/// An owned `Id`.
 pub type Id = IdOf<Text>;
 
-/// Id where it lies in a payload.
+/// A borrowed `Id`.
 pub type IdRef<'a> = IdOf<TextRef<'a>>;
 
 impl Spell for Id {
@@ -45,19 +45,19 @@ impl Wire for Id {
     ghost written = { refl };
 }
 
-/// What someone may do: `ACL`.
+/// Someone's rights: `ACL`.
 #[derive(Debug, Drop)]
 pub struct AclOf<W> {
-    /// A sum of read 1, write 2, create 4, delete 8 and admin 16; any number is taken.
+    /// The rights: a sum of read 1, write 2, create 4, delete 8 and admin 16; any number is accepted.
     pub perms: i32,
-    /// `id` in jute.
+    /// Whose rights; `id` in jute.
     pub who: W,
 }
 
-/// Acl with memory of its own.
+/// An owned `Acl`.
 pub type Acl = AclOf<Id>;
 
-/// Acl where it lies in a payload.
+/// A borrowed `Acl`.
 pub type AclRef<'a> = AclOf<IdRef<'a>>;
 
 impl Spell for Acl {
@@ -88,5 +88,5 @@ impl<'a> Element for AclRef<'a> {
     ghost is_value = { acl_is_value };
 }
 
-/// A list of access rights where it lies in a payload.
+/// A borrowed list of access rights.
 pub type AclList<'a> = Series<'a, AclRef<'a>>;

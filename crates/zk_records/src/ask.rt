@@ -1,5 +1,7 @@
-//! The bodies of requests that change a node, and of a check: `CreateRequest`, `DeleteRequest`,
-//! `SetDataRequest`, `SetACLRequest` and `CheckVersionRequest` of zookeeper.jute.
+//! The bodies of requests that change a node, and of a check within a multi.
+//!
+//! They are `CreateRequest`, `DeleteRequest`, `SetDataRequest`, `SetACLRequest` and `CheckVersionRequest` of
+//! zookeeper.jute.
 ghost use Rattle.std.specs.Prelude.{◌≡◌, refl};
 ghost use Rattle.zk_records.specs.Records.{create_ask, delete_ask, set_data_ask, set_acl_ask, check_ask, create_ask_of, delete_ask_of, set_data_ask_of, set_acl_ask_of, check_ask_of};
 
@@ -9,21 +11,23 @@ use zk_jute::{
     Blob, BlobRef, Form, ItemFault, List, Origin, Output, Spell, Stands, Text, TextRef, Wire,
 };
 
-/// A node is to be made: `CreateRequest`.
+/// Creates a node: `CreateRequest`.
 #[derive(Debug, Drop)]
 pub struct CreateAskOf<T, B, A> {
+    /// The path of the new node, as asked: a sequence number may come after it.
     pub path: T,
-    /// `data` in jute.
+    /// The node's data; `data` in jute.
     pub blob: B,
+    /// The access list of the new node.
     pub acl: A,
-    /// 0 persistent, 1 ephemeral, 2 and 3 the same with a sequence number; any number is taken.
+    /// 0 persistent, 1 ephemeral, 2 and 3 the same with a sequence number; any number is accepted.
     pub flags: i32,
 }
 
-/// CreateAsk with memory of its own.
+/// An owned `CreateAsk`.
 pub type CreateAsk = CreateAskOf<Text, Blob, List<Acl>>;
 
-/// CreateAsk where it lies in a payload.
+/// A borrowed `CreateAsk`.
 pub type CreateAskRef<'a> = CreateAskOf<TextRef<'a>, BlobRef<'a>, AclList<'a>>;
 
 impl Spell for CreateAsk {
@@ -39,7 +43,6 @@ impl<T: Form, B: Form, A: Form> Form for CreateAskOf<T, B, A> {
 }
 
 impl<P: Origin, T: Stands<P>, B: Stands<P>, A: Stands<P>> Stands<P> for CreateAskOf<T, B, A> {
-    // Read in registers where only the end is asked for (number.rt of zk_jute).
     #[inline(always)]
     fn decode(src: &P, place: usize) -> Result<(Self, usize), ItemFault> {
         decode!(src, place => CreateAskOf { path, blob, acl, flags })
@@ -50,18 +53,19 @@ impl Wire for CreateAsk {
     ghost written = { refl };
 }
 
-/// A node is to be removed: `DeleteRequest`.
+/// Deletes a node: `DeleteRequest`.
 #[derive(Debug, Drop)]
 pub struct DeleteAskOf<T> {
+    /// The node's path.
     pub path: T,
-    /// The data's version that is wanted, -1 for any.
+    /// The version that the data must have, -1 for any.
     pub version: i32,
 }
 
-/// DeleteAsk with memory of its own.
+/// An owned `DeleteAsk`.
 pub type DeleteAsk = DeleteAskOf<Text>;
 
-/// DeleteAsk where it lies in a payload.
+/// A borrowed `DeleteAsk`.
 pub type DeleteAskRef<'a> = DeleteAskOf<TextRef<'a>>;
 
 impl Spell for DeleteAsk {
@@ -87,20 +91,21 @@ impl Wire for DeleteAsk {
     ghost written = { refl };
 }
 
-/// A node's data is to be set: `SetDataRequest`.
+/// Sets a node's data: `SetDataRequest`.
 #[derive(Debug, Drop)]
 pub struct SetDataAskOf<T, B> {
+    /// The node's path.
     pub path: T,
-    /// `data` in jute.
+    /// The new data; `data` in jute.
     pub blob: B,
-    /// The data's version that is wanted, -1 for any.
+    /// The version that the data must have, -1 for any.
     pub version: i32,
 }
 
-/// SetDataAsk with memory of its own.
+/// An owned `SetDataAsk`.
 pub type SetDataAsk = SetDataAskOf<Text, Blob>;
 
-/// SetDataAsk where it lies in a payload.
+/// A borrowed `SetDataAsk`.
 pub type SetDataAskRef<'a> = SetDataAskOf<TextRef<'a>, BlobRef<'a>>;
 
 impl Spell for SetDataAsk {
@@ -126,19 +131,21 @@ impl Wire for SetDataAsk {
     ghost written = { refl };
 }
 
-/// A node's access list is to be set: `SetACLRequest`.
+/// Sets a node's access list: `SetACLRequest`.
 #[derive(Debug, Drop)]
 pub struct SetAclAskOf<T, A> {
+    /// The node's path.
     pub path: T,
+    /// The new access list.
     pub acl: A,
-    /// The access list's version that is wanted, -1 for any.
+    /// The version that the access list must have, -1 for any.
     pub version: i32,
 }
 
-/// SetAclAsk with memory of its own.
+/// An owned `SetAclAsk`.
 pub type SetAclAsk = SetAclAskOf<Text, List<Acl>>;
 
-/// SetAclAsk where it lies in a payload.
+/// A borrowed `SetAclAsk`.
 pub type SetAclAskRef<'a> = SetAclAskOf<TextRef<'a>, AclList<'a>>;
 
 impl Spell for SetAclAsk {
@@ -164,18 +171,19 @@ impl Wire for SetAclAsk {
     ghost written = { refl };
 }
 
-/// A node's version is to be checked, within a multi: `CheckVersionRequest`.
+/// Checks a node's version, within a multi: `CheckVersionRequest`.
 #[derive(Debug, Drop)]
 pub struct CheckAskOf<T> {
+    /// The node's path.
     pub path: T,
-    /// The data's version that is wanted, -1 for any.
+    /// The version that the data must have, -1 for any.
     pub version: i32,
 }
 
-/// CheckAsk with memory of its own.
+/// An owned `CheckAsk`.
 pub type CheckAsk = CheckAskOf<Text>;
 
-/// CheckAsk where it lies in a payload.
+/// A borrowed `CheckAsk`.
 pub type CheckAskRef<'a> = CheckAskOf<TextRef<'a>>;
 
 impl Spell for CheckAsk {

@@ -1,5 +1,6 @@
-//! The bodies of replies of more than one field: `GetDataResponse`, `GetACLResponse`,
-//! `GetChildren2Response` and `Create2Response` of zookeeper.jute.
+//! The bodies of replies that have more than one field.
+//!
+//! They are `GetDataResponse`, `GetACLResponse`, `GetChildren2Response` and `Create2Response` of zookeeper.jute.
 ghost use Rattle.std.specs.Prelude.{◌≡◌, refl};
 ghost use Rattle.zk_records.specs.Records.{data_body, acl_body, children_body, create_body, data_body_of, acl_body_of, children_body_of, create_body_of};
 
@@ -11,18 +12,19 @@ use zk_jute::{
     Wire,
 };
 
-/// What a node holds: `GetDataResponse`.
+/// A node's data, and its `Stat`: `GetDataResponse`.
 #[derive(Debug, Drop)]
 pub struct DataBodyOf<B> {
-    /// `data` in jute.
+    /// The node's data; `data` in jute.
     pub blob: B,
+    /// What is known of the node.
     pub stat: Stat,
 }
 
-/// DataBody with memory of its own.
+/// An owned `DataBody`.
 pub type DataBody = DataBodyOf<Blob>;
 
-/// DataBody where it lies in a payload.
+/// A borrowed `DataBody`.
 pub type DataBodyRef<'a> = DataBodyOf<BlobRef<'a>>;
 
 impl Spell for DataBody {
@@ -38,7 +40,6 @@ impl<B: Form> Form for DataBodyOf<B> {
 }
 
 impl<P: Origin, B: Stands<P>> Stands<P> for DataBodyOf<B> {
-    // Read in registers where only the end is asked for (number.rt of zk_jute).
     #[inline(always)]
     fn decode(src: &P, place: usize) -> Result<(Self, usize), ItemFault> {
         decode!(src, place => DataBodyOf { blob, stat })
@@ -49,17 +50,19 @@ impl Wire for DataBody {
     ghost written = { refl };
 }
 
-/// Who may do what with a node: `GetACLResponse`.
+/// A node's access list, and its `Stat`: `GetACLResponse`.
 #[derive(Debug, Drop)]
 pub struct AclBodyOf<A> {
+    /// The access list.
     pub acl: A,
+    /// What is known of the node.
     pub stat: Stat,
 }
 
-/// AclBody with memory of its own.
+/// An owned `AclBody`.
 pub type AclBody = AclBodyOf<List<Acl>>;
 
-/// AclBody where it lies in a payload.
+/// A borrowed `AclBody`.
 pub type AclBodyRef<'a> = AclBodyOf<AclList<'a>>;
 
 impl Spell for AclBody {
@@ -85,18 +88,19 @@ impl Wire for AclBody {
     ghost written = { refl };
 }
 
-/// The names below a node: `GetChildren2Response`.
+/// The names of a node's children, and its `Stat`: `GetChildren2Response`.
 #[derive(Debug, Drop)]
 pub struct ChildrenBodyOf<L> {
-    /// `children` in jute.
+    /// The children's names, without the path; `children` in jute.
     pub names: L,
+    /// What is known of the node.
     pub stat: Stat,
 }
 
-/// ChildrenBody with memory of its own.
+/// An owned `ChildrenBody`.
 pub type ChildrenBody = ChildrenBodyOf<List<Text>>;
 
-/// ChildrenBody where it lies in a payload.
+/// A borrowed `ChildrenBody`.
 pub type ChildrenBodyRef<'a> = ChildrenBodyOf<TextList<'a>>;
 
 impl Spell for ChildrenBody {
@@ -122,17 +126,19 @@ impl Wire for ChildrenBody {
     ghost written = { refl };
 }
 
-/// A new node's name, and its `Stat`: `Create2Response`.
+/// A new node's path, and its `Stat`: `Create2Response`.
 #[derive(Debug, Drop)]
 pub struct CreateBodyOf<T> {
+    /// The path of the new node, a sequence number included.
     pub path: T,
+    /// What is known of the node.
     pub stat: Stat,
 }
 
-/// CreateBody with memory of its own.
+/// An owned `CreateBody`.
 pub type CreateBody = CreateBodyOf<Text>;
 
-/// CreateBody where it lies in a payload.
+/// A borrowed `CreateBody`.
 pub type CreateBodyRef<'a> = CreateBodyOf<TextRef<'a>>;
 
 impl Spell for CreateBody {

@@ -1,29 +1,29 @@
-//! The first payload of each side: `ConnectRequest` and `ConnectResponse` of zookeeper.jute.
+//! The bodies of each side's first payload: `ConnectRequest` and `ConnectResponse` of zookeeper.jute.
 ghost use Rattle.std.specs.Prelude.{◌≡◌, refl};
 ghost use Rattle.zk_records.specs.Records.{connect_request, connect_response, connect_request_of, connect_response_of};
 
 use crate::fields::{decode, fields};
 use zk_jute::{Blob, BlobRef, Form, ItemFault, Origin, Output, Spell, Stands, Wire};
 
-/// A client asks for a session: `ConnectRequest`.
+/// What a client asks a session with: `ConnectRequest`.
 #[derive(Debug, Drop)]
 pub struct ConnectRequestOf<B> {
     /// 0 in every release.
     pub protocol_version: i32,
     /// The newest transaction that the client has seen.
     pub last_zxid_seen: i64,
-    /// Milliseconds.
+    /// The session's timeout that the client asks for, in milliseconds.
     pub time_out: i32,
-    /// 0 for a new session.
+    /// The session that goes on; 0 for a new one.
     pub session_id: i64,
     /// The session's password, usually 16 bytes.
     pub passwd: B,
 }
 
-/// ConnectRequest with memory of its own.
+/// An owned `ConnectRequest`.
 pub type ConnectRequest = ConnectRequestOf<Blob>;
 
-/// ConnectRequest where it lies in a payload.
+/// A borrowed `ConnectRequest`.
 pub type ConnectRequestRef<'a> = ConnectRequestOf<BlobRef<'a>>;
 
 impl Spell for ConnectRequest {
@@ -48,22 +48,23 @@ impl Wire for ConnectRequest {
     ghost written = { refl };
 }
 
-/// A server grants a session: `ConnectResponse`.
+/// What a server grants a session with: `ConnectResponse`.
 #[derive(Debug, Drop)]
 pub struct ConnectResponseOf<B> {
     /// 0 in every release.
     pub protocol_version: i32,
-    /// Milliseconds; 0 or below where the session has expired.
+    /// The session's timeout in milliseconds; 0 or below if the session has expired.
     pub time_out: i32,
+    /// The session's number.
     pub session_id: i64,
     /// The session's password, usually 16 bytes.
     pub passwd: B,
 }
 
-/// ConnectResponse with memory of its own.
+/// An owned `ConnectResponse`.
 pub type ConnectResponse = ConnectResponseOf<Blob>;
 
-/// ConnectResponse where it lies in a payload.
+/// A borrowed `ConnectResponse`.
 pub type ConnectResponseRef<'a> = ConnectResponseOf<BlobRef<'a>>;
 
 impl Spell for ConnectResponse {

@@ -1,24 +1,25 @@
-//! What a watcher is told: `WatcherEvent` of zookeeper.jute.
+//! The body of an event, by which a server reports a change: `WatcherEvent` of zookeeper.jute.
 ghost use Rattle.std.specs.Prelude.{◌≡◌, refl};
 ghost use Rattle.zk_records.specs.Records.{watcher_event, watcher_event_of};
 
 use crate::fields::{decode, fields};
 use zk_jute::{Form, ItemFault, Origin, Output, Spell, Stands, Text, TextRef, Wire};
 
-/// What a watch saw: `WatcherEvent`.
+/// A change that a watch saw: `WatcherEvent`.
 #[derive(Debug, Drop)]
 pub struct WatcherEventOf<T> {
-    /// `type` in jute: a number of `Watcher.Event.EventType`.
+    /// What changed: a number of `Watcher.Event.EventType`; `type` in jute.
     pub kind: i32,
-    /// A number of `Watcher.Event.KeeperState`.
+    /// The session's state: a number of `Watcher.Event.KeeperState`.
     pub state: i32,
+    /// The path of the node that changed.
     pub path: T,
 }
 
-/// WatcherEvent with memory of its own.
+/// An owned `WatcherEvent`.
 pub type WatcherEvent = WatcherEventOf<Text>;
 
-/// WatcherEvent where it lies in a payload.
+/// A borrowed `WatcherEvent`.
 pub type WatcherEventRef<'a> = WatcherEventOf<TextRef<'a>>;
 
 impl Spell for WatcherEvent {

@@ -1,4 +1,4 @@
-//! Records by their fields, in order: nested pairs.
+//! Macros by which a record lists its fields, in order, as nested pairs.
 
 /// `fields!(self: a, b, c)` is `(&self.a, (&self.b, &self.c))`, `fields!(let a, b, c)` the pattern
 /// `(a, (b, c))`, and `fields!(A, B, C)` the type `(A, (B, C))`.

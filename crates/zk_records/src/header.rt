@@ -1,17 +1,18 @@
-//! What stands before a request, a reply and each part of a multi: `RequestHeader`, `ReplyHeader`
-//! and `MultiHeader` of zookeeper.jute.
+//! The headers of a request, of a reply, and of each part of a multi.
+//!
+//! They are `RequestHeader`, `ReplyHeader` and `MultiHeader` of zookeeper.jute.
 ghost use Rattle.std.specs.Prelude.{◌≡◌, refl};
 ghost use Rattle.zk_records.specs.Records.{request_header, reply_header, multi_header};
 
 use crate::fields::{decode, fields};
 use zk_jute::{Form, ItemFault, Origin, Output, Spell, Stands, Wire};
 
-/// What stands before each request: `RequestHeader`, 8 bytes.
+/// The header of each request: `RequestHeader`, 8 bytes.
 #[derive(Debug, Drop)]
 pub struct RequestHeader {
     /// The client's number of the request.
     pub xid: i32,
-    /// `type` in jute: a number of `ZooDefs.OpCode`.
+    /// The operation: a number of `ZooDefs.OpCode`; `type` in jute.
     pub kind: i32,
 }
 
@@ -28,7 +29,6 @@ impl Form for RequestHeader {
 }
 
 impl<P: Origin> Stands<P> for RequestHeader {
-    // Read in registers where only the end is asked for (number.rt of zk_jute).
     #[inline(always)]
     fn decode(src: &P, place: usize) -> Result<(Self, usize), ItemFault> {
         decode!(src, place => RequestHeader { xid, kind })
@@ -39,14 +39,14 @@ impl Wire for RequestHeader {
     ghost written = { refl };
 }
 
-/// What stands before each reply and event: `ReplyHeader`, 16 bytes.
+/// The header of each reply and event: `ReplyHeader`, 16 bytes.
 #[derive(Debug, Drop)]
 pub struct ReplyHeader {
-    /// That of the request; -1 for an event.
+    /// The xid of the request; -1 for an event.
     pub xid: i32,
     /// The newest transaction that the server has seen.
     pub zxid: i64,
-    /// A number of `KeeperException.Code`.
+    /// The error, 0 for none: a number of `KeeperException.Code`.
     pub err: i32,
 }
 
@@ -73,14 +73,14 @@ impl Wire for ReplyHeader {
     ghost written = { refl };
 }
 
-/// What stands before each part of a multi and behind the last: `MultiHeader`, 9 bytes.
+/// The header of each part of a multi, and after the last part: `MultiHeader`, 9 bytes.
 #[derive(Debug, Drop)]
 pub struct MultiHeader {
-    /// `type` in jute: a number of `ZooDefs.OpCode`.
+    /// The part's operation: a number of `ZooDefs.OpCode`; `type` in jute.
     pub kind: i32,
     /// Whether no part follows.
     pub done: bool,
-    /// A number of `KeeperException.Code`.
+    /// The part's error, in a reply: a number of `KeeperException.Code`.
     pub err: i32,
 }
 

@@ -1,4 +1,23 @@
-//! The records of ZooKeeper 3.4 and of `create2`, and the numbers of operations.
+//! The records of ZooKeeper 3.4, and `create2` of 3.5: headers, bodies, and the numbers and names of operations.
+//!
+//! Each record of zookeeper.jute is a struct of its fields, in jute's order, that is read and written by `zk_jute`'s
+//! `Wire` and `Stands`. One with texts, blobs or lists is generic, as `CreateAskOf`, and has two names: the owned
+//! `CreateAsk` and the borrowed `CreateAskRef`. `Own::own` copies the borrowed one into memory of its own.
+//!
+//! - Headers: `RequestHeader`, `ReplyHeader`, `MultiHeader`.
+//! - Bodies of requests end in `Ask`, of replies in `Body`; both sides' first payloads are `ConnectRequest` and
+//!   `ConnectResponse`; an event is a `WatcherEvent`.
+//! - Numbers: `op_of` and `part_of` read an operation's number (`ZooDefs.OpCode`), `op_number` and `part_number` write
+//!   it; a `Profile` says which operations requests may have.
+//! - Names: `op_name`, `part_name`, `code_name` (`KeeperException.Code`), `event_name` (`Watcher.Event.EventType`).
+//!
+//! The crate rests on `zk_jute`.
+//!
+//! ```text
+//! op_of(Profile::V34, 15) // None: create2 is of 3.5
+//! op_of(Profile::V35, 15) // Some(Op::Create2)
+//! code_name(-101)         // Some("NONODE")
+//! ```
 #![tactic(auto)]
 
 mod acl;

@@ -1,11 +1,13 @@
-//! The names of operations, errors and events: `ZooDefs.OpCode`, `KeeperException.Code` and
-//! `Watcher.Event.EventType` of ZooKeeper 3.4, and `create2` of 3.5.
+//! The names of operations, errors and types of events.
+//!
+//! They are those of `ZooDefs.OpCode`, `KeeperException.Code` and `Watcher.Event.EventType` of ZooKeeper 3.4, and
+//! `create2` of 3.5.
 ghost use Rattle.std.specs.Prelude.{◌≡◌, option_copied};
 ghost use Rattle.zk_records.specs.Names as names;
 
 use crate::op::{Op, PartOp};
 
-/// The name of an operation: that of its number in `ZooDefs.OpCode`.
+/// The name of the operation `op`: that of its number in `ZooDefs.OpCode`.
 pub fn op_name(op: Op) -> &'static str
     ensures { result.now ≡ names.op_name op }
 {
@@ -29,7 +31,7 @@ pub fn op_name(op: Op) -> &'static str
     }
 }
 
-/// The name of a part's operation: that of its number in `ZooDefs.OpCode`.
+/// The name of a part's operation `op`: that of its number in `ZooDefs.OpCode`.
 pub fn part_name(op: PartOp) -> &'static str
     ensures { result.now ≡ names.part_name op }
 {
@@ -41,7 +43,7 @@ pub fn part_name(op: PartOp) -> &'static str
     }
 }
 
-/// The name of an error's number; None where `KeeperException.Code` has none.
+/// The name of the error `code`; `None` if `KeeperException.Code` has no such number.
 pub fn code_name(code: i32) -> Option<&'static str>
     ensures { option_copied result ≡ names.code_name code }
 {
@@ -72,7 +74,7 @@ pub fn code_name(code: i32) -> Option<&'static str>
     }
 }
 
-/// The name of an event's type; None where `Watcher.Event.EventType` has none.
+/// The name of the type `kind` of an event; `None` if `Watcher.Event.EventType` has no such number.
 pub fn event_name(kind: i32) -> Option<&'static str>
     ensures { option_copied result ≡ names.event_name kind }
 {

@@ -7,7 +7,7 @@ ghost use Rattle.zk_records.specs.declared.profile.Profile.TheVariants as profil
 
 use crate::profile::Profile;
 
-/// An operation outside a multi.
+/// An operation outside a multi, by its name in `ZooDefs.OpCode`.
 #[derive(Clone, Copy, Debug, PartialEq, Eq)]
 pub enum Op {
     Create,
@@ -28,7 +28,7 @@ pub enum Op {
     CloseSession,
 }
 
-/// An operation within a multi.
+/// An operation within a multi, by its name in `ZooDefs.OpCode`.
 #[derive(Clone, Copy, Debug, PartialEq, Eq)]
 pub enum PartOp {
     Create,
@@ -37,8 +37,7 @@ pub enum PartOp {
     Check,
 }
 
-/// The operation of a request header's type; None where the profile has none of that number.
-// With the hints of part_list.rt in zk_asks, 3% off the instructions of `check` on small messages.
+/// The operation that `number`, a request header's type, is under `profile`; `None` if the profile has none of it.
 #[inline(always)]
 pub fn op_of(profile: Profile, number: i32) -> Option<Op>
     ensures { MatchOption result (codes.IsNoOp profile number) (λ op. codes.HasOp profile op × (number ≡ codes.op_number op)) }
@@ -64,7 +63,7 @@ pub fn op_of(profile: Profile, number: i32) -> Option<Op>
     }
 }
 
-/// The number that a request header has for the operation.
+/// The number of `op` in a request header.
 pub fn op_number(op: Op) -> i32
     ensures { result ≡ codes.op_number op }
 {
@@ -88,7 +87,7 @@ pub fn op_number(op: Op) -> i32
     }
 }
 
-/// The part of a multi header's type; None where it has none.
+/// The part's operation that `kind`, a multi header's type, is; `None` if it is no part's.
 pub fn part_of(kind: i32) -> Option<PartOp>
     ensures { MatchOption result ((op : PartOp) → kind ≢ codes.part_number op) (λ op. kind ≡ codes.part_number op) }
 {
@@ -101,7 +100,7 @@ pub fn part_of(kind: i32) -> Option<PartOp>
     }
 }
 
-/// The number that a multi header has for the part.
+/// The number of the part's operation `op` in a multi header.
 pub fn part_number(op: PartOp) -> i32
     ensures { result ≡ codes.part_number op }
 {
@@ -113,8 +112,8 @@ pub fn part_number(op: PartOp) -> i32
     }
 }
 
-/// Each operation and each part has a number of its own, so its number is read back as it: under
-/// 3.5 each operation's, under 3.4 each but 15.
+/// Each operation and each part has a number of its own, which is read back as it: under 3.5 each operation's, under 3.4
+/// each but 15. The function does nothing.
 pub fn number_laws()
     ensures op { (a b : Op) → codes.op_number a ≡ codes.op_number b → a ≡ b }
     ensures older { (op : Op) → codes.HasOp profiles.V34 op ↔ (codes.op_number op ≢ pos 15) }

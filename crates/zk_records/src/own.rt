@@ -1,4 +1,4 @@
-//! Copies, with memory of their own, of what lies in a payload.
+//! `Own`: copies, with memory of their own, of what is borrowed from a payload.
 ghost use Rattle.std.specs.Prelude.{◌≡◌, List, map, IfOk};
 ghost use Rattle.std.specs.Iterator.{Drains, IsFinite};
 ghost use Rattle.zk_records.specs.Owned.{each};
@@ -30,20 +30,28 @@ use zk_jute::{
     TextList, TextRef,
 };
 
-/// What lies in a payload, and can be copied out of it.
+/// A borrowed value that can be copied.
 pub trait Own {
-    /// What the copy is.
+    /// The type of the copy.
     type Owned: Drop;
 
-    /// The copy's value; each impl says that it is the very value that lies there.
+    /// The copy's value; each impl says that it is the very value that was borrowed.
     ghost same: { Self → Self.Owned };
 
-    /// A copy with memory of its own. `AllocError` where memory is refused.
+    /// A copy with memory of its own.
+    ///
+    /// # Errors
+    ///
+    /// `AllocError` if memory is refused.
     fn own(&self, alloc: Global) -> Result<Self::Owned, AllocError>
         ensures { IfOk result (λ copy. copy ≡ same self.now) };
 }
 
-/// Copies of all that is left, in order. `AllocError` where memory is refused.
+/// Copies of all items that are left, in order.
+///
+/// # Errors
+///
+/// `AllocError` if memory is refused.
 pub fn own_all<T: Own + Drop, I: Iterator<Item = T> + Drop>(
     items: I,
     alloc: Global,
@@ -131,7 +139,7 @@ impl<'a> Own for BlobRef<'a> {
     }
 }
 
-/// A list's copy: null, or a copy of each element.
+/// A copy of a list: null, or a copy of each element.
 fn own_list<'a, R: Element + Stands<KnownPayload<'a>> + Own>(
     list: &Series<'a, R>,
     alloc: Global,

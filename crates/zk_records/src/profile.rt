@@ -1,4 +1,4 @@
-//! Which operations requests may have.
+//! `Profile`: which operations requests may have.
 ghost use Rattle.std.specs.Prelude.{◌≡◌, ◌≢◌, MatchOption};
 ghost use Rattle.zk_records.specs.Codes.{profile_number};
 
@@ -13,7 +13,7 @@ pub enum Profile {
 }
 
 impl Profile {
-    /// The number that stands for it wherever a number does: its release, without the point.
+    /// The number of the profile: its release, without the point.
     pub fn number(self) -> u32
         ensures { result ≡ profile_number self }
     {
@@ -23,7 +23,7 @@ impl Profile {
         }
     }
 
-    /// The profile of such a number; None where it is no profile's.
+    /// The profile whose number is `number`; `None` if there is none.
     pub fn of_number(number: u32) -> Option<Profile>
         ensures { MatchOption result ((profile : Profile) → number ≢ profile_number profile) (λ profile. number ≡ profile_number profile) }
     {

@@ -1,24 +1,27 @@
-//! The bodies of requests that look at a node: `ExistsRequest`, `GetDataRequest`,
-//! `GetChildrenRequest`, `GetChildren2Request`, `GetACLRequest` and `SyncRequest` of zookeeper.jute.
+//! The bodies of requests that look at a node.
+//!
+//! They are `ExistsRequest`, `GetDataRequest`, `GetChildrenRequest`, `GetChildren2Request`, `GetACLRequest` and
+//! `SyncRequest` of zookeeper.jute.
 ghost use Rattle.std.specs.Prelude.{◌≡◌, refl};
 ghost use Rattle.zk_records.specs.Records.{watch_ask, path_ask, watch_ask_of, path_ask_of};
 
 use crate::fields::{decode, fields};
 use zk_jute::{Form, ItemFault, Origin, Output, Spell, Stands, Text, TextRef, Wire};
 
-/// A node is looked at, and may be watched: `ExistsRequest`, `GetDataRequest`, `GetChildrenRequest`
-/// and `GetChildren2Request`.
+/// Looks at a node, and may set a watch: `ExistsRequest`, `GetDataRequest`, `GetChildrenRequest` and
+/// `GetChildren2Request`.
 #[derive(Debug, Drop)]
 pub struct WatchAskOf<T> {
+    /// The node's path.
     pub path: T,
-    /// Whether the client wants to be told of a change.
+    /// Whether the server is to report the node's next change.
     pub watch: bool,
 }
 
-/// WatchAsk with memory of its own.
+/// An owned `WatchAsk`.
 pub type WatchAsk = WatchAskOf<Text>;
 
-/// WatchAsk where it lies in a payload.
+/// A borrowed `WatchAsk`.
 pub type WatchAskRef<'a> = WatchAskOf<TextRef<'a>>;
 
 impl Spell for WatchAsk {
@@ -34,7 +37,6 @@ impl<T: Form> Form for WatchAskOf<T> {
 }
 
 impl<P: Origin, T: Stands<P>> Stands<P> for WatchAskOf<T> {
-    // Read in registers where only the end is asked for (number.rt of zk_jute).
     #[inline(always)]
     fn decode(src: &P, place: usize) -> Result<(Self, usize), ItemFault> {
         decode!(src, place => WatchAskOf { path, watch })
@@ -48,13 +50,14 @@ impl Wire for WatchAsk {
 /// A path alone: `GetACLRequest` and `SyncRequest`.
 #[derive(Debug, Drop)]
 pub struct PathAskOf<T> {
+    /// The node's path.
     pub path: T,
 }
 
-/// PathAsk with memory of its own.
+/// An owned `PathAsk`.
 pub type PathAsk = PathAskOf<Text>;
 
-/// PathAsk where it lies in a payload.
+/// A borrowed `PathAsk`.
 pub type PathAskRef<'a> = PathAskOf<TextRef<'a>>;
 
 impl Spell for PathAsk {

@@ -8,21 +8,21 @@ use zk_jute::{
     Wire,
 };
 
-/// Who the client is: `AuthPacket`.
+/// Authenticates the client: `AuthPacket`.
 #[derive(Debug, Drop)]
 pub struct AuthAskOf<T, B> {
     /// `type` in jute: 0 in every release.
     pub kind: i32,
-    /// As `digest`.
+    /// The scheme, as `digest`.
     pub scheme: T,
-    /// What the scheme wants.
+    /// What the scheme asks for, as a name and a password.
     pub auth: B,
 }
 
-/// AuthAsk with memory of its own.
+/// An owned `AuthAsk`.
 pub type AuthAsk = AuthAskOf<Text, Blob>;
 
-/// AuthAsk where it lies in a payload.
+/// A borrowed `AuthAsk`.
 pub type AuthAskRef<'a> = AuthAskOf<TextRef<'a>, BlobRef<'a>>;
 
 impl Spell for AuthAsk {
@@ -47,23 +47,23 @@ impl Wire for AuthAsk {
     ghost written = { refl };
 }
 
-/// Watches are to be set again after a reconnect: `SetWatches`.
+/// Sets watches again, after a reconnect: `SetWatches`.
 #[derive(Debug, Drop)]
 pub struct SetWatchesAskOf<L> {
-    /// `relativeZxid` in jute: the newest transaction that the client has seen.
+    /// The newest transaction that the client has seen; `relativeZxid` in jute.
     pub zxid: i64,
-    /// Paths.
+    /// The paths of nodes whose data is watched.
     pub data_watches: L,
-    /// Paths.
+    /// The paths whose coming into being is watched.
     pub exist_watches: L,
-    /// Paths.
+    /// The paths of nodes whose children are watched.
     pub child_watches: L,
 }
 
-/// SetWatchesAsk with memory of its own.
+/// An owned `SetWatchesAsk`.
 pub type SetWatchesAsk = SetWatchesAskOf<List<Text>>;
 
-/// SetWatchesAsk where it lies in a payload.
+/// A borrowed `SetWatchesAsk`.
 pub type SetWatchesAskRef<'a> = SetWatchesAskOf<TextList<'a>>;
 
 impl Spell for SetWatchesAsk {

@@ -1,4 +1,4 @@
-//! What is known of a node: `Stat` of zookeeper.jute.
+//! The record `Stat` of zookeeper.jute: what is known of a node.
 ghost use Rattle.std.specs.Prelude.{◌≡◌, refl};
 ghost use Rattle.zk_records.specs.Records.{stat};
 
@@ -18,14 +18,15 @@ pub struct Stat {
     pub mtime: i64,
     /// How often its data was set.
     pub version: i32,
-    /// How often its children changed.
+    /// How often its data was set.
     pub cversion: i32,
     /// How often its access list was set.
     pub aversion: i32,
     /// The session that it ends with; 0 for none.
     pub ephemeral_owner: i64,
-    /// Bytes.
+    /// The length of its data in bytes.
     pub data_length: i32,
+    /// The number of its children.
     pub num_children: i32,
     /// The transaction that last changed its children.
     pub pzxid: i64,
@@ -46,7 +47,6 @@ impl Form for Stat {
 }
 
 impl<P: Origin> Stands<P> for Stat {
-    // Read in registers where only the end is asked for (number.rt of zk_jute).
     #[inline(always)]
     fn decode(src: &P, place: usize) -> Result<(Self, usize), ItemFault> {
         decode!(src, place => Stat { czxid, mzxid, ctime, mtime, version, cversion, aversion, ephemeral_owner, data_length, num_children, pzxid })
