@@ -1,4 +1,4 @@
--- Requests, judged where they lie.
+-- Requests and parts, by where they begin and end.
 use Rattle.std.specs.Prelude.{◌≡◌, ℕ, ℤ, List, []}
 use Rattle.zk_jute.specs.Item.{HaveBytes}
 use Rattle.zk_jute.specs.Layout.{IsValueOf}
@@ -15,15 +15,15 @@ use Rattle.zk_asks.specs.Parts.{part_layout, op_of_part, record_of}
 use Rattle.zk_asks.specs.Rows.{op_of_ask, body_items}
 use Rattle.zk_asks.specs.Frames.{ops_of_ask, IsSent, payload}
 
--- the body of a request of this operation, and without parts, stands from the place on, and ends there
+-- the body of a request of this operation, and without parts, is at the place, and ends there
 abbrev pub IsBodyAlone : Op → List ℕ → ℕ → ℕ → Type 0
 IsBodyAlone op src place end = (a : Ask) × (op_of_ask a ≡ op) × (ops_of_ask a ≡ []) × HaveBytes (body_items a) × StandsAt (body_items a) src place end
 
--- the record of a part of this operation stands there, and ends there
+-- the record of a part of this operation is at the place, and ends there
 abbrev pub IsRecordAt : PartOp → List ℕ → ℕ → ℕ → Type 0
 IsRecordAt op src place end = (p : Part) × (op_of_part p ≡ op) × IsValueOf (part_layout op) (record_of p) × StandsAt (record_of p) src place end
 
--- the header of a request of the profile, of this operation, under this xid, which it may have, stands in front, and ends there
+-- the header of a request of the profile, with this operation and this xid, which it may have, is in front, and ends there
 abbrev pub IsHeadAt : Profile → ℤ → Op → List ℕ → ℕ → Type 0
 IsHeadAt profile xid op src end = HasOp profile op × IsAllowed xid op × HaveBytes (header_items xid (op_number op)) × StandsAt (header_items xid (op_number op)) src 0 end
 
@@ -31,6 +31,6 @@ IsHeadAt profile xid op src end = HasOp profile op × IsAllowed xid op × HaveBy
 abbrev pub IsAsked : Profile → ℤ → Op → List PartOp → List ℕ → Type 0
 IsAsked profile xid op parts bytes = HasOp profile op × ((a : Ask) × (op_of_ask a ≡ op) × (ops_of_ask a ≡ parts) × IsSent (frame.Ask xid a) × (bytes ≡ payload (frame.Ask xid a)))
 
--- likewise, and it has no parts
+-- the same, and it has no parts
 abbrev pub IsAlone : Profile → ℤ → Op → List ℕ → Type 0
 IsAlone profile xid op bytes = IsAsked profile xid op [] bytes

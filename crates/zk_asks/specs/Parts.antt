@@ -45,14 +45,14 @@ record_of (part.Check body) = check_ask.items body
 abbrev pub part_layout : PartOp → Layout
 part_layout op = (part_row op).wired.layout
 
--- the header that stands before a part, and the one behind the last part
+-- the header before a part, and the one after the last part
 abbrev pub part_header : PartOp → MultiHeader
 part_header op = record { kind = part_number op; done = false; err = negsuc 0 }
 
 abbrev pub end_header : MultiHeader
 end_header = record { kind = negsuc 0; done = true; err = negsuc 0 }
 
--- the headers that may stand in a request
+-- the headers that a request may have
 abbrev pub MayStand : MultiHeader → Type 0
 MayStand header = ((op : PartOp) × (header ≡ part_header op)) ⊎ (header ≡ end_header)
 

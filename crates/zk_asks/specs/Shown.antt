@@ -1,4 +1,4 @@
--- Parts that lie in a payload, as values of its bytes.
+-- Borrowed parts, as values of their payload's bytes.
 use Rattle.std.specs.Prelude.{ℕ, ◌+◌, ℤ, List, [], ◌∷◌, Option, Some, None}
 use Rattle.std.specs.Map.{lookup}
 use Rattle.std.specs.Ordering.{int_eq}
@@ -58,10 +58,10 @@ record_value (Some parts.Delete) src place = read_map part.Delete (delete_value 
 record_value (Some parts.SetData) src place = read_map part.SetData (set_data_value src place)
 record_value (Some parts.Check) src place = read_map part.Check (check_value src place)
 
--- the part that stands at a place, behind the nine bytes of its header
+-- the part at a place, after the nine bytes of its header
 abbrev pub part_value : List ℕ → ℕ → Read Part
 part_value src place = int_at src place >>= λ kind. record_value (part_numbered kind.0) src (place + 9)
 
--- so many of them
+-- `count` of them
 abbrev pub parts_at : List ℕ → ℕ → ℕ → List Part
 parts_at src count place = values_at (part_value src) count place

@@ -1,11 +1,12 @@
-//! A request without parts, by its operation.
+//! `Alone`: a request without parts, reduced to its operation.
 ghost use Rattle.std.specs.Prelude.{[], refl};
 
 use crate::asked::{Asked, Room};
 use zk_records::{Op, PartOp};
 
-/// A request without parts, as its reply is read by.
+/// A request without parts, as an `Asked`.
 #[derive(Clone, Copy, Debug)]
+/// Its operation.
 pub struct Alone {
     pub op: Op,
 }

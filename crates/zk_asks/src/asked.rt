@@ -1,4 +1,4 @@
-//! What a request leaves for its reply.
+//! `Asked`: what of a request its reply is read by, its operation and those of its parts.
 ghost use Rattle.std.specs.Prelude.{◌≡◌, ◌≢◌, ◌+◌, ◌<◌, ◌≤◌, ◌↔◌, ◌∷◌, ◌++◌, ℕ, List, [], length, Option, Some, None};
 ghost use Rattle.std.specs.List.{slice_get};
 ghost use Rattle.zk_records.specs.declared.op.Op.{Op};
@@ -7,14 +7,14 @@ ghost use Rattle.zk_records.specs.declared.op.PartOp.{PartOp};
 
 use zk_records::{Op, PartOp};
 
-/// Where the operations of parts are put, in order.
+/// What takes the operations of parts, in order.
 pub trait Room {
     ghost ops: { Self → List PartOp };
 
-    /// How many it holds at most.
+    /// How many more it takes at most.
     ghost room: { Self → ℕ };
 
-    /// Puts one more behind the others.
+    /// Appends `op`.
     fn push(&mut self, op: PartOp)
         requires { length (ops self.old) < room self.old }
         ensures pushed { ops self.new ≡ ops self.old ++ op ∷ [] }
@@ -28,19 +28,19 @@ pub trait Asked {
     /// The operations of a multi's parts, in order.
     ghost part_ops: { Self → List PartOp };
 
-    /// Which operation was asked.
+    /// The operation.
     fn op(&self) -> Op
         ensures { result ≡ operation self.now };
 
-    /// How many parts there are.
+    /// The number of parts.
     fn parts(&self) -> u32
         ensures { result ≡ length (part_ops self.now) };
 
-    /// The operation of a part, counted from 0; None past the last one.
+    /// The operation of the part `j`, counted from 0; `None` past the last one.
     fn part(&self, j: u32) -> Option<PartOp>
         ensures { result ≡ slice_get (part_ops self.now) j };
 
-    /// Puts the operations of all parts behind what is in the room.
+    /// Appends the operations of all parts to `room`.
     fn put_ops<R: Room>(&self, room: &mut R)
         requires { length (R.ops room.old) + length (part_ops self.now) ≤ R.room room.old }
         ensures put { R.ops room.new ≡ R.ops room.old ++ part_ops self.now }
@@ -51,13 +51,13 @@ pub trait Asked {
         }
     }
 
-    /// Nothing but a multi has parts.
+    /// Only a multi has parts.
     ghost lawful: { (x : Self) → operation x ≢ ops.Multi → part_ops x ≡ [] };
 }
 
-/// The laws of what was asked.
+/// The laws of `Asked`; the function does nothing.
 pub fn asked_laws<T: Asked>()
-    // There is a part exactly below their number.
+    // There is a part `j` exactly if `j` is below their number.
     ensures part { (x : T) (j : ℕ) → (j < length (T.part_ops x)) ↔ ((op : PartOp) × (slice_get (T.part_ops x) j ≡ Some op)) }
     // Their number is 0 for everything but a multi.
     ensures none { (x : T) → T.operation x ≢ ops.Multi → length (T.part_ops x) ≡ 0 }

@@ -1,4 +1,4 @@
-//! Client payloads where they lie: what their readers decide, without memory.
+//! `borrow_first`, `borrow_ask`: a client's payload judged and returned borrowed, without memory.
 ghost use Rattle.std.specs.Prelude.{◌≡◌, ◌≤◌, Ok, length, IfOk, IfErr};
 ghost use Rattle.zk_jute.specs.declared.fault.Reason.TheVariants.{NoMemory};
 ghost use Rattle.zk_jute.specs.Item.{HaveBytes};
@@ -19,9 +19,9 @@ use zk_records::{
     RequestHeader, SetAclAskRef, SetDataAskRef, SetWatchesAskRef, WatchAskRef, op_of,
 };
 
-/// The record of an operation, judged or known to stand there.
+/// The record of the operation `op` at `place`, and the place after it; judged, or known to be there.
 #[tactic(auto, using(crate::proofs::Lying::fields_lying))]
-// A step asks front.rt first, which makes no record.
+// No inline hint: zk_talk asks front.rt first, which makes no record.
 pub(crate) fn body_ref<'a, const KNOWN: bool>(
     src: &PayloadOf<'a, KNOWN>,
     place: usize,
@@ -83,14 +83,13 @@ fn ask_ref<'a>(profile: Profile, src: &Payload<'a>) -> Result<ClientRef<'a>, Ite
     })
 }
 
-/// A later payload of a client where it lies: decides as `read_ask` does, takes no memory, and
-/// never answers `NoMemory`.
+/// A later payload of a client, borrowed. Decides as `read_ask` does, allocates nothing, and never returns `NoMemory`.
 pub fn borrow_ask<'a>(profile: Profile, payload: &'a [u8]) -> Result<ClientRef<'a>, ItemFault>
     // What is read has the form, and is the payload's one value.
     ensures found { IfOk result (λ f. IsLater f × IsOfProfile profile f × IsSent f × (payload.now ≡ frames.payload f)) }
     // What has the form is read.
     ensures only { (f : ClientFrame) → IsLater f → IsOfProfile profile f → IsSent f → payload.now ≡ frames.payload f → result ≡ Ok f }
-    // Else the first case that applies is told.
+    // Else the first case that applies is reported.
     ensures fault { IfErr result (IsSurelyTold (IsAskFault profile payload.now)) }
 {
     ask_ref(profile, &Payload { bytes: payload })
@@ -104,14 +103,14 @@ fn first_in<'a>(payload: &'a [u8]) -> Result<ClientRef<'a>, ItemFault>
     Ok(ClientFrameOf::Connect { hello, read_only })
 }
 
-/// The first payload of a client where it lies: decides as `read_first` does, takes no memory, and
-/// never answers `NoMemory`.
+/// The first payload of a client, borrowed. Decides as `read_first` does, allocates nothing, and never returns
+/// `NoMemory`.
 pub fn borrow_first<'a>(payload: &'a [u8]) -> Result<ClientRef<'a>, ItemFault>
     // What is read has the form, and is the payload's one value.
     ensures found { IfOk result (λ f. IsFirst f × IsSent f × (payload.now ≡ frames.payload f)) }
     // What has the form is read.
     ensures only { (f : ClientFrame) → IsFirst f → IsSent f → payload.now ≡ frames.payload f → result ≡ Ok f }
-    // Else the first case that applies is told.
+    // Else the first case that applies is reported.
     ensures fault { IfErr result (IsSurelyTold (IsFirstFault payload.now)) }
 {
     first_in(payload)

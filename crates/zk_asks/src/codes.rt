@@ -1,11 +1,11 @@
-//! Which xids requests have.
+//! Which xids the requests of an operation may have.
 ghost use Rattle.std.specs.Prelude.{IsTrue, ◌↔◌};
 ghost use Rattle.zk_asks.specs.Codes.{IsAllowed};
 
 use zk_records::Op;
 
-/// Whether a request of the operation may have the xid: -1 is that of events, -2 that of pings
-/// and of nothing else, -4 that of auths likewise, and under -8 comes setWatches alone
+/// Whether a request of the operation `op` may have the xid `xid`. -1 is the xid of events, and no request's; -2 is
+/// that of pings and of nothing else; -4 that of auths and of nothing else; under -8 comes setWatches alone
 /// (`ClientCnxn`).
 pub fn allowed(xid: i32, op: Op) -> bool
     ensures { IsTrue result ↔ IsAllowed xid op }

@@ -1,4 +1,4 @@
-//! What a client sends: a connect request, then requests.
+//! `ClientFrame`, `Ask` and `Part`: what a client sends, a connect request and then requests.
 ghost use Rattle.std.specs.Prelude.{◌≡◌};
 ghost use Rattle.zk_asks.specs.Parts.{op_of_part};
 ghost use Rattle.zk_asks.specs.Rows.{op_of_ask};
@@ -11,7 +11,7 @@ use zk_records::{
     PathAskOf, SetAclAskOf, SetDataAskOf, SetWatchesAskOf, WatchAskOf,
 };
 
-/// A part of a multi: what `MultiTransactionRecord` may hold.
+/// A part of a multi, as `MultiTransactionRecord` holds it: the record of its operation.
 #[derive(Debug, Drop)]
 pub enum PartOf<T, B, A> {
     Create(CreateAskOf<T, B, A>),
@@ -20,14 +20,14 @@ pub enum PartOf<T, B, A> {
     Check(CheckAskOf<T>),
 }
 
-/// Part with memory of its own.
+/// An owned `Part`.
 pub type Part = PartOf<Text, Blob, List<Acl>>;
 
-/// Part where it lies in a payload.
+/// A borrowed `Part`.
 pub type PartRef<'a> = PartOf<TextRef<'a>, BlobRef<'a>, AclList<'a>>;
 
 impl<T, B, A> PartOf<T, B, A> {
-    /// Which operation it is.
+    /// The part's operation.
     pub fn op(&self) -> PartOp
         ensures { result ≡ op_of_part self.now }
     {
@@ -40,8 +40,7 @@ impl<T, B, A> PartOf<T, B, A> {
     }
 }
 
-/// What is asked: the record that follows a request's header, by the operations of
-/// `ZooDefs.OpCode`.
+/// A request without its header: the record of its operation, by the operations of `ZooDefs.OpCode`.
 #[derive(Debug, Drop)]
 pub enum AskOf<T, B, L, A, M> {
     Create(CreateAskOf<T, B, A>),
@@ -62,14 +61,14 @@ pub enum AskOf<T, B, L, A, M> {
     CloseSession,
 }
 
-/// Ask with memory of its own.
+/// An owned `Ask`.
 pub type Ask = AskOf<Text, Blob, List<Text>, List<Acl>, Items<Part>>;
 
-/// Ask where it lies in a payload.
+/// A borrowed `Ask`.
 pub type AskRef<'a> = AskOf<TextRef<'a>, BlobRef<'a>, TextList<'a>, AclList<'a>, PartList<'a>>;
 
 impl<T, B, L, A, M> AskOf<T, B, L, A, M> {
-    /// Which operation it is.
+    /// The request's operation.
     pub fn op(&self) -> Op
         ensures { result ≡ op_of_ask self.now }
     {
@@ -109,21 +108,20 @@ impl<T, B, L, A, P> AskOf<T, B, L, A, Items<P>> {
 /// What a client sends in one frame (`ClientCnxn`).
 #[derive(Debug, Drop)]
 pub enum ClientFrameOf<B, A> {
-    /// The connect request, and the boolean that newer clients write behind it: whether a
-    /// read-only server will do.
+    /// The connect request, and the boolean that newer clients write after it: whether a read-only server will do.
     Connect {
         hello: ConnectRequestOf<B>,
         read_only: Option<bool>,
     },
-    /// A request, under the number that its reply repeats.
+    /// A request, with the xid that its reply repeats.
     Ask {
         xid: i32,
         ask: A,
     },
 }
 
-/// ClientFrame with memory of its own.
+/// An owned `ClientFrame`.
 pub type ClientFrame = ClientFrameOf<Blob, Ask>;
 
-/// ClientFrame where it lies in a payload.
+/// A borrowed `ClientFrame`.
 pub type ClientRef<'a> = ClientFrameOf<BlobRef<'a>, AskRef<'a>>;

@@ -1,4 +1,4 @@
-//! Requests, judged where they lie, by where their records end: no frame is made.
+//! `front_ask`, `front_multi`: requests judged by where their records end; no frame is made.
 ghost use Rattle.std.specs.Prelude.{◌≤◌, length, map, IfSome};
 ghost use Rattle.zk_records.specs.declared.op.Op.TheVariants as ops;
 ghost use Rattle.zk_asks.specs.Parts.{op_of_part};
@@ -14,8 +14,7 @@ use zk_records::{
     SetDataAskRef, SetWatchesAskRef, WatchAskRef, op_of,
 };
 
-/// The place after the record of an operation that has no parts; None says no more.
-// The hints of this file and of front.rt in zk_answers take 5% of the instructions off `check` on small messages.
+/// The place after the record of `op` at `place`, if `op` has no parts; `None`: undecided.
 #[inline(always)]
 fn body_end(payload: &[u8], place: usize, op: Op) -> Option<usize>
     requires { place ≤ length payload.now }
@@ -38,8 +37,8 @@ fn body_end(payload: &[u8], place: usize, op: Op) -> Option<usize>
     }
 }
 
-/// The xid and the operation of a later payload of a client, which may go together, and the place after its header; None
-/// says no more.
+/// The xid and the operation that a later payload of a client begins with, if they may go together, and the place after
+/// its header; `None`: undecided.
 #[inline(always)]
 fn asked_head(profile: Profile, payload: &[u8]) -> Option<(i32, Op, usize)>
     ensures some { IfSome result (λ r. IsHeadAt profile r.0 r.1 payload.now r.2) }
@@ -55,8 +54,8 @@ fn asked_head(profile: Profile, payload: &[u8]) -> Option<(i32, Op, usize)>
     Some((header.xid, op, place))
 }
 
-/// The xid of a later payload of a client, and what it asks, where it is that of a request without parts; None says no
-/// more: `front_multi` and `borrow_ask` decide.
+/// The xid and the operation of `payload`, if it is a request without parts; `None`: undecided, as `front_multi` and
+/// `borrow_ask` decide.
 #[inline(always)]
 pub fn front_ask(profile: Profile, payload: &[u8]) -> Option<(i32, Alone)>
     ensures some { IfSome result (λ r. IsAlone profile r.0 r.1.op payload.now) }
@@ -69,8 +68,7 @@ pub fn front_ask(profile: Profile, payload: &[u8]) -> Option<(i32, Alone)>
     Some((xid, Alone { op }))
 }
 
-/// The xid of a later payload of a client, and its parts, where it is that of a multi; None says no more: `borrow_ask`
-/// decides.
+/// The xid and the parts of `payload`, if it is a multi; `None`: undecided, as `borrow_ask` decides.
 pub fn front_multi<'a>(profile: Profile, payload: &'a [u8]) -> Option<(i32, MultiRef<'a>)>
     ensures some { IfSome result (λ r. IsAsked profile r.0 ops.Multi (map op_of_part r.1.list) payload.now) }
 {

@@ -1,4 +1,4 @@
-//! Client payloads that are known to be frames, where they lie.
+//! `client_ref`: a payload that is known to be a client's frame, borrowed without a judgement.
 ghost use Rattle.std.specs.Prelude.{◌≡◌};
 ghost use Rattle.zk_asks.specs.Held.{ClientFrame};
 ghost use Rattle.zk_asks.specs.Frames.{IsLater, IsSent, IsTurn};
@@ -23,8 +23,8 @@ fn known_ask<'a>(src: &KnownPayload<'a>) -> ClientRef<'a>
     }
 }
 
-/// The frame that the payload is known to be, the client's first one or a later one, where it
-/// lies: no memory is taken, and nothing is judged again.
+/// The frame that `payload` is known to be, the client's `first` one or a later one, borrowed. Nothing is allocated, and
+/// nothing is judged again.
 pub fn client_ref(first: bool, payload: &[u8]) -> ClientRef<'_>
     requires { (f : ClientFrame) × IsTurn first f × IsSent f × (payload.now ≡ frames.payload f) }
     ensures { (f : ClientFrame) → IsTurn first f → IsSent f → payload.now ≡ frames.payload f → result ≡ f }

@@ -1,9 +1,9 @@
-//! What the headers of a multi stand before (`MultiTransactionRecord.deserialize`).
+//! `Mark`: what comes after a header within a multi (`MultiTransactionRecord.deserialize`).
 ghost use Rattle.zk_asks.specs.Multi.{Marks};
 
 use zk_records::{MultiHeader, PartOp, part_of};
 
-/// What a header of a multi stands before.
+/// What comes after a header within a multi: a part, nothing, or what can't be read.
 #[derive(Drop)]
 pub(crate) enum Mark {
     Part(PartOp),

@@ -1,4 +1,4 @@
-//! Copies, with memory of their own, of what a client sends.
+//! Owned copies of borrowed client frames.
 ghost use Rattle.std.specs.Prelude.{◌≡◌};
 
 use crate::frame::{

@@ -1,4 +1,4 @@
-//! The parts of a multi where they lie in a payload.
+//! `PartList`: the parts of a multi, borrowed from its payload, and the iterator over them.
 ghost use Rattle.std.specs.Prelude.{◌≡◌, ◌≤◌, ◌∷◌, ℕ, [], Ok, Some, length, IfOk, IfErr, IfSome, MatchOption};
 ghost use Rattle.std.specs.Iterator.{YieldsFirst, UpTo, item_count};
 ghost use Rattle.std.specs.Iterator.SizeHint.{IsWithinCount};
@@ -21,7 +21,7 @@ use zk_records::{
     CheckAskRef, CreateAskRef, DeleteAskRef, MultiHeader, PartOp, SetDataAskRef, part_of,
 };
 
-/// The parts of a multi where they lie.
+/// The parts of a multi, borrowed.
 #[derive(Drop)]
 pub struct PartList<'a> {
     payload: &'a [u8],
@@ -53,7 +53,6 @@ impl<'a> PartList<'a> {
     }
 
     /// The parts, in order.
-    // As `op_of` of zk_records.
     #[inline(always)]
     pub fn items(&self) -> PartItems<'a>
         ensures { result ≡ self.now }
@@ -66,7 +65,7 @@ impl<'a> PartList<'a> {
     }
 }
 
-/// The parts of a multi that are left.
+/// The iterator over a multi's parts: those that are left.
 #[derive(Drop)]
 pub struct PartItems<'a> {
     payload: &'a [u8],
@@ -99,7 +98,7 @@ impl<'a> Iterator for PartItems<'a> {
         if self.left == 0 {
             return None;
         }
-        // All that are left stand there.
+        // All parts that are left are known to be there.
         let src = KnownPayload {
             bytes: self.payload,
         };
@@ -127,7 +126,7 @@ impl<'a> ExactSizeIterator for PartItems<'a> {
     }
 }
 
-/// The record of a part, judged or known to stand there.
+/// The record of a part of the operation `op` at `place`, and the place after it; judged, or known to be there.
 fn record_ref<'a, const KNOWN: bool>(
     src: &PayloadOf<'a, KNOWN>,
     place: usize,
@@ -153,7 +152,7 @@ fn record_ref<'a, const KNOWN: bool>(
     }
 }
 
-/// The place after the record of a part; None says no more. No record is made.
+/// The place after the record of a part of the operation `op` at `place`; `None`: undecided. No record is made.
 fn part_end(payload: &[u8], place: usize, op: PartOp) -> Option<usize>
     requires { place ≤ length payload.now }
     ensures some { IfSome result (λ end. IsRecordAt op payload.now place end) }
@@ -167,8 +166,7 @@ fn part_end(payload: &[u8], place: usize, op: PartOp) -> Option<usize>
     }
 }
 
-/// The place after the record of a part, judged or known to stand there.
-// As `op_of` of zk_records.
+/// The place after the record of a part of the operation `op` at `place`; judged, or known to be there.
 #[inline(always)]
 fn record_end<const KNOWN: bool>(
     src: &PayloadOf<'_, KNOWN>,
@@ -190,7 +188,7 @@ fn record_end<const KNOWN: bool>(
     Ok(end)
 }
 
-/// The part that is known to stand at a place, and the place after it.
+/// The part that is known to be at `place`, and the place after it.
 fn part_in<'a>(src: &KnownPayload<'a>, place: usize) -> (PartRef<'a>, usize)
     requires place { place ≤ length src.now.bytes.now }
     requires known { OneStands part_items src.now.bytes.now place }
@@ -202,7 +200,7 @@ fn part_in<'a>(src: &KnownPayload<'a>, place: usize) -> (PartRef<'a>, usize)
     record_ref(src, after, op).unwrap()
 }
 
-/// The operation of the part at a place, and the place after it. No part is made.
+/// The operation of the part at `place`, and the place after it. No part is made.
 fn op_in(src: &Payload<'_>, place: usize) -> Result<(PartOp, usize), ItemFault>
     requires { place ≤ length src.now.bytes.now }
     ensures { (p : Part) (end : ℕ) → HaveBytes (part_items p) → StandsAt (part_items p) src.now.bytes.now place end → result ≡ Ok (op_of_part p, end) }
@@ -219,7 +217,7 @@ fn op_in(src: &Payload<'_>, place: usize) -> Result<(PartOp, usize), ItemFault>
 }
 
 impl<'a> PartItems<'a> {
-    /// The operation of the next part, which is passed over; no part is made.
+    /// Passes over the next part and returns its operation; no part is made.
     pub(crate) fn pass(&mut self) -> Option<PartOp>
         ensures { MatchOption result ((self.old ≡ []) × (self.new ≡ [])) (λ op. (p : Part) × (op_of_part p ≡ op) × (self.old ≡ p ∷ self.new)) }
     {
@@ -235,13 +233,13 @@ impl<'a> PartItems<'a> {
                 self.left -= 1;
                 Some(op)
             }
-            // All that are left stand there.
+            // All parts that are left are known to be there.
             Err(_) => None,
         }
     }
 }
 
-/// So many parts of the payload, from a place on.
+/// The list of `count` parts that are known to be in `payload` from `place` on.
 fn lying<'a>(payload: &'a [u8], count: usize, place: usize) -> PartList<'a>
     requires { Begins part_items payload.now count place }
     ensures { result ≡ parts_at payload.now count place }
@@ -253,7 +251,7 @@ fn lying<'a>(payload: &'a [u8], count: usize, place: usize) -> PartList<'a>
     }
 }
 
-/// The parts from a place on, judged or known to stand there, and the place behind the end marker.
+/// The parts from `place` on, and the place after the end marker; judged, or known to be there.
 pub(crate) fn multi_ref<'a, const KNOWN: bool>(
     src: &PayloadOf<'a, KNOWN>,
     place: usize,

@@ -1,4 +1,4 @@
-//! A request where it lies, as its reply is read by.
+//! `MultiRef`, `RequestRef`: borrowed requests, as an `Asked`.
 ghost use Rattle.std.specs.Prelude.{◌≡◌, ◌<◌, ◌≤◌, ◌+◌, ◌^◌, ◌++◌, length, map, refl};
 ghost use Rattle.std.specs.List.{slice_get};
 ghost use Rattle.zk_records.specs.declared.op.Op.TheVariants as ops;
@@ -11,7 +11,7 @@ use crate::frame::{AskOf, AskRef};
 use crate::part_list::{PartItems, PartList};
 use zk_records::{Op, PartOp};
 
-/// The operation of a part, counted from 0; None past the last one.
+/// The operation of the part `j`, counted from 0; `None` past the last one.
 fn op_at(list: &PartList<'_>, j: u32) -> Option<PartOp>
     ensures { result ≡ slice_get (map op_of_part list.now) j }
 {
@@ -24,7 +24,7 @@ fn op_at(list: &PartList<'_>, j: u32) -> Option<PartOp>
     Some(items.next()?.op())
 }
 
-/// Puts the operations of all parts that are left behind what is in the room.
+/// Appends the operations of all parts that are left to `room`.
 fn put_all<'a, R: Room>(parts: PartItems<'a>, room: &mut R)
     requires { length (R.ops room.old) + length (map op_of_part parts) ≤ R.room room.old }
     ensures put { R.ops room.new ≡ R.ops room.old ++ map op_of_part parts.entry }
@@ -36,9 +36,10 @@ fn put_all<'a, R: Room>(parts: PartItems<'a>, room: &mut R)
     }
 }
 
-/// A multi, as its reply is read by: it takes no memory, and `part` walks over the parts before.
+/// A borrowed multi, as an `Asked`. Nothing is allocated, and `part` walks over the parts before.
 #[derive(Drop)]
 pub struct MultiRef<'a> {
+    /// The parts.
     pub list: PartList<'a>,
     /// At most 4,294,967,295 parts.
     pub ghost bounded: { length list < 2 ^ 32 },
@@ -68,16 +69,17 @@ impl<'a> Asked for MultiRef<'a> {
     ghost lawful = { λ m other. absurd (other refl) };
 }
 
-/// A request where it lies, as an `Asked`: it takes no memory, and `part` walks over the parts before.
+/// A borrowed request, as an `Asked`. Nothing is allocated, and `part` walks over the parts before.
 #[derive(Drop)]
 pub struct RequestRef<'b, 'a> {
+    /// The request without its header.
     pub ask: &'b AskRef<'a>,
     /// At most 4,294,967,295 parts.
     pub ghost bounded: { length (ops_of_ask ask.now) < 2 ^ 32 },
 }
 
 impl<'b, 'a> RequestRef<'b, 'a> {
-    /// The request, which has fewer than 4,294,967,296 parts.
+    /// Wraps a request of fewer than 4,294,967,296 parts.
     pub fn of(ask: &'b AskRef<'a>) -> Self
         requires { length (ops_of_ask ask.now) < 2 ^ 32 }
         ensures { result.ask.now ≡ ask.now }

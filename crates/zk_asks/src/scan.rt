@@ -1,4 +1,4 @@
-//! What the readers of client payloads decide, without memory.
+//! `scan_first`, `scan_ask`: what the readers decide, without memory, of which the `Asked` is kept.
 ghost use Rattle.std.specs.Prelude.{◌≡◌, ◌<◌, ◌^◌, length, Ok, IsOk, IfOk, IfErr};
 ghost use Rattle.zk_asks.specs.declared.frame.ClientFrameOf.TheVariants as frame;
 ghost use Rattle.zk_asks.specs.Held.{ClientFrame};
@@ -18,7 +18,9 @@ use zk_records::{Op, PartOp, Profile};
 /// A request that was scanned: its xid, and what its reply is read by.
 #[derive(Drop)]
 pub struct Scan<'a> {
+    /// The request's xid.
     pub xid: i32,
+    /// The request without its header.
     pub ask: AskRef<'a>,
     /// At most 4,294,967,295 parts.
     pub ghost bounded: { length (ops_of_ask ask) < 2 ^ 32 },
@@ -57,8 +59,7 @@ impl<'a> Asked for Scan<'a> {
     ghost lawful = { λ s. others_have_none s.ask };
 }
 
-/// Whether the payload is a client's first: decides as `read_first` does, takes no memory, and never answers
-/// `NoMemory`.
+/// Judges a client's first payload: decides as `read_first` does, allocates nothing, and never returns `NoMemory`.
 pub fn scan_first(payload: &[u8]) -> Result<(), ItemFault>
     ensures found { IfOk result (λ _. (f : ClientFrame) × IsFirst f × IsSent f × (payload.now ≡ frames.payload f)) }
     ensures only { (f : ClientFrame) → IsFirst f → IsSent f → payload.now ≡ frames.payload f → IsOk result }
@@ -70,7 +71,7 @@ pub fn scan_first(payload: &[u8]) -> Result<(), ItemFault>
     }
 }
 
-/// What a later payload of a client asks: decides as `read_ask` does, takes no memory, and never answers `NoMemory`.
+/// A later payload of a client: decides as `read_ask` does, allocates nothing, and never returns `NoMemory`.
 pub fn scan_ask<'a>(profile: Profile, payload: &'a [u8]) -> Result<Scan<'a>, ItemFault>
     requires { length payload.now < 2 ^ 32 }
     ensures found { IfOk result (λ s. IsOfProfile profile (frame.Ask s.xid s.ask) × IsSent (frame.Ask s.xid s.ask) × (payload.now ≡ frames.payload (frame.Ask s.xid s.ask))) }

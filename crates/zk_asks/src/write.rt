@@ -1,4 +1,4 @@
-//! Writing client payloads.
+//! `write_client`, `size_within`: how client payloads are written.
 ghost use Rattle.std.specs.Prelude.{◌≡◌, ◌++◌, OnOk, OnErr};
 ghost use Rattle.zk_jute.specs.Item.{Fit, IsSizeWithin};
 ghost use Rattle.zk_records.specs.Codes as codes;
@@ -12,7 +12,7 @@ use std::alloc::AllocError;
 use zk_jute::{Output, Spell};
 use zk_records::{MultiHeader, Op, PartOp, RequestHeader, op_number, part_number};
 
-/// The header that stands before a part (`MultiTransactionRecord.serialize`).
+/// The header before a part of the operation `op` (`MultiTransactionRecord.serialize`).
 fn part_header(op: PartOp) -> MultiHeader
     ensures { result ≡ parted.part_header op }
 {
@@ -23,7 +23,7 @@ fn part_header(op: PartOp) -> MultiHeader
     }
 }
 
-/// The header behind the last part.
+/// The header after the last part.
 fn end_header() -> MultiHeader
     ensures { result ≡ parted.end_header }
 {
@@ -43,7 +43,7 @@ fn request_header(xid: i32, op: Op) -> RequestHeader
     }
 }
 
-/// The variants of a part: `$body` is its record.
+/// A match over the variants of a part: `$body` is the arm's value, over the part's record.
 macro_rules! match_part {
     ($part:expr, $body:ident => $each:expr) => {
         match $part {
@@ -55,7 +55,7 @@ macro_rules! match_part {
     };
 }
 
-/// The variants of an ask: `$body` is what follows its header.
+/// A match over the variants of an ask: `$body` is the arm's value, over what follows the header.
 macro_rules! match_ask {
     ($ask:expr, $body:ident => $each:expr) => {
         match $ask {
@@ -102,7 +102,7 @@ impl Spell for Ask {
 }
 
 impl ClientFrame {
-    /// The length of its payload in bytes; None where it has none or more than `limit` bytes.
+    /// The length of the frame's payload in bytes; `None` if it has none, or more than `limit`.
     pub fn size_within(&self, limit: u32) -> Option<u32>
         ensures { IsSizeWithin limit (frame_items self.now) result }
     {
@@ -115,8 +115,12 @@ impl ClientFrame {
     }
 }
 
-/// Appends a frame's payload: header and record, as `ClientCnxn.Packet.createBB` writes them behind
-/// the length. Where memory is refused, `out` is unchanged.
+/// Appends the payload of `frame` to `out`: header and record, as `ClientCnxn.Packet.createBB` writes them after the
+/// length.
+///
+/// # Errors
+///
+/// `AllocError` if memory is refused; then `out` is unchanged.
 pub fn write_client(frame: &ClientFrame, out: &mut Vec<u8>) -> Result<(), AllocError>
     requires allowed { MaySend frame.now }
     requires size { Fit 2147483647 (frame_items frame.now) }
