@@ -58,7 +58,7 @@ shape_in multi parts = Results parts
 abbrev pub body_shape : Op → List PartOp → Shape
 body_shape op parts = shape_in (row_of op) parts
 
--- behind a header with this err: nothing where the request has failed
+-- after a header with this err: nothing if the request has failed
 abbrev pub rest_shape : Op → List PartOp → ℤ → Shape
 rest_shape op parts (pos zero) = body_shape op parts
 rest_shape op parts (pos (suc n)) = Fields End

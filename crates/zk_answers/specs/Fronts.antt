@@ -1,4 +1,4 @@
--- Replies, judged where they lie.
+-- Replies and results, by where they begin and end.
 use Rattle.std.specs.Prelude.{◌≡◌, ℕ, ℤ, List}
 use Rattle.zk_jute.specs.Item.{HaveBytes}
 use Rattle.zk_jute.specs.Layout.{IsValueOf}
@@ -11,15 +11,15 @@ use Rattle.zk_answers.specs.Results.{Own, Answers, result_of, result_layout, don
 use Rattle.zk_answers.specs.Rows.{op_of_body, body_items}
 use Rattle.zk_answers.specs.Frames.{BodyFits, Fits, IsSent, payload}
 
--- a body of this operation, which whatever parts the request has it fits, stands from the place on, and ends there
+-- a body of this operation, which fits the request whatever parts that has, is at the place, and ends there
 abbrev pub IsBodyAlone : Op → List ℕ → ℕ → ℕ → Type 0
 IsBodyAlone op src place end = (b : Body) × (op_of_body b ≡ op) × ((parts : List PartOp) → BodyFits parts b) × HaveBytes (body_items b) × StandsAt (body_items b) src place end
 
--- a part's own result stands there, and ends there
+-- a part's own result is at the place, and ends there
 abbrev pub IsResultAt : PartOp → List ℕ → ℕ → ℕ → Type 0
 IsResultAt op src place end = (d : PartDone) × Own op d × IsValueOf (result_layout op) (result_of d) × StandsAt (result_of d) src place end
 
--- what became of a part stands there, with its header
+-- the result of a part is at the place, with its header
 abbrev pub IsDoneAt : PartOp → List ℕ → ℕ → ℕ → Type 0
 IsDoneAt op src place end = (d : PartDone) × Answers op d × HaveBytes (done_items d) × StandsAt (done_items d) src place end
 

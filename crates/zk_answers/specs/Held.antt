@@ -1,4 +1,4 @@
--- What a server sends, wherever its texts, blobs and lists lie.
+-- What a server sends, be its texts, blobs and lists owned or borrowed.
 use Rattle.std.specs.Prelude.{List}
 use Rattle.zk_jute.specs.Held.{Text, Blob, Vector}
 use Rattle.zk_records.specs.Held.{Acl}

@@ -20,29 +20,30 @@ use Rattle.zk_answers.specs.Faults.{Shape, Fields, Results, IsOfShape, rest_shap
 abbrev pub number_items : ℤ → List Item
 number_items e = AnInt e ∷ []
 
--- results of just these parts, or errors, each behind its header
+-- results of just these parts, or errors, each after its header
 pub data AreResults : List PartOp → List Item → Type 0 where
   no_result : AreResults [] []
   a_result : (op : PartOp) (ops : List PartOp) (result others : List Item) → IsValueOf (result_layout op) result → AreResults ops others → AreResults (op ∷ ops) (marked (result_header op) ++ (result ++ others))
   an_error : (op : PartOp) (ops : List PartOp) (e : ℤ) (others : List Item) → HaveBytes (marked (error_header e) ++ number_items e) → AreResults ops others → AreResults (op ∷ ops) (marked (error_header e) ++ (number_items e ++ others))
 
--- the header stands before no result of the next part, and before no error
+-- after the header comes no result of the next part, and no error
 abbrev pub Ends : List PartOp → MultiHeader → Type 0
 Ends [] header = Unit {0}
 Ends (op ∷ ops) header = (header ≢ result_header op) × ((e : ℤ) → header ≢ error_header e)
 
--- Results of the first of these parts, and then a header that stands before none: the end marker, or one that may not stand there. So an opening may end within a header, whatever its first numbers are.
+-- Results of the first of these parts, and then a header after which no result comes: the end marker, or one that can't come next.
+-- So an opening may end within a header, whatever its first numbers are.
 pub data AreMarked : List PartOp → List Item → Type 0 where
   last : (ops : List PartOp) (header : MultiHeader) → HaveBytes (marked header) → Ends ops header → AreMarked ops (marked header)
   result_before : (op : PartOp) (ops : List PartOp) (result others : List Item) → IsValueOf (result_layout op) result → AreMarked ops others → AreMarked (op ∷ ops) (marked (result_header op) ++ (result ++ others))
   error_before : (op : PartOp) (ops : List PartOp) (e : ℤ) (others : List Item) → HaveBytes (marked (error_header e) ++ number_items e) → AreMarked ops others → AreMarked (op ∷ ops) (marked (error_header e) ++ (number_items e ++ others))
 
--- a whole header that may not stand there, or an error whose int differs from its header's
+-- a whole header that can't come next, or an error whose int differs from its header's
 pub data IsBadMark : List PartOp → List ℕ → Type 0 where
   no_mark : (ops : List PartOp) (bytes rest : List ℕ) (header : MultiHeader) → HaveBytes (marked header) → (MayAnswer ops header → ⊥) → Opens bytes (marked header) rest → IsBadMark ops bytes
   no_number : (op : PartOp) (ops : List PartOp) (bytes rest : List ℕ) (e d : ℤ) → HaveBytes (marked (error_header e) ++ number_items d) → d ≢ e → Opens bytes (marked (error_header e) ++ number_items d) rest → IsBadMark (op ∷ ops) bytes
 
--- it stands behind the results of the parts before
+-- it comes after the results of the parts before
 pub data IsBadPart (ops : List PartOp) (bytes : List ℕ) : ℕ → Type 0 where
   bad_part : (before after : List PartOp) (results : List Item) (rest : List ℕ) → ops ≡ before ++ after → AreResults before results → Opens bytes results rest → IsBadMark after rest → IsBadPart ops bytes (length (bytes_of results))
 
@@ -61,7 +62,7 @@ IsBadIn (Results parts) bytes place = IsBadPart parts bytes place
 abbrev pub IsBehind : ReplyHeader → (List Item → Type 0) → List Item → Type 0
 IsBehind header Values items = (body : List Item) × Values body × (items ≡ reply_header.items header ++ body)
 
--- bytes that begin with the header: what can't come next in the items from its first on, a part's header or error that may not stand there, or bytes that are left
+-- bytes that begin with the header: what can't come next in the items from its first on, a part's header or error that can't come next, or bytes that are left
 pub data IsOpeningBehind (header : ReplyHeader) (shape : Shape) (bytes rest : List ℕ) : ℕ → Reason → Type 0 where
   of_item : (place : ℕ) (reason : Reason) → IsFault (IsBehind header (IsOpened shape)) bytes place reason → IsOpeningBehind header shape bytes rest place reason
   of_part : (place : ℕ) → IsBadIn shape rest place → IsOpeningBehind header shape bytes rest (16 + place) BadPart

@@ -51,7 +51,7 @@ Own op (done.DataSet s) = op ≡ parts.SetData
 Own op done.Checked = op ≡ parts.Check
 Own op (done.PartFailed e) = ⊥
 
--- what stands before it, and what stands behind that
+-- the header before it, and the items after that
 abbrev pub mark_before : PartDone → MultiHeader
 mark_before (done.Created path) = result_header parts.Create
 mark_before done.Deleted = result_header parts.Delete
@@ -73,7 +73,7 @@ AnswerAll [] (d ∷ ds) = ⊥
 AnswerAll (op ∷ ops) [] = ⊥
 AnswerAll (op ∷ ops) (d ∷ ds) = Answers op d × AnswerAll ops ds
 
--- the headers that may stand while these parts are left
+-- the headers that can come while these parts are left
 abbrev pub MayAnswer : List PartOp → MultiHeader → Type 0
 MayAnswer [] header = header ≡ end_header
 MayAnswer (op ∷ ops) header = (header ≡ result_header op) ⊎ ((e : ℤ) × (header ≡ error_header e))
@@ -101,7 +101,7 @@ pub data IsDoneFault : List PartOp → List ℕ → ℕ → Reason → Type 0 wh
   behind_error : (op : PartOp) (ops : List PartOp) (e : ℤ) (bytes rest : List ℕ) (behind : ℕ) (reason : Reason) → HaveBytes (marked (error_header e) ++ (AnInt e ∷ [])) → Opens bytes (marked (error_header e) ++ (AnInt e ∷ [])) rest
       → IsDoneFault ops rest behind reason → IsDoneFault (op ∷ ops) bytes (length (bytes_of (marked (error_header e) ++ (AnInt e ∷ []))) + behind) reason
 
--- what a header stands before, while a part is left
+-- what comes after a header, while a part is left
 abbrev pub ItsPlace : PartOp → MultiHeader → Mark → Type 0
 ItsPlace op header mark.Result = header ≡ result_header op
 ItsPlace op header mark.Error = header ≡ error_header header.err

@@ -1,4 +1,4 @@
--- What stands in a reply behind its header.
+-- What a reply has after its header.
 use Rattle.std.specs.Prelude.{◌≡◌, ℕ, ℤ, List}
 use Rattle.zk_records.specs.declared.op.Op.{Op}
 use Rattle.zk_records.specs.declared.op.PartOp.{PartOp}
@@ -8,11 +8,11 @@ use Rattle.zk_answers.specs.Held.{Body, Outcome}
 use Rattle.zk_answers.specs.Rows.{op_of_body, body_items}
 use Rattle.zk_answers.specs.Frames.{BodyFits, OutcomeFits, IsOutcome, err_of, rest_items}
 
--- the body of a reply to this operation and these parts stands from the place on, and ends there
+-- the body of a reply to this operation and these parts is at the place, and ends there
 abbrev pub IsBodyAt : Op → List PartOp → Body → List ℕ → ℕ → ℕ → Type 0
 IsBodyAt op parts body src place end = (op_of_body body ≡ op) × BodyFits parts body × HaveBytes (body_items body) × StandsAt (body_items body) src place end
 
--- what a header with this err leaves stands there: a failure and no more, or the body
+-- after a header with this err: a failure and no more, or the body
 abbrev pub IsOutcomeAt : Op → List PartOp → ℤ → Outcome → List ℕ → ℕ → ℕ → Type 0
 IsOutcomeAt op parts err outcome src place end =
     OutcomeFits op parts outcome × IsOutcome outcome × (err_of outcome ≡ err) × HaveBytes (rest_items outcome) × StandsAt (rest_items outcome) src place end

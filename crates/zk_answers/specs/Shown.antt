@@ -1,4 +1,4 @@
--- Results that lie in a payload, as values of its bytes.
+-- Borrowed results, as values of their payload's bytes.
 use Rattle.std.specs.Prelude.{ℕ, ◌+◌, ℤ, List, Option, Some, None, Ok}
 use Rattle.zk_jute.specs.Reading.{Read, ◌>>=◌, read_map, int_at, long_at}
 use Rattle.zk_jute.specs.Shown.{text_value, both_at, values_at}
@@ -37,7 +37,7 @@ stat_value src place = read_map stat_of (both_at (long_at src) (both_at (long_at
 
 -- ---- the results
 
--- behind the header of an error, or of a part's result
+-- after the header of an error, or of a part's result
 abbrev pub result_value : Option PartOp → List ℕ → ℕ → Read PartDone
 result_value None src place = read_map done.PartFailed (int_at src place)
 result_value (Some parts.Create) src place = read_map done.Created (text_value src place)
@@ -45,10 +45,10 @@ result_value (Some parts.Delete) src place = Ok (done.Deleted, place)
 result_value (Some parts.SetData) src place = read_map done.DataSet (stat_value src place)
 result_value (Some parts.Check) src place = Ok (done.Checked, place)
 
--- the result that stands at a place, behind the nine bytes of its header
+-- the result at a place, after the nine bytes of its header
 abbrev pub done_value : List ℕ → ℕ → Read PartDone
 done_value src place = int_at src place >>= λ kind. result_value (part_numbered kind.0) src (place + 9)
 
--- so many of them
+-- `count` of them
 abbrev pub dones_at : List ℕ → ℕ → ℕ → List PartDone
 dones_at src count place = values_at (done_value src) count place

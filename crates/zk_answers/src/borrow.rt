@@ -1,4 +1,4 @@
-//! Server payloads where they lie: what their readers decide, without memory.
+//! `borrow_connected`, `borrow_reply`, `borrow_event`: a server's payload judged and returned borrowed.
 ghost use Rattle.std.specs.Prelude.{◌≡◌, ◌≢◌, ◌≤◌, ℕ, List, Ok, length, negsuc, IfOk, IfErr};
 ghost use Rattle.zk_jute.specs.declared.fault.Reason.TheVariants.{NoMemory};
 ghost use Rattle.zk_jute.specs.Told.{IsToldAt, IsSurelyTold, IsSurelyToldAt};
@@ -23,7 +23,7 @@ use zk_records::{
     CreateBodyRef, DataBodyOf, DataBodyRef, Op, ReplyHeader, Stat, WatcherEventRef,
 };
 
-/// The body of a reply to what was asked, and the place behind it; it is judged, or known to stand there.
+/// The body at `place` of a reply to `form`, and the place after it; judged, or known to be there.
 #[tactic(auto, unfolding(zk_jute::specs::Told::IsToldAt))]
 pub(crate) fn body_ref<'a, F: Asked, const KNOWN: bool>(
     src: &PayloadOf<'a, KNOWN>,
@@ -71,7 +71,7 @@ pub(crate) fn body_ref<'a, F: Asked, const KNOWN: bool>(
     }
 }
 
-/// What a header with this err leaves: a failure and no more, or the body.
+/// What follows a header with the error `err`: nothing if it isn't 0, else the body.
 fn outcome_ref<'a, F: Asked>(
     src: &Payload<'a>,
     place: usize,
@@ -100,20 +100,20 @@ fn connected_in<'a>(payload: &'a [u8]) -> Result<ServerRef<'a>, ItemFault>
     Ok(ServerFrameOf::Connected { hello, read_only })
 }
 
-/// The answer to the connect request, where it lies: decides as `read_connected` does, takes no
-/// memory, and never answers `NoMemory`.
+/// The reply to the connect request, borrowed. Decides as `read_connected` does, allocates nothing, and never returns
+/// `NoMemory`.
 pub fn borrow_connected<'a>(payload: &'a [u8]) -> Result<ServerRef<'a>, ItemFault>
     // What is read has the form, and is the payload's one value.
     ensures found { IfOk result (λ s. IsConnected s × IsSent s × (payload.now ≡ sent.payload s)) }
     // What has the form is read.
     ensures only { (s : held.ServerFrame) → IsConnected s → IsSent s → payload.now ≡ sent.payload s → result ≡ Ok s }
-    // Else the first case that applies is told.
+    // Else the first case that applies is reported.
     ensures fault { IfErr result (IsSurelyTold (IsConnectedFault payload.now)) }
 {
     connected_in(payload)
 }
 
-/// The reply under this header to what was asked: what stands behind the header is judged.
+/// The reply with the header `head` to `form`: what follows the header is judged.
 fn reply_in<'a, F: Asked>(
     form: &F,
     head: &ReplyHeader,
@@ -135,8 +135,8 @@ fn reply_in<'a, F: Asked>(
     }))
 }
 
-/// The reply under this header, which was read of the payload, to what was asked, where it lies: decides as `borrow_reply`
-/// does, and reads the header no second time.
+/// The reply to `form`, borrowed, with the header `head`, which was read from the payload. Decides as `borrow_reply` does,
+/// and reads the header no second time.
 pub fn borrow_reply_under<'a, F: Asked>(
     form: &F,
     head: &ReplyHeader,
@@ -148,7 +148,7 @@ pub fn borrow_reply_under<'a, F: Asked>(
     ensures found { IfOk result (λ s. IsReplyTo (F.operation form.now) (F.part_ops form.now) s × IsSent s × (payload.now ≡ sent.payload s)) }
     // What has the form is read.
     ensures only { (s : held.ServerFrame) → IsReplyTo (F.operation form.now) (F.part_ops form.now) s → IsSent s → payload.now ≡ sent.payload s → result ≡ Ok s }
-    // Else the first case that applies is told.
+    // Else the first case that applies is reported.
     ensures fault { IfErr result (IsSurelyTold (IsReplyFault (F.operation form.now) (F.part_ops form.now) payload.now)) }
 {
     reply_in(form, head, &Payload { bytes: payload })
@@ -163,21 +163,21 @@ fn whole_reply<'a, F: Asked>(form: &F, src: &Payload<'a>) -> Result<ServerRef<'a
     reply_in(form, &head, src)
 }
 
-/// A reply to what was asked, where it lies: decides as `read_reply` does, takes no memory, and
-/// never answers `NoMemory`. Its header, where it is whole, has another xid than -1.
+/// A reply to the request `form`, borrowed. Decides as `read_reply` does, allocates nothing, and never returns `NoMemory`.
+/// Its header, if it is whole, has another xid than -1.
 pub fn borrow_reply<'a, F: Asked>(form: &F, payload: &'a [u8]) -> Result<ServerRef<'a>, ItemFault>
     requires { (header : records.ReplyHeader) (rest : List ℕ) → IsHead payload.now header rest → header.xid ≢ negsuc 0 }
     // What is read has the form that the request fixes, and is the payload's one value.
     ensures found { IfOk result (λ s. IsReplyTo (F.operation form.now) (F.part_ops form.now) s × IsSent s × (payload.now ≡ sent.payload s)) }
     // What has the form is read.
     ensures only { (s : held.ServerFrame) → IsReplyTo (F.operation form.now) (F.part_ops form.now) s → IsSent s → payload.now ≡ sent.payload s → result ≡ Ok s }
-    // Else the first case that applies is told.
+    // Else the first case that applies is reported.
     ensures fault { IfErr result (IsSurelyTold (IsReplyFault (F.operation form.now) (F.part_ops form.now) payload.now)) }
 {
     whole_reply(form, &Payload { bytes: payload })
 }
 
-/// The event under this header: what stands behind the header is judged.
+/// The event with the header `head`: what follows the header is judged.
 fn event_in<'a>(head: &ReplyHeader, src: &Payload<'a>) -> Result<ServerRef<'a>, ItemFault>
     requires head { (rest : List ℕ) × IsHead src.now.bytes.now head.now rest }
     requires event { head.now.xid ≡ negsuc 0 }
@@ -197,8 +197,8 @@ fn event_in<'a>(head: &ReplyHeader, src: &Payload<'a>) -> Result<ServerRef<'a>, 
     })
 }
 
-/// What a watch saw, under this header, which was read of the payload, where it lies: decides as `borrow_event` does, and
-/// reads the header no second time.
+/// An event, borrowed, with the header `head`, which was read from the payload. Decides as `borrow_event` does, and reads
+/// the header no second time.
 pub fn borrow_event_under<'a>(
     head: &ReplyHeader,
     payload: &'a [u8],
@@ -209,7 +209,7 @@ pub fn borrow_event_under<'a>(
     ensures found { IfOk result (λ s. IsEvent s × IsSent s × (payload.now ≡ sent.payload s)) }
     // What has the form is read.
     ensures only { (s : held.ServerFrame) → IsEvent s → IsSent s → payload.now ≡ sent.payload s → result ≡ Ok s }
-    // Else the first case that applies is told.
+    // Else the first case that applies is reported.
     ensures fault { IfErr result (IsSurelyTold (IsEventFault payload.now)) }
 {
     event_in(head, &Payload { bytes: payload })
@@ -224,15 +224,15 @@ fn whole_event<'a>(src: &Payload<'a>) -> Result<ServerRef<'a>, ItemFault>
     event_in(&head, src)
 }
 
-/// What a watch saw, where it lies: decides as `read_event` does, takes no memory, and never
-/// answers `NoMemory`. Its header, where it is whole, has the xid -1.
+/// An event, borrowed. Decides as `read_event` does, allocates nothing, and never returns `NoMemory`. Its header, if it
+/// is whole, has the xid -1.
 pub fn borrow_event<'a>(payload: &'a [u8]) -> Result<ServerRef<'a>, ItemFault>
     requires { (header : records.ReplyHeader) (rest : List ℕ) → IsHead payload.now header rest → header.xid ≡ negsuc 0 }
     // What is read has the form, and is the payload's one value.
     ensures found { IfOk result (λ s. IsEvent s × IsSent s × (payload.now ≡ sent.payload s)) }
     // What has the form is read.
     ensures only { (s : held.ServerFrame) → IsEvent s → IsSent s → payload.now ≡ sent.payload s → result ≡ Ok s }
-    // Else the first case that applies is told.
+    // Else the first case that applies is reported.
     ensures fault { IfErr result (IsSurelyTold (IsEventFault payload.now)) }
 {
     whole_event(&Payload { bytes: payload })

@@ -1,4 +1,4 @@
-//! The results of a multi where they lie in a payload.
+//! `DoneList`: the results of a multi, borrowed from its payload, and the iterator over them.
 ghost use Rattle.std.specs.Prelude.{List, ◌≡◌, ◌≢◌, ◌≤◌, ◌∷◌, ℕ, Ok, Some, length, IfOk, IfErr, IfSome};
 ghost use Rattle.std.specs.Iterator.{YieldsFirst, UpTo, item_count};
 ghost use Rattle.std.specs.Iterator.SizeHint.{IsWithinCount};
@@ -21,7 +21,7 @@ use zk_asks::Asked;
 use zk_jute::{ItemFault, KnownPayload, Payload, PayloadOf, Reason, TextRef, end_of, read_ref};
 use zk_records::{MultiHeader, PartOp, Stat, part_of};
 
-/// The results of a multi's parts where they lie.
+/// The results of a multi's parts, borrowed.
 #[derive(Drop)]
 pub struct DoneList<'a> {
     payload: &'a [u8],
@@ -64,7 +64,7 @@ impl<'a> DoneList<'a> {
     }
 }
 
-/// The results of a multi's parts that are left.
+/// The iterator over a multi's results: those that are left.
 #[derive(Drop)]
 pub struct DoneItems<'a> {
     payload: &'a [u8],
@@ -97,7 +97,7 @@ impl<'a> Iterator for DoneItems<'a> {
         if self.left == 0 {
             return None;
         }
-        // All that are left stand there.
+        // All results that are left are known to be there.
         let src = KnownPayload {
             bytes: self.payload,
         };
@@ -125,7 +125,8 @@ impl<'a> ExactSizeIterator for DoneItems<'a> {
     }
 }
 
-/// A part's own result behind its header, judged or known to stand there, and the place behind it.
+/// The record at `place` of a part of the operation `op` that was done, and the place after it; judged, or known to be
+/// there. `place` is after the result's header.
 fn result_ref<'a, const KNOWN: bool>(
     src: &PayloadOf<'a, KNOWN>,
     place: usize,
@@ -151,7 +152,8 @@ fn result_ref<'a, const KNOWN: bool>(
     }
 }
 
-/// The place after a part's own result behind its header; None says no more. No result is made.
+/// The place after the record at `place` of a part of the operation `op` that was done; `None`: undecided. No result is
+/// made.
 fn result_end(payload: &[u8], place: usize, op: PartOp) -> Option<usize>
     requires { place ≤ length payload.now }
     ensures some { IfSome result (λ end. IsResultAt op payload.now place end) }
@@ -164,7 +166,7 @@ fn result_end(payload: &[u8], place: usize, op: PartOp) -> Option<usize>
     }
 }
 
-/// The place after a part's own result behind its header.
+/// The place after the record at `place` of a part of the operation `op` that was done.
 fn own_end(src: &Payload<'_>, place: usize, op: PartOp) -> Result<usize, ItemFault>
     requires { place ≤ length src.now.bytes.now }
     ensures found { IfOk result (λ end. IsResultAt op src.now.bytes.now place end) }
@@ -178,7 +180,7 @@ fn own_end(src: &Payload<'_>, place: usize, op: PartOp) -> Result<usize, ItemFau
     Ok(end)
 }
 
-/// The place after what became of one part.
+/// The place after the result at `place`, its header included, of a part of the operation `op`.
 fn done_end(src: &Payload<'_>, place: usize, op: PartOp) -> Result<usize, ItemFault>
     requires { place ≤ length src.now.bytes.now }
     ensures found { IfOk result (λ end. IsDoneAt op src.now.bytes.now place end) }
@@ -199,7 +201,7 @@ fn done_end(src: &Payload<'_>, place: usize, op: PartOp) -> Result<usize, ItemFa
     }
 }
 
-/// The result that is known to stand at a place, told by its own header, and the place behind it.
+/// The result that is known to be at `place`, of the operation in its own header, and the place after it.
 pub(crate) fn done_in<'a>(src: &KnownPayload<'a>, place: usize) -> (PartDoneRef<'a>, usize)
     requires place { place ≤ length src.now.bytes.now }
     requires known { OneStands done_items src.now.bytes.now place }
@@ -216,7 +218,7 @@ pub(crate) fn done_in<'a>(src: &KnownPayload<'a>, place: usize) -> (PartDoneRef<
     }
 }
 
-/// So many results of the payload, from a place on.
+/// The list of `count` results that are known to be in `payload` from `place` on.
 pub(crate) fn lying<'a>(payload: &'a [u8], count: usize, place: usize) -> DoneList<'a>
     requires { Begins done_items payload.now count place }
     ensures { result ≡ dones_at payload.now count place }
@@ -228,7 +230,7 @@ pub(crate) fn lying<'a>(payload: &'a [u8], count: usize, place: usize) -> DoneLi
     }
 }
 
-/// What became of each part of what was asked, and the place behind the end marker.
+/// The results at `place` of the parts of `form`, and the place after the end marker.
 pub(crate) fn results_ref<'a, F: Asked>(
     src: &Payload<'a>,
     place: usize,

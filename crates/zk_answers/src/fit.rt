@@ -1,4 +1,4 @@
-//! Whether a reply fits a request.
+//! `fits`: whether a reply fits a request.
 ghost use Rattle.std.specs.Prelude.{◌↔◌, IsTrue};
 ghost use Rattle.zk_answers.specs.Results.{Answers, AnswerAll};
 ghost use Rattle.zk_answers.specs.Frames.{Fits};
@@ -7,7 +7,7 @@ use crate::frame::{Body, Outcome, PartDone, Reply};
 use zk_asks::Asked;
 use zk_records::PartOp;
 
-/// Whether it is the part's own result, or an error.
+/// Whether `done` is the result of a part of the operation `op`: its own, or an error.
 fn answers(op: PartOp, done: &PartDone) -> bool
     ensures { IsTrue result ↔ Answers op done.now }
 {
@@ -20,7 +20,7 @@ fn answers(op: PartOp, done: &PartDone) -> bool
     }
 }
 
-/// Whether there are as many results as parts, each its part's own or an error.
+/// Whether there are as many results as `form` has parts, each its part's own or an error.
 fn answer_all<F: Asked>(form: &F, dones: &[PartDone]) -> bool
     ensures { IsTrue result ↔ AnswerAll (F.part_ops form.now) dones.now }
 {
@@ -35,8 +35,8 @@ fn answer_all<F: Asked>(form: &F, dones: &[PartDone]) -> bool
     true
 }
 
-/// Whether the reply is one to the request: the operations are equal, and a multi that is done has
-/// as many results as parts, each its part's own or an error.
+/// Whether `reply` fits the request `form`: the operations are equal, and a multi that was done has as many results as
+/// parts, each its part's own or an error.
 pub fn fits<F: Asked>(form: &F, reply: &Reply) -> bool
     ensures { IsTrue result ↔ Fits (F.operation form.now) (F.part_ops form.now) reply.now }
 {

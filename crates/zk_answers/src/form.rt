@@ -1,4 +1,4 @@
-//! What a request leaves for its reply.
+//! `Form`: an owned `Asked`, what of a request its reply is read by.
 ghost use Rattle.std.specs.Prelude.{◌≡◌, ◌≢◌, ◌<◌, ◌^◌, [], length, IfOk, map, refl};
 ghost use Rattle.std.specs.List.{slice_get};
 ghost use Rattle.zk_records.specs.declared.op.Op.TheVariants as ops;
@@ -12,8 +12,9 @@ use zk_records::{Op, PartOp};
 /// The operation of a request, and those of its parts.
 #[derive(Debug, Drop)]
 pub struct Form {
+    /// The request's operation.
     pub op: Op,
-    /// At most 4,294,967,295, and none where the operation isn't multi.
+    /// The operations of its parts: at most 4,294,967,295, and none unless the operation is multi.
     pub parts: Vec<PartOp>,
     pub ghost bounded: { length parts.items < 2 ^ 32 },
     pub ghost lawful: { op ≢ ops.Multi → parts.items ≡ [] },
@@ -39,7 +40,11 @@ impl Asked for Form {
     ghost lawful = { λ f. f.lawful };
 }
 
-/// What the request leaves.
+/// What of the request `ask` its reply is read by.
+///
+/// # Errors
+///
+/// `AllocError` if memory is refused.
 pub fn form_of(alloc: Global, ask: &Ask) -> Result<Form, AllocError>
     requires { length (ops_of_ask ask.now) < 2 ^ 32 }
     ensures { IfOk result (λ f. (f.op ≡ op_of_ask ask.now) × (f.parts.items ≡ ops_of_ask ask.now)) }

@@ -1,4 +1,4 @@
-//! Server frames.
+//! `ServerFrame`, `Reply`, `Body` and `PartDone`: what a server sends.
 ghost use Rattle.std.specs.Prelude.{◌≡◌, ◌≢◌, ℤ, pos, MatchOption, IfSome, IfNone};
 ghost use Rattle.zk_answers.specs.Frames.{op_of_reply};
 ghost use Rattle.zk_answers.specs.Rows.{op_of_body};
@@ -27,7 +27,7 @@ impl Model for Failure {
 }
 
 impl Failure {
-    /// The error of the number; None for 0, which says that nothing failed.
+    /// The error `number`; `None` for 0, which is no error.
     pub fn new(number: i32) -> Option<Self>
         ensures some { IfSome result (λ f. (f ≡ number) × (number ≢ pos 0)) }
         ensures none { IfNone result (number ≡ pos 0) }
@@ -47,7 +47,7 @@ impl Failure {
     }
 }
 
-/// What became of a part of a multi (`MultiResponse`): its result, or the number of an error, 0 too.
+/// The result of a part of a multi (`MultiResponse`): its record, or the number of an error, which may be 0.
 #[derive(Debug, Drop)]
 pub enum PartDoneOf<T> {
     Created(T),
@@ -57,14 +57,13 @@ pub enum PartDoneOf<T> {
     PartFailed(i32),
 }
 
-/// PartDone with memory of its own.
+/// An owned `PartDone`.
 pub type PartDone = PartDoneOf<Text>;
 
-/// PartDone where it lies in a payload.
+/// A borrowed `PartDone`.
 pub type PartDoneRef<'a> = PartDoneOf<TextRef<'a>>;
 
-/// What a reply says where nothing failed: the response records of zookeeper.jute, one for each
-/// operation.
+/// The body of a reply without an error: the response records of zookeeper.jute, one for each operation.
 #[derive(Debug, Drop)]
 pub enum BodyOf<T, B, L, A, M> {
     Create { path: T },
@@ -85,61 +84,62 @@ pub enum BodyOf<T, B, L, A, M> {
     CloseSession,
 }
 
-/// Body with memory of its own.
+/// An owned `Body`.
 pub type Body = BodyOf<Text, Blob, List<Text>, List<Acl>, Items<PartDone>>;
 
-/// Body where it lies in a payload.
+/// A borrowed `Body`.
 pub type BodyRef<'a> = BodyOf<TextRef<'a>, BlobRef<'a>, TextList<'a>, AclList<'a>, DoneList<'a>>;
 
-/// What became of a request.
+/// The outcome of a request: its body, or an error.
 #[derive(Debug, Drop)]
 pub enum OutcomeOf<D> {
     Done(D),
     Failed(Op, Failure),
 }
 
-/// Outcome with memory of its own.
+/// An owned `Outcome`.
 pub type Outcome = OutcomeOf<Body>;
 
-/// Outcome where it lies in a payload.
+/// A borrowed `Outcome`.
 pub type OutcomeRef<'a> = OutcomeOf<BodyRef<'a>>;
 
-/// The answer to a request.
+/// A reply to a request.
 #[derive(Debug, Drop)]
 pub struct ReplyOf<D> {
-    /// That of the request.
+    /// The xid of the request.
     pub xid: i32,
     /// The server's last transaction.
     pub zxid: i64,
+    /// The body, or the error.
     pub outcome: OutcomeOf<D>,
 }
 
-/// Reply with memory of its own.
+/// An owned `Reply`.
 pub type Reply = ReplyOf<Body>;
 
-/// Reply where it lies in a payload.
+/// A borrowed `Reply`.
 pub type ReplyRef<'a> = ReplyOf<BodyRef<'a>>;
 
-/// What a server sends.
+/// What a server sends in one frame.
 #[derive(Debug, Drop)]
 pub enum ServerFrameOf<T, B, D> {
-    /// The answer to the connect request; old servers leave the boolean out.
+    /// The reply to the connect request, and a boolean that old servers leave out: whether the server is read-only.
     Connected {
         hello: ConnectResponseOf<B>,
         read_only: Option<bool>,
     },
     Answered(ReplyOf<D>),
-    /// What a watch saw; nobody asked just now.
+    /// An event, which answers no request: a change that a watch saw.
     Event {
         zxid: i64,
         event: WatcherEventOf<T>,
     },
 }
 
-/// ServerFrame with memory of its own.
+/// An owned `ServerFrame`.
 pub type ServerFrame = ServerFrameOf<Text, Blob, Body>;
 
-/// ServerFrame where it lies in a payload.
+/// A borrowed `ServerFrame`.
 pub type ServerRef<'a> = ServerFrameOf<TextRef<'a>, BlobRef<'a>, BodyRef<'a>>;
 
 fn op_of<T, B, L, A, M>(body: &BodyOf<T, B, L, A, M>) -> Op
@@ -166,7 +166,7 @@ fn op_of<T, B, L, A, M>(body: &BodyOf<T, B, L, A, M>) -> Op
 }
 
 impl<T, B, L, A, M> ReplyOf<BodyOf<T, B, L, A, M>> {
-    /// The operation that is answered.
+    /// The operation that is replied to.
     pub fn op(&self) -> Op
         ensures { result ≡ op_of_reply self.now }
     {

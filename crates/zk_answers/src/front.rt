@@ -1,4 +1,4 @@
-//! Replies, judged where they lie, by where their bodies end: no frame is made.
+//! `front_reply`: a reply judged by where its body ends; no frame is made.
 ghost use Rattle.std.specs.Prelude.{◌≢◌, ◌≤◌, ℕ, List, length, negsuc, IfSome, IsTrue};
 ghost use Rattle.zk_answers.specs.Faults.{IsHead};
 ghost use Rattle.zk_answers.specs.Held.{Body};
@@ -13,8 +13,7 @@ use zk_records::{AclBodyRef, ChildrenBodyRef, CreateBodyRef, DataBodyRef, Op, Re
 /// The bytes of a reply's header.
 pub(crate) const HEADER: usize = 16;
 
-/// The place after the body of a reply to an operation that has no parts; None says no more.
-// As in front.rt of zk_asks.
+/// The place after the body at `place` of a reply to `op`, if `op` has no parts; `None`: undecided.
 #[inline(always)]
 fn body_end(payload: &[u8], place: usize, op: Op) -> Option<usize>
     requires { place ≤ length payload.now }
@@ -33,7 +32,7 @@ fn body_end(payload: &[u8], place: usize, op: Op) -> Option<usize>
     }
 }
 
-/// Whether the results of the parts of what was asked stand from the place on, and end the payload; false says no more.
+/// Whether the results of the parts of `form` begin at `place` and end the payload; false: undecided.
 fn front_results<F: Asked>(form: &F, payload: &[u8], place: usize) -> bool
     requires { place ≤ length payload.now }
     ensures { IsTrue result → (b : Body) × IsBodyAt (F.operation form.now) (F.part_ops form.now) b payload.now place (length payload.now) }
@@ -47,7 +46,7 @@ fn front_results<F: Asked>(form: &F, payload: &[u8], place: usize) -> bool
     }
 }
 
-/// Whether the payload, which begins with this header, is a reply to what was asked; false says no more: `borrow_reply`
+/// Whether `payload`, which begins with the header `head`, is a reply to `form`; false: undecided, as `borrow_reply`
 /// decides.
 #[inline(always)]
 pub fn front_reply<F: Asked>(form: &F, head: &ReplyHeader, payload: &[u8]) -> bool

@@ -1,4 +1,4 @@
-//! Server payloads that are known to be frames, where they lie.
+//! `connected_ref`, `event_ref`, `reply_ref`: payloads known to be a server's frames, borrowed without a judgement.
 ghost use Rattle.std.specs.Prelude.{◌≡◌, ◌≤◌, ℕ, List, length};
 ghost use Rattle.zk_jute.specs.Item.{HaveBytes};
 ghost use Rattle.zk_jute.specs.Told.{StandsAt};
@@ -19,8 +19,8 @@ use zk_asks::Alone;
 use zk_jute::{KnownPayload, known_flagged, known_list, read_ref};
 use zk_records::{MultiHeader, Op, ReplyHeader};
 
-/// The answer to the connect request that the payload is known to be, where it lies: no memory is
-/// taken, and nothing is judged again.
+/// The reply to the connect request that `payload` is known to be, borrowed. Nothing is allocated, and nothing is judged
+/// again.
 pub fn connected_ref(payload: &[u8]) -> ServerRef<'_>
     requires { (s : ServerFrame) × IsConnected s × IsSent s × (payload.now ≡ sent.payload s) }
     ensures { (s : ServerFrame) → IsConnected s → IsSent s → payload.now ≡ sent.payload s → result ≡ s }
@@ -29,8 +29,7 @@ pub fn connected_ref(payload: &[u8]) -> ServerRef<'_>
     ServerFrameOf::Connected { hello, read_only }
 }
 
-/// What a watch saw that the payload is known to be, where it lies: no memory is taken, and nothing
-/// is judged again.
+/// The event that `payload` is known to be, borrowed. Nothing is allocated, and nothing is judged again.
 pub fn event_ref(payload: &[u8]) -> ServerRef<'_>
     requires { (s : ServerFrame) × IsEvent s × IsSent s × (payload.now ≡ sent.payload s) }
     ensures { (s : ServerFrame) → IsEvent s → IsSent s → payload.now ≡ sent.payload s → result ≡ s }
@@ -44,8 +43,7 @@ pub fn event_ref(payload: &[u8]) -> ServerRef<'_>
     }
 }
 
-/// The place behind the result that stands at a place, where results and the end marker are known to stand; None at the
-/// end marker.
+/// The place after the result at `place`, where results and the end marker are known to be; `None` at the end marker.
 fn behind_result(src: &KnownPayload<'_>, place: usize) -> Option<usize>
     requires within { place ≤ length src.now.bytes.now }
     requires stands { OneStands multi_items src.now.bytes.now place }
@@ -59,7 +57,7 @@ fn behind_result(src: &KnownPayload<'_>, place: usize) -> Option<usize>
     Some(next)
 }
 
-/// The results of a multi that are known to stand at a place.
+/// The results of a multi that are known to be at `place`.
 fn results_there<'a>(src: &KnownPayload<'a>, place: usize) -> DoneList<'a>
     requires within { place ≤ length src.now.bytes.now }
     requires stands { OneStands multi_items src.now.bytes.now place }
@@ -74,7 +72,7 @@ fn results_there<'a>(src: &KnownPayload<'a>, place: usize) -> DoneList<'a>
     lying(src.bytes, count, place)
 }
 
-/// The body of a reply to a request of this operation that is known to stand at a place.
+/// The body that is known to be at `place`, of a reply to `op`.
 fn known_body<'a>(src: &KnownPayload<'a>, place: usize, op: Op) -> BodyRef<'a>
     requires within { place ≤ length src.now.bytes.now }
     requires stands { ABodyStands op src.now.bytes.now place }
@@ -82,7 +80,7 @@ fn known_body<'a>(src: &KnownPayload<'a>, place: usize, op: Op) -> BodyRef<'a>
 {
     match op {
         Op::Multi => BodyOf::Multi(results_there(src, place)),
-        // Nothing stands behind the names, so they aren't walked to their end: 7% of the instructions of `show` on names.
+        // Nothing comes after the names, so they aren't walked to their end.
         Op::GetChildren => BodyOf::GetChildren {
             names: known_list(src.bytes, place),
         },
@@ -90,8 +88,7 @@ fn known_body<'a>(src: &KnownPayload<'a>, place: usize, op: Op) -> BodyRef<'a>
     }
 }
 
-/// The reply that the payload is known to be, to a request of this operation, where it lies: no
-/// memory is taken, and nothing is judged again.
+/// The reply to `op` that `payload` is known to be, borrowed. Nothing is allocated, and nothing is judged again.
 pub fn reply_ref(op: Op, payload: &[u8]) -> ServerRef<'_>
     requires { (parts : List codes.PartOp) × (s : ServerFrame) × IsReplyTo op parts s × IsSent s × (payload.now ≡ sent.payload s) }
     ensures { (parts : List codes.PartOp) (s : ServerFrame) → IsReplyTo op parts s → IsSent s → payload.now ≡ sent.payload s → result ≡ s }

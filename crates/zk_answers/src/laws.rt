@@ -1,4 +1,4 @@
-//! What the layer above rests on: a payload has one frame or one fault.
+//! The laws of server payloads, as contracts of functions that do nothing: a payload has one frame or one fault.
 ghost use Rattle.std.specs.Prelude.{◌≡◌, ℕ, List};
 ghost use Rattle.zk_jute.specs.Flagged.{IsFlaggedOpeningFault};
 ghost use Rattle.zk_records.specs.Records.{connect_response};
@@ -13,8 +13,7 @@ ghost use Rattle.zk_answers.specs.Frames.{frame_items, IsConnected, IsEvent, IsR
 ghost use Rattle.zk_answers.specs.Forms.{IsConnectedForm, IsReplyForm, IsEventForm};
 ghost use Rattle.zk_answers.specs.Faults.{IsConnectedFault, IsHead, IsHeadFault, IsReplyFault, IsEventFault};
 
-/// A payload is read exactly when it has a form: each frame's items are of a form, and bytes of a
-/// form have no fault.
+/// A payload is read exactly if it has a form: each frame's items are of a form, and bytes of a form have no fault.
 pub fn form_laws()
     ensures connected { (s : ServerFrame) → IsConnected s → IsSent s → IsConnectedForm (frame_items s) }
     // The form of a reply is given by its request.
@@ -29,7 +28,7 @@ pub fn form_laws()
 pub fn connected_laws()
     // No two frames have one payload.
     ensures injective { HaveApartPayloads IsConnected }
-    // A payload has no fault.
+    // The payload of a frame has no fault.
     ensures excludes { (s : ServerFrame) → IsConnected s → IsSent s → HasNoFault IsConnectedFault (payload s) }
     // Bytes have one fault at most.
     ensures unique { HaveOneFault IsConnectedFault }
@@ -42,7 +41,7 @@ pub fn event_laws()
     ensures unique { HaveOneFault IsEventFault }
 {}
 
-/// The laws of replies, given what the request leaves for them.
+/// The laws of replies to a request of one operation and its parts.
 pub fn reply_laws()
     ensures injective { (op : Op) (parts : List PartOp) → HaveApartPayloads (IsReplyTo op parts) }
     ensures excludes { (op : Op) (parts : List PartOp) (s : ServerFrame) → IsReplyTo op parts s → IsSent s → HasNoFault (IsReplyFault op parts) (payload s) }

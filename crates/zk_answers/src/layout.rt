@@ -1,22 +1,22 @@
-//! What a payload's body is laid out as.
+//! `Layout`: which fields a payload's body has, for all payloads of both sides.
 use zk_records::Op;
 
-/// What stands behind a payload's header; of the two payloads that open a connection, which have no
-/// header, the whole. The fields are those of `zookeeper.jute`.
+/// What follows a payload's header. The two payloads that open a connection have no header, and are meant as a whole.
+/// The fields are those of `zookeeper.jute`.
 #[derive(Clone, Copy, Debug, PartialEq, Eq)]
 pub enum Layout {
-    /// A ConnectRequest alone.
+    /// A `ConnectRequest` alone.
     Connect,
-    /// A ConnectRequest and a boolean: whether a server that only reads will do.
+    /// A `ConnectRequest` and a boolean: whether a read-only server will do.
     ConnectRo,
-    /// A ConnectResponse alone.
+    /// A `ConnectResponse` alone.
     Connected,
-    /// A ConnectResponse and a boolean: whether the server only reads.
+    /// A `ConnectResponse` and a boolean: whether the server is read-only.
     ConnectedRo,
-    /// Behind a RequestHeader with this operation's number.
+    /// After a `RequestHeader` with this operation's number.
     Asked(Op),
-    /// Behind a ReplyHeader with err 0, in a reply to this operation.
+    /// After a `ReplyHeader` with err 0, in a reply to this operation.
     Answered(Op),
-    /// Behind an event's ReplyHeader.
+    /// After an event's `ReplyHeader`.
     Event,
 }

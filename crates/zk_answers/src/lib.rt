@@ -1,4 +1,25 @@
-//! Server payloads, each read by the request that it answers.
+//! A server's payloads: the reply to the connect request, replies, each read by its request, and events.
+//!
+//! A reply doesn't say which operation it replies to. So each call takes the request as an `Asked` (`zk_asks`): its
+//! operation, and those of a multi's parts.
+//!
+//! - `reply_head` reads the header, whose xid tells a reply from an event (-1).
+//! - `read_connected`, `read_reply` and `read_event` read a payload as an owned `ServerFrame`; `borrow_connected`,
+//!   `borrow_reply` and `borrow_event` decide the same and borrow, without memory; `connected_ref`, `reply_ref` and
+//!   `event_ref` borrow what is already judged.
+//! - `scan_connected`, `scan_reply` and `scan_event` only decide. `front_reply` decides by where the body ends, and may
+//!   return false: undecided.
+//! - `write_server` writes a frame's payload; `fits` says whether a reply fits a request.
+//!
+//! The records are those of zookeeper.jute, and the results of a multi those of `MultiResponse`. A payload that is
+//! refused has the `ItemFault` of the first item that can't come next.
+//!
+//! The crate rests on `zk_jute`, `zk_records` and `zk_asks`.
+//!
+//! ```text
+//! let head = reply_head(payload)?;
+//! let frame = if head.xid == -1 { read_event(alloc, payload)? } else { read_reply(alloc, &form, payload)? };
+//! ```
 #![tactic(auto)]
 
 mod borrow;

@@ -1,11 +1,11 @@
-//! What the headers of a multi's results stand before (`MultiResponse`).
+//! `Mark`: what comes after a header within a multi's results (`MultiResponse`).
 ghost use Rattle.std.specs.Prelude.{◌≡◌, ◌↔◌, IsTrue};
 ghost use Rattle.zk_asks.specs.Parts.{end_header};
 ghost use Rattle.zk_answers.specs.Results.{ItsPlace};
 
 use zk_records::{MultiHeader, PartOp, part_number};
 
-/// What a header stands before, while a part is left.
+/// What comes after a header while a part is left: the part's record, an error, or what can't be read.
 #[derive(Drop)]
 pub(crate) enum Mark {
     Result,

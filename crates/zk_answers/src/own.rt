@@ -1,4 +1,4 @@
-//! Copies, with memory of their own, of what a server sends.
+//! Owned copies of borrowed server frames.
 ghost use Rattle.std.specs.Prelude.{◌≡◌};
 
 use crate::done_list::DoneList;

@@ -1,4 +1,4 @@
-//! Server payloads are read: each is judged where it lies, and then copied.
+//! `reply_head`, `read_connected`, `read_reply`, `read_event`: a server's payload judged, and then copied.
 ghost use Rattle.std.specs.Prelude.{◌≡◌, ◌≢◌, List, ℕ, negsuc, IfOk, IfErr};
 ghost use Rattle.zk_jute.specs.Reading.{told_place};
 ghost use Rattle.zk_jute.specs.Told.{IsTold};
@@ -16,7 +16,7 @@ use zk_asks::Asked;
 use zk_jute::{ItemFault, int_at, long_at};
 use zk_records::{Own, ReplyHeader};
 
-/// The header that a reply and an event begin with (`ReplyHeader`); it takes no memory.
+/// The header that `payload`, a reply or an event, begins with (`ReplyHeader`, 16 bytes). Nothing is allocated.
 pub fn reply_head(payload: &[u8]) -> Result<ReplyHeader, ItemFault>
     // The payload begins with it.
     ensures found { IfOk result (λ header. (rest : List ℕ) × IsHead payload.now header rest) }
@@ -29,20 +29,21 @@ pub fn reply_head(payload: &[u8]) -> Result<ReplyHeader, ItemFault>
     Ok(ReplyHeader { xid, zxid, err })
 }
 
-/// The answer to the connect request.
+/// The reply to the connect request: a `ConnectResponse`, and one boolean if more bytes follow it.
 #[tactic(auto, unfolding(zk_jute::specs::Told::IsTold))]
 pub fn read_connected(alloc: Global, payload: &[u8]) -> Result<ServerFrame, ItemFault>
     // What is read has the form, and is the payload's one value.
     ensures found { IfOk result (λ s. IsConnected s × IsSent s × (payload.now ≡ sent.payload s)) }
-    // What has the form is read, unless memory is wanted.
+    // What has the form is read, unless memory is refused.
     ensures only { (s : held.ServerFrame) → IsConnected s → IsSent s → payload.now ≡ sent.payload s → IsReadAs s result }
-    // Else the first case that applies is told, unless memory is wanted.
+    // Else the first case that applies is reported, unless memory is refused.
     ensures fault { IfErr result (λ e. IsTold (IsConnectedFault payload.now) e) }
 {
     Ok(borrow_connected(payload)?.own(alloc)?)
 }
 
-/// A reply to what was asked; its header, where it is whole, has another xid than -1.
+/// A reply to the request `form`: a header, and the body that the request fixes. The header, if it is whole, has another
+/// xid than -1.
 #[tactic(auto, unfolding(zk_jute::specs::Told::IsTold))]
 pub fn read_reply<F: Asked>(
     alloc: Global,
@@ -52,23 +53,23 @@ pub fn read_reply<F: Asked>(
     requires { (header : records.ReplyHeader) (rest : List ℕ) → IsHead payload.now header rest → header.xid ≢ negsuc 0 }
     // What is read has the form that the request fixes, and is the payload's one value.
     ensures found { IfOk result (λ s. IsReplyTo (F.operation form.now) (F.part_ops form.now) s × IsSent s × (payload.now ≡ sent.payload s)) }
-    // What has the form is read, unless memory is wanted.
+    // What has the form is read, unless memory is refused.
     ensures only { (s : held.ServerFrame) → IsReplyTo (F.operation form.now) (F.part_ops form.now) s → IsSent s → payload.now ≡ sent.payload s → IsReadAs s result }
-    // Else the first case that applies is told, unless memory is wanted.
+    // Else the first case that applies is reported, unless memory is refused.
     ensures fault { IfErr result (λ e. IsTold (IsReplyFault (F.operation form.now) (F.part_ops form.now) payload.now) e) }
 {
     Ok(borrow_reply(form, payload)?.own(alloc)?)
 }
 
-/// What a watch saw; its header, where it is whole, has the xid -1.
+/// An event: a header with the xid -1 and the error 0, and a `WatcherEvent`. The header, if it is whole, has the xid -1.
 #[tactic(auto, unfolding(zk_jute::specs::Told::IsTold))]
 pub fn read_event(alloc: Global, payload: &[u8]) -> Result<ServerFrame, ItemFault>
     requires { (header : records.ReplyHeader) (rest : List ℕ) → IsHead payload.now header rest → header.xid ≡ negsuc 0 }
     // What is read has the form, and is the payload's one value.
     ensures found { IfOk result (λ s. IsEvent s × IsSent s × (payload.now ≡ sent.payload s)) }
-    // What has the form is read, unless memory is wanted.
+    // What has the form is read, unless memory is refused.
     ensures only { (s : held.ServerFrame) → IsEvent s → IsSent s → payload.now ≡ sent.payload s → IsReadAs s result }
-    // Else the first case that applies is told, unless memory is wanted.
+    // Else the first case that applies is reported, unless memory is refused.
     ensures fault { IfErr result (λ e. IsTold (IsEventFault payload.now) e) }
 {
     Ok(borrow_event(payload)?.own(alloc)?)

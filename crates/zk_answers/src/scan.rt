@@ -1,4 +1,4 @@
-//! What the readers of server payloads decide, without memory.
+//! `scan_connected`, `scan_reply`, `scan_event`: what the readers decide, without memory or a frame.
 ghost use Rattle.std.specs.Prelude.{◌≡◌, ◌≢◌, ℕ, List, negsuc, IsOk, IfOk, IfErr};
 ghost use Rattle.zk_jute.specs.Told.{IsSurelyTold};
 ghost use Rattle.zk_records.specs.declared.header.ReplyHeader as records;
@@ -11,7 +11,7 @@ use crate::borrow::{borrow_connected, borrow_event, borrow_reply};
 use zk_asks::Asked;
 use zk_jute::ItemFault;
 
-/// Whether the payload answers a connect request: decides as `read_connected` does, takes no memory, and never answers
+/// Judges a reply to the connect request: decides as `read_connected` does, allocates nothing, and never returns
 /// `NoMemory`.
 pub fn scan_connected(payload: &[u8]) -> Result<(), ItemFault>
     ensures found { IfOk result (λ _. (s : ServerFrame) × IsConnected s × IsSent s × (payload.now ≡ sent.payload s)) }
@@ -24,8 +24,8 @@ pub fn scan_connected(payload: &[u8]) -> Result<(), ItemFault>
     }
 }
 
-/// Whether the payload is a reply to what was asked: decides as `read_reply` does, takes no memory, and never answers
-/// `NoMemory`. Its header, where it is whole, has another xid than -1.
+/// Judges a reply to the request `form`: decides as `read_reply` does, allocates nothing, and never returns `NoMemory`.
+/// Its header, if it is whole, has another xid than -1.
 pub fn scan_reply<F: Asked>(form: &F, payload: &[u8]) -> Result<(), ItemFault>
     requires { (header : records.ReplyHeader) (rest : List ℕ) → IsHead payload.now header rest → header.xid ≢ negsuc 0 }
     ensures found { IfOk result (λ _. (s : ServerFrame) × IsReplyTo (F.operation form.now) (F.part_ops form.now) s × IsSent s × (payload.now ≡ sent.payload s)) }
@@ -38,8 +38,8 @@ pub fn scan_reply<F: Asked>(form: &F, payload: &[u8]) -> Result<(), ItemFault>
     }
 }
 
-/// Whether the payload is an event: decides as `read_event` does, takes no memory, and never answers `NoMemory`. Its
-/// header, where it is whole, has the xid -1.
+/// Judges an event: decides as `read_event` does, allocates nothing, and never returns `NoMemory`. Its header, if it is
+/// whole, has the xid -1.
 pub fn scan_event(payload: &[u8]) -> Result<(), ItemFault>
     requires { (header : records.ReplyHeader) (rest : List ℕ) → IsHead payload.now header rest → header.xid ≡ negsuc 0 }
     ensures found { IfOk result (λ _. (s : ServerFrame) × IsEvent s × IsSent s × (payload.now ≡ sent.payload s)) }

@@ -1,4 +1,4 @@
-//! Server payloads are written.
+//! `write_server`, `size_within`: how server payloads are written.
 ghost use Rattle.std.specs.Prelude.{◌≡◌, ◌++◌, OnOk, OnErr, pos, negsuc};
 ghost use Rattle.zk_jute.specs.Item.{Fit, IsSizeWithin};
 ghost use Rattle.zk_asks.specs.Parts as parts;
@@ -11,7 +11,7 @@ use std::alloc::AllocError;
 use zk_jute::{Output, Spell};
 use zk_records::{MultiHeader, PartOp, ReplyHeader, part_number};
 
-/// The header that stands before a part's result.
+/// The header before the record of a part of the operation `op`.
 fn result_header(op: PartOp) -> MultiHeader
     ensures { result ≡ results.result_header op }
 {
@@ -22,7 +22,7 @@ fn result_header(op: PartOp) -> MultiHeader
     }
 }
 
-/// The header that stands before an error.
+/// The header before the error `err` of a part.
 fn error_header(err: i32) -> MultiHeader
     ensures { result ≡ results.error_header err }
 {
@@ -33,7 +33,7 @@ fn error_header(err: i32) -> MultiHeader
     }
 }
 
-/// The header behind the last result.
+/// The header after the last result.
 fn end_header() -> MultiHeader
     ensures { result ≡ parts.end_header }
 {
@@ -116,7 +116,7 @@ fn event_header(zxid: i64) -> ReplyHeader
 }
 
 impl ServerFrame {
-    /// The length of its payload in bytes; None where it has none or more than `limit` bytes.
+    /// The length of the frame's payload in bytes; `None` if it has none, or more than `limit`.
     pub fn size_within(&self, limit: u32) -> Option<u32>
         ensures { IsSizeWithin limit (frames.frame_items self.now) result }
     {
@@ -130,7 +130,11 @@ impl ServerFrame {
     }
 }
 
-/// Appends a frame's payload; where memory is refused, `out` is unchanged. No reply has the xid -1.
+/// Appends the payload of `frame` to `out`. No reply has the xid -1.
+///
+/// # Errors
+///
+/// `AllocError` if memory is refused; then `out` is unchanged.
 pub fn write_server(frame: &ServerFrame, out: &mut Vec<u8>) -> Result<(), AllocError>
     requires xid { frames.HasItsXid frame.now }
     requires size { Fit 2147483647 (frames.frame_items frame.now) }
