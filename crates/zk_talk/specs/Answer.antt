@@ -1,4 +1,4 @@
--- What is answered for a list of pieces.
+-- What is returned for a list of pieces.
 use Rattle.std.specs.Prelude.{◌≡◌, ℕ, List, ◌++◌, Option, Some, None}
 use Rattle.std.specs.List.{flat_map}
 use Rattle.std.specs.Borrow.{Bor}
@@ -18,7 +18,7 @@ use Rattle.zk_talk.specs.Stands.{TalkState, Stands, Refuses}
 abbrev pub history_of : List (Side × Bor (List ℕ)) → History
 history_of pieces = flat_map (λ (p : Side × Bor (List ℕ)). on p.0 p.1.now) pieces
 
--- the messages of the history up to its fault, where there is one
+-- the messages of the history up to its fault, if it has one
 abbrev pub AreMessages : Limits → History → List Message → Ending → Type 0
 AreMessages limits h messages (Refused fault) = (is : IsFaultOf limits h fault) × IsOrder limits is.before is.conversation messages
 AreMessages limits h messages (Cut side frame got) = (v : Conversation) × (client_rest : List ℕ) × (server_rest : List ℕ) × Good limits h v client_rest server_rest × IsOrder limits h v messages
@@ -28,11 +28,11 @@ AreMessages limits h messages (Whole n) = (v : Conversation) × (client_rest : L
 abbrev pub IsFront : List Message → List Message → Type 0
 IsFront these those = (more : List Message) × (those ≡ these ++ more)
 
--- whatever messages are answered for the history, and however it ends, they begin with these
+-- whatever messages are returned for the history, and however it ends, they begin with these
 abbrev pub StandFirst : List Message → Limits → History → Type 0
 StandFirst these limits h = (all : List Message) (ending : Ending) → AreMessages limits h all ending → IsFront these all
 
--- nothing but these messages and this ending is answered for the history
+-- nothing but these messages and this ending is returned for the history
 abbrev pub IsReadAs : Limits → History → List Message → Ending → Type 0
 IsReadAs limits h messages ending = (answered : List Message) (end : Ending) → AreMessages limits h answered end → IsEnding limits h end → (answered ≡ messages) × (end ≡ ending)
 

@@ -41,7 +41,7 @@ Answers sent (Connected hello read_only) asked (Ask xid ask) = ⊥
 Answers sent (Answered reply) asked (Connect first flag) = ⊥
 Answers sent (Event zxid event) asked frame = ⊥
 
--- The frame may stand after these of the client: a connect request first, then requests of the profile.
+-- The frame may come after these of the client: a connect request first, then requests of the profile.
 abbrev pub ClientMay : Profile → List ClientFrame → ClientFrame → Type 0
 ClientMay profile [] f = IsFirst f × asks.IsSent f
 ClientMay profile (first ∷ more) f = IsLater f × asks.IsSent f × IsOfProfile profile f
@@ -55,7 +55,7 @@ pub record IsAnswered (client : List ClientFrame) (sent : List ServerFrame) (rep
   pub fits : Fits (op_of_ask ask) (ops_of_ask ask) reply
   pub counts : asks_on (lane_of reply.xid) asked ≡ replies_on (lane_of reply.xid) sent
 
--- The frame may stand after these of the server, where the client's frames are these: the answer to the connect request
+-- The frame may come after these of the server, where the client's frames are these: the reply to the connect request
 -- first, then events, and replies that answer.
 abbrev pub ServerMay : List ClientFrame → List ServerFrame → ServerFrame → Type 0
 ServerMay client [] (Connected hello read_only) = answers.IsSent (Connected hello read_only) × (client ≢ [])
@@ -90,11 +90,11 @@ abbrev pub is_unanswered : List ServerFrame → List ClientFrame → ClientFrame
 is_unanswered sent asked (Connect hello read_only) = false
 is_unanswered sent asked (Ask xid ask) = nat_le (replies_on (lane_of xid) sent) (asks_on (lane_of xid) asked)
 
--- a sum over the asks that no reply among these answers, where `asked` stands before them
+-- a sum over the asks that no reply among these answers, where `asked` comes before them
 abbrev pub sum_waiting : (ClientFrame → ℕ) → List ClientFrame → List ClientFrame → List ServerFrame → ℕ
 sum_waiting of asked [] sent = 0
 sum_waiting of asked (f ∷ fs) sent = (if is_unanswered sent asked f then of f else 0) + sum_waiting of (asked ++ f ∷ []) fs sent
 
--- what the asks that wait weigh
+-- the weight of the asks that wait
 abbrev pub load : List ClientFrame → List ServerFrame → ℕ
 load client server = sum_waiting weight [] client server

@@ -12,7 +12,7 @@ use Rattle.zk_talk.specs.Conversation.{Conversation, sum_waiting}
 use Rattle.zk_talk.specs.Good.{Good}
 use Rattle.zk_talk.specs.Fault.{IsFaultOf}
 
--- 1 for a connect request without an answer
+-- 1 for a connect request without a reply
 abbrev pub unwelcomed : List ClientFrame → List ServerFrame → ℕ
 unwelcomed [] server = 0
 unwelcomed (f ∷ fs) [] = 1

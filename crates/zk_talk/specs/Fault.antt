@@ -39,7 +39,7 @@ pub data IsClientFault (limits : Limits) (v : Conversation) (p : List ℕ) (plac
   ask_fault : v.client ≢ [] → IsAskFault limits.profile p place reason → IsClientFault limits v p place reason
   queue_full : v.client ≢ [] → (f : ClientFrame) → IsLater f → IsSent f → IsOfProfile limits.profile f → client_payload f ≡ p → limits.waiting < load v.client v.server + weight f → place ≡ 0 → reason ≡ QueueFull → IsClientFault limits v p place reason
 
--- and of the server's
+-- why the payload of the server's next frame is refused, where v came before it
 pub data IsServerFault (v : Conversation) (p : List ℕ) (place : ℕ) (reason : Reason) : Type 0 where
   no_connect : v.server ≡ [] → v.client ≡ [] → place ≡ 0 → reason ≡ Unasked → IsServerFault v p place reason
   connected_fault : v.server ≡ [] → v.client ≢ [] → IsConnectedFault p place reason → IsServerFault v p place reason
@@ -57,23 +57,23 @@ abbrev pub side_limit : Limits → Side → ℕ
 side_limit limits Client = limits.client
 side_limit limits Server = limits.server
 
--- what is said of a side: how many of its frames are whole
+-- the number of a side's frames that are whole
 abbrev pub frame_count : Conversation → Side → ℕ
 frame_count v Client = length v.client
 frame_count v Server = length v.server
 
--- and the beginning that stands after them
+-- the beginning after a side's whole frames
 abbrev pub rest_on : Side → List ℕ → List ℕ → List ℕ
 rest_on Client client_rest server_rest = client_rest
 rest_on Server client_rest server_rest = server_rest
 
--- why the byte is refused: of this side so many bytes came before it, and of its frame these
+-- why the byte is refused: of this side `size` bytes came before it, and `rest` of its frame
 pub data IsCause (limits : Limits) (v : Conversation) (side : Side) (size : ℕ) (rest : List ℕ) (byte : ℕ) (place : ℕ) (reason : Reason) : Type 0 where
   stream_end : size + 1 ≡ 2 ^ 62 → place ≡ 0 → reason ≡ StreamEnd → IsCause limits v side size rest byte place reason
   length_range : size + 1 < 2 ^ 62 → IsBadLength (side_limit limits side) (rest ++ byte ∷ []) → place ≡ 0 → reason ≡ LengthRange → IsCause limits v side size rest byte place reason
   payload_fault : size + 1 < 2 ^ 62 → (p : List ℕ) → rest ++ byte ∷ [] ≡ frame p → length p ≤ side_limit limits side → IsPayloadFault limits v side p place reason → IsCause limits v side size rest byte place reason
 
--- The fault stands at the first byte whose front is not good.
+-- The fault is at the first byte whose front is not good.
 pub record IsFaultOf (limits : Limits) (h : History) (fault : Fault) : Type 0 where
   pub before : History
   pub byte : ℕ

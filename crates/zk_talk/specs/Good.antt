@@ -80,20 +80,20 @@ pub record IsOrder (limits : Limits) (h : History) (v : Conversation) (messages 
   pub fronts : (front rest : History) → h ≡ front ++ rest →
       (first more : List Message) × (messages ≡ first ++ more) × AreWholeIn limits front (clients first) (servers first)
 
--- what a good history comes to: its conversation, and the beginning of a frame behind it on each side
+-- what a good history spells: its conversation, and the beginning of a frame after it on each side
 pub record Spelt (limits : Limits) (h : History) : Type 0 where
   pub conversation : Conversation
   pub client_rest : List ℕ
   pub server_rest : List ℕ
   pub good : Good limits h conversation client_rest server_rest
 
--- and its messages in their order
+-- the same, and its messages in their order
 pub record Ordered (limits : Limits) (h : History) : Type 0 where
   pub spelt : Spelt limits h
   pub messages : List Message
   pub order : IsOrder limits h spelt.conversation messages
 
--- whole frames and nothing behind them, which are these messages in their order
+-- whole frames and nothing after them, which are these messages in their order
 abbrev pub AreWholly : Limits → History → Conversation → List Message → Type 0
 AreWholly limits h v messages = Good limits h v [] [] × IsOrder limits h v messages
 

@@ -1,4 +1,4 @@
--- A message, wherever its texts, blobs and lists lie.
+-- A message, be its texts, blobs and lists owned or borrowed.
 use Rattle.zk_asks.specs.Held.{ClientFrame}
 use Rattle.zk_answers.specs.Held.{ServerFrame}
 use Rattle.zk_talk.specs.declared.message.MessageOf.{MessageOf}

@@ -1,4 +1,4 @@
--- How a payload's judgement is told.
+-- How a payload's judgement is reported.
 use Rattle.std.specs.Prelude.{◌≡◌, ℕ, ◌<◌, ◌≤◌, ◌+◌, ◌⊎◌, List, [], ◌∷◌, ◌++◌, drop, Option, Some, slice_get}
 use Rattle.zk_jute.specs.declared.fault.ItemFault.{ItemFault}
 use Rattle.zk_jute.specs.declared.fault.Reason.{Reason}
@@ -25,18 +25,18 @@ use Rattle.zk_talk.specs.Viewed.{ShowsClient, ShowsServer}
 use Rattle.zk_talk.specs.Describes.{Describes}
 use Rattle.zk_talk.specs.Conversation.{Conversation, ClientMay, ServerMay, load, weight}
 
--- the fault, its place told in 32 bits
+-- the fault, with its place in 32 bits
 abbrev pub Tells : (ℕ → Reason → Type 0) → ItemFault → Type 0
 Tells IsTheFault e = (place : ℕ) × IsTheFault place e.reason × (e.place ≡ told_place place)
 
--- the fault of the client's payload behind so many frames, and of the server's, whatever is known of the conversation
+-- the fault of the client's payload after `count` frames, and of the server's, whatever is known of the conversation
 abbrev pub TellsClient : Profile → ℕ → Lanes → List ℕ → ItemFault → Type 0
 TellsClient profile count waiting p e = (limits : Limits) (m : ℕ) (v : Conversation) → limits.waiting ≡ waiting.max → limits.profile ≡ profile → Describes count m waiting v → Tells (IsClientFault limits v p) e
 
 abbrev pub TellsServer : ℕ → ℕ → Lanes → List ℕ → ItemFault → Type 0
 TellsServer asked count waiting p e = (v : Conversation) → Describes asked count waiting v → Tells (IsServerFault v p) e
 
--- and of the server's behind its first
+-- the fault of a server's payload after its first
 abbrev pub TellsLater : Lanes → List ℕ → ItemFault → Type 0
 TellsLater waiting p e = (n m : ℕ) (v : Conversation) → (m ≡ 0 → ⊥) → Describes n m waiting v → Tells (IsServerFault v p) e
 
@@ -44,11 +44,11 @@ TellsLater waiting p e = (n m : ℕ) (v : Conversation) → (m ≡ 0 → ⊥) �
 abbrev pub IsInTurn : Profile → ℕ → ClientFrame → Type 0
 IsInTurn profile count f = (count ≡ 0 → IsFirst f) × ((count ≡ 0 → ⊥) → IsLater f × IsOfProfile profile f)
 
--- its fault, likewise
+-- the fault of such a payload
 abbrev pub IsTurnFault : Profile → ℕ → List ℕ → ItemFault → Type 0
 IsTurnFault profile count p e = (count ≡ 0 → Tells (IsFirstFault p) e) × ((count ≡ 0 → ⊥) → Tells (IsAskFault profile p) e)
 
--- want of memory, or the queue is full
+-- memory was refused, or the queue is full
 abbrev pub IsPutRefusal : ClientFrame → Lanes → ItemFault → Type 0
 IsPutRefusal f old e = (e ≡ no_memory) ⊎ (IsLater f × (e ≡ record { place = 0; reason = QueueFull }) × (old.max < weight_of old + weight f))
 
@@ -74,20 +74,20 @@ IsDue (Connected hello read_only) w = Unit {0}
 IsDue (Answered reply) w = (r : Request) × (slice_get (queue_on (lane_of reply.xid) w) 0 ≡ Some r) × IsReplyTo r.op r.parts (Answered reply)
 IsDue (Event zxid event) w = Unit {0}
 
--- what it answers waits no more
+-- the ask that it answers is dropped
 abbrev pub IsForgotten : ServerFrame → Lanes → Lanes → Type 0
 IsForgotten (Connected hello read_only) old new = new ≡ old
 IsForgotten (Answered reply) old new = IsDropped (lane_of reply.xid) old new
 IsForgotten (Event zxid event) old new = new ≡ old
 
--- the client's frame with this payload, behind so many: it may come now, and there is room for it
+-- the client's frame with this payload, after `count` frames: it may come now, and there is room for it
 pub record IsNextClient (profile : Profile) (count : ℕ) (waiting : Lanes) (p : List ℕ) (f : ClientFrame) : Type 0 where
   pub turn : IsInTurn profile count f
   pub sent : asks.IsSent f
   pub is : client_payload f ≡ p
   pub room : HasRoomFor f waiting
 
--- the server's frame with this payload, behind so many of the client and so many of the server: it may come now
+-- the server's frame with this payload, after `asked` frames of the client and `count` of the server: it may come now
 pub record IsNextServer (asked count : ℕ) (waiting : Lanes) (p : List ℕ) (s : ServerFrame) : Type 0 where
   pub due : HasAsk s waiting
   pub is : server_payload s ≡ p
@@ -104,7 +104,7 @@ HasNextServer asked stream waiting = (s : ServerFrame) × IsNextServer asked str
 abbrev pub PassesClient : Profile → StreamState → Lanes → List ℕ → ClientFrame → Lanes → Type 0
 PassesClient profile old waiting bytes f waits = IsNextClient profile old.count waiting (drop 4 bytes) f × IsRemembered f waiting waits
 
--- and the server's; what it answers then waits no more
+-- the server's frame of these bytes may come next, and the ask that it answers is then dropped
 abbrev pub PassesServer : ℕ → StreamState → Lanes → List ℕ → ServerFrame → Lanes → Type 0
 PassesServer asked old waiting bytes s waits = IsNextServer asked old.count waiting (drop 4 bytes) s × IsForgotten s waiting waits
 
@@ -112,6 +112,6 @@ PassesServer asked old waiting bytes s waits = IsNextServer asked old.count wait
 abbrev pub KeepsClient : Profile → StreamState → Lanes → ClientFrame → Lanes → StreamState → Type 0
 KeepsClient profile old waiting f waits new = IsNextClient profile old.count waiting (drop 4 old.held) f × IsRemembered f waiting waits × ShowsClient new.count new.kept f
 
--- and the server's; what it answers waits no more
+-- the server's frame that may come next is counted and kept, and the ask that it answers is dropped
 abbrev pub KeepsServer : ℕ → StreamState → Lanes → Option Op → ServerFrame → Lanes → StreamState → Type 0
 KeepsServer asked old waiting answered s waits new = IsNextServer asked old.count waiting (drop 4 old.held) s × IsForgotten s waiting waits × ShowsServer new.count answered new.kept s

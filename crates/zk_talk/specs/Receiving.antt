@@ -1,4 +1,4 @@
--- What a piece brings to a side.
+-- What a piece does to a side.
 use Rattle.std.specs.Prelude.{◌≡◌, ℕ, ◌+◌, List, length, Option, Some, None, Result, Ok, Err}
 use Rattle.zk_jute.specs.declared.fault.Reason.{Reason}
 use Rattle.zk_talk.specs.declared.message.Side.{Side}
@@ -14,7 +14,7 @@ pub record CameWithin (old : StreamState) (piece : List ℕ) (new : StreamState)
   pub advance : IsAdvance old.limit old.size old.held piece advances.Within held
   pub is : new ≡ record old { held = held; size = old.size + length piece }
 
--- so many bytes of the piece made the frame whole, and they aren't counted
+-- the first `used` bytes of the piece made the frame whole, and they aren't counted
 pub record CameWhole (old : StreamState) (piece : List ℕ) (used : ℕ) (new : StreamState) : Type 0 where
   pub advance : IsAdvance old.limit old.size old.held piece (advances.Whole used) new.held
   pub stays : new ≡ record old { held = new.held }
@@ -27,7 +27,7 @@ pub record IsStopped (side : Side) (old : StreamState) (piece : List ℕ) (fault
   pub stays : new ≡ record old { held = new.held }
   pub told : fault ≡ fault_of side old.count (old.size + used) 0 reason
 
--- what the side and the fault that is kept become
+-- the side and the kept fault after the call
 abbrev pub IsReceived : Side → StreamState → List ℕ → Option Fault → Result (Option ℕ) Fault → StreamState → Option Fault → Type 0
 IsReceived side old piece kept (Ok None) new keeps = CameWithin old piece new × (keeps ≡ kept)
 IsReceived side old piece kept (Ok (Some used)) new keeps = CameWhole old piece used new × (keeps ≡ kept)

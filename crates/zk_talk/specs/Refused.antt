@@ -1,4 +1,4 @@
--- The body in which a fault lies.
+-- The body in which a fault is found.
 use Rattle.std.specs.Prelude.{◌≡◌, ◌≢◌, ℕ, ◌<◌, ◌≤◌, ℤ, pos, List, [], ◌∷◌, ◌++◌, Option, MatchOption}
 use Rattle.std.specs.Borrow.{Bor}
 use Rattle.zk_jute.specs.Item.{HaveBytes}
@@ -24,7 +24,7 @@ use Rattle.zk_talk.specs.History.{History}
 use Rattle.zk_talk.specs.Conversation.{Conversation}
 use Rattle.zk_talk.specs.Fault.{IsFaultOf, IsNext, IsOfItems, rest_on}
 
--- how many bytes a header has, behind a side's frame 0
+-- the number of bytes of a header of the side, of a frame after its first
 abbrev pub header_size : Side → ℕ
 header_size Client = 8
 header_size Server = 16
@@ -37,7 +37,7 @@ AnswersOp v xid op = (ask : Asked) × IsNext v (lane_of xid) xid ask × (op ≡ 
 abbrev pub AnswersNone : Conversation → ℤ → Type 0
 AnswersNone v xid = (ask : Asked) → IsNext v (lane_of xid) xid ask → op_of_ask ask ≢ ops.Multi → ⊥
 
--- the payload has a header, and behind it this body, of this layout: v came before it
+-- the payload has a header, and after it this body, of this layout: v came before it
 pub data HasBody (v : Conversation) (p : List ℕ) : Side → Layout → List ℕ → Type 0 where
   request : (xid : ℤ) (op : Op) (body : List ℕ) → HaveBytes (header_items xid (op_number op)) → Opens p (header_items xid (op_number op)) body → HasBody v p Client (layouts.Asked op) body
   event : (header : ReplyHeader) (body : List ℕ) → IsHead p header body → header.xid ≡ event_xid → HasBody v p Server layouts.Event body
@@ -48,13 +48,13 @@ pub data HasBody (v : Conversation) (p : List ℕ) : Side → Layout → List �
 abbrev pub IsBodyOf : Conversation → List ℕ → Side → Option (Layout × Bor (List ℕ)) → Type 0
 IsBodyOf v p side found = MatchOption found ((layout : Layout) (body : List ℕ) → HasBody v p side layout body → ⊥) (λ b. HasBody v p side b.0 b.1.now)
 
--- the fault lies in a body: behind the header of a frame that isn't its side's first, for one of a body's reasons
+-- the fault is in a body: after the header of a frame that isn't its side's first, for one of a body's reasons
 pub record IsInBody (fault : Fault) : Type 0 where
   pub later : 0 < fault.frame
   pub items : IsOfItems fault.reason
   pub behind : header_size fault.side ≤ fault.place
 
--- the body in which the fault of a history lies
+-- the body in which the fault of a history is found
 pub record IsRefusedBody (limits : Limits) (h : History) (fault : Fault) (is : IsFaultOf limits h fault) (layout : Layout) (body : List ℕ) : Type 0 where
   pub inside : IsInBody fault
   pub payload : List ℕ

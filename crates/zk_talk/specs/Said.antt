@@ -87,7 +87,7 @@ pub data IsClientRefusal (limits : Limits) (v : Conversation) (f : ClientFrame) 
   too_long : (v.client ≡ [] → IsFirst f) → (v.client ≢ [] → IsLater f) → MayAsk limits f → (Fit limits.client (asks.frame_items f) → ⊥) → e ≡ TooLong → IsClientRefusal limits v f e
   queue_full : v.client ≢ [] → IsLater f → MayAsk limits f → Fit limits.client (asks.frame_items f) → limits.waiting < load v.client v.server + weight f → e ≡ QueueFull → IsClientRefusal limits v f e
 
--- and one of the server
+-- why a message of the server is refused after those of v: the first case that applies
 pub data IsServerRefusal (limits : Limits) (v : Conversation) (s : ServerFrame) (e : SayFault) : Type 0 where
   second_connected : v.server ≢ [] → IsConnected s → e ≡ NotFirst → IsServerRefusal limits v s e
   before_connected : v.server ≡ [] → (IsConnected s → ⊥) → e ≡ NotFirst → IsServerRefusal limits v s e
@@ -129,11 +129,11 @@ pub record Says (s : SpeakerState) (messages : List Message) : Type 0 where
   pub heard : Heard s.asked s.welcomed s.waiting (conversation_of messages)
   pub room : s.waiting.max ≡ s.limits.waiting
 
--- want of memory, or no spelling within the limit
+-- memory was refused, or the message has no spelling within the limit
 abbrev pub IsUnwritten : ℕ → List Item → SayFault → Type 0
 IsUnwritten limit items e = (e ≡ NoMemory) ⊎ ((e ≡ TooLong) × (Fit limit items → ⊥))
 
--- no room, or no memory
+-- no room, or memory was refused
 abbrev pub IsUnput : ClientFrame → Lanes → SayFault → Type 0
 IsUnput f old e = (e ≡ NoMemory) ⊎ (IsLater f × (e ≡ QueueFull) × (old.max < weight_of old + weight f))
 
@@ -159,7 +159,7 @@ MayAnswer asked w (Event zxid event) = Unit {0}
 abbrev pub ClientMayStand : Bool → Limits → ClientFrame → Type 0
 ClientMayStand asked limits f = MatchBool asked (IsLater f) (IsFirst f) × MayAsk limits f × Fit limits.client (asks.frame_items f)
 
--- and the server's, which answers
+-- the server's message is of the kind that is due, answers what is there, and is within its side's limit
 abbrev pub ServerMayStand : Bool → Bool → Lanes → Limits → ServerFrame → Type 0
 ServerMayStand asked welcomed w limits f = MatchBool welcomed (IsConnected f → ⊥) (IsConnected f) × MayAnswer asked w f × Fit limits.server (answers.frame_items f)
 
@@ -180,7 +180,7 @@ SaysClient limits asked old f new = (welcomed : Bool) (v : Conversation) → Hea
 abbrev pub RefusesClient : Limits → Bool → Lanes → ClientFrame → SayFault → Type 0
 RefusesClient limits asked old f e = (welcomed : Bool) (v : Conversation) → Heard asked welcomed old v → IsClientRefusal limits v f e
 
--- and the server
+-- whatever was heard, the server may say this after it, and has said it
 abbrev pub SaysServer : Limits → Bool → Bool → Lanes → ServerFrame → Lanes → Type 0
 SaysServer limits asked welcomed old s new = (v : Conversation) → Heard asked welcomed old v → IsSaidServer limits v s × Heard asked true new (with_server v s)
 

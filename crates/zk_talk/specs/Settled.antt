@@ -1,4 +1,4 @@
--- What the quick way knows of a frame, of which no frame is made.
+-- What is known of a frame that is judged without being made.
 use Rattle.std.specs.Prelude.{◌≡◌, ℕ, ℤ, List, Some}
 use Rattle.zk_records.specs.declared.op.Op.{Op}
 use Rattle.zk_records.specs.declared.profile.Profile.{Profile}
@@ -14,14 +14,14 @@ use Rattle.zk_talk.specs.Describes.{Describes}
 use Rattle.zk_talk.specs.Judged.{IsInTurn, IsRemembered, IsDue, IsForgotten}
 use Rattle.zk_talk.specs.Viewed.{answered_by}
 
--- the client's frame with this payload, behind so many, may come now, and waits for its reply
+-- the client's frame with this payload, after `count` frames, may come now, and waits for its reply
 pub record IsAwaited (profile : Profile) (count : ℕ) (p : List ℕ) (old new : Lanes) (f : ClientFrame) : Type 0 where
   pub turn : IsInTurn profile count f
   pub sent : asks.IsSent f
   pub is : client_payload f ≡ p
   pub waits : IsRemembered f old new
 
--- the reply with this payload and this xid, to the operation that waits, may come behind any frame but the first
+-- the reply with this payload and this xid, to the operation that waits, may come after any frame but the first
 pub record IsDueReply (number : ℤ) (p : List ℕ) (asked : Op) (waiting : Lanes) (r : Reply) : Type 0 where
   pub xid : r.xid ≡ number
   pub op : answers.op_of_reply r ≡ asked
@@ -30,7 +30,7 @@ pub record IsDueReply (number : ℤ) (p : List ℕ) (asked : Op) (waiting : Lane
   pub is : server_payload (Answered r) ≡ p
   pub may : (n m : ℕ) (v : Conversation) → (m ≡ 0 → ⊥) → Describes n m waiting v → ServerMay v.client v.server (Answered r)
 
--- the server's frame with this payload, behind so many, may come now; it answers this operation, which waits no more
+-- the server's frame with this payload, after `count` frames, may come now; it answers this operation, which is dropped
 pub record IsSettled (count : ℕ) (p : List ℕ) (op : Op) (old new : Lanes) (s : ServerFrame) : Type 0 where
   pub turn : (count ≡ 0 → answers.IsConnected s) × ((count ≡ 0 → ⊥) → answers.IsConnected s → ⊥)
   pub operation : answered_by s ≡ Some op

@@ -12,7 +12,7 @@ pub record IsSide (limit : ℕ) (fault : Option Fault) (side : StreamState) : Ty
   pub size : side.size < 2 ^ 62
   pub count : side.count ≤ side.size
 
--- the fault that is kept, if one is, isn't want of memory
+-- the fault that is kept, if one is, isn't that memory was refused
 abbrev pub IsKnown : Option Fault → Type 0
 IsKnown None = Unit {0}
 IsKnown (Some f) = f.reason ≢ NoMemory

@@ -19,7 +19,7 @@ abbrev pub kept_where : Bool → List ℕ → List ℕ
 kept_where true bytes = bytes
 kept_where false bytes = []
 
--- so many bytes have made its frame whole, and it isn't counted
+-- the frame is whole with the last `used` bytes, and isn't counted
 pub record IsAtFrame (s : StreamState) (used : ℕ) : Type 0 where
   pub whole : IsFrame s.limit s.held
   pub limit : s.limit ≤ 16777216
@@ -27,15 +27,15 @@ pub record IsAtFrame (s : StreamState) (used : ℕ) : Type 0 where
   pub size : s.size + used < 2 ^ 62
   pub count : s.count ≤ s.size
 
--- its last bytes, so many, are not taken after all
+-- the last `used` bytes are not taken after all
 abbrev pub TakenBack : StreamState → ℕ → StreamState → Type 0
 TakenBack old used new = (before part : List ℕ) → old.held ≡ before ++ part → length part ≡ used → new ≡ record old { held = before }
 
--- the frame, with which so many bytes came, is done with
+-- the frame, whose last `used` bytes are new, is counted and dropped
 abbrev pub passed : StreamState → ℕ → StreamState
 passed s used = record s { held = []; count = s.count + 1; size = s.size + used }
 
--- it is counted and kept
+-- the frame, whose last `used` bytes are new, is counted and kept
 abbrev pub kept_now : StreamState → ℕ → StreamState
 kept_now s used = record s { held = []; kept = s.held; count = s.count + 1; size = s.size + used }
 

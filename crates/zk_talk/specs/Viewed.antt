@@ -1,4 +1,4 @@
--- What the frame shows that a side keeps.
+-- What the frame that a side keeps shows.
 use Rattle.std.specs.Prelude.{◌≡◌, ℕ, List, [], Option, Some, None}
 use Rattle.zk_frames.specs.Framing.{frame}
 use Rattle.zk_records.specs.declared.op.Op.{Op}
@@ -22,19 +22,19 @@ answered_by (Connected hello read_only) = None
 answered_by (Answered reply) = Some (answers.op_of_reply reply)
 answered_by (Event zxid event) = None
 
--- the frame, the last of so many, replies to a request of this operation; or, with none, it is the first, or an event
+-- the frame, the last of `frames`, replies to a request of this operation; or, with none, it is the first, or an event
 abbrev pub IsShownAs : ℕ → Option Op → ServerFrame → Type 0
 IsShownAs frames (Some op) s = (parts : List PartOp) × answers.IsReplyTo op parts s
 IsShownAs frames None s = (frames ≡ 1 → answers.IsConnected s) × ((frames ≡ 1 → ⊥) → answers.IsEvent s)
 
--- the kept bytes, the client's last frame of so many, are this frame's
+-- the kept bytes, the client's last frame of `frames`, are this frame's
 pub record ShowsClient (frames : ℕ) (kept : List ℕ) (f : ClientFrame) : Type 0 where
   pub first : frames ≡ 1 → asks.IsFirst f
   pub later : (frames ≡ 1 → ⊥) → asks.IsLater f
   pub sent : asks.IsSent f
   pub is : kept ≡ frame (client_payload f)
 
--- and those of the server
+-- the kept bytes, the server's last frame of `frames`, are this frame's
 pub record ShowsServer (frames : ℕ) (answered : Option Op) (kept : List ℕ) (s : ServerFrame) : Type 0 where
   pub kind : IsShownAs frames answered s
   pub sent : answers.IsSent s

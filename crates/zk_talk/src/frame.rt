@@ -1,4 +1,4 @@
-//! Whole frames: each is decided, and then kept or done with.
+//! What is done with a side's whole frame: it is judged, and then kept or passed.
 ghost use Rattle.std.specs.Prelude.{◌≡◌, ◌≢◌, ◌<◌, ◌≤◌, ◌↔◌, ℕ, [], length, take, drop, IfOk, IfErr, IfSome, IfNone, OnOk, IsTrue, false};
 ghost use Rattle.zk_jute.specs.declared.fault.Reason.TheVariants.{NoMemory};
 ghost use Rattle.zk_asks.specs.Held as asks;
@@ -16,7 +16,7 @@ use zk_jute::{ItemFault, Reason};
 use zk_records::{Op, Own, Profile};
 use zk_waiting::Waiting;
 
-/// Whether memory was wanted.
+/// Whether the fault is that memory was refused.
 pub fn is_no_memory(item: ItemFault) -> bool
     ensures { IsTrue result ↔ (item.reason ≡ NoMemory) }
 {
@@ -26,9 +26,8 @@ pub fn is_no_memory(item: ItemFault) -> bool
     }
 }
 
-/// The client's frame, which so many bytes have made whole, is kept where it is a request that may come under this profile; else all is as
-/// before, and no fault is told.
-// As in cutter.rt of zk_frames.
+/// Keeps the client's whole frame, whose last `used` bytes are new, if it is a request that may come next under
+/// `profile`; else changes nothing. False: undecided.
 #[inline(always)]
 pub fn keep_client(
     profile: Profile,
@@ -49,8 +48,8 @@ pub fn keep_client(
     true
 }
 
-/// The client's frame that the first bytes of the piece are, so many, is passed where it is a request that may come under
-/// this profile; else all is as before, and no fault is told. Nothing of it is held.
+/// Passes the client's frame `piece[..used]` if it is a request that may come next under `profile`; else changes nothing.
+/// Copies nothing. False: undecided.
 #[inline(always)]
 pub fn pass_client(
     profile: Profile,
@@ -74,8 +73,8 @@ pub fn pass_client(
     true
 }
 
-/// The client's frame, which so many bytes have made whole, is decided under this profile, and kept.
-// By the quick way first, so that a request that came in several pieces is decided by scalars, too.
+/// Judges the client's whole frame, whose last `used` bytes are new, under `profile`, and keeps it.
+// `keep_client` first, so that a request that came in several pieces makes no frame, too.
 pub fn client_step(
     profile: Profile,
     stream: &mut Stream,
@@ -98,7 +97,8 @@ pub fn client_step(
     Ok(())
 }
 
-/// Likewise, and its message is made. Where memory is wanted the bytes are not taken after all.
+/// Judges the client's whole frame, whose last `used` bytes are new, under `profile`, passes it, and returns its message.
+/// If memory is refused, the `used` bytes are not taken after all.
 pub fn client_frame(
     alloc: Global,
     profile: Profile,
@@ -130,7 +130,7 @@ pub fn client_frame(
     }
 }
 
-/// The operation whose request the frame answers; None where it isn't a reply.
+/// The operation whose request `frame` replies to; `None` if it is no reply.
 fn answered(frame: &ServerRef<'_>) -> Option<Op>
     ensures { result ≡ answered_by frame.now }
 {
@@ -141,8 +141,8 @@ fn answered(frame: &ServerRef<'_>) -> Option<Op>
     }
 }
 
-/// The server's frame, which so many bytes have made whole, is kept where it is a reply that may come, and
-/// the answer is the operation whose request it answers; else all is as before, and no fault is told.
+/// Keeps the server's whole frame, whose last `used` bytes are new, if it is a reply that may come next, and returns the
+/// operation of its request; `None`: undecided, and nothing changed.
 #[inline(always)]
 pub fn keep_server(stream: &mut Stream, waiting: &mut Waiting, used: usize) -> Option<Op>
     requires { IsAtFrame stream.old used }
@@ -156,8 +156,8 @@ pub fn keep_server(stream: &mut Stream, waiting: &mut Waiting, used: usize) -> O
     Some(op)
 }
 
-/// The server's frame that the first bytes of the piece are, so many, is passed where it is a reply that may come, and the
-/// answer is the operation whose request it answers; else all is as before, and no fault is told. Nothing of it is held.
+/// Passes the server's frame `piece[..used]` if it is a reply that may come next, and returns the operation of its
+/// request; `None`: undecided, and nothing changed. Copies nothing.
 #[inline(always)]
 pub fn pass_server(
     stream: &mut Stream,
@@ -178,9 +178,9 @@ pub fn pass_server(
     Some(op)
 }
 
-/// The server's frame, likewise, where the client has sent so many; the operation whose request it
-/// answers.
-// By the quick way first, as in `client_step`.
+/// Judges the server's whole frame, whose last `used` bytes are new, where the client has sent `asked` frames; keeps it,
+/// and returns the operation of its request, if it is a reply.
+// `keep_server` first, as in `client_step`.
 pub fn server_step(
     asked: u64,
     stream: &mut Stream,
@@ -204,7 +204,8 @@ pub fn server_step(
     Ok(answered)
 }
 
-/// Likewise, and its message is made.
+/// Judges the server's whole frame, whose last `used` bytes are new, where the client has sent `asked` frames; passes it,
+/// and returns its message. If memory is refused, the `used` bytes are not taken after all.
 pub fn server_frame(
     alloc: Global,
     asked: u64,

@@ -1,14 +1,14 @@
-//! What has come stays, whatever comes after it.
+//! The law of fronts: the messages that have come stay, whatever comes after them.
 ghost use Rattle.std.specs.Prelude.{◌++◌};
 ghost use Rattle.zk_talk.specs.declared.limits.Limits.{Limits};
 ghost use Rattle.zk_talk.specs.History.{History};
 ghost use Rattle.zk_talk.specs.Good.{Ordered};
 ghost use Rattle.zk_talk.specs.Answer.{IsFront, StandFirst};
 
-/// The messages of a good front of a history stand first among the messages of the history.
+/// The messages of a good front of a history are the first of the messages of the history. The function does nothing.
 pub fn front_comes_first()
-    // Where the whole history is good.
+    // If the whole history is good.
     ensures good { (limits : Limits) (front rest : History) (a : Ordered limits front) (b : Ordered limits (front ++ rest)) → IsFront a.messages b.messages }
-    // Whatever it ends in: the messages of a history with a fault are those before the fault.
+    // However it ends: the messages of a history with a fault are those before the fault.
     ensures any { (limits : Limits) (front rest : History) (a : Ordered limits front) → StandFirst a.messages limits (front ++ rest) }
 {}

@@ -1,4 +1,4 @@
-//! Whether a payload may come now.
+//! Whether a payload may come next, and what waits after it.
 ghost use Rattle.std.specs.Prelude.{◌≡◌, ◌≢◌, ◌<◌, ◌^◌, ◌↔◌, ℕ, List, length, IsOk, IfOk, IfErr, IfSome, IfNone, OnOk, IsTrue, false, Some};
 ghost use Rattle.zk_jute.specs.declared.fault.Reason.TheVariants.{NoMemory};
 ghost use Rattle.zk_asks.specs.Codes.{event_xid};
@@ -27,7 +27,7 @@ use zk_jute::{ItemFault, Reason};
 use zk_records::{Op, Profile, ReplyHeader};
 use zk_waiting::{PutFault, Waiting, lane_of};
 
-/// The frame after so many of the client, where it lies.
+/// The client's payload after `count` frames, borrowed.
 fn seen_client(profile: Profile, count: u64, payload: &[u8]) -> Result<ClientRef<'_>, ItemFault>
     ensures found { IfOk result (λ f. IsInTurn profile count f × IsSent f × (client_payload f ≡ payload.now)) }
     ensures fault { IfErr result (λ e. (e.reason ≢ NoMemory) × IsTurnFault profile count payload.now e) }
@@ -39,7 +39,7 @@ fn seen_client(profile: Profile, count: u64, payload: &[u8]) -> Result<ClientRef
     }
 }
 
-/// Whether there is room for what is to wait for the frame's reply.
+/// Whether there is room for what is to wait for the reply to `frame`.
 fn has_room(waiting: &Waiting, frame: &ClientRef<'_>) -> bool
     requires { length (client_payload frame.now) < 2 ^ 32 }
     ensures { IsTrue result ↔ HasRoomFor frame.now waiting.now }
@@ -50,7 +50,7 @@ fn has_room(waiting: &Waiting, frame: &ClientRef<'_>) -> bool
     }
 }
 
-/// The client's next frame, where it lies; there is room for what is to wait for its reply.
+/// The client's payload after `count` frames, borrowed; there is room for what is to wait for its reply.
 pub fn next_client<'a>(
     profile: Profile,
     count: u64,
@@ -70,8 +70,8 @@ pub fn next_client<'a>(
     }
 }
 
-/// The client's next frame, behind its first, waits for its reply, where it is a multi that may come; false says no more, and
-/// all is as before.
+/// Lets `payload`, which isn't the client's first, wait for its reply, if it is a multi that may come; false: undecided,
+/// and nothing changed.
 fn await_multi(profile: Profile, waiting: &mut Waiting, payload: &[u8]) -> bool
     ensures max { waiting.new.max ≡ waiting.old.max }
     ensures found { IsTrue result → (count : ℕ) → (count ≡ 0 → ⊥) → (f : asks.ClientFrame) × IsAwaited profile count payload.now waiting.old waiting.new f }
@@ -83,9 +83,8 @@ fn await_multi(profile: Profile, waiting: &mut Waiting, payload: &[u8]) -> bool
     }
 }
 
-/// The client's next frame waits for its reply, where it is a request that may come; false says no more, and all is as
-/// before. No fault is told, and no frame is made.
-// The hints of this file take 5% of the instructions off `check` on small messages.
+/// Lets the client's payload after `count` frames wait for its reply, if it is a request that may come next; false:
+/// undecided, and nothing changed. No fault and no frame is made.
 #[inline(always)]
 pub fn await_front(profile: Profile, count: u64, waiting: &mut Waiting, payload: &[u8]) -> bool
     ensures max { waiting.new.max ≡ waiting.old.max }
@@ -101,7 +100,7 @@ pub fn await_front(profile: Profile, count: u64, waiting: &mut Waiting, payload:
     }
 }
 
-/// The client's frame, for which there is room, waits for its reply, if it is to have one.
+/// Lets `frame` wait for its reply, if it is to have one; there is room for it.
 pub fn await_reply(waiting: &mut Waiting, frame: &ClientRef<'_>)
     requires small { length (client_payload frame.now) < 2 ^ 32 }
     requires room { HasRoomFor frame.now waiting.old }
@@ -116,13 +115,13 @@ pub fn await_reply(waiting: &mut Waiting, frame: &ClientRef<'_>)
     }
 }
 
-/// The client's frame waits for its reply, if it is to have one.
+/// Lets `frame` wait for its reply, if it is to have one.
 pub fn remember(alloc: Global, waiting: &mut Waiting, frame: &ClientFrame) -> Result<(), ItemFault>
     requires { length (client_payload frame.now) < 2 ^ 32 }
     ensures max { waiting.new.max ≡ waiting.old.max }
     ensures ok { OnOk result (IsRemembered frame.now waiting.old waiting.new) }
     ensures err { IfErr result (λ e. (waiting.new ≡ waiting.old) × IsPutRefusal frame.now waiting.old e) }
-    // A connect request waits for nothing, and wants no memory.
+    // A connect request waits in no lane, and allocates nothing.
     ensures connect { IsFirst frame.now → IsOk result }
 {
     let ClientFrame::Ask { xid, ask } = frame else {
@@ -137,7 +136,7 @@ pub fn remember(alloc: Global, waiting: &mut Waiting, frame: &ClientFrame) -> Re
     }
 }
 
-/// The reply under this header to the oldest request of its lane, where it lies.
+/// The reply `payload`, which has the header `head`, to the oldest request of its lane, borrowed.
 fn seen_answer<'a>(
     head: &ReplyHeader,
     waiting: &Waiting,
@@ -163,7 +162,7 @@ fn seen_answer<'a>(
     }
 }
 
-/// The server's next frame, where it lies: the client has sent so many, the server so many.
+/// The server's payload after `asked` frames of the client and `count` of the server, borrowed.
 pub fn next_server<'a>(
     asked: u64,
     count: u64,
@@ -188,7 +187,8 @@ pub fn next_server<'a>(
     seen_answer(&head, waiting, payload)
 }
 
-/// The operation of the oldest request of its lane, where the payload under this header is a reply to it.
+/// The operation of the oldest request of the lane, if `payload`, which has the header `head`, is a reply to it; `None`:
+/// undecided.
 #[inline(always)]
 fn front_answer(head: &ReplyHeader, waiting: &Waiting, payload: &[u8]) -> Option<Op>
     requires head { (rest : List ℕ) × IsHead payload.now head.now rest }
@@ -203,8 +203,8 @@ fn front_answer(head: &ReplyHeader, waiting: &Waiting, payload: &[u8]) -> Option
     }
 }
 
-/// What the server's next frame answers waits no more, where it is a reply that may come: the operation that was asked;
-/// None says no more, and all is as before. No fault is told, and no frame is made.
+/// Drops the request that the server's payload after `count` frames replies to, if it is a reply that may come next, and
+/// returns its operation; `None`: undecided, and nothing changed. No fault and no frame is made.
 #[inline(always)]
 pub fn forget_front(count: u64, waiting: &mut Waiting, payload: &[u8]) -> Option<Op>
     ensures max { waiting.new.max ≡ waiting.old.max }
@@ -226,7 +226,7 @@ pub fn forget_front(count: u64, waiting: &mut Waiting, payload: &[u8]) -> Option
     Some(op)
 }
 
-/// What the server's frame answers waits no more.
+/// Drops the request that `frame` replies to.
 pub fn forget(waiting: &mut Waiting, frame: &ServerFrame)
     requires { HasAsk frame.now waiting.old }
     ensures max { waiting.new.max ≡ waiting.old.max }
@@ -237,7 +237,7 @@ pub fn forget(waiting: &mut Waiting, frame: &ServerFrame)
     }
 }
 
-/// Likewise, where the frame lies.
+/// Drops the request that the borrowed `frame` replies to.
 pub fn forget_seen(waiting: &mut Waiting, frame: &ServerRef<'_>)
     requires { HasAsk frame.now waiting.old }
     ensures max { waiting.new.max ≡ waiting.old.max }

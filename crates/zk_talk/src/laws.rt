@@ -1,4 +1,4 @@
-//! What a history comes to is fixed, whatever is read of it.
+//! The laws of histories: a history has one conversation or one fault, whatever is read of it.
 ghost use Rattle.std.specs.Prelude.{◌≡◌, ◌++◌};
 ghost use Rattle.zk_talk.specs.declared.limits.Limits.{Limits};
 ghost use Rattle.zk_talk.specs.declared.message.Fault.{Fault};
@@ -7,16 +7,16 @@ ghost use Rattle.zk_talk.specs.Good.{IsGood, Spelt, AreSpeltAlike, HasOneOrder};
 ghost use Rattle.zk_talk.specs.Fault.{IsFaultOf};
 
 /// A history has one conversation, one order of its messages and one fault at most, and never a conversation and a
-/// fault.
+/// fault. The function does nothing.
 pub fn history_laws()
-    // It spells one conversation, and one beginning of a frame stands after each side's last whole frame.
+    // It spells one conversation, with one beginning of a frame after each side's last whole frame.
     ensures conversation { (limits : Limits) (h : History) (a b : Spelt limits h) → AreSpeltAlike a b }
     // Its messages have one order.
     ensures order { (limits : Limits) (h : History) (a : Spelt limits h) → HasOneOrder limits h a.conversation }
     // It has one fault.
     ensures fault { (limits : Limits) (h : History) (fault other : Fault) → IsFaultOf limits h fault → IsFaultOf limits h other → fault ≡ other }
-    // Where it has a fault, it spells no conversation.
+    // If it has a fault, it spells no conversation.
     ensures never_both { (limits : Limits) (h : History) (fault : Fault) → IsFaultOf limits h fault → IsGood limits h → ⊥ }
-    // A fault stands whatever follows it.
+    // The fault stays, whatever follows it.
     ensures decided { (limits : Limits) (h rest : History) (fault : Fault) → IsFaultOf limits h fault → IsFaultOf limits (h ++ rest) fault }
 {}

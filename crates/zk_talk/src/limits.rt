@@ -1,13 +1,13 @@
-//! The limits of a conversation, and its profile.
+//! `Limits`: the limits of a conversation, and its profile.
 ghost use Rattle.std.specs.Prelude.{◌≡◌, ◌↔◌, IsSome, IfSome};
 ghost use Rattle.zk_records.specs.declared.profile.Profile.TheVariants.{V34};
 ghost use Rattle.zk_talk.specs.Ranges.{AreLimits};
 
 use zk_records::Profile;
 
-/// The longest payloads of both sides in bytes (ZooKeeper's `jute.maxbuffer`); what the requests
-/// that wait for their replies may weigh: each weighs 1, and one more for each part; and the
-/// profile, of which each request's operation is.
+/// The longest payload of each side in bytes (ZooKeeper's `jute.maxbuffer`); the greatest weight of the requests that
+/// wait for their replies, each of which weighs 1, and 1 more for each part of a multi; and the profile, of which each
+/// request's operation is.
 #[derive(Clone, Copy, Debug, PartialEq, Eq)]
 pub struct Limits {
     pub client: u32,
@@ -18,8 +18,8 @@ pub struct Limits {
 }
 
 impl Limits {
-    /// Limits of these numbers, under profile 3.4: frames of 64 to 16,777,216 bytes, waiting 1 to
-    /// 1,048,576; None outside.
+    /// The longest payloads of the `client` and the `server`, 64 to 16,777,216 bytes each, and the greatest weight `waiting`, 1
+    /// to 1,048,576, under profile 3.4; `None` if one is out of range.
     pub fn new(client: u32, server: u32, waiting: u32) -> Option<Limits>
         ensures when { IsSome result ↔ AreLimits client server waiting }
         ensures value { IfSome result (λ l. (l.client ≡ client) × (l.server ≡ server) × (l.waiting ≡ waiting) × (l.profile ≡ V34)) }
@@ -40,7 +40,7 @@ impl Limits {
         }
     }
 
-    /// The same numbers under this profile.
+    /// The same numbers under `profile`.
     pub fn with_profile(self, profile: Profile) -> Limits
         ensures numbers { (result.client ≡ self.client) × (result.server ≡ self.server) × (result.waiting ≡ self.waiting) }
         ensures profile { result.profile ≡ profile }
@@ -67,7 +67,7 @@ impl Limits {
         self.server
     }
 
-    /// What the waiting requests may weigh.
+    /// The greatest weight of the requests that wait.
     pub fn waiting(&self) -> u32
         ensures { result ≡ self.now.waiting }
     {

@@ -1,4 +1,4 @@
-//! What a conversation is made of.
+//! `Message`, `Fault`, `Ending`: what a conversation is made of, and how it ends.
 ghost use Rattle.std.specs.Prelude.{◌≡◌, IfOk};
 
 use std::alloc::{AllocError, Global};
@@ -10,7 +10,7 @@ use zk_asks::{ClientFrame, ClientRef};
 use zk_jute::Reason;
 use zk_records::Own;
 
-/// Who sends.
+/// The side that sends.
 #[derive(Clone, Copy, Debug, PartialEq, Eq)]
 pub enum Side {
     Client,
@@ -34,14 +34,18 @@ pub enum MessageOf<C, S> {
     Server(S),
 }
 
-/// A message with memory of its own.
+/// An owned message.
 pub type Message = MessageOf<ClientFrame, ServerFrame>;
 
-/// A message where it lies in its frame's payload.
+/// A message, borrowed from its frame's payload.
 pub type MessageRef<'a> = MessageOf<ClientRef<'a>, ServerRef<'a>>;
 
 impl MessageRef<'_> {
-    /// The same message with memory of its own. `AllocError` where memory is refused.
+    /// An owned copy of the message.
+    ///
+    /// # Errors
+    ///
+    /// `AllocError` if memory is refused.
     pub fn to_message(&self, alloc: Global) -> Result<Message, AllocError>
         ensures { IfOk result (λ message. message ≡ self.now) }
     {
@@ -56,13 +60,13 @@ impl MessageRef<'_> {
 #[derive(Clone, Copy, Debug, PartialEq, Eq, Error)]
 #[error("side={side} frame={frame} offset={offset} place={place} reason={reason}")]
 pub struct Fault {
-    /// Whose byte decided it.
+    /// The side whose byte decided it.
     pub side: Side,
     /// The number of that side's frame, from 0.
     pub frame: u64,
     /// The number of that side's bytes up to and with the one that decided it.
     pub offset: u64,
-    /// Bytes from the beginning of the frame's payload.
+    /// The offset in the frame's payload, in bytes.
     pub place: u32,
     pub reason: Reason,
 }
@@ -70,11 +74,11 @@ pub struct Fault {
 /// How a history ends.
 #[derive(Clone, Copy, Debug, PartialEq, Eq)]
 pub enum Ending {
-    /// Both sides end with a whole frame; so many frames of the client have no answer.
+    /// Both sides end with a whole frame; `unanswered` frames of the client have no reply.
     Whole { unanswered: u32 },
-    /// The side ends within its frame of this number, after so many bytes of it.
+    /// The side ends within its frame of this number, counted from 0, after `got` bytes of it.
     Cut { side: Side, frame: u64, got: u32 },
-    /// The history is that of no conversation.
+    /// The history spells no conversation.
     Refused(Fault),
 }
 

@@ -1,4 +1,4 @@
-//! A whole history.
+//! `read_all`: a whole history, from a list of pieces to its messages and its ending.
 ghost use Rattle.std.specs.Prelude.{◌≡◌, ◌≤◌, ◌++◌, ◌↔◌, List, [], length, drop, IsTrue, IfOk, OnOk};
 ghost use Rattle.std.specs.Option.{option_to_list};
 ghost use Rattle.zk_jute.specs.declared.fault.Reason.TheVariants.{NoMemory};
@@ -70,8 +70,8 @@ fn feed(
     Ok(None)
 }
 
-/// The conversation that these pieces are, however they were cut: its messages in the order of
-/// their last bytes, and how it ends. Behind a fault nothing is read.
+/// The conversation that `pieces` spell, however they were cut: its messages in the order of their last bytes, and how
+/// it ends. Nothing is read after a fault.
 pub fn read_all(
     alloc: Global,
     limits: Limits,

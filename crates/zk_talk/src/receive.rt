@@ -1,4 +1,4 @@
-//! What a piece brings to a side, whichever it is, and the fault that is kept.
+//! What a piece does to a side, client or server alike, and the fault that is kept.
 ghost use Rattle.std.specs.Prelude.{◌≡◌, ◌≢◌, ◌<◌, ◌+◌, ◌^◌, [], Some};
 ghost use Rattle.zk_jute.specs.declared.fault.Reason.TheVariants.{NoMemory};
 ghost use Rattle.zk_frames.specs.Framing.{IsBeginning};
@@ -11,7 +11,7 @@ use crate::message::{Fault, Side};
 use crate::stream::{Advance, Stream};
 use zk_jute::{ItemFault, Reason};
 
-/// The fault of an item of this side's frame, behind so many bytes of the side.
+/// The fault of `item` in the side's frame `frame`, after `offset` bytes of the side.
 fn fault_at(side: Side, frame: u64, offset: u64, item: ItemFault) -> Fault
     ensures { result ≡ fault_of side frame offset item.place item.reason }
 {
@@ -24,8 +24,7 @@ fn fault_at(side: Side, frame: u64, offset: u64, item: ItemFault) -> Fault
     }
 }
 
-/// The fault of the frame that so many more bytes have brought; it is kept, but for want of
-/// memory.
+/// The fault of the frame to which `used` more bytes belong. It is kept, unless memory was refused.
 pub fn refuse(
     kept: &mut Option<Fault>,
     side: Side,
@@ -47,8 +46,8 @@ pub fn refuse(
     fault
 }
 
-/// The side takes the piece up to the end of the first frame that becomes whole, or all of it. A whole frame is answered
-/// with how many bytes were taken; None says that all of them were, and the frame isn't whole. A refusal is kept.
+/// Takes the piece up to the end of the first frame that becomes whole, or all of it. Returns the number of bytes that
+/// were taken, if a frame is whole, and `None` if all were taken and none is. A fault is kept.
 pub fn receive(
     kept: &mut Option<Fault>,
     side: Side,

@@ -1,4 +1,4 @@
-//! The body in which a fault lies.
+//! The body in which a fault is found: its layout, and its bytes.
 ghost use Rattle.std.specs.Prelude.{◌≡◌, ◌≢◌, ◌≤◌, ◌↔◌, ℕ, length, IsTrue, IfSome, MatchOption};
 ghost use Rattle.zk_records.specs.declared.op.Op.TheVariants as ops;
 ghost use Rattle.zk_answers.specs.declared.layout.Layout.TheVariants as layouts;
@@ -18,7 +18,7 @@ use zk_jute::{Reason, int_at};
 use zk_records::{Op, Profile, op_of};
 use zk_waiting::{Waiting, lane_of};
 
-/// Whether a body's items give this reason.
+/// Whether a body's items can give the reason.
 fn is_of_items(reason: Reason) -> bool
     ensures { result ≡ of_items reason }
 {
@@ -41,7 +41,7 @@ fn is_of_items(reason: Reason) -> bool
     }
 }
 
-/// How many bytes a header has, behind a side's frame 0.
+/// The number of bytes of a header of the side, of a frame after its first.
 fn header_size(side: Side) -> u32
     ensures { result ≡ header_size side }
 {
@@ -51,7 +51,7 @@ fn header_size(side: Side) -> u32
     }
 }
 
-/// Whether the fault lies in a body.
+/// Whether the fault is in a body.
 pub fn is_in_body(fault: Fault) -> bool
     ensures { IsTrue result ↔ IsInBody fault }
 {
@@ -64,7 +64,7 @@ pub fn is_in_body(fault: Fault) -> bool
     is_of_items(fault.reason)
 }
 
-/// The body behind a request's header.
+/// The layout and the bytes of the body after a request's header.
 pub fn asked_body(payload: &[u8]) -> Option<(Layout, &[u8])>
     ensures found { (v : Conversation) → IsBodyOf v payload.now Client result }
     ensures small { IfSome result (λ b. length b.1.now ≤ length payload.now) }
@@ -82,7 +82,7 @@ pub fn asked_body(payload: &[u8]) -> Option<(Layout, &[u8])>
     }
 }
 
-/// The operation of the request that a reply with this xid answers; none where it is a multi's.
+/// The operation of the request that a reply with the xid `xid` answers; `None` if it is a multi, or there is none.
 fn answered_op(xid: i32, waiting: &Waiting) -> Option<Op>
     ensures found { (n m : ℕ) (v : Conversation) → Describes n m waiting.now v → MatchOption result (AnswersNone v xid) (AnswersOp v xid) }
     ensures known { IfSome result (λ op. op ≢ ops.Multi) }
@@ -101,7 +101,8 @@ fn answered_op(xid: i32, waiting: &Waiting) -> Option<Op>
     }
 }
 
-/// The body behind the header of an event, or of a reply with err 0 to another operation than multi.
+/// The layout and the bytes of the body after the header of an event, or of a reply with err 0 to another operation than
+/// multi.
 pub fn answered_body<'a>(payload: &'a [u8], waiting: &Waiting) -> Option<(Layout, &'a [u8])>
     ensures found { (n m : ℕ) (v : Conversation) → Describes n m waiting.now v → IsBodyOf v payload.now Server result }
     ensures small { IfSome result (λ b. length b.1.now ≤ length payload.now) }

@@ -1,4 +1,4 @@
-//! One message more: whether it may be said, and its frame.
+//! `say_client`, `say_server`, `SayFault`: whether one message more may be said, and its frame.
 ghost use Rattle.std.specs.Prelude.{◌≡◌, ◌≤◌, ◌<◌, ◌+◌, ◌^◌, ◌++◌, ◌⊎◌, ◌∷◌, [], pos, length, true, OnOk, OnErr, IfErr, MatchBool, IsTrue, ◌↔◌};
 ghost use Rattle.zk_jute.specs.Item.{Fit, int_bytes};
 ghost use Rattle.zk_records.specs.Codes.{HasOp};
@@ -27,24 +27,23 @@ use zk_waiting::{Waiting, lane_of};
 /// Why a message can't be said, in the order of the checks.
 #[derive(Clone, Copy, Debug, PartialEq, Eq)]
 pub enum SayFault {
-    /// A connect message where its side has spoken, or another where it has not.
+    /// A connect message of a side that has spoken, or another of one that has not.
     NotFirst,
     /// No request of the lane waits, or there was no connect request.
     Unasked,
     /// The lane's oldest request has another xid.
     XidOrder { expected: i32, got: i32 },
-    /// The xid isn't allowed for the operation, the operation isn't of the profile, or the reply
-    /// doesn't fit its request.
+    /// The xid isn't allowed for the operation, the operation isn't of the profile, or the reply doesn't fit its request.
     Misfit,
     /// The payload is longer than its side's limit.
     TooLong,
-    /// What waits would weigh more than may wait.
+    /// The requests that wait would weigh more than the limit.
     QueueFull,
-    /// A growth was refused.
+    /// The system refused memory.
     NoMemory,
 }
 
-/// The name of a fault.
+/// The name of the fault, as lines and reports have it.
 pub fn say_name(fault: &SayFault) -> &'static str
     ensures { result.now ≡ names.say_name fault.now }
 {
@@ -59,7 +58,7 @@ pub fn say_name(fault: &SayFault) -> &'static str
     }
 }
 
-/// The fault's name; behind that of `XidOrder` its two xids.
+/// The fault's name; after that of `XidOrder` its two xids.
 impl Display for SayFault {
     fn fmt<W: fmt::Write>(&self, f: &mut fmt::Formatter<W>) -> fmt::Result {
         f.write_str(say_name(self))?;
@@ -72,7 +71,7 @@ impl Display for SayFault {
 
 impl Error for SayFault {}
 
-/// Appends the length that stands before a payload.
+/// Appends `size` as the four bytes of length that come before a payload.
 fn put_length(size: u32, out: &mut Vec<u8>) -> Result<(), AllocError>
     requires { size < 2 ^ 31 }
     ensures ok { OnOk result (out.new.items ≡ out.old.items ++ int_bytes (pos size)) }
@@ -82,7 +81,7 @@ fn put_length(size: u32, out: &mut Vec<u8>) -> Result<(), AllocError>
     Ok(())
 }
 
-/// Appends the frame of a message of the client.
+/// Appends the frame of a message of the client, whose payload is at most `limit` bytes.
 fn put_client(message: &ClientFrame, limit: u32, out: &mut Vec<u8>) -> Result<(), SayFault>
     requires allowed { asks.MaySend message.now }
     requires limit { limit ≤ 16777216 }
@@ -90,7 +89,7 @@ fn put_client(message: &ClientFrame, limit: u32, out: &mut Vec<u8>) -> Result<()
     ensures ok { OnOk result (out.new.items ≡ out.old.items ++ frame (client_payload message.now)) }
     ensures same { OnErr result (out.new.items ≡ out.old.items) }
     ensures err { IfErr result (IsUnwritten limit (asks.frame_items message.now)) }
-    // Memory is wanted for what fits alone.
+    // Memory is needed for what fits alone.
     ensures lacks { IfErr result (λ e. e ≡ NoMemory → Fit limit (asks.frame_items message.now)) }
 {
     let Some(size) = message.size_within(limit) else {
@@ -107,7 +106,7 @@ fn put_client(message: &ClientFrame, limit: u32, out: &mut Vec<u8>) -> Result<()
     Ok(())
 }
 
-/// Appends the frame of a message of the server.
+/// Appends the frame of a message of the server, whose payload is at most `limit` bytes.
 fn put_server(message: &ServerFrame, limit: u32, out: &mut Vec<u8>) -> Result<(), SayFault>
     requires xid { answers.HasItsXid message.now }
     requires limit { limit ≤ 16777216 }
@@ -115,7 +114,7 @@ fn put_server(message: &ServerFrame, limit: u32, out: &mut Vec<u8>) -> Result<()
     ensures ok { OnOk result (out.new.items ≡ out.old.items ++ frame (server_payload message.now)) }
     ensures same { OnErr result (out.new.items ≡ out.old.items) }
     ensures err { IfErr result (IsUnwritten limit (answers.frame_items message.now)) }
-    // Memory is wanted for what fits alone.
+    // Memory is needed for what fits alone.
     ensures lacks { IfErr result (λ e. e ≡ NoMemory → Fit limit (answers.frame_items message.now)) }
 {
     let Some(size) = message.size_within(limit) else {
@@ -162,7 +161,7 @@ fn may_ask(limits: Limits, message: &ClientFrame) -> bool
     }
 }
 
-/// The request waits for its reply.
+/// Lets the request wait for its reply.
 fn put_request(alloc: Global, waiting: &mut Waiting, message: &ClientFrame) -> Result<(), SayFault>
     requires { length (client_payload message.now) < 2 ^ 32 }
     ensures max { waiting.new.max ≡ waiting.old.max }
@@ -194,7 +193,7 @@ pub fn say_client(
     ensures said { OnOk result (SaysClient limits asked waiting.old message.now waiting.new) }
     ensures same { OnErr result ((waiting.new ≡ waiting.old) × (out.new.items ≡ out.old.items)) }
     ensures err { IfErr result (λ e. (e ≡ NoMemory) ⊎ RefusesClient limits asked waiting.old message.now e) }
-    // Memory is wanted alone for what is due, may be asked and fits.
+    // Memory is needed only for what is due, may be asked and fits.
     ensures lacks { IfErr result (λ e. e ≡ NoMemory → ClientMayStand asked limits message.now) }
 {
     if is_connect(message) == asked {
@@ -217,7 +216,7 @@ pub fn say_client(
     }
 }
 
-/// The failure of an outcome is an error's number.
+/// The failure of an outcome is an error's number. The function does nothing.
 fn told(outcome: &Outcome)
     ensures { answers.IsOutcome outcome.now }
 {
@@ -249,7 +248,7 @@ fn reply_fits(waiting: &Waiting, reply: &Reply) -> Result<(), SayFault>
     Ok(())
 }
 
-/// Whether what the message answers is there.
+/// Whether the request that the message replies to is there.
 fn may_answer(asked: bool, waiting: &Waiting, message: &ServerFrame) -> Result<(), SayFault>
     ensures ok { OnOk result (MayAnswer asked waiting.now message.now) }
     ensures err { IfErr result (CannotAnswer asked waiting.now message.now) }
@@ -267,7 +266,7 @@ fn may_answer(asked: bool, waiting: &Waiting, message: &ServerFrame) -> Result<(
     }
 }
 
-/// Says a message of the server; what it answers waits no more.
+/// Says a message of the server, and drops the request that it replies to.
 pub fn say_server(
     limits: Limits,
     asked: bool,
@@ -281,7 +280,7 @@ pub fn say_server(
     ensures said { OnOk result (SaysServer limits asked welcomed waiting.old message.now waiting.new) }
     ensures same { OnErr result ((waiting.new ≡ waiting.old) × (out.new.items ≡ out.old.items)) }
     ensures err { IfErr result (λ e. (e ≡ NoMemory) ⊎ RefusesServer limits asked welcomed waiting.old message.now e) }
-    // Memory is wanted alone for what is due, answers and fits.
+    // Memory is needed only for what is due, replies and fits.
     ensures lacks { IfErr result (λ e. e ≡ NoMemory → ServerMayStand asked welcomed waiting.old limits message.now) }
 {
     if is_connected(message) == welcomed {

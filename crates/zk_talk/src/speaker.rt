@@ -1,4 +1,4 @@
-//! Messages to bytes.
+//! `Speaker`: messages to bytes, as long as they are a conversation.
 ghost use Rattle.std.specs.Prelude.{◌≡◌, ◌≢◌, ◌++◌, ◌⊎◌, ◌∷◌, [], List, false, OnOk, OnErr, IfOk, IfErr};
 ghost use Rattle.zk_frames.specs.Framing.{frame};
 ghost use Rattle.zk_talk.specs.Held.{Message};
@@ -13,7 +13,7 @@ use std::alloc::{AllocError, Global};
 use std::marker::Model;
 use zk_waiting::Waiting;
 
-/// What was said of a conversation so far.
+/// What was said so far of a conversation.
 #[derive(Drop)]
 pub struct Speaker {
     alloc: Global,
@@ -35,7 +35,11 @@ impl Model for Speaker {
 }
 
 impl Speaker {
-    /// Nothing was said yet.
+    /// A speaker that has said nothing.
+    ///
+    /// # Errors
+    ///
+    /// `AllocError` if memory for the requests that wait is refused.
     pub fn new(alloc: Global, limits: Limits) -> Result<Self, AllocError>
         ensures limits { IfOk result (λ s. s.limits ≡ limits) }
         ensures says { IfOk result (λ s. Says s []) }
@@ -50,24 +54,24 @@ impl Speaker {
         })
     }
 
-    /// Appends the message's frame to `out`, where the messages said so far and it, frame after
-    /// frame, are a conversation within the limits, and only there.
+    /// Appends the frame of `message` to `out` if the messages said so far and it, frame after frame, are a conversation
+    /// within the limits, and only then.
     ///
     /// # Errors
     ///
-    /// The first of `SayFault`'s cases that applies; `NoMemory` where a growth was refused. The
-    /// speaker and `out` are then unchanged.
+    /// The first of `SayFault`'s cases that applies; `NoMemory` if memory is refused. The speaker and `out` are then
+    /// unchanged.
     pub fn say(&mut self, message: &Message, out: &mut Vec<u8>) -> Result<(), SayFault>
         ensures limits { self.new.limits ≡ self.old.limits }
         ensures bytes { OnOk result (out.new.items ≡ out.old.items ++ frame (payload_of message.now)) }
         // It may be said, and was said.
         ensures said { OnOk result ((M : List Message) → Says self.old M → MaySay self.old.limits M message.now × Says self.new (M ++ message.now ∷ [])) }
         ensures same { OnErr result ((self.new ≡ self.old) × (out.new.items ≡ out.old.items)) }
-        // Want of memory, or the case that refuses it.
+        // Memory was refused, or the message is, by this case.
         ensures err { IfErr result (λ e. (e ≡ NoMemory) ⊎ ((before : List Message) → Says self.old before → IsSayFault self.old.limits before message.now e)) }
-        // Memory is wanted alone for a message that is due, may be asked or answers, and is within its side's limit.
+        // Memory is needed only for a message that is due, may be asked or replies, and is within its side's limit.
         ensures lacks { IfErr result (λ e. e ≡ NoMemory → MayStand self.old message.now) }
-        // Only what may not be said is refused, but for want of memory.
+        // Only what may not be said is refused, unless memory was.
         ensures exact { IfErr result (λ e. e ≢ NoMemory → (before : List Message) → Says self.old before → MaySay self.old.limits before message.now → ⊥) }
     {
         match message {
@@ -103,7 +107,7 @@ impl Speaker {
         Ok(())
     }
 
-    /// How many messages of the client have no answer, the connect request included.
+    /// The number of the client's messages without a reply, the connect request included.
     pub fn unanswered(&self) -> u32
         ensures { (before : List Message) → Says self.now before → result ≡ unanswered (conversation_of before) }
     {

@@ -1,4 +1,4 @@
-//! One side's bytes, and what a piece does to its frame.
+//! `Stream`: one side's bytes, and what a piece does to its frame.
 ghost use Rattle.std.specs.Prelude.{◌≡◌, ◌≤◌, ◌<◌, ◌+◌, ◌^◌, ◌++◌, ℕ, List, [], length, take, IfOk, IfSome, IfNone, MatchOption};
 ghost use Rattle.zk_frames.specs.Framing.{frame, IsBeginning, IsFrame};
 ghost use Rattle.zk_talk.specs.Advance.{IsAdvance};
@@ -14,9 +14,9 @@ use zk_jute::Reason;
 pub enum Advance {
     /// All of it was taken, and the frame isn't whole.
     Within,
-    /// So many of its bytes were taken, and the frame is whole.
+    /// This number of its bytes was taken, and the frame is whole.
     Whole(usize),
-    /// With so many of its bytes the side is refused.
+    /// The last of this number of its bytes is refused, for this reason.
     Refused(usize, Reason),
 }
 
@@ -42,8 +42,7 @@ impl Model for Stream {
     ghost invariant = { λ s. s.kept ≡ true → IsFrame s.frames.limit s.frames.bytes };
 }
 
-/// How many bytes of the piece the side may still send.
-// As in cutter.rt of zk_frames.
+/// The number of bytes of `piece` that a side may still send after `size` bytes.
 #[inline(always)]
 fn within(size: u64, piece: &[u8]) -> usize
     requires { size < 2 ^ 62 }
@@ -67,7 +66,7 @@ fn front(piece: &[u8], used: usize) -> &[u8]
     &piece[..used]
 }
 
-/// What the frame carries that the first bytes of the piece are, so many.
+/// The payload of the frame `piece[..used]`.
 #[inline(always)]
 pub fn carried(piece: &[u8], used: usize) -> &[u8]
     requires part { used ≤ length piece.now }
@@ -77,7 +76,7 @@ pub fn carried(piece: &[u8], used: usize) -> &[u8]
     &piece[4..used]
 }
 
-/// What the piece does to the frame of a side of so many bytes.
+/// What `piece` does to the frame of a side that has sent `size` bytes.
 fn go_forward(frames: &mut Frames, size: u64, piece: &[u8]) -> Advance
     requires begins { IsBeginning frames.old.limit frames.old.bytes }
     requires size { size < 2 ^ 62 }
@@ -114,7 +113,7 @@ impl Stream {
         })
     }
 
-    /// How many frames were whole.
+    /// The number of frames that were whole.
     #[inline(always)]
     pub fn count(&self) -> u64
         ensures { result ≡ self.now.count }
@@ -122,7 +121,7 @@ impl Stream {
         self.count
     }
 
-    /// How many bytes came before the frame that is whole now, or in all.
+    /// The number of bytes before the frame that is whole now, or of all if none is.
     #[inline(always)]
     pub fn size(&self) -> u64
         ensures { result ≡ self.now.size }
@@ -130,7 +129,7 @@ impl Stream {
         self.size
     }
 
-    /// How many bytes of a frame that isn't counted are held.
+    /// The number of bytes that are held of a frame that isn't counted.
     pub fn held(&self) -> u32
         ensures count { result ≡ length self.now.held }
         ensures within { result ≤ 4 + self.now.limit }
@@ -138,7 +137,7 @@ impl Stream {
         if self.kept { 0 } else { self.frames.held() }
     }
 
-    /// How many bytes are held, those of a frame that is kept too.
+    /// The number of bytes that are held, those of a kept frame included.
     pub fn lies(&self) -> u32
         ensures count { result ≡ length self.now.held + length self.now.kept }
         ensures within { result ≤ 4 + self.now.limit }
@@ -146,7 +145,7 @@ impl Stream {
         self.frames.held()
     }
 
-    /// What the frame carries that is whole and isn't counted.
+    /// The payload of the frame that is whole and isn't counted.
     #[inline(always)]
     pub fn payload(&self) -> &[u8]
         requires { IsFrame self.now.limit self.now.held }
@@ -155,7 +154,7 @@ impl Stream {
         self.frames.payload()
     }
 
-    /// What the frame carries that is whole and isn't counted; None where there is none.
+    /// The payload of the frame that is whole and isn't counted; `None` if there is none.
     pub fn refused_payload(&self) -> Option<&[u8]>
         ensures { MatchOption result (IsFrame self.now.limit self.now.held → ⊥) (λ p. (self.now.held ≡ frame p.now) × (length p.now ≤ self.now.limit)) }
     {
@@ -166,7 +165,7 @@ impl Stream {
         }
     }
 
-    /// What the frame carries that is kept; None where none is.
+    /// The payload of the kept frame; `None` if there is none.
     pub fn kept_payload(&self) -> Option<&[u8]>
         ensures { MatchOption result (self.now.kept ≡ []) (λ p. self.now.kept ≡ frame p.now) }
     {
@@ -177,7 +176,7 @@ impl Stream {
         }
     }
 
-    /// The frame that was kept is given up.
+    /// Drops the kept frame.
     #[inline(always)]
     pub fn give_up(&mut self)
         ensures { self.new ≡ record self.old { kept = [] } }
@@ -199,8 +198,8 @@ impl Stream {
         go_forward(&mut self.frames, self.size, piece)
     }
 
-    /// How many bytes the whole frame has that the piece begins with, where no byte is held; None says no more. Nothing is
-    /// taken.
+    /// The number of bytes of the whole frame at the front of `piece`, its length included, if no byte is held; `None`:
+    /// undecided. Takes nothing.
     #[inline(always)]
     pub fn front(&self, piece: &[u8]) -> Option<usize>
         requires given_up { self.now.kept ≡ [] }
@@ -211,7 +210,8 @@ impl Stream {
         self.frames.front(front(piece, room))
     }
 
-    /// Takes the whole frame that the piece begins with, where no byte is held; else nothing, and None says no more.
+    /// Takes the whole frame at the front of `piece`, if no byte is held, and returns the number of its bytes; `None`:
+    /// undecided, and nothing changed.
     #[inline(always)]
     pub fn take_front(&mut self, piece: &[u8]) -> Option<usize>
         requires given_up { self.old.kept ≡ [] }
@@ -224,7 +224,7 @@ impl Stream {
         self.frames.take_front(front(piece, room))
     }
 
-    /// So many bytes came, and the frame isn't whole.
+    /// Counts the `used` bytes that came; the frame isn't whole.
     pub fn go_on(&mut self, used: usize)
         requires size { self.old.size + used < 2 ^ 62 }
         ensures { self.new ≡ record self.old { size = self.old.size + used } }
@@ -240,7 +240,7 @@ impl Stream {
         self.frames.untake(used as u32);
     }
 
-    /// The whole frame, with which so many bytes came, is done with.
+    /// Counts the whole frame, whose last `used` bytes are new, and drops it.
     pub fn pass(&mut self, used: usize)
         requires { IsAtFrame self.old used }
         ensures { self.new ≡ passed self.old used }
@@ -250,7 +250,7 @@ impl Stream {
         self.size += used as u64;
     }
 
-    /// A whole frame of so many bytes, of which none was held, is counted and done with.
+    /// Counts a whole frame of `used` bytes, none of which is held.
     #[inline(always)]
     pub fn pass_front(&mut self, used: usize)
         requires none { (self.old.held ≡ []) × (self.old.kept ≡ []) }
@@ -261,7 +261,7 @@ impl Stream {
         self.size += used as u64;
     }
 
-    /// The whole frame, with which so many bytes came, is counted and kept.
+    /// Counts the whole frame, whose last `used` bytes are new, and keeps it.
     #[inline(always)]
     pub fn keep(&mut self, used: usize)
         requires { IsAtFrame self.old used }

@@ -1,4 +1,4 @@
-//! The conversation, as it comes.
+//! `Talk`: the conversation, judged as its bytes come.
 ghost use Rattle.std.specs.Prelude.{false, true, ◌≡◌, ◌≢◌, ◌≤◌, ◌+◌, List, [], ◌∷◌, length, take, Some, None, Err, IsOk, IfOk, IfErr, OnErr, IfSome, IfNone, MatchOption};
 ghost use Rattle.std.specs.Option.{option_to_list};
 ghost use Rattle.zk_jute.specs.declared.fault.Reason.TheVariants.{NoMemory};
@@ -32,26 +32,26 @@ use zk_answers::Layout;
 use zk_records::Op;
 use zk_waiting::Waiting;
 
-/// What a piece gave.
+/// What `Talk::take` took of a piece.
 #[derive(Drop)]
 pub struct Taken {
-    /// So many of the piece's bytes were used.
+    /// The number of bytes of the piece that were used.
     pub used: usize,
     /// The message that the last of them made whole.
     pub message: Option<Message>,
 }
 
-/// What a piece gave to a step.
+/// What `Talk::step` took of a piece.
 #[derive(Clone, Copy, Debug, PartialEq, Eq)]
 pub struct Stepped {
-    /// So many of the piece's bytes were used.
+    /// The number of bytes of the piece that were used.
     pub used: usize,
-    /// The last of them made a frame whole: a message of the conversation.
+    /// Whether the last of them made a frame whole: a message of the conversation.
     pub whole: bool,
 }
 
-/// What is known of a conversation after the bytes so far. The bytes of both sides come in any
-/// pieces; a reply may not end before its request has ended.
+/// What is known of a conversation after the bytes so far. The bytes of both sides come in any pieces; a reply may not
+/// end before its request has ended.
 #[derive(Drop)]
 pub struct Talk {
     alloc: Global,
@@ -59,7 +59,7 @@ pub struct Talk {
     client: Stream,
     server: Stream,
     waiting: Waiting,
-    /// The operation whose request the server's kept frame answers; None where that isn't a reply.
+    /// The operation of the request that the server's kept frame replies to; `None` if that is no reply.
     answered: Option<Op>,
     fault: Option<Fault>,
 }
@@ -79,6 +79,10 @@ impl Model for Talk {
 
 impl Talk {
     /// A conversation of which nothing has come.
+    ///
+    /// # Errors
+    ///
+    /// `AllocError` if memory for the frames and the requests that wait is refused.
     pub fn new(alloc: Global, limits: Limits) -> Result<Self, AllocError>
         ensures limits { IfOk result (λ t. t.limits ≡ limits) }
         ensures stands { IfOk result (λ t. Stands t [] []) }
@@ -146,10 +150,9 @@ impl Talk {
         }
     }
 
-    /// Keeps the side's whole frame that the piece begins with, where none is begun and it may come; else all is as before,
-    /// and None says no more.
-    // Most frames come so, and no fault, and no frame as a value, is made on the way. The hints of this file are as in
-    // cutter.rt of zk_frames.
+    /// Keeps the side's whole frame at the front of `piece` if none is begun and it may come next, and returns the number of
+    /// its bytes; `None`: undecided, and nothing changed.
+    // Most frames come so; no fault, and no frame as a value, is made on the way.
     #[inline(always)]
     fn front(&mut self, side: Side, piece: &[u8]) -> Option<usize>
         requires good { self.old.fault ≡ None }
@@ -186,9 +189,8 @@ impl Talk {
         }
     }
 
-    /// Passes the side's whole frame that the piece begins with, where none is begun and it may come; else all is as before,
-    /// and None says no more.
-    // As `front`, and the frame isn't copied: 18% off the instructions of `check` on small messages.
+    /// Passes the side's whole frame at the front of `piece` if none is begun and it may come next, and returns the number of
+    /// its bytes; `None`: undecided, and nothing changed. Copies nothing.
     #[inline(always)]
     fn pass(&mut self, side: Side, piece: &[u8]) -> Option<usize>
         requires good { self.old.fault ≡ None }
@@ -259,7 +261,7 @@ impl Talk {
         }
     }
 
-    /// The side's frame that was kept is given up.
+    /// Drops the side's kept frame.
     #[inline(always)]
     fn give_up(&mut self, side: Side)
         ensures { self.new ≡ given_up side self.old }
@@ -270,9 +272,9 @@ impl Talk {
         }
     }
 
-    /// Steps over the whole frame that the piece begins with, where none is begun and it is seen at once that it may come:
-    /// the answer is how many of the piece's bytes were used. None says no more, and `step` decides what comes.
-    // It answers in registers: with it, before `step`, `show` of small messages takes 4% fewer instructions.
+    /// Steps over the whole frame at the front of `piece`, if none is begun and it is seen at once that it may come next, and
+    /// returns the number of bytes that were used; `None`: undecided, as `step` decides.
+    // It returns in registers, which `step` doesn't.
     #[inline(always)]
     pub fn step_front(&mut self, side: Side, piece: &[u8]) -> Option<usize>
         ensures limits { self.new.limits ≡ self.old.limits }
@@ -282,7 +284,7 @@ impl Talk {
         ensures other { Leaves (other_side side) self.old self.new }
         // Otherwise no byte is used.
         ensures none { IfNone result ((h : History) (M : List Message) → Stands self.old h M → Stands self.new h M) }
-        // Then what was kept on the side is given up, and nothing else changes.
+        // Then what was kept on the side is dropped, and nothing else changes.
         ensures same { IfNone result (self.new ≡ given_up side self.old) }
     {
         self.give_up(side);
@@ -292,9 +294,8 @@ impl Talk {
         self.front(side, piece)
     }
 
-    /// Passes the whole frame that the piece begins with, where none is begun and it is seen at once that it may come: the
-    /// answer is how many of the piece's bytes were used. The frame isn't kept. None says no more, and `step` or `take`
-    /// decides what comes.
+    /// Passes the whole frame at the front of `piece`, if none is begun and it is seen at once that it may come next, and
+    /// returns the number of bytes that were used; the frame isn't kept. `None`: undecided, as `step` or `take` decides.
     #[inline(always)]
     pub fn pass_front(&mut self, side: Side, piece: &[u8]) -> Option<usize>
         ensures limits { self.new.limits ≡ self.old.limits }
@@ -302,7 +303,7 @@ impl Talk {
         ensures some { IfSome result (λ used. (m : Message) × TakesOn self.old side piece.now used (m ∷ []) self.new) }
         // The other side's frame stays as it is, and shows what it shows.
         ensures other { Leaves (other_side side) self.old self.new }
-        // What was kept on the side is given up.
+        // What was kept on the side is dropped.
         ensures given_up { kept_on side self.new ≡ [] }
         // Otherwise no byte is used, and nothing else changes.
         ensures none { IfNone result ((h : History) (M : List Message) → Stands self.old h M → Stands self.new h M) }
@@ -315,13 +316,13 @@ impl Talk {
         }
     }
 
-    /// Takes the piece up to the end of the first frame that becomes whole, or all of it. What is
-    /// whole is decided where it lies and kept until the side's next call; no memory is taken.
+    /// Takes the piece up to the end of the first frame that becomes whole, or all of it. A whole frame is judged in place
+    /// and kept until the side's next call; nothing is allocated.
     ///
     /// # Errors
     ///
-    /// The fault of the history so far with the piece: it is kept, and each later call answers it
-    /// and uses nothing. Never `NoMemory`.
+    /// The fault of the history so far with the piece. It is kept, and each later call returns it and uses nothing. Never
+    /// `NoMemory`.
     pub fn step(&mut self, side: Side, piece: &[u8]) -> Result<Stepped, Fault>
         ensures limits { self.new.limits ≡ self.old.limits }
         // What is used goes on with the history; a frame that it makes whole is the newest message's.
@@ -330,7 +331,7 @@ impl Talk {
         ensures exact { IfOk result (λ s. s.whole ≡ false → s.used ≡ length piece.now) }
         // The other side's frame stays as it is, and shows what it shows.
         ensures other { Leaves (other_side side) self.old self.new }
-        // A refusal is the history's fault, and never want of memory.
+        // A refusal is the history's fault, and never that memory was refused.
         ensures err { IfErr result (λ e. (e.reason ≢ NoMemory) × IsRefused self.old side piece.now e self.new) }
         // A refused side keeps nothing.
         ensures none { OnErr result (kept_on side self.new ≡ []) }
@@ -347,25 +348,25 @@ impl Talk {
         self.exact(side, piece)
     }
 
-    /// Takes the piece up to the end of the first frame that becomes whole, or all of it.
+    /// Takes the piece up to the end of the first frame that becomes whole, or all of it, and returns the message of a whole
+    /// frame, owned.
     ///
     /// # Errors
     ///
-    /// The fault of the history so far with the piece: it is kept, and each later call answers it
-    /// and uses nothing. NoMemory in place of a message whose memory was refused: the talk is then
-    /// as before the call.
+    /// The fault of the history so far with the piece. It is kept, and each later call returns it and uses nothing.
+    /// `NoMemory` in place of a message whose memory was refused: the talk is then as before the call.
     pub fn take(&mut self, side: Side, piece: &[u8]) -> Result<Taken, Fault>
         ensures limits { self.new.limits ≡ self.old.limits }
         // What is used goes on with the history, and what it makes whole is the newest message.
         ensures ok { IfOk result (λ t. TakesOn self.old side piece.now t.used (option_to_list t.message) self.new) }
         // With no message all was used, and with one nothing past its frame.
         ensures exact { IfOk result (λ t. MatchOption t.message (t.used ≡ length piece.now) (λ m. held_on side self.new ≡ [])) }
-        // Want of memory stands for a message and changes nothing; another refusal is the history's fault.
+        // Refused memory comes in place of a message and changes nothing; another refusal is the history's fault.
         ensures err { IfErr result (λ e. Fails self.old side piece.now e self.new) }
-        // What a step kept on the side is given up; the other side's frame stays as it is, and shows what it shows.
+        // What a step kept on the side is dropped; the other side's frame stays as it is, and shows what it shows.
         ensures given_up { kept_on side self.new ≡ [] }
         ensures other { Leaves (other_side side) self.old self.new }
-        // No memory is wanted of an empty piece.
+        // An empty piece allocates nothing.
         ensures empty { length piece.now ≡ 0 → self.old.fault ≡ None → IsOk result }
         // A fault is kept.
         ensures kept { (f : Fault) → self.old.fault ≡ Some f → (result ≡ Err f) × (self.new ≡ given_up side self.old) }
@@ -377,9 +378,9 @@ impl Talk {
         self.piece(side, piece)
     }
 
-    /// The message whose frame the side keeps, where it lies: its texts and blobs are borrowed from
-    /// the frame, its lists walked by iterators, and no memory is taken. Some exactly where the
-    /// side's last `take` or `step` was a step that made a frame whole.
+    /// The message of the frame that the side keeps: its texts and blobs are borrowed from the frame, its lists walked by
+    /// iterators, and nothing is allocated. `Some` exactly if the side's last `take` or `step` was a step that made a frame
+    /// whole.
     pub fn view(&self, side: Side) -> Option<MessageRef<'_>>
         ensures shown { MatchOption result (kept_on side self.now ≡ []) (λ m. Shows self.now side m) }
         ensures none { kept_on side self.now ≡ [] → result ≡ None }
@@ -433,9 +434,9 @@ impl Talk {
         }
     }
 
-    /// The layout and the bytes of the body in which the kept fault lies: those behind the header
-    /// of a request, of an event, or of a reply with err 0 to another operation than multi. None
-    /// where it lies elsewhere, in a side's frame 0, or where no fault is kept.
+    /// The layout and the bytes of the body in which the kept fault is found: those after the header of a request, of an
+    /// event, or of a reply with err 0 to another operation than multi. `None` if it is found elsewhere, in a side's frame 0,
+    /// or if no fault is kept.
     pub fn refused_body(&self) -> Option<(Layout, &[u8])>
         ensures stands { (h : History) (M : List Message) → Stands self.now h M → result ≡ None }
         ensures refuses { (h : History) (M : List Message) (f : Fault) (r : Refuses self.now h M f) → TellsRefusedBody self.now.limits h f r.is result }
@@ -452,11 +453,11 @@ impl Talk {
         }
     }
 
-    /// The number of the side's bytes that are held: those of the frame that isn't whole, or of the
-    /// frame that a step kept, its length included.
+    /// The number of the side's bytes that are held: those of the frame that isn't whole, or of the frame that a step kept,
+    /// its length included.
     pub fn held(&self, side: Side) -> u32
         ensures value { result ≡ length (held_on side self.now) + length (kept_on side self.now) }
-        // Where no frame is kept it is the length of the side's beginning.
+        // If no frame is kept it is the length of the side's beginning.
         ensures stands { WhereItStands self.now (λ v client_rest server_rest. result ≡ length (rest_on side client_rest server_rest) + length (kept_on side self.now)) }
         ensures most { result ≤ 4 + side_limit self.now.limits side }
     {
@@ -466,8 +467,8 @@ impl Talk {
         }
     }
 
-    /// What the requests weigh that wait for their replies: 1 each, and 1 more for each part of a
-    /// multi. After a fault those before the byte that decided it.
+    /// The weight of the requests that wait for their replies: 1 each, and 1 more for each part of a multi. After a fault
+    /// those before the byte that decided it.
     pub fn waiting(&self) -> u32
         ensures stands { WhereItStands self.now (λ v client_rest server_rest. result ≡ load v.client v.server) }
         ensures refuses { (h : History) (M : List Message) (f : Fault) (r : Refuses self.now h M f) → result ≡ load r.is.conversation.client r.is.conversation.server }

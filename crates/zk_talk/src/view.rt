@@ -1,4 +1,4 @@
-//! The frame that a side keeps, as a message that lies in it.
+//! The frame that a side keeps, shown as a borrowed message.
 ghost use Rattle.std.specs.Prelude.{◌≡◌};
 ghost use Rattle.zk_frames.specs.Framing.{frame};
 ghost use Rattle.zk_asks.specs.Held as asks;
@@ -9,7 +9,7 @@ use zk_answers::{ServerRef, connected_ref, event_ref, reply_ref};
 use zk_asks::{ClientRef, client_ref};
 use zk_records::Op;
 
-/// The client's last frame of so many, whose payload this is.
+/// The frame of the client's `payload`, the last of `count` frames.
 pub fn shown_client(count: u64, payload: &[u8]) -> ClientRef<'_>
     requires { (f : asks.ClientFrame) × ShowsClient count (frame payload.now) f }
     ensures { (f : asks.ClientFrame) → ShowsClient count (frame payload.now) f → result ≡ f }
@@ -21,8 +21,7 @@ pub fn shown_client(count: u64, payload: &[u8]) -> ClientRef<'_>
     }
 }
 
-/// The server's last frame of so many, whose payload this is; the operation whose request it
-/// answers.
+/// The frame of the server's `payload`, the last of `count` frames; a reply to `answered`, or none.
 pub fn shown_server(count: u64, answered: Option<Op>, payload: &[u8]) -> ServerRef<'_>
     requires { (s : answers.ServerFrame) × ShowsServer count answered (frame payload.now) s }
     ensures { (s : answers.ServerFrame) → ShowsServer count answered (frame payload.now) s → result ≡ s }
