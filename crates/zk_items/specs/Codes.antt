@@ -13,7 +13,7 @@ abbrev pub is_next : ℕ → List ℕ → Bool
 is_next sign [] = false
 is_next sign (b ∷ rest) = b == sign
 
--- what stands behind the name, or behind no name
+-- what is left after the name, or after no name
 unfoldable pub name_at : Option (List ℕ) → List ℕ → Option (List ℕ)
 name_at (Some name) bytes = word_at (codes "/") bytes >>= word_at name
 name_at None bytes = if is_next 47 bytes then None else Some bytes

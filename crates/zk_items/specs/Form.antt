@@ -18,13 +18,13 @@ abbrev pub ◌>>=◌ : {A B : Type 0} → Option A → (A → Option B) → Opti
 None >>= f = None
 (Some x) >>= f = f x
 
--- what stands behind a fixed word
+-- what is left after a fixed word
 unfoldable pub word_at : List ℕ → List ℕ → Option (List ℕ)
 word_at [] bytes = Some bytes
 word_at (c ∷ w) [] = None
 word_at (c ∷ w) (d ∷ bytes) = if c == d then word_at w bytes else None
 
--- a value and what stands behind it
+-- a value and what is left after it
 abbrev pub Read : Type 0 → Type 0
 Read X = Option (X × List ℕ)
 
@@ -38,13 +38,13 @@ pub record Form (X : Type 0) : Type 1 where
   -- the value that is spelled in front, whatever an item may be followed by
   pub at : List ℕ → Read X
 
--- ---- what a reader answers
+-- ---- what a reader returns
 
--- an error other than memory is answered only where nothing is read
+-- an error other than of memory is returned only where nothing is read
 abbrev pub Fails : {A : Type 0} → LineFault → Option A → Type 0
 Fails e read = e.reason ≢ NoMemory → read ≡ None
 
--- the result, and what is left behind it
+-- the result, and what is left after it
 abbrev pub Gives : {X : Type 0} → Result X LineFault → List ℕ → Read X → Type 0
 Gives (Ok x) rest read = read ≡ Some (x, rest)
 Gives (Err e) rest read = Fails e read
@@ -80,7 +80,7 @@ led w f = record {
   at = λ bytes. word_at w bytes >>= f.at;
 }
 
--- a word behind
+-- a word after it
 abbrev pub closed : {X : Type 0} → Form X → List ℕ → Form X
 closed f w = record {
   fits = f.fits;
@@ -88,7 +88,7 @@ closed f w = record {
   at = λ bytes. f.at bytes >>= λ q. word_at w q.1 >>= λ rest. Some (q.0, rest);
 }
 
--- one behind the other
+-- one after the other
 infixr 20 ◌and◌
 abbrev pub ◌and◌ : {X Y : Type 0} → Form X → Form Y → Form (X × Y)
 f and g = record {

@@ -2,7 +2,7 @@
 use Rattle.std.specs.Prelude.{◌≡◌, ℕ, List, ◌++◌, Some, Bool, true}
 use Rattle.zk_items.specs.Form.{Form, stops}
 
--- the laws, where what stands behind the form is of a kind
+-- the laws, where what comes after the form is of a kind
 pub record LawfulBefore {X : Type 0} (behind : List ℕ → Bool) (f : Form X) : Type 0 where
   -- a spelling is read again, whatever of the kind follows it
   pub again : (x : X) (rest : List ℕ) → f.fits x → behind rest ≡ true → f.at (f.spell x ++ rest) ≡ Some (x, rest)

@@ -63,7 +63,7 @@ ro = record { fits = λ _. Unit {0}; spell = ro_spell; at = ro_at }
 
 -- ---- text
 
--- stands for itself within a text
+-- plain: needs no escape within a text
 abbrev pub is_plain : ℕ → Bool
 is_plain b = nat_le 32 b && nat_le b 126 && (if b == 34 then false else true) && (if b == 92 then false else true)
 

@@ -10,7 +10,7 @@ abbrev pub then_more : {X : Type 0} → (List ℕ → Read (List X)) → Option 
 then_more next (None, rest) = Some ([], rest)
 then_more next (Some x, rest) = with_first x (next rest)
 
--- fewer than so many, and the end
+-- fewer than n, and the end
 abbrev pub many_at : {X : Type 0} → (List ℕ → Read (Option X)) → ℕ → List ℕ → Read (List X)
 many_at at zero bytes = None
 many_at at (suc n) bytes = at bytes >>= then_more (many_at at n)

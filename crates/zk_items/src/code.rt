@@ -1,4 +1,4 @@
-//! Numbers with names: errors and types of events.
+//! Numbers with names, `-101/NONODE`: errors and types of events, read and written.
 ghost use Rattle.std.specs.Prelude.{◌≡◌, ◌++◌, Some, None, OnOk, option_copied};
 ghost use Rattle.zk_items.specs.Form.{Gives, Keeps, Passes};
 ghost use Rattle.zk_items.specs.Codes.{name_at, name_spell};
@@ -24,7 +24,7 @@ fn type_name(number: i32) -> Option<&'static str>
     event_name(number)
 }
 
-/// Passes `/` and the name.
+/// Passes `/` and `name`; else returns `fault`.
 #[tactic(auto, unfolding(crate::specs::Codes::name_at))]
 fn read_name(line: &mut Reader<'_>, name: &str, fault: LineFault) -> Result<(), LineFault>
     ensures { Passes result line.new (name_at (Some name.now) line.old) }
@@ -38,7 +38,7 @@ fn read_name(line: &mut Reader<'_>, name: &str, fault: LineFault) -> Result<(), 
     Ok(())
 }
 
-/// No name may stand next.
+/// Returns `fault` if a name follows.
 #[tactic(auto, unfolding(crate::specs::Codes::name_at))]
 fn read_no_name(line: &Reader<'_>, fault: LineFault) -> Result<(), LineFault>
     ensures { Passes result line.now (name_at None line.now) }
@@ -50,7 +50,7 @@ fn read_no_name(line: &Reader<'_>, fault: LineFault) -> Result<(), LineFault>
     }
 }
 
-/// Passes what stands behind the number of an error.
+/// Passes what follows the number of an error: `/` and its name, if it has one; else returns `fault`.
 fn read_error_name(line: &mut Reader<'_>, number: i32, fault: LineFault) -> Result<(), LineFault>
     ensures { Passes result line.new (name_at (codes.error_name number) line.old) }
 {
@@ -60,7 +60,7 @@ fn read_error_name(line: &mut Reader<'_>, number: i32, fault: LineFault) -> Resu
     }
 }
 
-/// Passes what stands behind the number of a type of event.
+/// Passes what follows the number of a type of event: `/` and its name, if it has one; else returns `fault`.
 fn read_type_name(line: &mut Reader<'_>, number: i32, fault: LineFault) -> Result<(), LineFault>
     ensures { Passes result line.new (name_at (codes.type_name number) line.old) }
 {
@@ -70,7 +70,7 @@ fn read_type_name(line: &mut Reader<'_>, number: i32, fault: LineFault) -> Resul
     }
 }
 
-/// The number of an error that is next, and its name.
+/// Reads the number of an error, and its name.
 pub fn read_error_code(line: &mut Reader<'_>) -> Result<i32, LineFault>
     ensures { Gives result line.new (codes.error_code.at line.old) }
 {
@@ -86,7 +86,7 @@ fn is_zero(number: i32) -> bool
     number == 0
 }
 
-/// The number of an error that is next, which isn't 0, and its name.
+/// Reads the number of an error, which isn't 0, and its name.
 pub fn read_failure_code(line: &mut Reader<'_>) -> Result<i32, LineFault>
     ensures { Gives result line.new (codes.failure_code.at line.old) }
 {
@@ -100,7 +100,7 @@ pub fn read_failure_code(line: &mut Reader<'_>) -> Result<i32, LineFault>
     Ok(number)
 }
 
-/// The number of an event's type that is next, and its name.
+/// Reads the number of a type of event, and its name.
 pub fn read_event_code(line: &mut Reader<'_>) -> Result<i32, LineFault>
     ensures { Gives result line.new (codes.event_code.at line.old) }
 {
@@ -138,7 +138,7 @@ fn put_type_name(out: &mut Vec<u8>, number: i32) -> Result<(), AllocError>
     }
 }
 
-/// Appends the number of an error, and `/` and its name where it has one.
+/// Appends the number of an error, and `/` and its name if it has one.
 pub fn put_error_code(out: &mut Vec<u8>, number: i32) -> Result<(), AllocError>
     ensures spelled { OnOk result (out.new.items ≡ out.old.items ++ codes.error_code.spell number) }
     ensures fits { OnOk result (codes.error_code.fits number) }
@@ -148,7 +148,7 @@ pub fn put_error_code(out: &mut Vec<u8>, number: i32) -> Result<(), AllocError>
     put_error_name(out, number)
 }
 
-/// Appends the number of an event's type, and `/` and its name where it has one.
+/// Appends the number of a type of event, and `/` and its name if it has one.
 pub fn put_event_code(out: &mut Vec<u8>, number: i32) -> Result<(), AllocError>
     ensures spelled { OnOk result (out.new.items ≡ out.old.items ++ codes.event_code.spell number) }
     ensures fits { OnOk result (codes.event_code.fits number) }

@@ -1,4 +1,4 @@
-//! The hexadecimal digits of bytes, made sixteen at a time.
+//! The hexadecimal digits of bytes, made sixteen bytes at a time.
 ghost use Rattle.std.specs.Prelude.{◌≡◌, ◌+◌, ◌*◌, ◌<◌, ◌≤◌, ◌++◌, OnOk, length, map, take, drop};
 ghost use Rattle.std.specs.List.{AllByRecursion};
 ghost use Rattle.hex.specs.Hex.{encode_lower};
@@ -31,7 +31,7 @@ fn pairs(bytes: u8x16) -> u8x32
     )
 }
 
-/// Writes the digits of the sixteen bytes from a place on, at twice that place.
+/// Writes the digits of the sixteen bytes from `at` on to `room`, from `2 * at` on.
 fn write_block(room: &mut [u8], bytes: &[u8], at: usize)
     requires block { at + 16 ≤ length bytes.now }
     requires room { length room.old ≡ 2 * length bytes.now }
@@ -42,8 +42,8 @@ fn write_block(room: &mut [u8], bytes: &[u8], at: usize)
 }
 
 /// Writes the digits of sixteen bytes or more.
-// The first block is written for its first bytes, and the next one begins behind them: so the last one ends with the
-// bytes, and none is written one by one.
+// The first block is written for the bytes that are no multiple of sixteen, and the next one begins after these: so the
+// last one ends with the bytes, and none is written one by one.
 fn write_blocks(room: &mut [u8], bytes: &[u8])
     requires some { 16 ≤ length bytes.now }
     requires room { length room.old ≡ 2 * length bytes.now }
@@ -57,7 +57,7 @@ fn write_blocks(room: &mut [u8], bytes: &[u8])
     }
 }
 
-/// Writes two lower-case digits for each byte.
+/// Writes two lower-case digits for each byte to `room`.
 fn write_digits(room: &mut [u8], bytes: &[u8])
     requires { length room.old ≡ 2 * length bytes.now }
     ensures { room.new ≡ encode_lower bytes.now }
@@ -70,8 +70,7 @@ fn write_digits(room: &mut [u8], bytes: &[u8])
 }
 
 /// Appends two lower-case digits for each byte.
-// Room is made once, and the digits are written where they stay: a block takes 17 instructions, and 25 where four blocks'
-// digits were appended at once.
+// Memory is reserved once, and the digits are written in place.
 pub fn put_digits(out: &mut Vec<u8>, bytes: &[u8]) -> Result<(), AllocError>
     ensures spelled { OnOk result (out.new.items ≡ out.old.items ++ encode_lower bytes.now) }
     ensures keeps { Keeps out.old.items out.new.items }

@@ -1,4 +1,4 @@
-//! Why a line is refused, and where.
+//! `LineReason` and `LineFault`: why a line is refused, and at which column.
 
 ghost use Rattle.std.specs.Prelude.{◌≡◌};
 ghost use Rattle.zk_items.specs.Reasons.{reason_name};
@@ -11,26 +11,25 @@ use thiserror::Error;
 /// Why a line is refused.
 #[derive(Clone, Copy, Debug, PartialEq, Eq)]
 pub enum LineReason {
-    /// A fixed word, a name of an operation or part, a bit or a sign doesn't stand there.
+    /// Not the fixed word, name of an operation or part, bit or sign that comes next.
     Word,
-    /// No number of the range stands there.
+    /// Not a number of the range.
     Number,
-    /// No text stands there.
+    /// Not a text.
     Text,
-    /// No blob stands there.
+    /// Not a blob.
     Blob,
     /// A number's name doesn't follow it, or a name follows a number that has none.
     Name,
-    /// Bytes stand behind the last item.
+    /// Bytes after the last item.
     Rest,
-    /// A growth was refused.
+    /// The system refused memory.
     NoMemory,
     /// A line that begins with `.` isn't the ending line that is due, or isn't the last.
     Ending,
 }
 
-/// The item at which a line is refused. Columns count bytes from 1 and stand still at
-/// 4,294,967,295; that of `NoMemory` is 0.
+/// The item at which a line is refused. Columns count bytes from 1 and stop at 4,294,967,295; that of `NoMemory` is 0.
 #[derive(Clone, Copy, Debug, PartialEq, Eq, Error)]
 #[error("column {column}: {reason}")]
 pub struct LineFault {
@@ -66,7 +65,7 @@ impl<T: Drop> From<AllocFailed<T>> for LineFault {
     }
 }
 
-/// A reason's name.
+/// The name of the reason, as the program reports it.
 pub fn line_reason_name(reason: &LineReason) -> &'static str
     ensures { result.now ≡ reason_name reason.now }
 {

@@ -1,4 +1,21 @@
-//! The items of a line that shows a message: numbers, texts, blobs, lists, and their signs.
+//! The items of a line: numbers, texts, blobs, bits, and numbers with names, written and read back exactly.
+//!
+//! A `Reader` goes over a line from left to right: `Reader::int`, `text`, `blob` and their like read the next item, or
+//! return the `LineFault` of its column. The functions `put_*` append an item to a vector, and leave what the vector
+//! began with. Each value has one spelling, and only that is read: no leading zero, no upper-case digit, no escape for
+//! a byte that needs none. `item_laws` says so for each item.
+//!
+//! Texts are written between quotation marks, with `\` and two hexadecimal digits for each byte but 20 to 7e, `"` and
+//! `\`; blobs as `#` and their digits; null as `~`. docs/FORMATS.md has them all.
+//!
+//! The crate rests on `zk_jute` and `zk_records` for values and names, and on `itoa`, `hex`, `simdutf8` and `thiserror`.
+//!
+//! ```text
+//! let mut line = Reader::new(rt.alloc(), b"7 \"/a\" #6f6b");
+//! line.int()?;        // 7
+//! line.front(b" ")?;
+//! line.text()?;       // "/a"
+//! ```
 #![tactic(auto)]
 
 mod code;

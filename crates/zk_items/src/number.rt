@@ -1,4 +1,4 @@
-//! Runs of bytes, and the numbers that they write.
+//! Runs of digits or letters in front of bytes, and the numbers that they spell.
 ghost use Rattle.std.specs.Prelude.{◌≡◌, ◌≢◌, ◌≤◌, length, IfSome, IfNone, bytes_eq, ℤ, true};
 ghost use Rattle.std.specs.List.{prefix_len};
 ghost use Rattle.std.specs.Fmt.{signed_decimal};
@@ -13,7 +13,7 @@ fn is_in_number(b: u8) -> bool
     b.is_ascii_digit() || b == b'-'
 }
 
-/// The length of the run of digits and `-` in front.
+/// The length of the run of digits and `-` in front of `bytes`.
 pub fn number_len(bytes: &[u8]) -> usize
     ensures value { result ≡ prefix_len in_number bytes.now }
     ensures within { result ≤ length bytes.now }
@@ -27,7 +27,7 @@ fn is_in_name(b: u8) -> bool
     b.is_ascii_alphanumeric()
 }
 
-/// The length of the run of letters and digits in front.
+/// The length of the run of letters and digits in front of `bytes`.
 pub fn name_len(bytes: &[u8]) -> usize
     ensures value { result ≡ prefix_len in_name bytes.now }
     ensures within { result ≤ length bytes.now }
@@ -41,7 +41,7 @@ fn is_in_word(b: u8) -> bool
     b.is_ascii_alphabetic()
 }
 
-/// The length of the run of letters in front.
+/// The length of the run of letters in front of `bytes`.
 pub fn letters_len(bytes: &[u8]) -> usize
     ensures value { result ≡ prefix_len in_word bytes.now }
     ensures within { result ≤ length bytes.now }
@@ -55,7 +55,7 @@ fn is_in_hex(b: u8) -> bool
     matches!(b, b'0'..=b'9' | b'a'..=b'f')
 }
 
-/// The length of the run of lower-case hexadecimal digits in front.
+/// The length of the run of lower-case hexadecimal digits in front of `bytes`.
 pub fn hex_len(bytes: &[u8]) -> usize
     ensures value { result ≡ prefix_len in_hex bytes.now }
     ensures within { result ≤ length bytes.now }
@@ -75,7 +75,7 @@ fn is_long(n: i64, run: &[u8]) -> bool
     Buffer::new().format(n).as_bytes() == run
 }
 
-/// The number that is written just so: no sign but `-`, no leading zero.
+/// The int that `run` spells, in its only spelling: no sign but `-`, no leading zero; `None` if it spells none.
 pub fn int_of(run: &[u8]) -> Option<i32>
     ensures found { IfSome result (λ n. (run.now ≡ signed_decimal n) × (leaf.in_range 31 n ≡ true)) }
     ensures none { IfNone result ((z : ℤ) → leaf.in_range 31 z ≡ true → run.now ≢ signed_decimal z) }
@@ -94,7 +94,7 @@ pub fn int_of(run: &[u8]) -> Option<i32>
     Some(n)
 }
 
-/// The number that is written just so: no sign but `-`, no leading zero.
+/// The long that `run` spells, in its only spelling: no sign but `-`, no leading zero; `None` if it spells none.
 pub fn long_of(run: &[u8]) -> Option<i64>
     ensures found { IfSome result (λ n. (run.now ≡ signed_decimal n) × (leaf.in_range 63 n ≡ true)) }
     ensures none { IfNone result ((z : ℤ) → leaf.in_range 63 z ≡ true → run.now ≢ signed_decimal z) }

@@ -1,4 +1,4 @@
-//! Runs of the bytes that stand for themselves within a text, looked at many at a time.
+//! Runs of plain bytes, which a text needs no escape for, found many bytes at a time.
 ghost use Rattle.std.specs.Prelude.{◌≡◌, ◌<◌, ◌≤◌, length, IsTrue};
 ghost use Rattle.std.specs.List.{prefix_len};
 ghost use Rattle.zk_items.specs.Leaf.{is_plain};
@@ -6,7 +6,7 @@ ghost use Rattle.zk_items.specs.Leaf.{is_plain};
 use crate::symbol::is_plain;
 use std::simd::prelude::*;
 
-/// How many bytes of a vector come before the first that isn't plain.
+/// The number of bytes of a vector before the first that isn't plain.
 fn plain_in<const N: usize>(v: Simd<u8, N>) -> usize
     requires { N ≤ 64 }
     ensures { result ≡ prefix_len is_plain v.entry }
@@ -23,7 +23,7 @@ fn plain_in<const N: usize>(v: Simd<u8, N>) -> usize
     }
 }
 
-/// The length of the run of plain bytes in front, seen N at a time. The last look takes in some bytes again.
+/// The length of the run of plain bytes in front, found N bytes at a time. The last block overlaps the one before it.
 fn plain_by<const N: usize>(bytes: &[u8]) -> usize
     requires some { (0 < N) × (N ≤ 64) }
     requires room { N ≤ length bytes.now }
@@ -55,7 +55,7 @@ pub fn plain_len(bytes: &[u8]) -> usize
     }
 }
 
-/// Whether each of 16 to 32 bytes is plain: the first sixteen and the last, some of them twice, at one look.
+/// Whether each of 16 to 32 bytes is plain: the first sixteen and the last sixteen, in one test.
 fn are_plain_by_16(bytes: &[u8]) -> bool
     requires { (16 ≤ length bytes.now) × (length bytes.now ≤ 32) }
     ensures { IsTrue result → prefix_len is_plain bytes.now ≡ length bytes.now }
@@ -72,7 +72,7 @@ fn are_plain_by_16(bytes: &[u8]) -> bool
     plain_in(both) == 32
 }
 
-/// The same of 8 to 16 bytes.
+/// Whether each of 8 to 16 bytes is plain: the first eight and the last eight, in one test.
 fn are_plain_by_8(bytes: &[u8]) -> bool
     requires { (8 ≤ length bytes.now) × (length bytes.now ≤ 16) }
     ensures { IsTrue result → prefix_len is_plain bytes.now ≡ length bytes.now }
@@ -83,8 +83,7 @@ fn are_plain_by_8(bytes: &[u8]) -> bool
     plain_in(both) == 16
 }
 
-/// Whether each byte is plain.
-// One look at up to 32 bytes: 5% of the instructions of `show` on names of 17 bytes.
+/// Whether each byte is plain; one test for up to 32 bytes.
 pub fn are_plain(bytes: &[u8]) -> bool
     ensures { IsTrue result → prefix_len is_plain bytes.now ≡ length bytes.now }
 {

@@ -1,4 +1,4 @@
-//! A line, read from left to right.
+//! `Reader`: a line, read from left to right, item by item.
 ghost use Rattle.std.specs.Prelude.{◌≡◌, ◌↔◌, IsTrue, [], length, take, drop, MatchBool, IfErr, Some, None};
 ghost use Rattle.std.specs.List.{prefix_len};
 ghost use Rattle.zk_items.specs.Form.{Gives, GivesSeen, Passes, word_at};
@@ -32,7 +32,7 @@ impl<'a> Model for Reader<'a> {
 }
 
 impl<'a> Reader<'a> {
-    /// The whole line is ahead.
+    /// A reader at the beginning of `line`; texts and blobs are allocated with `alloc`.
     pub fn new(alloc: Global, line: &'a [u8]) -> Self
         ensures { result ≡ line.now }
     {
@@ -43,7 +43,7 @@ impl<'a> Reader<'a> {
         }
     }
 
-    /// The fault of the item that is next.
+    /// The fault of the next item: its column, and `reason`.
     pub fn fault(&self, reason: LineReason) -> LineFault
         ensures { result.reason ≡ reason }
     {
@@ -57,12 +57,12 @@ impl<'a> Reader<'a> {
         }
     }
 
-    /// What grows by what is read takes memory of this.
+    /// The allocator of what is read.
     pub fn alloc(&self) -> Global {
         self.alloc
     }
 
-    /// The number of bytes ahead.
+    /// The number of bytes that are left.
     pub fn left(&self) -> usize
         ensures { result ≡ length self.now }
     {
@@ -76,14 +76,14 @@ impl<'a> Reader<'a> {
         self.ahead.is_empty()
     }
 
-    /// Whether the byte is next.
+    /// Whether `sign` is the next byte.
     pub fn is_next(&self, sign: u8) -> bool
         ensures { result ≡ is_next sign self.now }
     {
         self.ahead.first() == Some(&sign)
     }
 
-    /// The longest run of letters and digits ahead, which may be empty.
+    /// Passes the longest run of letters and digits, which may be empty, and returns it.
     pub fn name(&mut self) -> &'a [u8]
         ensures name { result.now ≡ take (prefix_len in_name self.old) self.old }
         ensures rest { self.new ≡ drop (prefix_len in_name self.old) self.old }
@@ -93,14 +93,14 @@ impl<'a> Reader<'a> {
         name
     }
 
-    /// The longest run of letters ahead, left where it stands.
+    /// The longest run of letters that comes next; passes nothing.
     pub fn letters(&self) -> &'a [u8]
         ensures { result.now ≡ take (prefix_len in_word self.now) self.now }
     {
         &self.ahead[..letters_len(self.ahead)]
     }
 
-    /// Passes these bytes, which stand next.
+    /// Passes `word`, if it comes next; else returns the fault `Word`.
     pub fn front(&mut self, word: &[u8]) -> Result<(), LineFault>
         ensures read { Passes result self.new (word_at word.now self.old) }
         ensures none { IfErr result (λ e. (word_at word.now self.old ≡ None) × (self.new ≡ self.old)) }
@@ -114,14 +114,14 @@ impl<'a> Reader<'a> {
         }
     }
 
-    /// Passes these bytes if they stand next.
+    /// Passes `word` and returns true, if it comes next.
     pub fn passes(&mut self, word: &[u8]) -> bool
         ensures { MatchBool result (word_at word.now self.old ≡ Some self.new) ((word_at word.now self.old ≡ None) × (self.new ≡ self.old)) }
     {
         self.front(word).is_ok()
     }
 
-    /// The bit that is next: `0` or `1`.
+    /// Reads a bit: `0` or `1`.
     #[tactic(auto, unfolding(crate::specs::Leaf::bit_at))]
     pub fn bit(&mut self) -> Result<bool, LineFault>
         ensures { Gives result self.new (bit_at self.old) }
@@ -138,7 +138,7 @@ impl<'a> Reader<'a> {
         Ok(value)
     }
 
-    /// The bit that is next, or `-` where there is none.
+    /// Reads a bit, or `-` for none.
     #[tactic(auto, unfolding(crate::specs::Leaf::ro_at))]
     pub fn read_only(&mut self) -> Result<Option<bool>, LineFault>
         ensures { Gives result self.new (ro_at self.old) }
@@ -156,7 +156,7 @@ impl<'a> Reader<'a> {
         Ok(value)
     }
 
-    /// The int that is next.
+    /// Reads an int.
     #[tactic(auto, using(crate::proofs::Numbers::num_of_some, crate::proofs::Numbers::num_none), unfolding(crate::specs::Leaf::num_at))]
     pub fn int(&mut self) -> Result<i32, LineFault>
         ensures { Gives result self.new (num_at 31 self.old) }
@@ -169,7 +169,7 @@ impl<'a> Reader<'a> {
         Ok(n)
     }
 
-    /// The long that is next.
+    /// Reads a long.
     #[tactic(auto, using(crate::proofs::Numbers::num_of_some, crate::proofs::Numbers::num_none), unfolding(crate::specs::Leaf::num_at))]
     pub fn long(&mut self) -> Result<i64, LineFault>
         ensures { Gives result self.new (num_at 63 self.old) }
@@ -182,7 +182,7 @@ impl<'a> Reader<'a> {
         Ok(n)
     }
 
-    /// The blob that is next: `~`, or `#` and the longest run of lower-case digits.
+    /// Reads a blob: `~`, or `#` and the longest run of lower-case digits.
     #[tactic(auto, unfolding(crate::specs::Leaf::blob_at))]
     pub fn blob(&mut self) -> Result<Blob, LineFault>
         ensures { Gives result self.new (blob_at self.old) }
@@ -206,7 +206,7 @@ impl<'a> Reader<'a> {
         }
     }
 
-    /// The next byte of the text that fails so, or its end.
+    /// Reads the next byte of a text, `None` at its end; else returns `fault`.
     #[tactic(auto, unfolding(crate::specs::Leaf::symbol_at))]
     fn symbol(&mut self, fault: LineFault) -> Result<Option<u8>, LineFault>
         ensures exact { Gives result self.new (symbol_at self.old) }
@@ -239,7 +239,7 @@ impl<'a> Reader<'a> {
         Ok(Some(*first))
     }
 
-    /// Passes the longest run of bytes ahead that stand for themselves within a text.
+    /// Passes the longest run of plain bytes, and returns it.
     fn plain(&mut self) -> &'a [u8]
         ensures run { result.now ≡ take (prefix_len is_plain self.old) self.old }
         ensures rest { self.new ≡ drop (prefix_len is_plain self.old) self.old }
@@ -249,7 +249,7 @@ impl<'a> Reader<'a> {
         run
     }
 
-    /// The bytes of the text that fails so, up to the sign behind it.
+    /// Reads the bytes of a text, up to the sign after it; else returns `fault`.
     fn inside(&mut self, fault: LineFault) -> Result<Vec<u8>, LineFault>
         ensures { GivesSeen (λ v. v.items) result self.new (many_at symbol_at (length self.old) self.old) }
     {
@@ -268,7 +268,7 @@ impl<'a> Reader<'a> {
         Err(fault)
     }
 
-    /// The text that is next: `~`, or its bytes between quotation marks.
+    /// Reads a text: `~`, or its bytes between quotation marks.
     #[tactic(auto, unfolding(crate::specs::Leaf::text_at))]
     pub fn text(&mut self) -> Result<Text, LineFault>
         ensures { Gives result self.new (text_at self.old) }

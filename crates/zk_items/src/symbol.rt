@@ -1,16 +1,16 @@
-//! The bytes of a text, as a line spells them.
+//! How a line spells the bytes of a text, one by one.
 ghost use Rattle.std.specs.Prelude.{◌≡◌, ◌<◌, IfSome, IfNone, string_bytes, true, false};
 ghost use Rattle.std.specs.Str.{is_utf8};
 ghost use Rattle.zk_items.specs.Leaf as leaf;
 
-/// Whether a byte stands for itself within a text: 20 to 7e, but for `"` and `\`.
+/// Whether `b` is plain, which a text needs no escape for: 20 to 7e, but for `"` and `\`.
 pub fn is_plain(b: u8) -> bool
     ensures { result ≡ leaf.is_plain b }
 {
     matches!(b, 32..=126) && b != b'"' && b != b'\\'
 }
 
-/// The value of a lower-case hexadecimal digit.
+/// The value of a lower-case hexadecimal digit; `None` if `c` is none.
 pub fn hex_value(c: u8) -> Option<u8>
     ensures value { result ≡ leaf.hex_value c }
     ensures low { IfSome result (λ v. v < 16) }
@@ -22,7 +22,7 @@ pub fn hex_value(c: u8) -> Option<u8>
     }
 }
 
-/// The lower-case hexadecimal digit of a value.
+/// The lower-case hexadecimal digit of a value below 16.
 pub fn hex_digit(n: u8) -> u8
     requires { n < 16 }
     ensures { result ≡ leaf.hex_digit n }
@@ -30,7 +30,7 @@ pub fn hex_digit(n: u8) -> u8
     if n < 10 { b'0' + n } else { b'a' - 10 + n }
 }
 
-/// The text of the bytes, where they are UTF-8.
+/// The text that `bytes` are; `None` if they aren't UTF-8.
 #[tactic(auto, using(crate::proofs::Texts::utf8_true, crate::proofs::Texts::utf8_false))]
 pub fn text_of(bytes: Vec<u8>) -> Option<String>
     ensures found { IfSome result (λ text. (string_bytes text ≡ bytes.items) × (is_utf8 bytes.items ≡ true)) }

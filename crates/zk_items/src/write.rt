@@ -1,4 +1,4 @@
-//! The items of a line, written.
+//! How the items of a line are written.
 ghost use Rattle.std.specs.Prelude.{◌≡◌, ◌∷◌, ◌++◌, [], ◌+◌, ◌<◌, ◌≤◌, OnOk, false, length, take, drop};
 ghost use Rattle.std.specs.Fmt.{signed_decimal};
 ghost use Rattle.std.specs.List.{flat_map};
@@ -13,7 +13,7 @@ use itoa::write_digits;
 use std::alloc::AllocError;
 use zk_jute::{Blob, BlobRef, Text, TextRef};
 
-/// Writes a byte before a place, and tells where it stands.
+/// Writes `byte` before `end`, and returns its place.
 fn byte_before(room: &mut [u8], end: usize, byte: u8) -> usize
     requires room { (1 ≤ end) × (end ≤ length room.old) }
     ensures begins { result + 1 ≡ end }
@@ -24,7 +24,7 @@ fn byte_before(room: &mut [u8], end: usize, byte: u8) -> usize
     end - 1
 }
 
-/// Writes a number in decimal, so that it ends at a place; tells where it begins.
+/// Writes `n` in decimal, so that it ends at `end`; returns where it begins.
 fn decimal_before(room: &mut [u8], end: usize, n: i64) -> usize
     requires room { (20 ≤ end) × (end ≤ length room.old) }
     ensures near { (end ≤ result + 20) × (result < end) }
@@ -40,8 +40,8 @@ fn decimal_before(room: &mut [u8], end: usize, n: i64) -> usize
     }
 }
 
-/// Writes a byte, and behind it a number in decimal, so that they end at a place; tells where they begin.
-// `itoa` writes a number from its last digit on: so are numbers in a row, where they stay, and copied together.
+/// Writes `sign` and after it `n` in decimal, so that they end at `end`; returns where they begin.
+// `itoa` writes a number from its last digit on; so are numbers in a row, in place, and copied together.
 pub fn long_before(room: &mut [u8], end: usize, sign: u8, n: i64) -> usize
     requires room { (21 ≤ end) × (end ≤ length room.old) }
     ensures near { (end ≤ result + 21) × (result < end) }
@@ -53,7 +53,7 @@ pub fn long_before(room: &mut [u8], end: usize, sign: u8, n: i64) -> usize
     byte_before(room, start, sign)
 }
 
-/// As `long_before`, of an int.
+/// Writes `sign` and after it the int `n` in decimal, so that they end at `end`; returns where they begin.
 pub fn int_before(room: &mut [u8], end: usize, sign: u8, n: i32) -> usize
     requires room { (21 ≤ end) × (end ≤ length room.old) }
     ensures near { (end ≤ result + 21) × (result < end) }
@@ -74,8 +74,8 @@ pub fn put_int(out: &mut Vec<u8>, n: i32) -> Result<(), AllocError>
 }
 
 /// Appends a long.
-// Twenty bytes are copied, as many as the longest number has, and those behind the digits taken back: a copy of as many bytes
-// as there are digits is a call. This takes 3% off the time of `show` on small messages.
+// Twenty bytes are copied, as many as the longest number has, and those after the digits taken back: a copy of a length
+// that isn't known beforehand is a call.
 pub fn put_long(out: &mut Vec<u8>, n: i64) -> Result<(), AllocError>
     ensures spelled { OnOk result (out.new.items ≡ out.old.items ++ signed_decimal n) }
     ensures fits { OnOk result (long.fits n) }
@@ -97,7 +97,7 @@ pub fn put_bit(out: &mut Vec<u8>, bit: bool) -> Result<(), AllocError>
     out.extend_from_slice(if bit { b"1" } else { b"0" })
 }
 
-/// Appends a bit, or `-` where there is none.
+/// Appends a bit, or `-` for none.
 pub fn put_read_only(out: &mut Vec<u8>, bit: Option<bool>) -> Result<(), AllocError>
     ensures spelled { OnOk result (out.new.items ≡ out.old.items ++ ro_spell bit) }
     ensures keeps { Keeps out.old.items out.new.items }
@@ -120,7 +120,7 @@ pub fn put_blob(out: &mut Vec<u8>, blob: &Blob) -> Result<(), AllocError>
     }
 }
 
-/// Appends a blob where it lies: `~`, or `#` and its bytes' digits.
+/// Appends a borrowed blob: `~`, or `#` and its bytes' digits.
 pub fn put_blob_ref(out: &mut Vec<u8>, blob: &BlobRef<'_>) -> Result<(), AllocError>
     ensures spelled { OnOk result (out.new.items ≡ out.old.items ++ blob_spell blob.now) }
     ensures fits { OnOk result (blob_fits blob.now) }
@@ -142,7 +142,7 @@ fn put_bytes(out: &mut Vec<u8>, bytes: &[u8]) -> Result<(), AllocError>
     put_digits(out, bytes)
 }
 
-/// Appends a byte that doesn't stand for itself.
+/// Appends the escape of `b`, which isn't plain.
 fn put_escape(out: &mut Vec<u8>, b: u8) -> Result<(), AllocError>
     requires { is_plain b ≡ false }
     ensures spelled { OnOk result (out.new.items ≡ out.old.items ++ symbol_spell b) }
@@ -151,7 +151,7 @@ fn put_escape(out: &mut Vec<u8>, b: u8) -> Result<(), AllocError>
     out.extend_from_slice(&[b'\\', hex_digit(b / 16), hex_digit(b % 16)])
 }
 
-/// Appends bytes as they stand in a text.
+/// Appends the bytes of a text, each plain or as its escape.
 // A run of plain ones is copied whole.
 fn put_symbols(out: &mut Vec<u8>, bytes: &[u8]) -> Result<(), AllocError>
     ensures spelled { OnOk result (out.new.items ≡ out.old.items ++ flat_map symbol_spell bytes.now) }
@@ -183,7 +183,7 @@ pub fn put_text(out: &mut Vec<u8>, text: &Text) -> Result<(), AllocError>
     }
 }
 
-/// Appends a text where it lies: `~`, or its bytes between quotation marks.
+/// Appends a borrowed text: `~`, or its bytes between quotation marks.
 #[inline(always)]
 pub fn put_text_ref(out: &mut Vec<u8>, text: &TextRef<'_>) -> Result<(), AllocError>
     ensures spelled { OnOk result (out.new.items ≡ out.old.items ++ text_spell text.now) }
@@ -196,8 +196,8 @@ pub fn put_text_ref(out: &mut Vec<u8>, text: &TextRef<'_>) -> Result<(), AllocEr
     }
 }
 
-/// Appends bytes as they are between quotation marks.
-// Room is made once.
+/// Appends plain bytes between quotation marks.
+// Memory is reserved once.
 #[inline(always)]
 fn put_plain(out: &mut Vec<u8>, bytes: &[u8]) -> Result<(), AllocError>
     ensures spelled { OnOk result (out.new.items ≡ out.old.items ++ (34 ∷ (bytes.now ++ (34 ∷ [])))) }
@@ -210,7 +210,7 @@ fn put_plain(out: &mut Vec<u8>, bytes: &[u8]) -> Result<(), AllocError>
     Ok(())
 }
 
-/// Appends bytes between quotation marks, each that doesn't stand for itself as its escape.
+/// Appends bytes between quotation marks, each plain or as its escape.
 fn put_escaped(out: &mut Vec<u8>, bytes: &[u8]) -> Result<(), AllocError>
     ensures spelled { OnOk result (out.new.items ≡ out.old.items ++ (34 ∷ (flat_map symbol_spell bytes.now ++ (34 ∷ [])))) }
     ensures keeps { Keeps out.old.items out.new.items }
@@ -221,8 +221,7 @@ fn put_escaped(out: &mut Vec<u8>, bytes: &[u8]) -> Result<(), AllocError>
 }
 
 /// Appends the bytes of a text between quotation marks.
-// Most texts have no escapes: written whole they take 6% of the instructions off `show` on names. As much again is
-// taken off by the hints here, at `put_text_ref` and at what calls that, by which a list's names are written in its loop.
+// Most texts have no escapes, and are written whole.
 #[inline(always)]
 fn put_chars(out: &mut Vec<u8>, text: &str) -> Result<(), AllocError>
     ensures spelled { OnOk result (out.new.items ≡ out.old.items ++ text_spell (nullable.Full text.now)) }
