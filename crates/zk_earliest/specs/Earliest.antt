@@ -12,7 +12,7 @@ Spells Value bytes = (items : List Item) × Value items × (bytes ≡ bytes_of i
 abbrev pub Begins : (List ℕ → Type 0) → List ℕ → ℕ → Type 0
 Begins Spelling bytes k = (whole : List ℕ) × Spelling whole × (length whole ≡ length bytes) × (take k whole ≡ take k bytes)
 
--- the most bytes that do; none where no spelling has that length
+-- the most bytes that do; none if no spelling has that length
 abbrev pub IsEarliest : (List ℕ → Type 0) → List ℕ → Option ℕ → Type 0
 IsEarliest Spelling bytes None = (whole : List ℕ) → Spelling whole → length whole ≡ length bytes → ⊥
 IsEarliest Spelling bytes (Some k) = (k ≤ length bytes) × Begins Spelling bytes k × ((m : ℕ) → k < m → m ≤ length bytes → Begins Spelling bytes m → ⊥)

@@ -1,4 +1,4 @@
--- The numbers that may stand as a length or a count, and how many bytes of a number do.
+-- Which numbers a length or a count can be, and how many bytes of a number are possible.
 use Rattle.std.specs.Prelude.{◌≡◌, ℕ, ◌+◌, ◌-◌, ◌*◌, ◌/◌, ◌≤◌, ◌⊎◌, List, drop, true, Option, Some, None, Result, Ok, Err}
 use Rattle.std.specs.Int.{w32, from_be_bytes}
 use Rattle.zk_earliest.specs.declared.front.Numbers.{Numbers}
@@ -14,7 +14,7 @@ IsNear unit number n = (number / unit * unit ≤ n) × (n ≤ number / unit * un
 abbrev pub IsBest : (ℕ → Type 0) → ℕ → ℕ → ℕ → Type 0
 IsBest May number unit next = ((n : ℕ) × May n × IsNear unit number n) × ((n : ℕ) → May n → IsNear next number n → ⊥)
 
--- how many first bytes of a number may stand, where the whole may not
+-- how many first bytes of a number are possible, where the whole isn't
 pub data IsFront (May : ℕ → Type 0) (number : ℕ) : Option ℕ → Type 0 where
   whole : May number → IsFront May number None
   three : IsBest May number 256 1 → IsFront May number (Some 3)
@@ -22,7 +22,7 @@ pub data IsFront (May : ℕ → Type 0) (number : ℕ) : Option ℕ → Type 0 w
   one : IsBest May number 16777216 65536 → IsFront May number (Some 1)
   no_byte : (n : ℕ) → May n → ((n : ℕ) → May n → IsNear 16777216 number n → ⊥) → IsFront May number (Some 0)
 
--- the number that stands at a place, where it may; else the first of its four bytes that none of them has
+-- the number at a place, if it is possible; else the first of its four bytes that none of them has
 abbrev pub IsNumberAt : Numbers → List ℕ → ℕ → Result ℕ ℕ → Type 0
 IsNumberAt numbers src place (Ok n) = (n ≡ from_be_bytes w32 (drop place src)) × IsOne numbers n
 IsNumberAt numbers src place (Err stuck) = (k : ℕ) × (stuck ≡ place + k) × IsFront (IsOne numbers) (from_be_bytes w32 (drop place src)) (Some k)

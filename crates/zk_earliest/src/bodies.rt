@@ -1,4 +1,4 @@
-//! The bodies, each as the fields of its record in `zookeeper.jute`.
+//! `earliest`, and the bodies of each layout as the fields of their records in `zookeeper.jute`.
 ghost use Rattle.std.specs.Prelude.{◌≢◌, ◌<◌, ◌^◌, length};
 ghost use Rattle.zk_jute.specs.Layout.{End, IsValueOf};
 ghost use Rattle.zk_records.specs.declared.op.Op.TheVariants as ops;
@@ -13,13 +13,13 @@ use zk_records::Op;
 
 type Access = List<(i32, (Text, Text))>;
 
-/// ephemeralOwner, dataLength, numChildren and pzxid.
+/// The last four fields of `Stat`: ephemeralOwner, dataLength, numChildren and pzxid.
 type StatRest = (i64, (i32, (i32, i64)));
 
-/// version, cversion, aversion, and the rest.
+/// The fields of `Stat` from version on: version, cversion, aversion, and the rest.
 type StatVersions = (i32, (i32, (i32, StatRest)));
 
-/// czxid, mzxid, ctime, mtime, the versions, and the rest.
+/// The fields of `Stat`: czxid, mzxid, ctime, mtime, the versions, and the rest.
 type StatBody = (i64, (i64, (i64, (i64, StatVersions))));
 
 type ConnectBody = (i32, (i64, (i32, (i64, Blob))));
@@ -44,7 +44,7 @@ type AuthBody = (i32, (Text, Blob));
 
 type SetWatchesBody = (i64, (List<Text>, (List<Text>, List<Text>)));
 
-/// Of a body of no bytes.
+/// The answer for a body of no bytes.
 fn none(bytes: &[u8]) -> Option<usize>
     ensures { IsEarliest (Spells (IsValueOf End)) bytes.now result }
 {
@@ -100,8 +100,8 @@ fn answered(op: Op, bytes: &[u8]) -> Option<usize>
     }
 }
 
-/// The length of the longest front of the bytes that begins a body of the layout of just as many
-/// bytes; None where no such body has that length.
+/// The number of bytes at the front of `bytes` that a body of `layout` with just that many bytes in all can begin with,
+/// at the most; `None` if no such body has the length of `bytes`. So the byte after them is the first impossible one.
 pub fn earliest(layout: Layout, bytes: &[u8]) -> Option<usize>
     requires frame { length bytes.now < 2 ^ 31 }
     // The results of a multi have the layout of its request's parts, which isn't known here.

@@ -3,7 +3,7 @@ ghost use Rattle.std.specs.Prelude.{◌≡◌, ℕ, List, Option};
 ghost use Rattle.zk_earliest.specs.Earliest.{IsEarliestOf};
 ghost use Rattle.zk_answers.specs.declared.layout.Layout.{Layout as Kind};
 
-/// Bytes have one answer; the function does nothing.
+/// Bytes have one answer. The function does nothing.
 pub fn earliest_law()
     ensures { (layout : Kind) (bytes : List ℕ) (a b : Option ℕ) → IsEarliestOf layout bytes a → IsEarliestOf layout bytes b → a ≡ b }
 {}

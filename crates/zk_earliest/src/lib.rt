@@ -1,4 +1,19 @@
-//! The first byte of a body that none of its layout and length has.
+//! The first impossible byte of a body: the first that no body of its layout and length has there.
+//!
+//! A reader refuses a payload at the first item that can't be read. The byte that was damaged may come before that: a
+//! length that is too great, and yet leaves room for what is read as a text. `earliest` looks for it: given the `Layout`
+//! of a body and its bytes, it returns how many bytes at the front can begin a body of just that length. docs/CONVERSATION.md
+//! has its definition.
+//!
+//! Each type of value says which lengths it can have (`Sizes`), and how far it is possible in bytes of which some must be
+//! left for what follows (`Stretch::reach`). Nothing is allocated, and each byte is looked at a bounded number of times.
+//!
+//! The crate rests on `zk_jute`, `zk_records`, `zk_asks` and `zk_answers` for layouts, and on `simdutf8`.
+//!
+//! ```text
+//! let stuck = earliest(Layout::Asked(Op::Exists), b"\0\0\0\x05/a\x01");
+//! // Some(3): with 7 bytes in all, the text has 2 bytes, so the last byte of its length is impossible.
+//! ```
 #![tactic(auto)]
 
 mod bodies;

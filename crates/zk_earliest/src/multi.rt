@@ -1,4 +1,4 @@
-//! The parts of a multi request.
+//! The parts of a multi request; how far they are possible.
 ghost use Rattle.std.specs.Prelude.{◌≡◌, ◌≢◌, ℕ, ◌+◌, ◌-◌, ◌<◌, ◌≤◌, ◌^◌, length, take, drop, slice_index, MatchResult, MatchOption, pos};
 ghost use Rattle.zk_jute.specs.Layout.{IsValueOf};
 ghost use Rattle.zk_records.specs.Codes as codes;
@@ -14,7 +14,7 @@ use crate::sizes::Sizes;
 use crate::stretch::Stretch;
 use zk_records::PartOp;
 
-/// The header of a part.
+/// The header before a part of the operation `op`, as bytes.
 fn part_mark(op: PartOp) -> [u8; 9]
     ensures { result ≡ part_mark op }
 {
@@ -27,7 +27,7 @@ fn part_mark(op: PartOp) -> [u8; 9]
     [0, 0, 0, number, 0, 255, 255, 255, 255]
 }
 
-/// How many bytes of a part's record there are at least.
+/// The least number of bytes of a part's record.
 fn least_of(op: PartOp) -> usize
     ensures { result ≡ (part_sizes op).least }
 {
@@ -39,7 +39,7 @@ fn least_of(op: PartOp) -> usize
     }
 }
 
-/// The part whose header has this last byte of its type; None where none has.
+/// The part's operation whose number is `number`; `None` if there is none.
 fn part_of(number: u8) -> Option<PartOp>
     ensures { MatchOption result ((op : PartOp) → pos number ≢ codes.part_number op) (λ op. pos number ≡ codes.part_number op) }
 {
@@ -52,7 +52,8 @@ fn part_of(number: u8) -> Option<PartOp>
     }
 }
 
-/// The part of this number, where it has room; else one that has, whose header is as long alike.
+/// The part's operation whose number is `number`, if its record and the end marker fit into `room` bytes; else one for
+/// which they do.
 fn part_for(number: u8, room: usize) -> PartOp
     requires { 17 ≤ room }
     ensures fits { (part_sizes result).least + 9 ≤ room }
@@ -70,7 +71,7 @@ fn part_for(number: u8, room: usize) -> PartOp
     }
 }
 
-/// None where the mark stands there; else how many of its bytes do.
+/// `None` if `rest` begins with `mark`; else how many of the mark's bytes it begins with.
 fn differs(rest: &[u8], mark: &[u8; 9]) -> Option<usize>
     requires { 9 ≤ length rest.now }
     ensures { IsDifference rest.now mark.now result }
@@ -83,7 +84,7 @@ fn differs(rest: &[u8], mark: &[u8; 9]) -> Option<usize>
     None
 }
 
-/// What the header at a place is: a part's, or that behind the last.
+/// The operation of the header at `place`, `None` for the header after the last part; else the first impossible byte.
 fn mark_at(src: &[u8], place: usize) -> Result<Option<PartOp>, usize>
     requires place { place ≤ length src.now }
     requires room { IsAmong multi_sizes (length src.now - place) }
@@ -103,7 +104,7 @@ fn mark_at(src: &[u8], place: usize) -> Result<Option<PartOp>, usize>
     }
 }
 
-/// The place after a part's record.
+/// The place after the record at `place` of a part of the operation `op`; else the first impossible byte.
 fn part_reach(op: PartOp, src: &[u8], place: usize) -> Result<usize, usize>
     requires place { place ≤ length src.now }
     requires frame { length src.now < 2 ^ 31 }
@@ -141,7 +142,7 @@ fn parts(src: &[u8]) -> Result<usize, usize>
     }
 }
 
-/// The longest front of the bytes that begins the body of a multi request of just as many bytes.
+/// The number of bytes at the front that the body of a multi request of just as many bytes can begin with.
 pub(crate) fn longest_multi(bytes: &[u8]) -> Option<usize>
     requires frame { length bytes.now < 2 ^ 31 }
     ensures { IsEarliest (Spells IsMulti) bytes.now result }

@@ -1,4 +1,4 @@
-//! The lengths and counts that may stand in just so many bytes.
+//! Which lengths and counts are possible in a given number of bytes.
 ghost use Rattle.std.specs.Prelude.{◌≡◌, ℕ, ◌+◌, ◌-◌, ◌<◌, ◌≤◌, ◌^◌, ◌↔◌, length};
 ghost use Rattle.zk_earliest.specs.declared.sizes.Sizes.{Sizes};
 ghost use Rattle.zk_earliest.specs.Numbers.{IsOne, IsNumberAt};
@@ -8,7 +8,7 @@ ghost use Rattle.zk_earliest.specs.Sizes.{IsAmong, plus};
 use crate::front::{Numbers, front};
 use crate::sizes::Sizes;
 
-/// The lengths of a run before which so many bytes are left, when so many may follow it.
+/// The possible lengths of a run with `room` bytes after its length, if `behind` can be what follows the run.
 pub(crate) fn lengths(room: usize, behind: Sizes) -> Numbers
     requires frame { room < 2 ^ 31 }
     requires least { behind.least ≤ room }
@@ -32,8 +32,7 @@ pub(crate) fn lengths(room: usize, behind: Sizes) -> Numbers
     }
 }
 
-/// The number of four bytes at a place, where it is one that may stand there; else the first byte
-/// that none of them has.
+/// The number in the four bytes at `place`, if it is one of `numbers`; else the first byte that none of them has.
 pub(crate) fn number_at(src: &[u8], place: usize, numbers: Numbers) -> Result<u32, usize>
     requires within { place + 4 ≤ length src.now }
     requires some { numbers.from ≤ numbers.to }
@@ -46,15 +45,15 @@ pub(crate) fn number_at(src: &[u8], place: usize, numbers: Numbers) -> Result<u3
     }
 }
 
-/// No elements, where what follows may be all.
+/// The least count of a list: 0 if what follows can be all of the bytes that are left.
 fn least_count(free: bool) -> u32
     ensures { result ≡ of_free free }
 {
     if free { 0 } else { 1 }
 }
 
-/// The counts of a list before whose elements so many bytes are left, when each element has any
-/// number of bytes from `least` on and so many may follow the list.
+/// The possible counts of a list with `room` bytes after its count, if each element has any number of bytes from `least`
+/// on and `behind` can be what follows the list.
 pub(crate) fn counts(room: usize, least: usize, behind: Sizes) -> Numbers
     requires frame { room < 2 ^ 31 }
     requires some { 0 < least }

@@ -1,10 +1,9 @@
-//! Sets of lengths.
+//! `Sizes`: the set of lengths that a value can have.
 ghost use Rattle.std.specs.Prelude.{◌≡◌, ℕ, ◌↔◌, ◌<◌, ◌≤◌, ◌+◌, ◌*◌, ◌^◌, IsTrue, Some, MatchOption};
 ghost use Rattle.zk_earliest.specs.Runs.{repeated};
 ghost use Rattle.zk_earliest.specs.Sizes.{IsAmong, IsPast, plus, min_gap};
 
-/// The lengths that a value may have: `least`, and, where there is a gap, every number from
-/// `least + gap` on.
+/// The lengths that a value can have: `least`, and, if there is a gap, every number from `least + gap` on.
 #[derive(Clone, Copy)]
 pub(crate) struct Sizes {
     pub(crate) least: usize,
@@ -35,7 +34,7 @@ impl Sizes {
         }
     }
 
-    /// Whether it is one of the lengths.
+    /// Whether `length` is one of the lengths.
     pub(crate) fn has(self, length: usize) -> bool
         ensures { IsTrue result ↔ IsAmong self length }
     {
@@ -48,7 +47,7 @@ impl Sizes {
         }
     }
 
-    /// How far it lies behind the gap, where it does.
+    /// How far `length` is past `least + gap`; `None` if there is no gap, or it is below.
     pub(crate) fn past(self, length: usize) -> Option<usize>
         requires { self.least ≤ length }
         ensures { IsPast self length result }
@@ -59,7 +58,7 @@ impl Sizes {
         }
     }
 
-    /// The lengths of so many values of which each has any length from `least` on.
+    /// The lengths of `count` values, each of which has any length from `least` on.
     pub(crate) fn repeated(least: usize, count: usize) -> Sizes
         requires { count * least < 2 ^ 32 }
         ensures { result ≡ repeated least count }

@@ -1,4 +1,4 @@
-//! Values that stand in just so many bytes.
+//! `Stretch`, a value of which the first impossible byte can be found; and `longest`, which finds it.
 ghost use Rattle.std.specs.Prelude.{◌≡◌, ◌≤◌, ◌<◌, ◌-◌, ◌^◌, length, Some, IsTrue, nat_lt};
 ghost use Rattle.zk_jute.specs.Layout.{IsValueOf};
 ghost use Rattle.zk_earliest.specs.declared.sizes.Sizes.{Sizes};
@@ -9,7 +9,7 @@ ghost use Rattle.zk_earliest.specs.Stops.{Reaches, then_among};
 use crate::sizes::Sizes;
 use zk_jute::Form;
 
-/// A kind of value of which the first impossible byte can be told.
+/// A kind of value of which the first impossible byte can be found.
 pub(crate) trait Stretch: Form {
     /// The lengths of its values.
     ghost sizes: { Sizes };
@@ -19,8 +19,8 @@ pub(crate) trait Stretch: Form {
         ensures value { result ≡ sizes }
         ensures are_sizes { AreSizes (Spells (IsValueOf Self.wired.layout)) sizes };
 
-    /// The place after the value at `place`, where one stands there that leaves just such a number of
-    /// bytes as may follow; else the first byte that no such value has there.
+    /// The place after the value at `place`, if there is one that leaves just as many bytes as `behind` allows; else the
+    /// first byte that no such value has there.
     fn reach(src: &[u8], place: usize, behind: Sizes) -> Result<usize, usize>
         requires place { place ≤ length src.now }
         requires frame { length src.now < 2 ^ 31 }
@@ -28,7 +28,7 @@ pub(crate) trait Stretch: Form {
         ensures { Reaches (Spells (IsValueOf Self.wired.layout)) (then_among behind) src.now place result };
 }
 
-/// A kind of value that may have any number of bytes from its least on, which is not 0.
+/// A kind of value that can have any number of bytes from its least on, which is not 0.
 pub(crate) trait Elastic: Stretch {
     ghost stretches: { Self.sizes.gap ≡ Some 0 };
 
@@ -37,7 +37,7 @@ pub(crate) trait Elastic: Stretch {
     ghost small: { IsTrue (nat_lt Self.sizes.least 65536) };
 }
 
-/// The longest front of the bytes that begins a value of just as many bytes, where there is one.
+/// The number of bytes at the front that a value of just as many bytes can begin with; `None` if there is no such value.
 pub(crate) fn longest<T: Stretch>(bytes: &[u8]) -> Option<usize>
     requires frame { length bytes.now < 2 ^ 31 }
     requires least { T.sizes.least < 2 ^ 32 }
