@@ -39,7 +39,7 @@ abbrev pub event : Form (ℤ × WatcherEvent)
 event = fields (field words.Zxid long and field words.Kind event_code and field words.State int and field words.Path text)
     (λ (zxid, e). (zxid, (e.kind, (e.state, e.path)))) (λ (zxid, (kind, (state, path))). (zxid, record { kind = kind; state = state; path = path }))
 
--- a field, and what is known of a node behind it
+-- a field, and the Stat after it
 abbrev pub with_stat_at : {X : Type 0} → Word → (List ℕ → Read X) → List ℕ → Read (X × Stat)
 with_stat_at word at bytes = field_at word at bytes >>= λ p. (field words.Stat stat).at p.1 >>= λ q. Some ((p.0, q.0), q.1)
 
@@ -133,14 +133,14 @@ abbrev by_row {ℓ} : (P : Body → Type ℓ) → ((op : Op) (x : Content (line_
 by_row P f ops.Create x = f ops.Create x
 by_row P f op x = f op x
 
--- and so for each body
+-- what is given for each line is given for each body
 abbrev pub by_line {ℓ} : (P : Body → Type ℓ) → ((op : Op) (x : Content (line_of op)) → P (remake (line_of op) x)) → (b : Body) → P b
 by_line P f b = by_op P (by_row P f) b
 
 abbrev pub body_written : Body → Written
 body_written b = by_line (λ _. Written) (written line_of) b
 
--- the error that stands first, or what is done
+-- the error, if one comes first, or the body
 abbrev pub outcome_spell : Outcome → List ℕ
 outcome_spell (outcome.Done b) = (body_written b).spell
 outcome_spell (outcome.Failed op e) = (field words.Err failure_code).spell e
@@ -152,7 +152,7 @@ outcome_fits (outcome.Failed op e) = failure_code.fits e
 abbrev pub outcome_at : Op → List ℕ → Read Outcome
 outcome_at op bytes = if_passed (word_at (word_of words.Err) bytes) (λ rest. read_map (outcome.Failed op) (failure_code.at rest)) (read_map outcome.Done (row_at (line_of op) bytes))
 
--- behind the name the zxid, and then the outcome
+-- after the name the zxid, and then the outcome
 abbrev pub outcome_bodies : Bodies Op (ℤ × Outcome)
 outcome_bodies = record {
   name = op_name;

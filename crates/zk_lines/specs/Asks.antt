@@ -133,7 +133,7 @@ abbrev by_row {ℓ} : (P : Ask → Type ℓ) → ((op : Op) (x : Content (line_o
 by_row P f ops.Create x = f ops.Create x
 by_row P f op x = f op x
 
--- and so for each ask
+-- what is given for each line is given for each ask
 abbrev pub by_line {ℓ} : (P : Ask → Type ℓ) → ((op : Op) (x : Content (line_of op)) → P (remake (line_of op) x)) → (a : Ask) → P a
 by_line P f a = by_op P (by_row P f) a
 

@@ -32,11 +32,11 @@ order_text reasons.QueueFull = []
 order_text reasons.Unasked = []
 order_text reasons.StreamEnd = []
 
--- a word and a side behind it
+-- a word and a side after it
 unfoldable pub sided : List ℕ → Side → List ℕ
 sided word side = word ++ side_name side
 
--- a word and a number behind it
+-- a word and a number after it
 unfoldable pub count : List ℕ → ℕ → List ℕ
 count word n = word ++ decimal n
 

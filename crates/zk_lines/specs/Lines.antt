@@ -43,13 +43,13 @@ ServerFits (server.Event zxid e) = event.fits (zxid, e)
 abbrev pub letters : List ℕ → List ℕ
 letters bytes = take (prefix_len in_word bytes) bytes
 
--- what stands behind `C `
+-- what comes after `C `
 abbrev pub client_at : List ℕ → Read ClientFrame
 client_at bytes =
     if bytes_eq (letters bytes) (codes "connect") then read_map (λ (hello, read_only). client.Connect hello read_only) ((led (codes "connect") connect).at bytes)
     else read_map (λ (xid, ask). client.Ask xid ask) (request.at bytes)
 
--- what stands behind `S `
+-- what comes after `S `
 abbrev pub server_at : List ℕ → Read ServerFrame
 server_at bytes =
     if bytes_eq (letters bytes) (codes "connect") then read_map (λ (hello, read_only). server.Connected hello read_only) ((led (codes "connect") connected).at bytes)

@@ -1,4 +1,4 @@
--- The records that are items: an entry of an access list, and what is known of a node.
+-- Two records that are items: an entry of an access list, and a Stat.
 use Rattle.std.specs.Prelude.{ℕ, ℤ, List, ◌++◌}
 use Rattle.std.specs.Fmt.{signed_decimal}
 use Rattle.zk_records.specs.Held.{Acl}

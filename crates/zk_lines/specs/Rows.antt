@@ -37,7 +37,7 @@ pub record Written : Type 1 where
 abbrev pub written : {K Y : Type 0} (row : K → Row Y) (k : K) → Content (row k) → Written
 written row k x = record { fits = (form_of (row k)).fits x; spell = (form_of (row k)).spell x }
 
--- the bodies behind the names of a table
+-- the bodies after the names of a table
 abbrev pub bodies_of : {K Y : Type 0} (name : K → List ℕ) (key_at : List ℕ → Option K) (key : Y → K) (row : K → Row Y) (write : Y → Written) → Bodies K Y
 bodies_of name key_at key row write = record {
   name = name;

@@ -6,12 +6,12 @@ use Rattle.zk_jute.specs.declared.value.Nullable.TheVariants as nullable
 use Rattle.zk_items.specs.Many.{many_at, with_first}
 use Rattle.zk_items.specs.Form.{Form, Read, ◌>>=◌, read_map, word_at}
 
--- the items joined by a sign, and the sign behind them
+-- the items joined by a sign, and the sign after them
 abbrev pub series_spell : {X : Type 0} → ℕ → ℕ → (X → List ℕ) → List X → List ℕ
 series_spell sep close spell [] = close ∷ []
 series_spell sep close spell (x ∷ xs) = spell x ++ (flat_map (λ y. sep ∷ spell y) xs ++ (close ∷ []))
 
--- what stands there if the sign does, else the other reading
+-- what is read after the sign, if it comes first; else the other reading
 abbrev pub if_passed : {A : Type 0} → Option (List ℕ) → (List ℕ → Option A) → Option A → Option A
 if_passed (Some rest) f other = f rest
 if_passed None f other = other

@@ -34,7 +34,7 @@ word_of words.Version = codes " version="
 word_of words.Watch = codes " watch="
 word_of words.Zxid = codes " zxid="
 
--- what is read where the word stands first: what `at` reads behind it
+-- what is read where the word comes first: what `at` reads after it
 abbrev pub field_at : {X : Type 0} → Word → (List ℕ → Read X) → List ℕ → Read X
 field_at word at bytes = word_at (word_of word) bytes >>= at
 

@@ -1,4 +1,4 @@
-//! What a server sends, as a line shows it.
+//! The lines of a server's messages: written and read.
 ghost use Rattle.std.specs.Prelude.{◌≡◌, ◌++◌, OnOk};
 ghost use Rattle.zk_items.specs.Form.{Gives, Keeps};
 ghost use Rattle.zk_items.specs.Codes.{failure_code};
@@ -23,7 +23,7 @@ use zk_items::{
 };
 use zk_records::{ConnectResponse, ConnectResponseRef, Op, WatcherEvent, WatcherEventRef, op_name};
 
-/// The error's number that is next, which isn't 0.
+/// Reads the number of an error, which isn't 0.
 fn read_failure(line: &mut Reader<'_>) -> Result<Failure, LineFault>
     ensures { Gives result line.new (failure_code.at line.old) }
 {
@@ -34,7 +34,7 @@ fn read_failure(line: &mut Reader<'_>) -> Result<Failure, LineFault>
     }
 }
 
-/// The outcome that is next: ` err=` chooses a failure.
+/// Reads the outcome of an operation: a failure if ` err=` comes next, else a body.
 fn read_outcome(line: &mut Reader<'_>, op: Op) -> Result<Outcome, LineFault>
     ensures { Gives result line.new (answers.outcome_at op line.old) }
 {
@@ -54,7 +54,7 @@ fn put_failure(out: &mut Vec<u8>, failure: &Failure) -> Result<(), AllocError>
     put_error_code(out, failure.number())
 }
 
-/// `outcome!(out, outcome)` appends the error, or what an operation gives.
+/// `outcome!(out, outcome)` appends the error, or the body of the operation.
 macro_rules! outcome {
     ($out:ident, $outcome:ident) => {
         match $outcome {
@@ -84,7 +84,7 @@ impl<'a> Put for OutcomeRef<'a> {
     }
 }
 
-/// The name, the zxid and the outcome that are next.
+/// Reads the operation's name, the zxid and the outcome.
 fn read_named(line: &mut Reader<'_>) -> Result<(i64, Outcome), LineFault>
     ensures { Gives result line.new (answers.named_outcome.at line.old) }
 {
@@ -145,8 +145,8 @@ impl<'a> Put for ReplyRef<'a> {
     }
 }
 
-/// `connected_fields!(then, with)` is `then!(with: ..)` with the fields of the connect response in
-/// order, each behind its word.
+/// `connected_fields!(then, with)` is `then!(with: ..)` with the fields of the connect response in order, each after its
+/// word.
 macro_rules! connected_fields {
     ($then:ident, $($with:tt)+) => {
         $then!($($with)+: Version protocol_version, Timeout time_out, Session session_id, Passwd passwd)
@@ -234,7 +234,7 @@ fn put_event_ref(
     event!(out, zxid, event)
 }
 
-/// The server's message that is next, behind `S `.
+/// Reads the server's message, after `S `.
 pub fn read_server(line: &mut Reader<'_>) -> Result<ServerFrame, LineFault>
     ensures { Gives result line.new (lines.server_at line.old) }
 {

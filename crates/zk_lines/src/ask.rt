@@ -1,4 +1,4 @@
-//! What a client sends, as a line shows it.
+//! The lines of a client's messages: written and read.
 ghost use Rattle.std.specs.Prelude.{◌≡◌, ◌++◌, OnOk, codes};
 ghost use Rattle.std.specs.Fmt.{signed_decimal};
 ghost use Rattle.zk_items.specs.Form.{Gives, Keeps};
@@ -23,7 +23,7 @@ use zk_items::{LineFault, LineReason, Reader, put_int};
 use zk_jute::Items;
 use zk_records::{ConnectRequest, ConnectRequestRef, Op, PartOp, op_name, part_name};
 
-/// The signs between the parts of a multi and behind the last.
+/// The signs between the parts of a multi and after the last.
 pub const PARTS: Signs = Signs {
     between: b';',
     behind: b'}',
@@ -36,7 +36,7 @@ macro_rules! part_rows {
     };
 }
 
-/// `read_part_of!(line, op: Create, Delete)` is the part of one of these operations that is next.
+/// `read_part_of!(line, op: Create, Delete)` reads the part, which is of one of these operations.
 macro_rules! read_part_of {
     ($line:ident, $op:ident: $($part:ident),+) => {
         Ok(match $op {
@@ -55,7 +55,7 @@ macro_rules! put_part_of {
     }};
 }
 
-/// The record of a part that is next.
+/// Reads the record of a part of the operation `op`.
 fn read_part(line: &mut Reader<'_>, op: PartOp) -> Result<Part, LineFault>
     ensures { Gives result line.new (row_at (asks.part_line_of op) line.old) }
 {
@@ -135,8 +135,8 @@ impl<'a> Put for PartList<'a> {
     }
 }
 
-/// `ask_rows!(then, with)` is `then!(with: .. | ..)` with the operations whose requests hold a
-/// record or parts, and those whose requests hold nothing.
+/// `ask_rows!(then, with)` is `then!(with: .. | ..)` with the operations whose requests hold a record or parts, and those
+/// whose requests hold nothing.
 macro_rules! ask_rows {
     ($then:ident, $($with:tt)+) => {
         $then!(
@@ -147,8 +147,7 @@ macro_rules! ask_rows {
     };
 }
 
-/// `read_ask_of!(line, op: Create, Delete | Ping)` is the request of one of these operations that is
-/// next.
+/// `read_ask_of!(line, op: Create, Delete | Ping)` reads the request, which is of one of these operations.
 macro_rules! read_ask_of {
     ($line:ident, $op:ident: $($held:ident),+ | $($bare:ident),+) => {
         Ok(match $op {
@@ -158,7 +157,7 @@ macro_rules! read_ask_of {
     };
 }
 
-/// `put_ask_of!(out, ask: Create, Delete | Ping)` appends a request's name and what stands behind it.
+/// `put_ask_of!(out, ask: Create, Delete | Ping)` appends a request's name and what comes after it.
 macro_rules! put_ask_of {
     ($out:ident, $ask:ident: $($held:ident),+ | $($bare:ident),+) => {{
         $out.extend_from_slice(op_name($ask.op()).as_bytes())?;
@@ -169,7 +168,7 @@ macro_rules! put_ask_of {
     }};
 }
 
-/// The record of a request that is next.
+/// Reads the record of a request of the operation `op`.
 fn read_body(line: &mut Reader<'_>, op: Op) -> Result<Ask, LineFault>
     ensures { Gives result line.new (row_at (asks.line_of op) line.old) }
 {
@@ -208,15 +207,15 @@ impl Item for Ask {
     }
 }
 
-/// `connect_fields!(then, with)` is `then!(with: ..)` with the fields of the connect request in
-/// order, each behind its word.
+/// `connect_fields!(then, with)` is `then!(with: ..)` with the fields of the connect request in order, each after its
+/// word.
 macro_rules! connect_fields {
     ($then:ident, $($with:tt)+) => {
         $then!($($with)+: Version protocol_version, Zxid last_zxid_seen, Timeout time_out, Session session_id, Passwd passwd)
     };
 }
 
-/// The connect request that is next.
+/// Reads the connect request.
 fn read_connect(line: &mut Reader<'_>) -> Result<(ConnectRequest, Option<bool>), LineFault>
     ensures { Gives result line.new (asks.connect.at line.old) }
 {
@@ -257,7 +256,7 @@ fn put_connect_ref(
     connect!(out, hello, read_only)
 }
 
-/// Appends a request's line: its xid, and what is asked.
+/// Appends a request's line: its xid, and what it asks.
 fn put_request<A: Put>(out: &mut Vec<u8>, xid: i32, ask: &A) -> Result<(), AllocError>
     ensures spelled { OnOk result (out.new.items ≡ out.old.items ++ (codes "C " ++ (signed_decimal xid ++ (word_of Blank ++ A.spell ask.now)))) }
     ensures fits { OnOk result (int.fits xid × A.fits ask.now) }
@@ -268,7 +267,7 @@ fn put_request<A: Put>(out: &mut Vec<u8>, xid: i32, ask: &A) -> Result<(), Alloc
     put_field(out, Word::Blank, ask)
 }
 
-/// The client's message that is next, behind `C `.
+/// Reads the client's message, after `C `.
 pub fn read_client(line: &mut Reader<'_>) -> Result<ClientFrame, LineFault>
     ensures { Gives result line.new (lines.client_at line.old) }
 {

@@ -1,4 +1,4 @@
-//! What an operation gives, as a line shows it.
+//! The bodies of replies in a line: written and read, by operation.
 ghost use Rattle.std.specs.Prelude.{◌≡◌, ◌++◌, OnOk};
 ghost use Rattle.zk_items.specs.Form.{Gives, Keeps};
 ghost use Rattle.zk_lines.specs.Words.{word_of};
@@ -16,7 +16,7 @@ use zk_answers::{Body, BodyOf, BodyRef};
 use zk_items::{LineFault, Reader};
 use zk_records::{Op, Stat};
 
-/// The field that is next, and what is known of a node behind it.
+/// Reads the field after `word`, and the `Stat` after it.
 fn read_with_stat<T: Item>(line: &mut Reader<'_>, word: Word) -> Result<(T, Stat), LineFault>
     ensures { Gives result line.new (answers.with_stat_at word T.at line.old) }
 {
@@ -25,9 +25,8 @@ fn read_with_stat<T: Item>(line: &mut Reader<'_>, word: Word) -> Result<(T, Stat
     Ok((value, stat))
 }
 
-/// `body_rows!(then, with)` is `then!(with: .. | .. | ..)` with the operations that give one field,
-/// those that give one and what is known of a node, each with the field and its word, and those
-/// that give nothing. A multi gives its results.
+/// `body_rows!(then, with)` is `then!(with: .. | .. | ..)` with the operations whose replies have one field, those that
+/// have one and a `Stat`, each with the field and its word, and those that have none. A multi has its results.
 macro_rules! body_rows {
     ($then:ident, $($with:tt)+) => {
         $then!(
@@ -40,8 +39,8 @@ macro_rules! body_rows {
     };
 }
 
-/// `read_body_of!(line, op: Create path Path | GetData blob Blob | Ping)` is what one of these
-/// operations gives, or a multi, which is next.
+/// `read_body_of!(line, op: Create path Path | GetData blob Blob | Ping)` reads the body of a reply to one of these
+/// operations, or to a multi.
 macro_rules! read_body_of {
     ($line:ident, $op:ident: $($one:ident $only:ident $word:ident),+ | $($both:ident $first:ident $behind:ident),+ | $($bare:ident),+) => {
         Ok(match $op {
@@ -56,8 +55,8 @@ macro_rules! read_body_of {
     };
 }
 
-/// `put_body_of!(out, body: Create path Path | GetData blob Blob | Ping)` appends what one of these
-/// operations gives, or a multi.
+/// `put_body_of!(out, body: Create path Path | GetData blob Blob | Ping)` appends the body of a reply to one of these
+/// operations, or to a multi.
 macro_rules! put_body_of {
     ($out:ident, $body:ident: $($one:ident $only:ident $word:ident),+ | $($both:ident $first:ident $behind:ident),+ | $($bare:ident),+) => {
         match $body {
@@ -69,14 +68,14 @@ macro_rules! put_body_of {
     };
 }
 
-/// What an operation gives, which is next.
+/// Reads the body of a reply to `op`.
 pub fn read_body(line: &mut Reader<'_>, op: Op) -> Result<Body, LineFault>
     ensures { Gives result line.new (row_at (answers.line_of op) line.old) }
 {
     body_rows!(read_body_of, line, op)
 }
 
-/// Appends a field, and what is known of a node behind it.
+/// Appends a field, and the `Stat` after it.
 fn put_with_stat<T: Put>(
     out: &mut Vec<u8>,
     word: Word,

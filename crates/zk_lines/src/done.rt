@@ -1,4 +1,4 @@
-//! The results of a multi, as a line shows them.
+//! The results of a multi in a line: written and read.
 ghost use Rattle.std.specs.Prelude.{◌≡◌, ◌++◌, OnOk};
 ghost use Rattle.zk_items.specs.Form.{Gives, Keeps};
 ghost use Rattle.zk_items.specs.Codes.{error_code};
@@ -18,7 +18,7 @@ use zk_answers::{DoneItems, DoneList, PartDone, PartDoneOf, PartDoneRef};
 use zk_items::{LineFault, LineReason, Reader, put_error_code, read_error_code};
 use zk_jute::Items;
 
-/// What a result of a multi begins with.
+/// The name that a result of a multi begins with.
 #[derive(Clone, Copy, Debug, PartialEq, Eq)]
 pub enum DoneName {
     Create,
@@ -28,7 +28,7 @@ pub enum DoneName {
     Fail,
 }
 
-/// `name_of_done!(done)` is what a result begins with.
+/// `name_of_done!(done)` is the name that a result begins with.
 macro_rules! name_of_done {
     ($done:ident) => {
         match $done {
@@ -65,7 +65,7 @@ fn done_name(name: DoneName) -> &'static [u8]
     }
 }
 
-/// The result that is next.
+/// Reads the result after the name `name`.
 fn read_done(line: &mut Reader<'_>, name: DoneName) -> Result<PartDone, LineFault>
     ensures { Gives result line.new (row_at (answers.done_line_of name) line.old) }
 {
@@ -90,7 +90,7 @@ fn put_failed(out: &mut Vec<u8>, number: i32) -> Result<(), AllocError>
     put_error_code(out, number)
 }
 
-/// `done_body!(out, done)` appends what stands behind a result's name.
+/// `done_body!(out, done)` appends what comes after a result's name.
 macro_rules! done_body {
     ($out:ident, $done:ident) => {
         match $done {
@@ -152,7 +152,7 @@ impl Item for PartDone {
     }
 }
 
-/// The results that are next.
+/// Reads the results of a multi.
 pub fn read_multi(line: &mut Reader<'_>) -> Result<Items<PartDone>, LineFault>
     ensures { Gives result line.new (answers.multi.at line.old) }
 {

@@ -1,4 +1,4 @@
-//! The line of an ending.
+//! `ending_line`: the line of an ending, which begins with a dot.
 ghost use Rattle.std.specs.Prelude.{◌≡◌, ◌++◌, IfOk, OnOk};
 ghost use Rattle.std.specs.Fmt.{decimal};
 ghost use Rattle.zk_talk.specs.declared.message.Ending.TheVariants.{Cut};
@@ -10,7 +10,7 @@ use zk_items::put_int;
 use zk_jute::{Reason, reason_name};
 use zk_talk::{Ending, Fault, Side};
 
-/// Appends the word and the side.
+/// Appends `word` and the letter of `side`.
 #[tactic(auto, unfolding(crate::specs::Endings::sided))]
 fn put_side(out: &mut Vec<u8>, word: &[u8], side: Side) -> Result<(), AllocError>
     ensures { OnOk result (out.new.items ≡ out.old.items ++ sided word.now side) }
@@ -22,7 +22,7 @@ fn put_side(out: &mut Vec<u8>, word: &[u8], side: Side) -> Result<(), AllocError
     }
 }
 
-/// Appends the word and the number.
+/// Appends `word` and `n` in decimal.
 #[tactic(auto, unfolding(crate::specs::Endings::count))]
 fn put_count(out: &mut Vec<u8>, word: &[u8], n: u64) -> Result<(), AllocError>
     ensures { OnOk result (out.new.items ≡ out.old.items ++ count word.now n) }
@@ -54,7 +54,7 @@ fn put_order(out: &mut Vec<u8>, reason: &Reason) -> Result<(), AllocError>
     }
 }
 
-/// Appends what was refused, and where.
+/// Appends where the fault is: its side, frame, offset and place, and its reason.
 fn put_place(out: &mut Vec<u8>, fault: &Fault) -> Result<(), AllocError>
     ensures { OnOk result (out.new.items ≡ out.old.items ++ place_text fault.now) }
 {
@@ -64,7 +64,7 @@ fn put_place(out: &mut Vec<u8>, fault: &Fault) -> Result<(), AllocError>
     put_count(out, b" place=", u64::from(fault.place))
 }
 
-/// Appends which side ends in part of a frame, and how much of it came.
+/// Appends which side ends within a frame, the frame's number, and how many bytes of it came.
 fn put_cut(out: &mut Vec<u8>, side: Side, frame: u64, got: u64) -> Result<(), AllocError>
     ensures { OnOk result (out.new.items ≡ out.old.items ++ ending_text (Cut side frame got)) }
 {
@@ -88,7 +88,11 @@ fn put_ending(out: &mut Vec<u8>, ending: &Ending) -> Result<(), AllocError>
     }
 }
 
-/// The line of an ending, without line feed.
+/// The line of `ending`, without line feed.
+///
+/// # Errors
+///
+/// `AllocError` if memory is refused.
 pub fn ending_line(alloc: Global, ending: &Ending) -> Result<Vec<u8>, AllocError>
     ensures { IfOk result (λ line. line.items ≡ ending_text ending.now) }
 {

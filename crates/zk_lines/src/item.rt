@@ -1,4 +1,4 @@
-//! An item of a line, and a field: a word and an item.
+//! `Item`: an item of a line, as it is read; and a field, a word and an item.
 ghost use Rattle.std.specs.Prelude.{List, ℕ};
 ghost use Rattle.zk_items.specs.Form.{Gives, Read};
 ghost use Rattle.zk_lines.specs.Words.{field_at};
@@ -12,12 +12,12 @@ use zk_jute::{Blob, Text};
 pub trait Item: Put + Sized + Drop {
     ghost at: { List ℕ → Read Self };
 
-    /// The item that is next.
+    /// Reads the item.
     fn read(line: &mut Reader<'_>) -> Result<Self, LineFault>
         ensures { Gives result line.new (at line.old) };
 }
 
-/// The field that is next: the word, and then the value.
+/// Reads a field: `word`, and then the value.
 pub fn read_field<T: Item>(line: &mut Reader<'_>, word: Word) -> Result<T, LineFault>
     ensures { Gives result line.new (field_at word T.at line.old) }
 {
@@ -25,8 +25,7 @@ pub fn read_field<T: Item>(line: &mut Reader<'_>, word: Word) -> Result<T, LineF
     T::read(line)
 }
 
-/// `read_fields!(line, Record: Path path, Version version)` is the record whose fields are next, in
-/// order, each behind its word.
+/// `read_fields!(line, Record: Path path, Version version)` reads the fields of a record in order, each after its word.
 macro_rules! read_fields {
     ($line:ident, $record:ident: $($word:ident $field:ident),+) => {{
         $(let $field = read_field($line, Word::$word)?;)+

@@ -1,4 +1,4 @@
-//! What rests on the lines: laws that are no call's result.
+//! The laws of lines and of ending lines, as contracts of functions that do nothing.
 ghost use Rattle.std.specs.Prelude.{◌≡◌, ◌≢◌, ◌≤◌, ℕ, List, ◌∷◌};
 ghost use Rattle.std.specs.List.{AllByRecursion};
 ghost use Rattle.zk_lines.specs.Endings.{ending_text};

@@ -1,4 +1,21 @@
-//! One line a message, and back.
+//! One line a message, and back: the text form of a conversation, of ASCII characters alone.
+//!
+//! - `put_line` and `line_of` write the line of a message, `put_line_ref` and `line_of_ref` that of a borrowed one.
+//! - `read_line` reads a line as its message; else it returns the column and the reason (`LineFault` of `zk_items`).
+//! - `ending_line` writes the line of an `Ending`, which begins with a dot, as no message's does.
+//!
+//! A line has the side, `C` or `S`; the xid; the operation's name; and the record's fields in order, each after a fixed
+//! word. Each message has one line and each line one message, whether a conversation can have it or not; `line_laws`
+//! says so. docs/FORMATS.md has the words.
+//!
+//! Each record is written and read by a row of a macro (`fields_of!`, `ask_rows!`, `body_rows!`), so that writer and
+//! reader can't differ. The crate rests on `zk_items` for items, on `zk_talk` for messages and endings, on the types
+//! and names of the crates below, and on `hex` and `itoa`.
+//!
+//! ```text
+//! let message = read_line(rt.alloc(), b"C 1 sync path=\"/a\"")?;
+//! let line = line_of(rt.alloc(), &message)?; // C 1 sync path="/a"
+//! ```
 #![tactic(auto)]
 
 mod answer;

@@ -1,4 +1,4 @@
-//! The line of a message, and back.
+//! `put_line`, `line_of`, `read_line`: the line of a message, and back.
 ghost use Rattle.std.specs.Prelude.{◌≡◌, ◌++◌, IfOk, OnErr, OnOk};
 ghost use Rattle.zk_items.specs.Form.{Answers};
 ghost use Rattle.zk_lines.specs.Lines as lines;
@@ -14,10 +14,10 @@ use zk_asks::ClientFrame;
 use zk_items::{LineFault, LineReason, Reader};
 use zk_talk::{Message, MessageOf, MessageRef};
 
-/// Room for most lines, so that few of them grow twice.
+/// The capacity that most lines fit into, so that few of them grow twice.
 const USUAL: usize = 256;
 
-/// `message!(out, message)` appends what one side says.
+/// `message!(out, message)` appends the message of either side.
 macro_rules! message {
     ($out:ident, $message:ident) => {
         match $message {
@@ -47,7 +47,7 @@ impl<'a> Put for MessageRef<'a> {
     }
 }
 
-/// Appends the message, or nothing.
+/// Appends the message's line; appends nothing if memory is refused.
 fn put_whole<M: Put>(out: &mut Vec<u8>, message: &M) -> Result<(), AllocError>
     ensures line { OnOk result (out.new.items ≡ out.old.items ++ M.spell message.now) }
     ensures fits { OnOk result (M.fits message.now) }
@@ -61,7 +61,7 @@ fn put_whole<M: Put>(out: &mut Vec<u8>, message: &M) -> Result<(), AllocError>
     put
 }
 
-/// The message alone.
+/// The message's line alone.
 fn spelled<M: Put>(alloc: Global, message: &M) -> Result<Vec<u8>, AllocError>
     ensures line { IfOk result (λ line. line.items ≡ M.spell message.now) }
     ensures fits { OnOk result (M.fits message.now) }
@@ -71,11 +71,11 @@ fn spelled<M: Put>(alloc: Global, message: &M) -> Result<Vec<u8>, AllocError>
     Ok(line)
 }
 
-/// Appends the message's line, without line feed. Every message has one, also one that no conversation has.
+/// Appends the line of `message` to `out`, without line feed. Every message has one, also one that no conversation has.
 ///
 /// # Errors
 ///
-/// A growth was refused: `out` then holds what it held before.
+/// `AllocError` if memory is refused; then `out` is unchanged.
 pub fn put_line(out: &mut Vec<u8>, message: &Message) -> Result<(), AllocError>
     ensures line { OnOk result (out.new.items ≡ out.old.items ++ lines.line message.now) }
     // Two messages that fit have two lines.
@@ -86,11 +86,11 @@ pub fn put_line(out: &mut Vec<u8>, message: &Message) -> Result<(), AllocError>
     put_whole(out, message)
 }
 
-/// Appends the line of a message where it lies, without line feed, as `put_line` does, and without a copy of the message.
+/// Appends the line of a borrowed message to `out`, without line feed, as `put_line` does. The message isn't copied.
 ///
 /// # Errors
 ///
-/// A growth was refused: `out` then holds what it held before.
+/// `AllocError` if memory is refused; then `out` is unchanged.
 pub fn put_line_ref(out: &mut Vec<u8>, message: &MessageRef<'_>) -> Result<(), AllocError>
     ensures line { OnOk result (out.new.items ≡ out.old.items ++ lines.line message.now) }
     // Two messages that fit have two lines.
@@ -101,7 +101,11 @@ pub fn put_line_ref(out: &mut Vec<u8>, message: &MessageRef<'_>) -> Result<(), A
     put_whole(out, message)
 }
 
-/// The message's line, without line feed.
+/// The line of `message`, without line feed.
+///
+/// # Errors
+///
+/// `AllocError` if memory is refused.
 pub fn line_of(alloc: Global, message: &Message) -> Result<Vec<u8>, AllocError>
     ensures line { IfOk result (λ line. line.items ≡ lines.line message.now) }
     // Two messages that fit have two lines.
@@ -110,7 +114,11 @@ pub fn line_of(alloc: Global, message: &Message) -> Result<Vec<u8>, AllocError>
     spelled(alloc, message)
 }
 
-/// The line of a message where it lies, without line feed.
+/// The line of a borrowed message, without line feed.
+///
+/// # Errors
+///
+/// `AllocError` if memory is refused.
 pub fn line_of_ref(alloc: Global, message: &MessageRef<'_>) -> Result<Vec<u8>, AllocError>
     ensures line { IfOk result (λ line. line.items ≡ lines.line message.now) }
     // Two messages that fit have two lines.
@@ -139,7 +147,7 @@ fn whole_server(line: &mut Reader<'_>) -> Result<ServerFrame, LineFault>
     Ok(frame)
 }
 
-/// The message that stands in the line.
+/// Reads the message, whose side comes first.
 fn read_message(line: &mut Reader<'_>) -> Result<Message, LineFault>
     ensures { Answers result (message_at line.old) }
 {
@@ -151,7 +159,11 @@ fn read_message(line: &mut Reader<'_>) -> Result<Message, LineFault>
     }
 }
 
-/// The message whose line the bytes are.
+/// The message whose line `bytes` are, without line feed.
+///
+/// # Errors
+///
+/// The item of the line that can't be read: its column, and the reason; `NoMemory`.
 #[tactic(auto, using(crate::proofs::Lines::message_found, crate::proofs::Lines::message_only))]
 pub fn read_line(alloc: Global, bytes: &[u8]) -> Result<Message, LineFault>
     // What is read has this line.

@@ -1,4 +1,4 @@
-//! Lists of items.
+//! Lists of items in a line: written, owned or borrowed, and read.
 ghost use Rattle.std.specs.Prelude.{◌≡◌, ◌++◌, ◌∷◌, [], List, length, OnOk};
 ghost use Rattle.std.specs.Iterator.{YieldsFirst};
 ghost use Rattle.std.specs.Slice.Iter.{iter_rest};
@@ -15,7 +15,7 @@ use std::slice::Iter;
 use zk_items::{LineFault, LineReason, Reader};
 use zk_jute::{Element, Elements, Items, KnownPayload, List, Series, Stands};
 
-/// The sign that parts the items, and the sign behind the last.
+/// The sign between the items, and the sign after the last.
 #[derive(Clone, Copy, Debug, PartialEq, Eq)]
 pub struct Signs {
     pub between: u8,
@@ -33,7 +33,7 @@ fn element<T: Item>(line: &mut Reader<'_>, signs: Signs) -> Result<Option<T>, Li
     Ok(Some(T::read(line)?))
 }
 
-/// The items behind the first.
+/// Reads the items after the first.
 fn elements<T: Item>(line: &mut Reader<'_>, signs: Signs, first: T) -> Result<Vec<T>, LineFault>
     ensures { GivesSeen (λ v. v.items) result line.new (with_first first (many_at (element_at signs.between signs.behind T.at) (length line.old) line.old)) }
 {
@@ -50,7 +50,7 @@ fn elements<T: Item>(line: &mut Reader<'_>, signs: Signs, first: T) -> Result<Ve
     Err(line.fault(LineReason::Word))
 }
 
-/// The items that are next, with a sign between two and one behind the last.
+/// Reads items, with a sign between two and one after the last.
 #[tactic(auto, unfolding(crate::specs::Series::series_at))]
 pub fn read_series<T: Item>(line: &mut Reader<'_>, signs: Signs) -> Result<Items<T>, LineFault>
     ensures { Gives result line.new (series_at signs.between signs.behind T.at line.old) }
@@ -62,18 +62,18 @@ pub fn read_series<T: Item>(line: &mut Reader<'_>, signs: Signs) -> Result<Items
     Ok(Items::new(elements(line, signs, first)?))
 }
 
-/// The items that are left of a list, in memory or where it lies.
+/// The items that are left of a list, owned or borrowed.
 pub trait Left: Drop {
     type One: Put + Drop;
 
     ghost left: { Self → List Self.One };
 
-    /// The next item, which is no longer left; None where none is.
+    /// Takes the next item; `None` if none is left.
     fn take(&mut self) -> Option<Self::One>
         ensures { YieldsFirst left self.old result self.new };
 }
 
-/// An item of a list in memory.
+/// An item of an owned list, by reference.
 #[derive(Drop)]
 pub struct Lent<'a, T> {
     item: &'a T,
@@ -131,7 +131,7 @@ fn put_elements<I: Left>(out: &mut Vec<u8>, items: I, sign: u8) -> Result<(), Al
     Ok(())
 }
 
-/// Appends the items behind the first.
+/// Appends the items after the first.
 fn put_others<I: Left>(out: &mut Vec<u8>, items: I, signs: Signs) -> Result<(), AllocError>
     ensures spelled { OnOk result (out.new.items ≡ out.old.items ++ (flat_map (λ y. signs.between ∷ I.One.spell y) (I.left items) ++ (signs.behind ∷ []))) }
     ensures fits { OnOk result (AllByRecursion I.One.fits (I.left items)) }
@@ -141,7 +141,7 @@ fn put_others<I: Left>(out: &mut Vec<u8>, items: I, signs: Signs) -> Result<(), 
     out.extend_from_slice(&[signs.behind])
 }
 
-/// Appends the items that are left, with a sign between two and one behind the last.
+/// Appends the items that are left, with a sign between two and one after the last.
 pub fn put_series<I: Left>(out: &mut Vec<u8>, items: I, signs: Signs) -> Result<(), AllocError>
     ensures spelled { OnOk result (out.new.items ≡ out.old.items ++ series_spell signs.between signs.behind I.One.spell (I.left items)) }
     ensures fits { OnOk result (AllByRecursion I.One.fits (I.left items)) }
@@ -167,7 +167,7 @@ impl<T: Put> Put for List<T> {
 
     ghost spell = { list_spell T.spell };
 
-    /// `~`, or the items between brackets, with commas between them.
+    /// Appends `~`, or the items between brackets, with commas between them.
     fn put(&self, out: &mut Vec<u8>) -> Result<(), AllocError> {
         match self {
             List::Null => out.extend_from_slice(b"~"),
@@ -197,7 +197,7 @@ impl<'a, R: Element + Stands<KnownPayload<'a>> + Put> Put for Series<'a, R> {
 
     ghost spell = { list_spell R.spell };
 
-    /// `~`, or the items between brackets, with commas between them.
+    /// Appends `~`, or the items between brackets, with commas between them.
     fn put(&self, out: &mut Vec<u8>) -> Result<(), AllocError> {
         if self.is_null() {
             return out.extend_from_slice(b"~");

@@ -1,4 +1,4 @@
-//! The names that a line's operations, parts and results have.
+//! The operations, parts and results by their names in a line.
 ghost use Rattle.std.specs.Prelude.{◌≡◌};
 ghost use Rattle.zk_lines.specs.Asks as asks;
 ghost use Rattle.zk_lines.specs.Answers as answers;
@@ -6,7 +6,7 @@ ghost use Rattle.zk_lines.specs.Answers as answers;
 use crate::done::DoneName;
 use zk_records::{Op, PartOp};
 
-/// The operation of a name.
+/// The operation whose name is `name`; `None` if there is none.
 #[tactic(auto, unfolding(crate::specs::Asks::op_named))]
 pub fn op_named(name: &[u8]) -> Option<Op>
     ensures { result ≡ asks.op_named name.now }
@@ -48,7 +48,7 @@ pub fn op_named(name: &[u8]) -> Option<Op>
     }
 }
 
-/// The part of a name.
+/// The part's operation whose name is `name`; `None` if there is none.
 #[tactic(auto, unfolding(crate::specs::Asks::part_named))]
 pub fn part_named(name: &[u8]) -> Option<PartOp>
     ensures { result ≡ asks.part_named name.now }
@@ -66,7 +66,7 @@ pub fn part_named(name: &[u8]) -> Option<PartOp>
     }
 }
 
-/// The result of a name.
+/// The kind of a part's result whose name is `name`; `None` if there is none.
 #[tactic(auto, unfolding(crate::specs::Answers::done_named))]
 pub fn done_named(name: &[u8]) -> Option<DoneName>
     ensures { result ≡ answers.done_named name.now }

@@ -1,4 +1,4 @@
-//! What a line shows, written: with memory of its own, or where it lies.
+//! `Put`: a value of a line, as it is written, owned or borrowed; and a field, a word and a value.
 ghost use Rattle.std.specs.Prelude.{◌≡◌, ◌++◌, List, ℕ, OnOk};
 ghost use Rattle.zk_items.specs.Form.{Keeps};
 ghost use Rattle.zk_lines.specs.Words.{word_of};
@@ -10,9 +10,9 @@ use zk_items::{
 };
 use zk_jute::{Blob, BlobRef, Text, TextRef};
 
-/// A value that stands in a line.
+/// A value that a line can show.
 pub trait Put {
-    /// What every value that a program holds is.
+    /// What holds of every value that a program can hold.
     ghost fits: { Self → Type 0 };
 
     ghost spell: { Self → List ℕ };
@@ -24,8 +24,7 @@ pub trait Put {
         ensures keeps { Keeps out.old.items out.new.items };
 }
 
-/// Appends the field: the word, and then the value.
-// The hints of this crate take 10% of the instructions off `show` on names, and 3% on small messages.
+/// Appends a field: `word`, and then the value.
 #[inline(always)]
 pub fn put_field<T: Put>(out: &mut Vec<u8>, word: Word, value: &T) -> Result<(), AllocError>
     ensures spelled { OnOk result (out.new.items ≡ out.old.items ++ (word_of word ++ T.spell value.now)) }
@@ -36,8 +35,7 @@ pub fn put_field<T: Put>(out: &mut Vec<u8>, word: Word, value: &T) -> Result<(),
     value.put(out)
 }
 
-/// `put_fields!(out, record: Path path, Version version)` appends these fields of a record in
-/// order, each behind its word.
+/// `put_fields!(out, record: Path path, Version version)` appends these fields of a record in order, each after its word.
 macro_rules! put_fields {
     ($out:ident, $record:ident: $word:ident $field:ident) => {
         put_field($out, Word::$word, &$record.$field)

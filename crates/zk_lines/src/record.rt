@@ -1,4 +1,4 @@
-//! The records that are items of a line: an entry of an access list, and what is known of a node.
+//! Two records that are items of a line: an entry of an access list, and a `Stat`.
 ghost use Rattle.std.specs.Prelude.{◌≡◌, ◌++◌, ◌+◌, ◌<◌, ◌≤◌, OnOk, length, drop};
 ghost use Rattle.zk_items.specs.Form.{Gives, Keeps};
 ghost use Rattle.zk_items.specs.Leaf.{int};
@@ -11,7 +11,7 @@ use std::alloc::AllocError;
 use zk_items::{LineFault, Reader, int_before, long_before, put_int};
 use zk_records::{Acl, AclRef, Id, Stat};
 
-/// Appends an entry: its bits, and its two texts behind colons.
+/// Appends an entry of an access list: its bits, and its two texts, each after a colon.
 fn put_entry<T: Put>(out: &mut Vec<u8>, perms: i32, scheme: &T, ident: &T) -> Result<(), AllocError>
     ensures spelled { OnOk result (out.new.items ≡ out.old.items ++ records.entry T.spell perms scheme.now ident.now) }
     ensures fits { OnOk result (int.fits perms × (T.fits scheme.now × T.fits ident.now)) }
@@ -102,7 +102,7 @@ impl Put for Stat {
     }
 }
 
-/// The times of a Stat: czxid, mzxid, ctime, mtime.
+/// Reads the times of a `Stat`: czxid, mzxid, ctime, mtime.
 fn times(line: &mut Reader<'_>) -> Result<(i64, (i64, (i64, i64))), LineFault>
     ensures { Gives result line.new (records.times.at line.old) }
 {
@@ -113,7 +113,7 @@ fn times(line: &mut Reader<'_>) -> Result<(i64, (i64, (i64, i64))), LineFault>
     Ok((czxid, (mzxid, (ctime, mtime))))
 }
 
-/// The versions of a Stat: version, cversion, aversion.
+/// Reads the versions of a `Stat`: version, cversion, aversion.
 fn versions(line: &mut Reader<'_>) -> Result<(i32, (i32, i32)), LineFault>
     ensures { Gives result line.new (records.versions.at line.old) }
 {
@@ -123,7 +123,7 @@ fn versions(line: &mut Reader<'_>) -> Result<(i32, (i32, i32)), LineFault>
     Ok((version, (cversion, aversion)))
 }
 
-/// The rest of a Stat: ephemeral owner, data length, number of children, pzxid.
+/// Reads the rest of a `Stat`: ephemeral owner, data length, number of children, pzxid.
 fn sizes(line: &mut Reader<'_>) -> Result<(i64, (i32, (i32, i64))), LineFault>
     ensures { Gives result line.new (records.sizes.at line.old) }
 {
@@ -134,7 +134,7 @@ fn sizes(line: &mut Reader<'_>) -> Result<(i64, (i32, (i32, i64))), LineFault>
     Ok((ephemeral_owner, (data_length, (num_children, pzxid))))
 }
 
-/// Room for the longest stat: eleven numbers of at most twenty bytes, a sign before each, and one behind them.
+/// Room for the longest `Stat`: eleven numbers of at most twenty bytes, a sign before each, and one after them.
 const STAT_ROOM: usize = 11 * 21 + 1;
 
 fn write_times(room: &mut [u8], end: usize, stat: &Stat) -> usize
@@ -172,8 +172,8 @@ fn write_sizes(room: &mut [u8], end: usize, stat: &Stat) -> usize
     long_before(room, data_length, b',', stat.ephemeral_owner)
 }
 
-/// Writes a stat at the end of the room, and tells where it begins.
-// From its last number on, as `long_before` writes, and copied once: 8% of the instructions of `show` on small messages.
+/// Writes `stat` at the end of `room`, and returns where it begins.
+// From its last number on, as `long_before` writes, so that it is copied once.
 fn write_stat(room: &mut [u8; STAT_ROOM], stat: &Stat) -> usize
     ensures within { result < 232 }
     ensures written { drop result room.new ≡ records.stat.spell stat.now }

@@ -1,4 +1,4 @@
-//! The records of requests, field by field.
+//! The records of requests in a line: a row of fields for each, by which it is written and read.
 ghost use Rattle.zk_lines.specs.Asks as asks;
 
 use crate::item::{Item, read_field, read_fields};
@@ -12,8 +12,8 @@ use zk_records::{
     SetWatchesAskRef, WatchAsk, WatchAskRef,
 };
 
-/// `fields_of!(create, then, with)` is `then!(with: ..)` with the fields of `CreateAsk` and of
-/// `CreateAskRef` in order, each behind its word.
+/// `fields_of!(create, then, with)` is `then!(with: ..)` with the fields of `CreateAsk` and of `CreateAskRef` in order,
+/// each after its word.
 macro_rules! fields_of {
     (create, $then:ident, $($with:tt)+) => {
         $then!($($with)+: Path path, Blob blob, Acl acl, Flags flags)

@@ -1,4 +1,4 @@
-//! The fixed words of a line.
+//! `Word`: the fixed words of a line.
 ghost use Rattle.std.specs.Prelude.{◌≡◌, ◌++◌, OnOk};
 ghost use Rattle.zk_items.specs.Form.{Keeps, Passes, word_at};
 ghost use Rattle.zk_lines.specs.Words.{word_of};
@@ -39,7 +39,6 @@ pub enum Word {
 }
 
 /// The bytes of a word.
-// As in put.rt.
 #[inline(always)]
 #[tactic(auto, unfolding(crate::specs::Words::word_of))]
 pub fn word_bytes(word: Word) -> &'static [u8]
@@ -85,7 +84,7 @@ pub fn put_word(out: &mut Vec<u8>, word: Word) -> Result<(), AllocError>
     out.extend_from_slice(word_bytes(word))
 }
 
-/// Passes the word, which stands next.
+/// Passes `word`, if it comes next; else returns the fault.
 pub fn read_word(line: &mut Reader<'_>, word: Word) -> Result<(), LineFault>
     ensures { Passes result line.new (word_at (word_of word) line.old) }
 {
