@@ -15,7 +15,7 @@ are_or_not client server waiting = elim (cases_Bool (is_within 64 16777216 clien
   | inr not ↦ inr (λ are. grind (arith, nat_tests))
 ]
 
--- 35 is that of ZooKeeper 3.5, and 34 that of 3.4
+-- 35 is the profile of ZooKeeper 3.5, and 34 that of 3.4
 abbrev pub profile_by : ℕ → Profile
 profile_by n = if n == 35 then V35 else V34
 
@@ -23,6 +23,6 @@ abbrev pub limits_by : (options : Limits) (client server waiting : ℕ) (profile
 limits_by options client server waiting profile (inl are) = record { client = client; server = server; waiting = waiting; profile = profile; in_range = are }
 limits_by options client server waiting profile (inr out) = options
 
--- the limits of these numbers; where they are out of range there are none, and the options stand
+-- the limits of these numbers; the options, if a number is out of range
 unfoldable pub limits_or : Limits → ℕ → ℕ → ℕ → Profile → Limits
 limits_or options client server waiting profile = limits_by options client server waiting profile (are_or_not client server waiting)

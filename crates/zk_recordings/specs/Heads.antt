@@ -1,4 +1,4 @@
--- The head of a piece, where it stands whole at the front of a block.
+-- The head of a piece, where it is whole at the front of a block.
 use Rattle.std.specs.Prelude.{◌≡◌, ℕ, ◌+◌, ◌≤◌, List, [], ◌∷◌, length, take, drop, true}
 use Rattle.zk_talk.specs.declared.message.Side.{Side}
 use Rattle.zk_recordings.specs.declared.parts.Format.{Format}
@@ -8,12 +8,12 @@ use Rattle.zk_recordings.specs.Reader.{Content, ReaderState}
 use Rattle.zk_recordings.specs.Parts.{number, is_good}
 use Rattle.zk_recordings.specs.Recording.{side_byte}
 
--- a good time stands behind a side's byte, and the size behind it; the first format has no time
+-- a good time comes after a side's byte, and the size after it; the first format has no time
 abbrev pub IsTimeIn : Format → List ℕ → ℕ → Type 0
 IsTimeIn Zkr1 block at = at ≡ 1
 IsTimeIn Zkr2 block at = (at ≡ 9) × (is_good Time (take 8 (drop 1 block)) ≡ true)
 
--- the block begins with the whole head of a piece, each part of it good, and this state stands behind it
+-- the block begins with the whole head of a piece, each part of it good, and this is the state after it
 pub record PassesHead (s : ReaderState) (block : List ℕ) (used : ℕ) (new : ReaderState) : Type 0 where
   pub side : Side
   pub at : ℕ

@@ -1,5 +1,5 @@
--- The parts of recordings whose width is fixed, row by row: how wide each is, which values are good, and which damage
--- stands where it breaks off; and the formats, as lists of parts.
+-- The parts of recordings whose width is fixed, row by row: how wide each is, which values are good, and which damage a
+-- recording has that ends in it; and the formats, as lists of parts.
 use Rattle.std.specs.Prelude.{ℕ, List, [], ◌∷◌, Option, None, Some, Bool, nat_le, nat_lt, ◌&&◌, ◌||◌, ◌^◌}
 use Rattle.std.specs.Int.{from_be_bytes}
 use Rattle.std.specs.Str.{bytes_eq}
@@ -71,12 +71,12 @@ damage_cut SideByte = None
 damage_cut Time = Some Short
 damage_cut Size = Some Short
 
--- what stands in a head behind its letters
+-- the parts of a head after its letters
 abbrev pub head_parts : Format → List Part
 head_parts Zkr1 = []
 head_parts Zkr2 = ClientLimit ∷ ServerLimit ∷ Waiting ∷ Profile ∷ []
 
--- what stands in a piece before its content
+-- the parts of a piece before its content
 abbrev pub piece_parts : Format → List Part
 piece_parts Zkr1 = SideByte ∷ Size ∷ []
 piece_parts Zkr2 = SideByte ∷ Time ∷ Size ∷ []

@@ -9,7 +9,7 @@ use Rattle.zk_recordings.specs.declared.recording.Stage.{Stage}
 use Rattle.zk_recordings.specs.declared.recording.Stage.TheVariants.{Fixed as fixed, Content as content, Damaged as damaged}
 use Rattle.zk_recordings.specs.declared.recording.State.{State}
 
--- it is in a part, of which it has so many of these eight bytes; in a content, of which it has read so many; or behind a damage
+-- in a part, of which it has the first of these eight bytes, by their number; in a content, of which it has read this many bytes; or after a damage
 pub data ReaderStage : Type 0 where
   Fixed : Part → List ℕ → ℕ → ReaderStage
   Content : ℕ → ReaderStage

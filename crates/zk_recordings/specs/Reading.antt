@@ -28,7 +28,7 @@ HasHeadAt s AtLetters = Unit {0}
 HasHeadAt s (InHead format) = s.format ≡ format
 HasHeadAt s (InPieces head pieces) = HasHead s head
 
--- what stands in a piece before its size
+-- the parts of a piece before its size
 abbrev pub before_size : Format → Side → List ℕ → List (List ℕ)
 before_size Zkr1 side time = (side_byte side ∷ []) ∷ []
 before_size Zkr2 side time = (side_byte side ∷ []) ∷ time ∷ []
@@ -53,7 +53,7 @@ pub record BeforeSize (s : ReaderState) (place : Place) (before : List (List ℕ
   pub timed : HasTime (format_of within.head) time
   pub values : before ≡ before_size (format_of within.head) s.side time
 
--- what stands before a part, as far as the reader keeps it
+-- what comes before a part, as far as the reader keeps it
 abbrev pub Knows : ReaderState → Place → List (List ℕ) → Part → Type 0
 Knows s place before Letters = (place ≡ AtLetters) × (before ≡ [])
 Knows s place before ClientLimit = (place ≡ InHead Zkr2) × (map number before ≡ [])
@@ -125,11 +125,11 @@ place_by s (Fixed part bytes got) = s.at + got
 place_by s (Content got) = s.at + got
 place_by s (Damaged d) = 0
 
--- how many bytes were read, until a damage
+-- the number of bytes that were read, until a damage
 abbrev pub place_in : ReaderState → ℕ
 place_in s = place_by s s.stage
 
--- behind so many bytes a part begins
+-- a part begins after one of `wide` bytes
 abbrev pub then_at : ReaderState → Part → ℕ → ReaderState
 then_at s part wide = record s { at = s.at + wide; stage = Fixed part no_time 0 }
 
@@ -143,26 +143,26 @@ abbrev pub IsHeaded : Place → Type 0
 IsHeaded (InPieces head pieces) = Unit {0}
 IsHeaded _ = ⊥
 
--- the format of what stands behind a head
+-- the format of what comes after a head
 abbrev pub format_at : Place → Option Format
 format_at (InPieces head pieces) = Some (format_of head)
 format_at _ = None
 
--- a head is whole, and behind it no piece is begun
+-- a head is whole, and no piece is begun after it
 abbrev pub IsBetween : Recording → Type 0
 IsBetween r = (head : Head) × (pieces : List Piece) × (r ≡ Breaks (InPieces head pieces) nothing)
 
--- content stands behind a head
+-- content comes after a head
 abbrev pub MayHold : Option Side → Place → Type 0
 MayHold None place = Unit {0}
 MayHold (Some side) place = IsHeaded place
 
--- no piece stands before the place
+-- no piece comes before the place
 abbrev pub IsBare : Place → Type 0
 IsBare (InPieces head pieces) = pieces ≡ []
 IsBare _ = Unit {0}
 
--- bytes behind a recording, content of a side or of none, make it this one
+-- bytes after a recording, content of a side or of none, make it this one
 pub data GoesOn (old : Recording) (used : List ℕ) (side : Option Side) (new : Recording) : Type 0 where
   in_head : (IsHeaded (place_of old) → ⊥) → IsBare (place_of new) → begun_of new ≡ [] → begun_history new ≡ [] → side ≡ None → GoesOn old used side new
   within : place_of new ≡ place_of old → begun_of new ≡ begun_of old ++ used → begun_history new ≡ begun_history old ++ content_of side used →
@@ -176,16 +176,16 @@ pub record ReadsOn (s : ReaderState) (x : List ℕ) (old : Recording) (used : Li
   pub is : IsAt s (x ++ used) new
   pub goes_on : GoesOn old used side new
 
--- whatever was read before, the last of these bytes makes the part whole, and this state stands behind it
+-- whatever was read before, the last of these bytes makes the part whole, and this is the state after it
 abbrev pub Accepts : ReaderState → Part → List ℕ → ReaderState → Type 0
 Accepts s part bytes new = (x begun : List ℕ) (byte : ℕ) (r : Recording) →
     begun ++ byte ∷ [] ≡ bytes → Spells x r → HasHeadAt s (place_of r) → AtPart s part begun r → ReadsOn new x r (byte ∷ []) None
 
--- whatever was read before a part and of it, these bytes are read on, and this state stands behind them
+-- whatever was read before a part and of it, these bytes are read on, and this is the state after them
 abbrev pub GoesOnFrom : ReaderState → Part → List ℕ → ℕ → List ℕ → ReaderState → Type 0
 GoesOnFrom s part bytes got used new = (x : List ℕ) (r : Recording) → Spells x r → HasHeadAt s (place_of r) → AtFixed s part bytes got r → ReadsOn new x r used None
 
--- the reader stands behind a head or a whole piece of this format, and nothing is begun; or it does not
+-- a head or a whole piece of this format has just ended; or none has
 abbrev pub IsBetweenOf : ReaderState → Format → Type 0
 IsBetweenOf s format = (x : List ℕ) (r : Recording) → IsAt s x r → IsBetween r × (format_at (place_of r) ≡ Some format)
 

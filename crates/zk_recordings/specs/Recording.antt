@@ -1,4 +1,4 @@
--- What a recording is: a head, whole pieces, and what stands behind the last of them. It is of one of two formats.
+-- What a recording is: a head, whole pieces, and what comes after the last of them. It is of one of two formats.
 use Rattle.std.specs.Prelude.{◌≡◌, ℕ, ◌+◌, ◌<◌, List, [], ◌∷◌, ◌++◌, length, Option, Some, true, false}
 use Rattle.std.specs.List.{All, flat_map}
 use Rattle.std.specs.Option.{option_map}
@@ -100,7 +100,7 @@ side_byte Server = 83
 abbrev pub no_time : List ℕ
 no_time = 0 ∷ 0 ∷ 0 ∷ 0 ∷ 0 ∷ 0 ∷ 0 ∷ 0 ∷ []
 
--- some bytes of one side, behind their time and their number
+-- some bytes of one side, after their time and their number
 pub record Piece : Type 0 where
   pub side : Side
   pub time : List ℕ
@@ -136,13 +136,13 @@ piece_history p = on p.side p.content
 
 -- ---- recordings
 
--- where fixed parts stand
+-- where fixed parts are
 pub data Place : Type 0 where
   -- at the very beginning
   AtLetters : Place
-  -- behind the letters of a format
+  -- after the letters of a format
   InHead : (format : Format) → Place
-  -- behind a head and whole pieces
+  -- after a head and whole pieces
   InPieces : (head : Head) (pieces : List Piece) → Place
 
 abbrev pub parts_at : Place → List Part
@@ -159,7 +159,7 @@ IsPlace AtLetters = Unit {0}
 IsPlace (InHead format) = Unit {0}
 IsPlace (InPieces head pieces) = AreIn head pieces
 
--- what stands before the place
+-- the bytes before the place
 abbrev pub front : Place → List ℕ
 front AtLetters = []
 front (InHead format) = letters format
@@ -179,12 +179,12 @@ pub data Recording : Type 0 where
   -- it ends within a content
   Ends : (head : Head) (pieces : List Piece) (last : Piece) → Recording
 
--- where its last piece stands, be it whole, cut or none
+-- where its last piece is, be it whole, cut or none
 abbrev pub place_of : Recording → Place
 place_of (Breaks place b) = place
 place_of (Ends head pieces last) = InPieces head pieces
 
--- what stands from there on
+-- the bytes from there on
 abbrev pub begun_of : Recording → List ℕ
 begun_of (Breaks place b) = break_bytes b
 begun_of (Ends head pieces last) = piece_bytes (format_of head) last
@@ -208,7 +208,7 @@ IsRecording (Ends head pieces last) = IsCutOff head pieces last
 abbrev pub bytes_of : Recording → List ℕ
 bytes_of r = front (place_of r) ++ begun_of r
 
--- all content bytes that stand before the damage, those of a cut piece included
+-- all content bytes before the damage, those of a cut piece included
 abbrev pub history_of : Recording → History
 history_of r = history_at (place_of r) ++ begun_history r
 
@@ -218,7 +218,7 @@ limits_of options r = limits_at options (place_of r)
 abbrev pub damage_at : ℕ → Damage → DamageAt
 damage_at place damage = record { offset = place; reason = damage }
 
--- the damage of a part that stands at a place
+-- the damage of a part at a place
 abbrev pub end_damage : ℕ → Part → End → Option DamageAt
 end_damage place part (Cut begun) = option_map (damage_at place) (damage_cut part)
 end_damage place part (Bad value more) = Some (damage_at place (damage_bad part))
@@ -235,6 +235,6 @@ pub record Spells (bytes : List ℕ) (r : Recording) : Type 0 where
   pub sound : IsRecording r
   pub is : bytes ≡ bytes_of r
 
--- nothing stands behind the last whole piece
+-- nothing comes after the last whole piece
 abbrev pub nothing : Break
 nothing = record { before = []; part = SideByte; end = Cut [] }

@@ -1,4 +1,4 @@
-//! What stands before a piece's content, where it lies whole at the front of a block.
+//! The head of a piece, read at once where it is whole at the front of a block.
 ghost use Rattle.std.specs.Prelude.{◌≡◌, ◌≤◌, ◌+◌, true, IfSome, length, take, drop};
 ghost use Rattle.zk_recordings.specs.declared.parts.Part.TheVariants.{Size};
 ghost use Rattle.zk_recordings.specs.Parts as parts;
@@ -8,7 +8,7 @@ ghost use Rattle.zk_recordings.specs.Heads.{IsTimeIn};
 use crate::parts::{Format, Part, number};
 use zk_talk::Side;
 
-/// The side that a byte names; None where it names none.
+/// The side that `byte` is the letter of; `None` if it is of none.
 pub fn side_named(byte: u8) -> Option<Side>
     ensures { IfSome result (λ side. byte ≡ side_byte side) }
 {
@@ -19,7 +19,8 @@ pub fn side_named(byte: u8) -> Option<Side>
     }
 }
 
-/// The place of a piece's size, where a good time stands behind its side's byte, or its format has none.
+/// The place of a piece's size in `block`: after the side's byte and a good time, or, in a format without times, after
+/// the side's byte. `None`: undecided.
 pub fn behind_time(format: Format, block: &[u8]) -> Option<usize>
     ensures { IfSome result (IsTimeIn format block.now) }
 {
@@ -37,7 +38,7 @@ pub fn behind_time(format: Format, block: &[u8]) -> Option<usize>
     }
 }
 
-/// The size that stands at a place of the block, where it is whole and good.
+/// The size at `at` of `block`, if it is whole and good; `None`: undecided.
 pub fn size_in(block: &[u8], at: usize) -> Option<u32>
     requires { at ≤ 9 }
     ensures within { IfSome result (λ size. at + 4 ≤ length block.now) }

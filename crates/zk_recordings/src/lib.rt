@@ -1,4 +1,21 @@
-//! Recordings of a conversation, in two formats: the table of their parts, and the reader that takes them in blocks.
+//! Recordings of a conversation, of two formats, ZKR1 and ZKR2, read block by block.
+//!
+//! A recording is a head and pieces; a piece is some bytes of one side, as they came, after the side's letter, their time
+//! (ZKR2) and their number. `Format` and `Part` are the table of the parts whose width is fixed: a further format adds
+//! rows there.
+//!
+//! `RecordingReader::next` is the main call: it takes the first bytes of a block of any size and returns how many it
+//! took, and the side whose content they are, if they are content. `limits` returns the limits of the head, `damage` the
+//! first damage, `finish` the damage of a recording that ends here. Any bytes are one recording, which may be damaged.
+//!
+//! Nothing is allocated. The crate rests on `zk_talk` for sides and limits, and on `zk_records` for profiles.
+//! docs/FORMATS.md has the bytes.
+//!
+//! ```text
+//! let mut reader = RecordingReader::new();
+//! let run = reader.next(block);
+//! // block[..run.used] is content of run.side, or of neither if that is None.
+//! ```
 #![tactic(auto)]
 
 mod heads;

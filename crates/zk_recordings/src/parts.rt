@@ -1,4 +1,4 @@
-//! The parts of recordings whose width is fixed, row by row. A further format adds rows here.
+//! `Format`, `Part`, `Damage`: the parts of recordings whose width is fixed, row by row.
 ghost use Rattle.std.specs.Prelude.{◌≡◌, length, take};
 ghost use Rattle.zk_recordings.specs.Parts as parts;
 
@@ -9,7 +9,7 @@ pub enum Damage {
     BadHead,
     /// A number of the head is out of range.
     BadLimits,
-    /// A byte that names no side.
+    /// A byte that is the letter of no side.
     BadSide,
     /// A time below 0.
     BadTime,
@@ -21,7 +21,9 @@ pub enum Damage {
 
 /// The first damage of a recording, and its place in it.
 #[derive(Clone, Copy, Debug, PartialEq, Eq)]
+/// The offset in bytes from the beginning of the recording.
 pub struct DamageAt {
+    /// What is wrong there.
     pub offset: u64,
     pub reason: Damage,
 }
@@ -44,7 +46,7 @@ pub enum Part {
     ClientLimit,
     /// An int: the longest payload of the server, in bytes.
     ServerLimit,
-    /// An int: what the requests may weigh that wait for their replies.
+    /// An int: the greatest weight of the requests that wait for their replies.
     Waiting,
     /// An int: 34 for ZooKeeper 3.4, 35 for 3.5.
     Profile,
@@ -52,18 +54,18 @@ pub enum Part {
     SideByte,
     /// A long: milliseconds, 0 or more, counted from any moment and in any order.
     Time,
-    /// An int: how many bytes of content follow.
+    /// An int: the number of bytes of content that follow.
     Size,
 }
 
-/// What a recording of the first format begins with.
+/// The letters of the first format.
 pub const ZKR1: [u8; 4] = *b"ZKR1";
 
-/// A part's bytes come first; what follows them is 0 or of no account.
+/// The bytes of a part, which come first; what follows them is 0 or of no account.
 pub type Bytes = [u8; 8];
 
 impl Format {
-    /// What a recording of the format begins with.
+    /// The letters that a recording of the format begins with.
     pub fn letters(self) -> [u8; 4]
         ensures { result ≡ parts.letters self }
     {
@@ -82,7 +84,7 @@ pub fn word(bytes: Bytes) -> [u8; 4]
     [a, b, c, d]
 }
 
-/// The number that the first four bytes spell.
+/// The number that the first four bytes spell, big-endian.
 pub fn number(bytes: Bytes) -> u32
     ensures { result ≡ parts.number (take 4 bytes) }
 {
@@ -96,7 +98,7 @@ fn is_within(least: u32, most: u32, n: u32) -> bool
 }
 
 impl Part {
-    /// How many bytes it has.
+    /// The number of bytes of the part.
     pub fn width(self) -> usize
         ensures { result ≡ parts.width self }
     {
@@ -112,7 +114,7 @@ impl Part {
         }
     }
 
-    /// Whether a recording may go on behind these bytes of it.
+    /// Whether a recording may go on after these bytes of the part.
     pub fn is_good(self, bytes: Bytes) -> bool
         requires { length bytes ≡ 8 }
         ensures { result ≡ parts.is_good self (take (parts.width self) bytes) }
@@ -130,7 +132,7 @@ impl Part {
         }
     }
 
-    /// The damage where it isn't good.
+    /// The damage if the part's bytes aren't good.
     pub fn damage_bad(self) -> Damage
         ensures { result ≡ parts.damage_bad self }
     {
@@ -145,7 +147,7 @@ impl Part {
         }
     }
 
-    /// The damage where the recording ends before the part does.
+    /// The damage of a recording that ends before the part does; `None` if it may end there.
     pub fn damage_cut(self) -> Option<Damage>
         ensures { result ≡ parts.damage_cut self }
     {

@@ -1,4 +1,4 @@
-//! The reader of recordings of both formats: a head, and pieces of either side.
+//! `RecordingReader`: reads recordings of both formats, a head, and pieces of either side.
 ghost use Rattle.std.specs.Prelude.{◌≡◌, ◌+◌, ◌^◌, ◌<◌, ◌≤◌, ◌∷◌, ℕ, List, [], true, None, Some, MatchOption, IfSome, length, take};
 ghost use Rattle.zk_recordings.specs.declared.parts.DamageAt.{DamageAt};
 ghost use Rattle.zk_recordings.specs.declared.parts.Format.TheVariants.{Zkr1, Zkr2};
@@ -16,14 +16,14 @@ use std::marker::Model;
 use zk_records::Profile;
 use zk_talk::{Limits, Side};
 
-/// What the first bytes of a block are: content of a side, or neither side's.
+/// What the first `used` bytes of a block are: content of `side`, or of neither.
 #[derive(Clone, Copy, Debug, PartialEq, Eq)]
 pub struct Run {
     pub used: usize,
     pub side: Option<Side>,
 }
 
-/// What the reader is in.
+/// What the reader is in: a part, a content, or what comes after a damage.
 #[derive(Clone, Copy)]
 enum Stage {
     Fixed {
@@ -37,17 +37,17 @@ enum Stage {
     Damaged(DamageAt),
 }
 
-/// Where in a recording the reader stands, and what it has read of the head and of the piece.
+/// Where in a recording the reader is, and what it has read of the head and of the piece.
 #[derive(Clone, Copy)]
 struct State {
-    /// The place of what the reader is in.
+    /// The place of the part or content that the reader is in.
     at: u64,
     stage: Stage,
     format: Format,
     client: u32,
     server: u32,
     waiting: u32,
-    /// Those of the head, where it is whole and has them.
+    /// The limits of the head, if it is whole and has them.
     limits: Option<Limits>,
     side: Side,
     size: u32,
@@ -70,7 +70,7 @@ impl Model for RecordingReader {
     ghost invariant = { λ r. IsSound (state_of r.state) };
 }
 
-/// The side that a good byte names.
+/// The side whose letter `byte` is.
 fn side_of(byte: u8) -> Side
     ensures { parts.is_good SideByte (byte ∷ []) ≡ true → side_byte result ≡ byte }
 {
@@ -81,7 +81,7 @@ fn side_of(byte: u8) -> Side
     }
 }
 
-/// The profile of a head's number.
+/// The profile whose number is `number`, in a head.
 fn profile_of(number: u32) -> Profile
     ensures { result ≡ profile_by number }
 {
@@ -92,7 +92,7 @@ fn profile_of(number: u32) -> Profile
     }
 }
 
-/// The limits that a head's numbers make.
+/// The limits that a head's numbers make; `None` if one is out of range.
 fn head_limits(client: u32, server: u32, waiting: u32, profile: Profile) -> Option<Limits>
     ensures { (options : Limits) → chosen result options ≡ limits_or options client server waiting profile }
 {
@@ -101,7 +101,7 @@ fn head_limits(client: u32, server: u32, waiting: u32, profile: Profile) -> Opti
 }
 
 impl State {
-    /// At a part, behind one that is so wide.
+    /// At `part`, after a part of `wide` bytes.
     fn then(self, part: Part, wide: u64) -> State
         requires { self.at + wide < 2 ^ 64 }
         ensures { state_of result ≡ then_at (state_of self) part wide }
@@ -117,7 +117,7 @@ impl State {
         }
     }
 
-    /// Behind the letters of a format.
+    /// After the letters of a format.
     fn headed(self, letters: [u8; 4]) -> State
         requires { self.at + 4 < 2 ^ 64 }
         ensures first { letters ≡ parts.letters Zkr1 → state_of result ≡ then_at (record (state_of self) { format = Zkr1; limits = None }) SideByte 4 }
@@ -140,7 +140,7 @@ impl State {
         }
     }
 
-    /// Behind a side's byte.
+    /// After a side's byte.
     fn sided(self, side: Side) -> State
         requires { self.at + 1 < 2 ^ 64 }
         ensures first { self.format ≡ Zkr1 → state_of result ≡ then_at (record (state_of self) { side = side }) Size 1 }
@@ -153,7 +153,7 @@ impl State {
         }
     }
 
-    /// Behind a good value of a part.
+    /// After a good value of `part`.
     fn accept(self, part: Part, bytes: Bytes) -> State
         requires room { self.at + parts.width part < 2 ^ 64 }
         requires eight { length bytes ≡ 8 }
@@ -192,7 +192,7 @@ impl State {
         }
     }
 
-    /// One more byte of a part.
+    /// After `byte`, one more byte of `part`.
     fn take_byte(self, part: Part, mut bytes: Bytes, got: usize, byte: u8) -> State
         requires got { got < parts.width part }
         requires eight { length bytes ≡ 8 }
@@ -220,9 +220,8 @@ impl State {
         }
     }
 
-    /// Behind the whole head of a piece that the block begins with, and how long that is; None says no more.
-    // Most pieces come so, with all their content in the block: 11% fewer instructions in `check` on small messages than
-    // byte by byte.
+    /// The state after the whole head of a piece at the front of `block`, and the length of that head; `None`: undecided.
+    // Most pieces come so, with all their content in the block.
     fn pass_head(self, block: &[u8]) -> Option<(State, usize)>
         requires { self.at + length block.now < 2 ^ 64 }
         ensures { IfSome result (λ x. PassesHead (state_of self) block.now x.1 (state_of x.0)) }
@@ -241,7 +240,7 @@ impl State {
         Some((state, used))
     }
 
-    /// Within a part: behind the next byte, or behind the whole head of a piece, and how many bytes that is.
+    /// Within `part`: the state after the next byte, or after the whole head of a piece, and the number of bytes that is.
     fn in_part(self, part: Part, bytes: Bytes, got: usize, block: &[u8]) -> (State, usize)
         requires some { 0 < length block.now }
         requires got { got < parts.width part }
@@ -261,7 +260,7 @@ impl State {
         (self.take_byte(part, bytes, got, block[0]), 1)
     }
 
-    /// So many more bytes of a content, which isn't whole with them.
+    /// Within a content, of which `got` bytes have come.
     fn within(self, got: u32) -> State
         ensures { state_of result ≡ record (state_of self) { stage = Content got } }
     {
@@ -273,7 +272,7 @@ impl State {
 }
 
 impl RecordingReader {
-    /// A reader of which nothing was read.
+    /// A reader that has read nothing.
     pub fn new() -> RecordingReader
         ensures start { IsAt result [] (Breaks AtLetters (record { before = []; part = Letters; end = Cut [] })) }
         ensures place { place_in result ≡ 0 }
@@ -297,7 +296,7 @@ impl RecordingReader {
         }
     }
 
-    /// Takes the first bytes of a block that is not empty, and says what they are.
+    /// Takes the first bytes of `block`, which isn't empty, and returns what they are.
     pub fn next(&mut self, block: &[u8]) -> Run
         requires some { 0 < length block.now }
         requires room { place_in self.old + length block.now < 2 ^ 64 }
@@ -333,14 +332,14 @@ impl RecordingReader {
         }
     }
 
-    /// The limits of the conversation: those of the head where it has them, else the options.
+    /// The limits of the conversation: those of the head if it has them, else `options`.
     pub fn limits(&self, options: Limits) -> Limits
         ensures { (x : List ℕ) (r : Recording) → IsAt self.now x r → IsHeaded (place_of r) → result ≡ limits_of options r }
     {
         self.state.limits.unwrap_or(options)
     }
 
-    /// The format, where the reader stands behind a head or a whole piece and nothing is begun.
+    /// The format, if a head or a whole piece has just ended; `None` within them.
     pub fn between(&self) -> Option<Format>
         ensures { MatchOption result (IsNeverBetween self.now) (IsBetweenOf self.now) }
     {
@@ -353,7 +352,7 @@ impl RecordingReader {
         }
     }
 
-    /// The damage that stands whatever follows.
+    /// The damage so far, which stays whatever follows.
     pub fn damage(&self) -> Option<DamageAt>
         ensures { MatchOption result (IsUndamaged self.now) (IsDamagedBy self.now) }
     {
@@ -363,7 +362,7 @@ impl RecordingReader {
         }
     }
 
-    /// The damage of a recording that ends here.
+    /// The damage of the recording if it ends here.
     pub fn finish(&self) -> Option<DamageAt>
         ensures { (x : List ℕ) (r : Recording) → IsAt self.now x r → damage_of r ≡ result }
     {
