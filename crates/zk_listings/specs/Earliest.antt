@@ -1,4 +1,4 @@
--- The line of the first impossible byte of the body in which a recording's fault lies.
+-- The line of the first impossible byte of the body in which a recording's fault is found.
 use Rattle.std.specs.Prelude.{◌≡◌, ℕ, ◌+◌, List, [], ◌∷◌, ◌++◌, Option, None, Some, MatchOption, codes}
 use Rattle.std.specs.Borrow.{Bor}
 use Rattle.std.specs.Fmt.{decimal}
@@ -22,7 +22,7 @@ use Rattle.zk_listings.specs.Outcome.{IsFound, HasGrownIn}
 use Rattle.zk_recordings.specs.Recording.{history_of, limits_of}
 use Rattle.zk_listings.specs.Running.{HasStopped}
 
--- the byte's place in the payload; a dash, where no body has that length
+-- the byte's place in the payload; a dash, if no body has that length
 abbrev pub answer_text : Side → Option ℕ → List ℕ
 answer_text side None = codes "-"
 answer_text side (Some count) = decimal (header_size side + count)
@@ -30,20 +30,20 @@ answer_text side (Some count) = decimal (header_size side + count)
 abbrev pub answer_line : Side → Option ℕ → List ℕ
 answer_line side answer = codes ". earliest=" ++ (answer_text side answer ++ 10 ∷ [])
 
--- what stands behind the last line of a fault: the line of its body, or nothing where it lies in none
+-- what comes after the last line of a fault: the line of its body, or nothing if it is in none
 pub data IsTailOf (limits : Limits) (h : History) (fault : Fault) (is : IsFaultOf limits h fault) : List ℕ → Type 0 where
   in_body : (layout : Layout) (body : List ℕ) → IsRefusedBody limits h fault is layout body → (answer : Option ℕ) → IsEarliestOf layout body answer →
       IsTailOf limits h fault is (answer_line fault.side answer)
   in_none : ((layout : Layout) (body : List ℕ) → IsRefusedBody limits h fault is layout body → ⊥) → IsTailOf limits h fault is []
 
--- and behind any last line of a listing
+-- what comes after any last line of a listing
 abbrev pub IsTail : Limits → History → Summary → List ℕ → Type 0
 IsTail limits h (Ended (Refused fault)) tail = (is : IsFaultOf limits h fault) × IsTailOf limits h fault is tail
 IsTail limits h (Ended (Cut side frame got)) tail = tail ≡ []
 IsTail limits h (Ended (Whole unanswered)) tail = tail ≡ []
 IsTail limits h (Broken damage) tail = tail ≡ []
 
--- what was read comes to this, and this stands behind its last line
+-- what was read has this summary, and this comes after its last line
 pub record IsFoundWith (limits : Limits) (unread unread_now : Option (List ℕ)) (summary : Summary) (tail : List ℕ) : Type 0 where
   pub messages : List Message
   pub found : IsFound limits unread unread_now messages summary
@@ -63,14 +63,14 @@ pub data HasStoppedEarliest (limits : Limits) (unread unread_now contents conten
   in_lines : (summary : Summary) (tail : List ℕ) → IsFoundWith limits unread unread_now summary tail → HasGrownIn contents contents_now (last_line summary ++ tail) →
       HasStoppedEarliest limits unread unread_now contents contents_now
 
--- ---- what the talk tells
+-- ---- what the talk returns
 
--- the body in which the fault of a history lies, where it lies in one
+-- the body in which the fault of a history is found, if it is in one
 abbrev pub TellsBody : Limits → History → Fault → Option (Layout × Bor (List ℕ)) → Type 0
 TellsBody limits h fault body = (is : IsFaultOf limits h fault)
     × MatchOption body ((layout : Layout) (bytes : List ℕ) → IsRefusedBody limits h fault is layout bytes → ⊥) (λ b. IsRefusedBody limits h fault is b.0 b.1.now)
 
--- what is written behind a last line, where the talk tells this body
+-- what is written after a last line, if the talk returns this body
 abbrev pub IsToldOf : Summary → Option (Layout × Bor (List ℕ)) → List ℕ → Type 0
 IsToldOf summary None tail = tail ≡ []
 IsToldOf (Ended (Refused fault)) (Some body) tail = (answer : Option ℕ) × IsEarliestOf body.0 body.1.now answer × (tail ≡ answer_line fault.side answer)

@@ -18,12 +18,12 @@ use Rattle.zk_recordings.specs.Reading.{IsAt, IsHeaded, place_in}
 use Rattle.zk_listings.specs.Lines.{text_of}
 use Rattle.zk_listings.specs.Outcome.{IsGoodWith, IsOutcome, IsBroken, IsDecided}
 
--- the history of a talk: none, where no content has come
+-- the history of a talk: none, if no content has come
 abbrev pub Has : Limits → Option TalkState → History → List Message → Type 0
 Has limits None h messages = (h ≡ []) × (messages ≡ [])
 Has limits (Some talk) h messages = Stands talk h messages × (talk.limits ≡ limits)
 
--- a talk begins behind a whole head
+-- a talk begins after a whole head
 abbrev pub IsHeadedBy : Option TalkState → Place → Type 0
 IsHeadedBy None place = Unit {0}
 IsHeadedBy (Some talk) place = IsHeaded place
@@ -32,7 +32,7 @@ pub record Talks (limits : Limits) (r : Recording) (messages : List Message) (ta
   pub headed : IsHeadedBy talk (place_of r)
   pub has : Has (limits_of limits r) talk (history_of r) messages
 
--- the bytes x were read, the messages in them are these, and no fault stands in them, nor a damage whatever follows
+-- the bytes x were read, the messages in them are these, and there is no fault in them, nor a damage whatever follows
 pub record Follows (limits : Limits) (x : List ℕ) (messages : List Message) (p : Progress) : Type 0 where
   pub options : p.limits ≡ limits
   pub recording : Recording
@@ -45,21 +45,21 @@ abbrev pub HasRefused : Limits → Option TalkState → History → List Message
 HasRefused limits None h messages fault = ⊥
 HasRefused limits (Some talk) h messages fault = Refuses talk h messages fault × (talk.limits ≡ limits)
 
--- where a history ends by a fault, the talk has refused it
+-- if a history ends by a fault, the talk has refused it
 abbrev pub IsKept : Limits → Option TalkState → History → List Message → Summary → Type 0
 IsKept limits talk h messages (Ended (Refused fault)) = HasRefused limits talk h messages fault
 IsKept limits talk h messages (Ended (Cut side frame got)) = Unit {0}
 IsKept limits talk h messages (Ended (Whole unanswered)) = Unit {0}
 IsKept limits talk h messages (Broken damage) = Unit {0}
 
--- these bytes are a recording that comes to this
+-- these bytes are a recording with this summary
 pub record Finishes (limits : Limits) (x : List ℕ) (messages : List Message) (talk : Option TalkState) (summary : Summary) : Type 0 where
   pub recording : Recording
   pub spells : Spells x recording
   pub is : IsOutcome limits recording messages summary
   pub kept : IsKept (limits_of limits recording) talk (history_of recording) messages summary
 
--- and whatever follows them, the summary stands
+-- the same, and the summary stays whatever follows
 pub record Decides (limits : Limits) (x : List ℕ) (messages : List Message) (talk : Option TalkState) (summary : Summary) : Type 0 where
   pub recording : Recording
   pub spells : Spells x recording
@@ -83,7 +83,7 @@ abbrev pub Judges : TalkState → History → List Message → Option Fault → 
 Judges talk h messages None = Stands talk h messages
 Judges talk h messages (Some fault) = Refuses talk h messages fault
 
--- and the lines of their messages were appended
+-- the same, and the lines of their messages were appended
 abbrev pub Takes : Listing → TalkState → List ℕ → History → Option Fault → TalkState → List ℕ → Type 0
 Takes listing old lines bytes refused new lines_now = (h : History) (messages : List Message) → Stands old h messages →
     (more : List Message) × Judges new (h ++ bytes) (messages ++ more) refused × (lines_now ≡ lines ++ text_of listing more)
@@ -99,18 +99,18 @@ Gives limits listing old lines bytes refused new lines_now = (h : History) (mess
 
 -- ---- what a block does to a recording that is read
 
--- it goes on, or what it comes to stands
+-- it goes on, or its summary is known
 abbrev pub Reaches : Limits → List ℕ → List Message → Progress → Option Summary → Type 0
 Reaches limits x messages p None = Follows limits x messages p
 Reaches limits x messages p (Some summary) = Decides limits x messages p.talk summary
 
--- and the lines of its messages were appended
+-- the same, and the lines of its messages were appended
 abbrev pub Advances : Listing → Progress → List ℕ → List ℕ → Option Summary → Progress → List ℕ → Type 0
 Advances listing p lines block found now lines_now =
     (limits : Limits) (x : List ℕ) (messages : List Message) → Follows limits x messages p →
     (more : List Message) × Reaches limits (x ++ block) (messages ++ more) now found × (lines_now ≡ lines ++ text_of listing more)
 
--- some first bytes of a block were taken, or what the recording comes to was found in it
+-- some first bytes of a block were taken, or the recording's summary was found in it
 abbrev pub Steps : Listing → Progress → List ℕ → List ℕ → Step → Progress → List ℕ → Type 0
 Steps listing p lines block (Took n) now lines_now = Advances listing p lines (take n block) None now lines_now
 Steps listing p lines block (Found summary) now lines_now = Advances listing p lines block (Some summary) now lines_now

@@ -1,4 +1,4 @@
--- What a recording comes to: the fault of its history where there is one, else its damage, else its history's ending.
+-- The summary of a recording: the fault of its history if there is one, else its damage, else its history's ending.
 use Rattle.std.specs.Prelude.{◌≡◌, ◌≢◌, ℕ, ◌≤◌, ◌⊎◌, List, ◌++◌, length, take, Option, None, Some}
 use Rattle.std.specs.Io.KnownBytes.{Consumes, IsAtEnd, Appends}
 use Rattle.zk_talk.specs.declared.limits.Limits.{Limits}
@@ -20,7 +20,7 @@ use Rattle.zk_recordings.specs.Recording.{Recording, Spells, history_of, limits_
 abbrev pub HasNoFault : Limits → History → Type 0
 HasNoFault limits h = (fault : Fault) → IsFaultOf limits h fault → ⊥
 
--- a history, in a recording with this damage or with none, comes to this
+-- a history, in a recording with this damage or with none, has this summary
 abbrev pub ComesTo : Limits → History → Option DamageAt → Summary → Type 0
 ComesTo limits h damage (Ended (Refused fault)) = IsFaultOf limits h fault
 ComesTo limits h damage (Broken d) = HasNoFault limits h × (damage ≡ Some d)
@@ -35,7 +35,7 @@ pub record IsGoodWith (limits : Limits) (h : History) (messages : List Message) 
   pub good : Good limits h conversation client_rest server_rest
   pub order : IsOrder limits h conversation messages
 
--- the messages of a history up to its fault, where there is one
+-- the messages of a history up to its fault, if there is one
 abbrev pub HasMessages : Limits → History → List Message → Summary → Type 0
 HasMessages limits h messages (Ended ending) = AreMessages limits h messages ending
 HasMessages limits h messages (Broken d) = IsGoodWith limits h messages
@@ -45,7 +45,7 @@ pub record IsOutcome (limits : Limits) (r : Recording) (messages : List Message)
   pub comes_to : ComesTo (limits_of limits r) (history_of r) (damage_of r) summary
   pub messages_are : HasMessages (limits_of limits r) (history_of r) messages summary
 
--- a damage that stands whatever follows
+-- a damage that stays, whatever follows
 pub record IsBroken (x : List ℕ) (r : Recording) : Type 0 where
   pub damage : DamageAt
   pub is : damage_of r ≡ Some damage
@@ -66,7 +66,7 @@ pub record Reads (before after : Option (List ℕ)) (x : List ℕ) (r : Recordin
   pub consumed : Consumes before after x
   pub just : IsJust x r
 
--- what was read comes to this and to nothing else, and it is all up to the end, or it decides
+-- what was read has this summary and no other, and it is all up to the end, or it decides
 pub record IsFound (limits : Limits) (before after : Option (List ℕ)) (messages : List Message) (summary : Summary) : Type 0 where
   pub bytes : List ℕ
   pub recording : Recording
@@ -75,7 +75,7 @@ pub record IsFound (limits : Limits) (before after : Option (List ℕ)) (message
   pub only : (others : List Message) (other : Summary) → IsOutcome limits recording others other → (others ≡ messages) × (other ≡ summary)
   pub enough : IsAtEnd after ⊎ IsDecided limits bytes recording
 
--- what was read has these messages and no others, no fault, and no damage that stands whatever follows
+-- what was read has these messages and no others, no fault, and no damage that stays whatever follows
 pub record IsRunning (limits : Limits) (before after : Option (List ℕ)) (messages : List Message) : Type 0 where
   pub bytes : List ℕ
   pub recording : Recording
@@ -98,10 +98,10 @@ pub record HasBegun (limits : Limits) (before after : Option (List ℕ)) (messag
 abbrev pub HasGrownIn : Option (List ℕ) → Option (List ℕ) → List ℕ → Type 0
 HasGrownIn old new text = (k : ℕ) × Appends old new (take k text)
 
--- the recording comes to one thing at most
+-- the recording has one list of messages and one summary at most
 abbrev pub HasOneOutcome : Limits → Recording → Type 0
 HasOneOutcome limits r = (messages others : List Message) (summary other : Summary) → IsOutcome limits r messages summary → IsOutcome limits r others other → (others ≡ messages) × (other ≡ summary)
 
--- what the one comes to the other comes to
+-- what holds of the one recording's messages and summary holds of the other's
 abbrev pub KeepsOutcome : Limits → Recording → Recording → Type 0
 KeepsOutcome limits r s = (messages : List Message) (summary : Summary) → IsOutcome limits r messages summary → IsOutcome limits s messages summary

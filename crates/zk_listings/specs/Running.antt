@@ -1,4 +1,4 @@
--- What a run has read and written when it answers.
+-- What a run has read and written when it returns.
 use Rattle.std.specs.Prelude.{◌≡◌, ℕ, ◌+◌, ◌≤◌, ◌⊎◌, List, ◌++◌, Bool, true, Option, Result, IsErrOf}
 use Rattle.std.specs.Io.KnownBytes.{IsAtEnd, Appends}
 use Rattle.zk_talk.specs.declared.limits.Limits.{Limits}
@@ -20,22 +20,22 @@ use Rattle.zk_listings.specs.Outcome.{Reads, IsGoodWith, IsOutcome, IsDecided, I
 abbrev pub IsSpent : Bool → ℕ → ℕ → Type 0
 IsSpent failed reads reads_now = (failed ≡ true) ⊎ (reads + 4294967296 ≤ reads_now)
 
--- after a failed read, or where one more than a run may make is wanted
+-- after a failed read, or if a run would have to read once more than it may
 abbrev pub OnRead : {X : Type 0} → Result X RunFault → Type 0 → Type 0
 OnRead result P = IsErrOf result Read → P
 
--- the lines of all messages in what was read were written, and it comes to this
+-- the lines of all messages in what was read were written, and it has this summary
 pub record HasFound (limits : Limits) (listing : Listing) (unread unread_now contents contents_now : Option (List ℕ)) (summary : Summary) : Type 0 where
   pub messages : List Message
   pub found : IsFound limits unread unread_now messages summary
   pub written : Appends contents contents_now (text_of listing messages)
 
--- and where it is refused, the talk has refused it
+-- the same, and if it is refused, the talk has refused it
 pub record HasFoundBy (limits : Limits) (listing : Listing) (unread unread_now contents contents_now : Option (List ℕ)) (talk : Option TalkState) (summary : Summary) : Type 0 where
   pub all : HasFound limits listing unread unread_now contents contents_now summary
   pub kept : IsKept (limits_of limits all.found.recording) talk (history_of all.found.recording) all.messages summary
 
--- the same, of what a run answers
+-- the same, of what a run returns
 abbrev pub HasFoundWith : Limits → Listing → Option (List ℕ) → Option (List ℕ) → Option (List ℕ) → Option (List ℕ) → Summary × Progress → Type 0
 HasFoundWith limits listing unread unread_now contents contents_now found = HasFoundBy limits listing unread unread_now contents contents_now found.1.talk found.0
 
@@ -59,14 +59,14 @@ pub record HasBegunLines (limits : Limits) (listing : Listing) (unread unread_no
   pub begun : HasBegun limits unread unread_now messages
   pub written : HasGrownIn contents contents_now (text_of listing messages)
 
--- a front was written of the lines of messages that stand first in a recording, or of its whole listing
+-- a front was written of the lines of the first messages of a recording, or of its whole listing
 pub data HasWrittenIn (limits : Limits) (listing : Listing) (bytes : List ℕ) (recording : Recording) (unread_now contents contents_now : Option (List ℕ)) : Type 0 where
   in_messages : (messages : List Message) (front rest : History) → history_of recording ≡ front ++ rest → IsGoodWith (limits_of limits recording) front messages →
       HasGrownIn contents contents_now (text_of listing messages) → HasWrittenIn limits listing bytes recording unread_now contents contents_now
   in_last_line : (messages : List Message) (summary : Summary) → IsOutcome limits recording messages summary → IsAtEnd unread_now ⊎ IsDecided limits bytes recording →
       HasGrownIn contents contents_now (text_of listing messages ++ last_line summary) → HasWrittenIn limits listing bytes recording unread_now contents contents_now
 
--- whatever the bytes that were read come to, a front of that listing was written
+-- whatever summary the bytes that were read have, a front of that listing was written
 pub record HasStopped (limits : Limits) (listing : Listing) (unread unread_now contents contents_now : Option (List ℕ)) : Type 0 where
   pub bytes : List ℕ
   pub recording : Recording

@@ -1,4 +1,4 @@
-//! The engine of `check --earliest`: the last line of a recording's listing, and the first impossible byte.
+//! `check_earliest_run`, the engine of `check --earliest`: the last line, and the first impossible byte.
 ghost use Rattle.std.specs.Prelude.{◌≡◌, ◌≢◌, ◌+◌, ◌^◌, ◌<◌, ◌≤◌, length, false, true, IfOk, OnErr, IsErrOf, IfSome};
 ghost use Rattle.zk_records.specs.declared.op.Op.TheVariants as ops;
 ghost use Rattle.zk_answers.specs.declared.layout.Layout.TheVariants as layouts;
@@ -16,7 +16,7 @@ use zk_answers::Layout;
 use zk_earliest::earliest;
 use zk_talk::{Ending, Limits, Side};
 
-/// How many bytes a header has, behind a side's frame 0.
+/// The number of bytes of a header of the side, of a frame after its first.
 fn header_size(side: Side) -> usize
     ensures { result ≡ size_of side }
 {
@@ -26,7 +26,7 @@ fn header_size(side: Side) -> usize
     }
 }
 
-/// The line of an answer of `earliest` about a body of this side.
+/// The line of the `answer` of `earliest` about a body of `side`.
 fn answer_line(alloc: Global, side: Side, answer: Option<usize>) -> Result<Vec<u8>, AllocError>
     requires { IfSome answer (λ count. count ≤ 16777216) }
     ensures { IfOk result (λ line. line.items ≡ line_of side answer) }
@@ -41,7 +41,7 @@ fn answer_line(alloc: Global, side: Side, answer: Option<usize>) -> Result<Vec<u
     Ok(line.into_bytes())
 }
 
-/// The line of the first impossible byte, where the recording is refused for a body; else nothing.
+/// The line of the first impossible byte, if the recording is refused for a body; else nothing.
 fn earliest_line(
     alloc: Global,
     summary: Summary,
@@ -62,11 +62,12 @@ fn earliest_line(
     }
 }
 
-/// Reads a recording until a fault, a damage or its end, and writes the last line of its listing; and behind it, where
-/// it is refused for a body, the line of the first byte that no body of this layout and length has there.
+/// Reads a recording until a fault, a damage or its end, and writes the last line of its listing; and after it, if the
+/// recording is refused for a body, the line of the first byte that no body of this layout and length has there.
 ///
 /// # Errors
-/// As those of `check_run`.
+///
+/// Those of `check_run`.
 pub fn check_earliest_run<R: Source, W: Sink>(
     alloc: Global,
     limits: Limits,
@@ -84,12 +85,12 @@ pub fn check_earliest_run<R: Source, W: Sink>(
     ensures read { OnRead result (HasReached limits Last (R.remaining reader.old) (R.remaining reader.new) (W.contents writer.old) (W.contents writer.new)) }
     ensures spent { IsErrOf result RunFault.Read → IsSpent (R.has_failed reader.new) (R.read_count reader.old) (R.read_count reader.new) }
 
-    // A failed write, or one that takes nothing, is told as that.
+    // A failed write, or one that takes nothing, is reported as that.
     ensures write { IsErrOf result RunFault.Write → W.has_failed writer.new ≡ true }
     ensures open { IfOk result (λ _. W.has_failed writer.new ≡ false) }
     ensures spared { IsErrOf result RunFault.Memory → W.has_failed writer.new ≡ false }
 
-    // A failed read is never passed over, and no more is read than that often.
+    // A failed read is never passed over, and no run reads more often than that.
     ensures alive { IfOk result (λ _. R.has_failed reader.new ≡ false) }
     ensures memory { IsErrOf result RunFault.Memory → R.has_failed reader.new ≡ false }
     ensures bound { R.read_count reader.new ≤ R.read_count reader.old + 4294967296 }

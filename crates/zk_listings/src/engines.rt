@@ -1,4 +1,4 @@
-//! The engines that read a recording: its listing, and the listing's last line alone.
+//! `show_run`, `check_run`: the engines that read a recording and write its listing, or its last line.
 ghost use Rattle.std.specs.Prelude.{◌≡◌, ◌+◌, ◌^◌, ◌<◌, ◌≤◌, false, true, IfOk, OnErr, IsErrOf};
 ghost use Rattle.zk_listings.specs.declared.listing.Listing.TheVariants.{All, Last};
 ghost use Rattle.zk_listings.specs.Running.{IsSpent, OnRead, HasFoundWith, HasBegunLines, HasListed, HasReached, HasStopped};
@@ -10,14 +10,14 @@ use crate::summary::{Status, Summary};
 use std::alloc::Global;
 use zk_talk::Limits;
 
-/// How often a run reads at most.
+/// How often a run reads, at most.
 pub const MOST_READS: u64 = 4_294_967_296;
 
 /// How many bytes a run reads at once, at most.
 pub const BLOCK: usize = 65_536;
 
-/// Reads until what the recording comes to stands, or to the end, and writes the lines of its messages: those of each
-/// read before the next one. They stand in one buffer, which lives as long as the run.
+/// Reads until the recording's summary is known, whatever follows, or to the end, and writes the lines of its messages:
+/// those of each read before the next one. One buffer holds them, as long as the run.
 pub(crate) fn read_on<R: Source, W: Sink>(
     alloc: Global,
     limits: Limits,
@@ -90,8 +90,9 @@ fn run<R: Source, W: Sink>(
 /// Reads a recording until a fault, a damage or its end, and writes the last line of its listing.
 ///
 /// # Errors
-/// `Read` where the reader failed or was read 4,294,967,296 times and came to no end, `Write` where the writer failed
-/// or took nothing, `Memory` where a growth was refused.
+///
+/// `Read` if the reader failed or was read 4,294,967,296 times and came to no end, `Write` if the writer failed or took
+/// nothing, `Memory` if memory is refused.
 pub fn check_run<R: Source, W: Sink>(
     alloc: Global,
     limits: Limits,
@@ -109,12 +110,12 @@ pub fn check_run<R: Source, W: Sink>(
     ensures read { OnRead result (HasReached limits Last (R.remaining reader.old) (R.remaining reader.new) (W.contents writer.old) (W.contents writer.new)) }
     ensures spent { IsErrOf result RunFault.Read → IsSpent (R.has_failed reader.new) (R.read_count reader.old) (R.read_count reader.new) }
 
-    // A failed write, or one that takes nothing, is told as that.
+    // A failed write, or one that takes nothing, is reported as that.
     ensures write { IsErrOf result RunFault.Write → W.has_failed writer.new ≡ true }
     ensures open { IfOk result (λ _. W.has_failed writer.new ≡ false) }
     ensures spared { IsErrOf result RunFault.Memory → W.has_failed writer.new ≡ false }
 
-    // A failed read is never passed over, and no more is read than that often.
+    // A failed read is never passed over, and no run reads more often than that.
     ensures alive { IfOk result (λ _. R.has_failed reader.new ≡ false) }
     ensures memory { IsErrOf result RunFault.Memory → R.has_failed reader.new ≡ false }
     ensures bound { R.read_count reader.new ≤ R.read_count reader.old + 4294967296 }
@@ -129,7 +130,8 @@ pub fn check_run<R: Source, W: Sink>(
 /// the next read.
 ///
 /// # Errors
-/// As those of `check_run`.
+///
+/// Those of `check_run`.
 pub fn show_run<R: Source, W: Sink>(
     alloc: Global,
     limits: Limits,
@@ -143,16 +145,16 @@ pub fn show_run<R: Source, W: Sink>(
     // The listing is written of what was read: all there is, or what decides.
     ensures ok { IfOk result (HasListed limits All (R.remaining reader.old) (R.remaining reader.new) (W.contents writer.old) (W.contents writer.new)) }
 
-    // After a failed read, or one too many, the line of each message that is whole in what was read stands written.
+    // After a failed read, or one too many, the line of each message that is whole in what was read is written.
     ensures read { OnRead result (HasReached limits All (R.remaining reader.old) (R.remaining reader.new) (W.contents writer.old) (W.contents writer.new)) }
     ensures spent { IsErrOf result RunFault.Read → IsSpent (R.has_failed reader.new) (R.read_count reader.old) (R.read_count reader.new) }
 
-    // A failed write, or one that takes nothing, is told as that.
+    // A failed write, or one that takes nothing, is reported as that.
     ensures write { IsErrOf result RunFault.Write → W.has_failed writer.new ≡ true }
     ensures open { IfOk result (λ _. W.has_failed writer.new ≡ false) }
     ensures spared { IsErrOf result RunFault.Memory → W.has_failed writer.new ≡ false }
 
-    // A failed read is never passed over, and no more is read than that often.
+    // A failed read is never passed over, and no run reads more often than that.
     ensures alive { IfOk result (λ _. R.has_failed reader.new ≡ false) }
     ensures memory { IsErrOf result RunFault.Memory → R.has_failed reader.new ≡ false }
     ensures bound { R.read_count reader.new ≤ R.read_count reader.old + 4294967296 }

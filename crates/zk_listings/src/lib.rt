@@ -1,4 +1,21 @@
-//! The listing of a recording: a line for each message and how the recording ends, from a source to a sink.
+//! The listing of a recording: a line for each message, and one for how the recording ends.
+//!
+//! `show_run` reads a recording from a `Source` and writes its listing to a `Sink`; `check_run` writes the last line
+//! alone; `check_earliest_run` adds the first impossible byte of a refused body (`zk_earliest`). They read blocks of at
+//! most 65,536 bytes, write each message's line before the next read, and stop at a fault or a damage. Each returns a
+//! `Status`, or a `RunFault` if the reader, the writer or memory failed.
+//!
+//! `Source` and `Sink` are `std`'s reader and writer with a memory of failures; `FromRead` and `FromWrite` wrap any of
+//! them. The contracts say what was written of what was read, also when a run fails.
+//!
+//! The crate rests on `zk_recordings`, `zk_lines`, `zk_earliest`, `zk_talk`, the types of the crates below, and
+//! `thiserror`.
+//!
+//! ```text
+//! let mut reader = FromRead::new(input);
+//! let mut writer = FromWrite::new(output);
+//! let status = check_run(alloc, limits, &mut reader, &mut writer)?; // Status::Good, or Status::Bad
+//! ```
 #![tactic(auto)]
 
 mod earliest_run;

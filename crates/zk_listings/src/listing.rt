@@ -1,4 +1,4 @@
-//! What a run writes: the lines of a listing.
+//! `RunFault`, `Listing`: what a run writes, and why it fails.
 ghost use Rattle.std.specs.Prelude.{◌≡◌, ◌++◌, OnOk};
 ghost use Rattle.std.specs.Option.{option_to_list};
 ghost use Rattle.zk_listings.specs.Lines.{text_of, message_line};
@@ -10,16 +10,16 @@ use thiserror::Error;
 use zk_lines::put_line_ref;
 use zk_talk::MessageRef;
 
-/// Why a run came to no answer.
+/// Why a run failed.
 #[derive(Clone, Copy, Debug, PartialEq, Eq, Error)]
 pub enum RunFault {
-    /// The reader failed, or was asked 4,294,967,296 times and came to no end.
+    /// The reader failed, or was read 4,294,967,296 times and came to no end.
     #[error("zkdump: read failed")]
     Read,
     /// The writer failed, or took no byte.
     #[error("zkdump: write failed")]
     Write,
-    /// A growth was refused.
+    /// The system refused memory.
     #[error("zkdump: out of memory")]
     Memory,
 }
@@ -59,7 +59,7 @@ fn put_message(message: &MessageRef<'_>, lines: &mut Vec<u8>) -> Result<(), Allo
     lines.extend_from_slice(b"\n")
 }
 
-/// Appends the line of a message, with its line feed, where there is one.
+/// Appends the line of `message`, with its line feed, if there is one.
 pub fn tell(message: Option<MessageRef<'_>>, lines: &mut Vec<u8>) -> Result<(), AllocError>
     ensures { OnOk result (lines.new.items ≡ lines.old.items ++ text_of All (option_to_list message.entry)) }
 {

@@ -1,4 +1,4 @@
-//! A recording that is read block by block, and the conversation in it.
+//! `Progress`: a recording that is read block by block, and the conversation in it.
 ghost use Rattle.std.specs.Prelude.{◌≡◌, ◌≢◌, ◌+◌, ◌^◌, ◌<◌, ◌≤◌, ℕ, List, [], Some, None, IfOk, IfSome, OnErr, MatchOption, length, drop};
 ghost use Rattle.zk_talk.specs.Held.{Message};
 ghost use Rattle.zk_talk.specs.Ending.{IsEnding};
@@ -22,13 +22,13 @@ use zk_talk::{Ending, Fault, Limits, Side, Talk};
 /// What was done with the first bytes of a block.
 #[derive(Clone, Copy)]
 pub enum Step {
-    /// So many were taken.
+    /// This number of bytes was taken.
     Took(usize),
-    /// What the recording comes to stands in the block, whatever follows.
+    /// The recording's summary is known from the block, whatever follows.
     Found(Summary),
 }
 
-/// The bytes from a place on.
+/// The bytes from `at` on.
 pub fn rest(bytes: &[u8], at: usize) -> &[u8]
     requires { at ≤ length bytes.now }
     ensures { result.now ≡ drop at bytes.now }
@@ -36,8 +36,8 @@ pub fn rest(bytes: &[u8], at: usize) -> &[u8]
     &bytes[at..]
 }
 
-/// Gives bytes of one side to the conversation, which judges them where they lie; no line is
-/// appended.
+/// Gives bytes of one side to the conversation, and appends no line. No frame that is whole in `bytes` is copied, unless
+/// it must be judged by `step`.
 fn judge(talk: &mut Talk, side: Side, bytes: &[u8]) -> Option<Fault>
     ensures limits { talk.new.limits ≡ talk.old.limits }
     ensures taken { (lines : List ℕ) → Takes Last talk.old lines (on side bytes.now) result talk.new lines }
@@ -57,9 +57,8 @@ fn judge(talk: &mut Talk, side: Side, bytes: &[u8]) -> Option<Fault>
     None
 }
 
-/// Gives bytes of one side to the conversation, and appends the lines of its messages, each from
-/// where it lies.
-// By the quick step first, which takes 4% of the instructions off `show` of small messages.
+/// Gives bytes of one side to the conversation, and appends the lines of its messages, each borrowed from its frame.
+// `step_front` first, which makes no result in memory.
 fn list(
     talk: &mut Talk,
     side: Side,
@@ -85,7 +84,7 @@ fn list(
     Ok(None)
 }
 
-/// Gives bytes of one side to the conversation, and appends what is listed of its messages.
+/// Gives bytes of one side to the conversation, and appends what `listing` has of its messages.
 fn feed(
     talk: &mut Talk,
     side: Side,
@@ -102,8 +101,8 @@ fn feed(
     }
 }
 
-/// Gives the first bytes of a block to the conversation, where they are content of a side. It begins with the first of
-/// them, and goes on where it lies: to move it for each piece took 3% of `check` on small messages.
+/// Gives the first bytes of a block to the conversation, if they are content of a side. The conversation begins with the
+/// first of them, and isn't moved after that.
 fn give(
     alloc: Global,
     limits: Limits,
@@ -134,15 +133,15 @@ fn give(
 #[derive(Drop)]
 pub(crate) struct Progress {
     alloc: Global,
-    /// Those of a recording that has none.
+    /// The limits of a recording that has none.
     limits: Limits,
     reader: RecordingReader,
-    /// From the first byte of content on.
+    /// The conversation, from the first byte of content on.
     talk: Option<Talk>,
 }
 
 impl Progress {
-    /// Nothing was read. Recordings that have no limits are read under these.
+    /// Nothing was read yet. Recordings that have no limits are read under `limits`.
     pub fn new(alloc: Global, limits: Limits) -> Progress
         ensures start { Follows limits [] [] result }
         ensures place { place_in result.reader ≡ 0 }
@@ -155,7 +154,7 @@ impl Progress {
         }
     }
 
-    /// Takes the first bytes of a block, and says how many, or what was found in it.
+    /// Takes the first bytes of a block, and returns how many, or the summary that is known from it.
     fn advance(
         &mut self,
         block: &[u8],
@@ -188,8 +187,7 @@ impl Progress {
         }
     }
 
-    /// Takes a block, and appends the lines of its messages. Where what the recording comes to stands in it, whatever
-    /// follows, the answer is that.
+    /// Takes a block, and appends the lines of its messages. Returns the recording's summary if it is known, whatever follows.
     pub fn feed(
         &mut self,
         block: &[u8],
@@ -211,7 +209,7 @@ impl Progress {
         Ok(None)
     }
 
-    /// The layout and the bytes of the body in which the fault lies that was found.
+    /// The layout and the bytes of the body in which the fault was found.
     pub fn refused_body(&self) -> Option<(Layout, &[u8])>
         ensures tells { (limits : Limits) (h : History) (M : List Message) (f : fault_of) → HasRefused limits self.now.talk h M f → TellsBody limits h f result }
         ensures small { IfSome result (λ b. length b.1.now ≤ 16777216) }
@@ -223,7 +221,7 @@ impl Progress {
         }
     }
 
-    /// What a recording comes to that ends here.
+    /// The summary of the recording if it ends here.
     pub fn finish(&self) -> Summary
         ensures { (limits : Limits) (x : List ℕ) (messages : List Message) → Follows limits x messages self.now → Finishes limits x messages self.now.talk result }
     {
@@ -234,7 +232,7 @@ impl Progress {
     }
 }
 
-/// How the history of a talk ends; where there is none, it has no bytes.
+/// How the history of a talk ends; without a talk it has no bytes.
 fn ending(talk: &Option<Talk>) -> Ending
     ensures { (limits : Limits) (h : History) (messages : List Message) → Has limits talk.now h messages → IsEnding limits h result }
 {

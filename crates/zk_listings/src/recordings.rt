@@ -1,17 +1,17 @@
-//! What any bytes are as a recording: a law that is no call's result.
+//! The laws of recordings: any bytes are one recording, with one summary.
 ghost use Rattle.std.specs.Prelude.{◌≡◌, ℕ, List, ◌++◌};
 ghost use Rattle.zk_talk.specs.declared.limits.Limits.{Limits};
 ghost use Rattle.zk_listings.specs.Outcome.{IsDecided, HasOneOutcome, KeepsOutcome};
 ghost use Rattle.zk_recordings.specs.Recording.{Recording, Spells};
 
-/// Any bytes are one recording, and it comes to one thing.
+/// Any bytes are one recording, which has one summary. The function does nothing.
 pub fn recording_laws()
     // Any bytes are a recording.
     ensures any { (x : List ℕ) → (r : Recording) × Spells x r }
     // They are no other.
     ensures once { (x : List ℕ) (r s : Recording) → Spells x r → Spells x s → s ≡ r }
-    // It comes to the same messages and to the same summary.
+    // It has one list of messages and one summary.
     ensures outcome { (limits : Limits) (r : Recording) → HasOneOutcome limits r }
-    // What a front decides stands whatever follows it.
+    // What a front decides stays, whatever follows it.
     ensures decided { (limits : Limits) (x more : List ℕ) (r s : Recording) → Spells x r → Spells (x ++ more) s → IsDecided limits x r → KeepsOutcome limits r s }
 {}

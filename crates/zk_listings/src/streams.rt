@@ -1,4 +1,4 @@
-//! What the engines read and write.
+//! `Source` and `Sink`: what the engines read and write, with a memory of failures.
 ghost use Rattle.std.specs.Prelude.{◌≡◌, ◌+◌, ◌-◌, ◌^◌, ◌<◌, ◌≤◌, ◌||◌, ◌&&◌, ◌==◌, ℕ, List, Option, Bool, false, nat_lt, min, length, take, IfOk, OnOk, OnErr, is_err};
 ghost use Rattle.std.specs.Io.KnownBytes.{Appends, ReadConsumes, WriteAppends};
 ghost use Rattle.zk_listings.specs.Streams.{takes_none};
@@ -12,7 +12,7 @@ pub struct Failed;
 
 /// A reader that counts its calls and remembers a failure.
 pub trait Source {
-    // The bytes that reads will give from here on, where they are known.
+    // The bytes that reads will give from here on, if they are known.
     ghost remaining: { Self → Option (List ℕ) };
 
     // How often `read` was called.
@@ -21,7 +21,7 @@ pub trait Source {
     // Whether a call has failed.
     ghost has_failed: { Self → Bool };
 
-    /// Reads into a buffer that is not empty, and says how many bytes came. None come only at the end.
+    /// Reads into `buf`, which isn't empty, and returns the number of bytes that came; 0 only at the end.
     fn read(&mut self, buf: &mut [u8]) -> Result<usize, Failed>
         requires { 0 < length buf.old }
         ensures bound { IfOk result (λ n. n ≤ length buf.new) }
@@ -29,7 +29,7 @@ pub trait Source {
         ensures counted { read_count self.new ≡ min (read_count self.old + 1) (2 ^ 64 - 1) }
         ensures failed { has_failed self.new ≡ (has_failed self.old || is_err result) };
 
-    /// How often `read` was called. The number stands still at its greatest value.
+    /// How often `read` was called. The number stops at its greatest value.
     fn reads(&self) -> u64
         ensures { result ≡ read_count self.now };
 
@@ -40,13 +40,13 @@ pub trait Source {
 
 /// A writer that remembers a failure.
 pub trait Sink {
-    // The bytes that the writer holds, where they are known.
+    // The bytes that the writer holds, if they are known.
     ghost contents: { Self → Option (List ℕ) };
 
     // Whether a call has failed.
     ghost has_failed: { Self → Bool };
 
-    /// Takes some of the bytes, and says how many. It is a failure to take none where there are some.
+    /// Takes some of `bytes`, and returns how many. It is a failure to take none if there are some.
     fn write(&mut self, bytes: &[u8]) -> Result<usize, Failed>
         ensures bound { IfOk result (λ n. n ≤ length bytes.now) }
         ensures bytes { WriteAppends (contents self.old) (contents self.new) result bytes.now }
@@ -74,7 +74,7 @@ impl<R> Model for FromRead<R> {
 }
 
 impl<R: Read> FromRead<R> {
-    /// A source of what the reader has left.
+    /// A source of what `reader` has left.
     pub fn new(reader: R) -> Self
         ensures remaining { ⟦<FromRead<R> as Source>⟧.remaining result ≡ R.remaining reader }
         ensures count { ⟦<FromRead<R> as Source>⟧.read_count result ≡ 0 }
@@ -127,7 +127,7 @@ impl<W> Model for FromWrite<W> {
 }
 
 impl<W: Write> FromWrite<W> {
-    /// A sink that adds to what the writer holds.
+    /// A sink that adds to what `writer` holds.
     pub fn new(writer: W) -> Self
         ensures contents { ⟦<FromWrite<W> as Sink>⟧.contents result ≡ W.contents writer }
         ensures failed { ⟦<FromWrite<W> as Sink>⟧.has_failed result ≡ false }

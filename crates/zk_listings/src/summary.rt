@@ -1,4 +1,4 @@
-//! What a check finds, and its line.
+//! `Summary`, `Status`: how a recording ends, and its last line.
 ghost use Rattle.std.specs.Prelude.{◌≡◌, ◌++◌, ◌∷◌, [], IfOk, string_bytes};
 ghost use Rattle.zk_listings.specs.Lines.{damage_word, damage_text, summary_text, last_line, status_of};
 
@@ -21,7 +21,7 @@ pub enum Status {
     Bad,
 }
 
-/// The name of a damage in a line.
+/// The name of a damage, as lines have it.
 pub fn damage_name(reason: Damage) -> &'static str
     ensures { result.now ≡ damage_word reason }
 {
@@ -36,7 +36,7 @@ pub fn damage_name(reason: Damage) -> &'static str
 }
 
 impl Summary {
-    /// Good where the conversation in it is whole, and it has no damage.
+    /// Good if the conversation is whole and the recording has no damage.
     pub fn status(self) -> Status
         ensures { result ≡ status_of self }
     {
