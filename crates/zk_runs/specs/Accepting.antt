@@ -98,7 +98,7 @@ pub record BuildsAll (limits : Limits) (x : List ℕ) (before now : Option (List
   pub is : IsBuilt limits lines messages built
   pub written : Appends before now (recording_of messages)
 
--- some lines stand first in the bytes, or are all there are
+-- some lines are the first in the bytes, or all there are
 pub data StandIn (x : List ℕ) (lines : List (List ℕ)) : Type 0 where
   some : (rest : List ℕ) → AllByRecursion IsLine lines → x ≡ fed lines ++ rest → StandIn x lines
   all : AreLines x lines → StandIn x lines
@@ -122,12 +122,12 @@ abbrev pub say_halt : ℕ → SayFault → Halt
 say_halt at no_memory = Fails Memory
 say_halt at fault = Refused (SayRefused at fault)
 
--- what a run answers then
+-- what a run returns then
 abbrev pub answer_of : Halt → Result Built RunFault
 answer_of (Refused built) = Ok built
 answer_of (Fails fault) = Err fault
 
--- where the run halts by no failed read or write
+-- if the run halts by no failed read or write
 abbrev pub IfSpared : Halt → Type 0 → Type 0
 IfSpared (Refused built) P = P
 IfSpared (Fails Memory) P = P

@@ -35,13 +35,13 @@ with_feed bytes = bytes ++ 10 ∷ []
 abbrev pub fed : List (List ℕ) → List ℕ
 fed lines = flat_map with_feed lines
 
--- the bytes are these lines; the last of them may lack its line feed where it is not empty
+-- the bytes are these lines; the last of them may lack its line feed if it is not empty
 pub data AreLines (x : List ℕ) (lines : List (List ℕ)) : Type 0 where
   all_fed : AllByRecursion IsLine lines → x ≡ fed lines → AreLines x lines
   last_unfed : (before : List (List ℕ)) (last : List ℕ) → AllByRecursion IsLine before → IsLine last → last ≢ [] →
       lines ≡ before ++ last ∷ [] → x ≡ fed before ++ last → AreLines x lines
 
--- these lines stand first in the bytes, with a line feed behind each, or they are all there is at the end
+-- these lines are the first in the bytes, with a line feed after each, or they are all there is at the end
 pub data StandFirst (x : List ℕ) (unread : Option (List ℕ)) (lines : List (List ℕ)) : Type 0 where
   fed_in : (rest : List ℕ) → AllByRecursion IsLine lines → x ≡ fed lines ++ rest → StandFirst x unread lines
   all_of : IsAtEnd unread → AreLines x lines → StandFirst x unread lines
@@ -83,7 +83,7 @@ pub record AreAccepted (limits : Limits) (lines : List (List ℕ)) (messages : L
   pub fit : AllByRecursion Fits messages
   pub said : AreSaid limits messages
 
--- and behind them stands the ending line that is due
+-- and after them comes the ending line that is due
 pub record AreEnded (limits : Limits) (lines : List (List ℕ)) (messages : List Message) : Type 0 where
   pub before : List (List ℕ)
   pub ends : lines ≡ before ++ due_ending messages ∷ []
@@ -106,7 +106,7 @@ pub record IsBehindEnding (limits : Limits) (lines : List (List ℕ)) (messages 
 abbrev pub ending_fault : LineFault
 ending_fault = record { column = 1; reason = Ending }
 
--- the messages of the lines before the first that is refused, or of all lines, and what is answered
+-- the messages of the lines before the first that is refused, or of all lines, and the result
 pub data IsBuilt (limits : Limits) (lines : List (List ℕ)) (messages : List Message) (built : Built) : Type 0 where
   without_ending : AreAccepted limits lines messages → built ≡ Whole → IsBuilt limits lines messages built
   with_ending : AreEnded limits lines messages → built ≡ Whole → IsBuilt limits lines messages built
@@ -120,13 +120,13 @@ pub data IsBuilt (limits : Limits) (lines : List (List ℕ)) (messages : List Me
   not_said : (m : Message) → Fits m → IsNextLine limits lines messages (line m) → (fault : SayFault) → IsSayFault limits messages m fault →
       built ≡ SayRefused (length messages + 1) fault → IsBuilt limits lines messages built
 
--- which lines were judged: all there are where none is refused, else some that stand first
+-- which lines were judged: all there are if none is refused, else some of the first
 abbrev pub Covers : Built → List ℕ → Option (List ℕ) → List (List ℕ) → Type 0
 Covers Whole x unread lines = IsAtEnd unread × AreLines x lines
 Covers (LineRefused at fault) x unread lines = StandFirst x unread lines
 Covers (SayRefused at fault) x unread lines = StandFirst x unread lines
 
--- ---- what a run has read and written when it answers
+-- ---- what a run has read and written when it returns
 
 -- the recording of the messages of the lines before the one that is refused, or of all lines
 pub record HasBuilt (limits : Limits) (unread unread_now contents contents_now : Option (List ℕ)) (built : Built) : Type 0 where
@@ -151,7 +151,7 @@ pub record HasBuiltSoFar (limits : Limits) (unread unread_now contents contents_
   pub is : IsBuilt limits lines messages Whole
   pub written : Appends contents contents_now (recording_of messages)
 
--- a front was written of the recording of messages whose lines stand first
+-- a front was written of the recording of the messages of some of the first lines
 pub record HasBegunBuilding (limits : Limits) (unread unread_now contents contents_now : Option (List ℕ)) : Type 0 where
   pub bytes : List ℕ
   pub lines : List (List ℕ)

@@ -1,4 +1,4 @@
--- What each command has read and written when it answers.
+-- What each command has read and written when it returns.
 use Rattle.std.specs.Prelude.{◌≡◌, ◌≤◌, ◌<◌, ℕ, Bool, true, false, List, Option}
 use Rattle.zk_talk.specs.declared.limits.Limits.{Limits}
 use Rattle.zk_talk.specs.Ranges.{AreLimits}
@@ -15,7 +15,7 @@ use Rattle.zk_runs.specs.Building.{HasBuilt, HasBegunBuilding}
 use Rattle.zk_runs.specs.Migrating.{HasMigrated, HasBegunMigrating}
 use Rattle.zk_runs.specs.Exits.{exit_of, exit_of_built, exit_of_migrated}
 
--- a command that came to its end, with this exit status; a check tells the first impossible byte where that is asked
+-- a command that came to its end, with this exit status; a check writes the line of the first impossible byte if that is asked
 abbrev pub HasDone : Command → Bool → Limits → Option (List ℕ) → Option (List ℕ) → Option (List ℕ) → Option (List ℕ) → ℕ → Type 0
 HasDone Show earliest limits unread unread_now contents contents_now exit = (status : Status) × HasListed limits All unread unread_now contents contents_now status × (exit ≡ exit_of status)
 HasDone Check false limits unread unread_now contents contents_now exit = (status : Status) × HasListed limits Last unread unread_now contents contents_now status × (exit ≡ exit_of status)
@@ -45,7 +45,7 @@ Answers s unread unread_now contents contents_now exit = exit < 2 → IsDone s u
 abbrev pub Stops : Settings → Option (List ℕ) → Option (List ℕ) → Option (List ℕ) → Option (List ℕ) → ℕ → Type 0
 Stops s unread unread_now contents contents_now exit = 2 ≤ exit → (exit ≡ 3) × IsFailed s unread unread_now contents contents_now
 
--- the numbers lie in their ranges
+-- the numbers are in their ranges
 abbrev pub IsInRange : Settings → Type 0
 IsInRange s = AreLimits s.limits.client s.limits.server s.limits.waiting
 

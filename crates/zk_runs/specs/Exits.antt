@@ -30,7 +30,7 @@ abbrev pub exit_of_migrated : Migrated → ℕ
 exit_of_migrated migrated_whole = 0
 exit_of_migrated (Damaged offset reason) = 1
 
--- want of memory alone isn't a fault of the words
+-- refused memory alone isn't a fault of the words
 abbrev pub usage_fault : ErrorKind → UsageFault
 usage_fault OutOfMemory = Memory
 usage_fault _ = Words

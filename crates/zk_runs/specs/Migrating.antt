@@ -33,16 +33,16 @@ migrated_at options AtLetters = []
 migrated_at options (InHead format) = []
 migrated_at options (InPieces head pieces) = front (InPieces (second options head) pieces)
 
--- nothing where the head is damaged, else the head and the whole pieces, each with its time
+-- nothing if the head is damaged, else the head and the whole pieces, each with its time
 abbrev pub migrated : Limits → Recording → List ℕ
 migrated options r = migrated_at options (place_of r)
 
--- what is answered
+-- the result
 abbrev pub answered : Option DamageAt → Migrated
 answered None = Whole
 answered (Some d) = Damaged d.offset d.reason
 
--- ---- what a run has read and written when it answers
+-- ---- what a run has read and written when it returns
 
 -- what was read was migrated: all there is, or what is damaged whatever follows
 pub record HasMigrated (options : Limits) (unread unread_now contents contents_now : Option (List ℕ)) (answer : Migrated) : Type 0 where
@@ -53,7 +53,7 @@ pub record HasMigrated (options : Limits) (unread unread_now contents contents_n
   pub written : Appends contents contents_now (migrated options recording)
   pub enough : IsAtEnd unread_now ⊎ IsBroken bytes recording
 
--- what was read was migrated as far as its pieces are whole, and no damage in it stands whatever follows
+-- what was read was migrated as far as its pieces are whole, and it has no damage yet that stays whatever follows
 pub record HasMigratedSoFar (options : Limits) (unread unread_now contents contents_now : Option (List ℕ)) : Type 0 where
   pub bytes : List ℕ
   pub recording : Recording
@@ -70,12 +70,12 @@ pub record HasBegunMigrating (options : Limits) (unread unread_now contents cont
 
 -- ---- how far a recording was migrated
 
--- a head without limits gets those of the options, and a piece without a time the time 0 behind its side's byte
+-- a head without limits gets those of the options, and a piece without a time the time 0 after its side's byte
 abbrev pub sent_of_first : Limits → Bool → List ℕ → List ℕ
 sent_of_first options false head = head_bytes (head_of options)
 sent_of_first options true piece = take 1 piece ++ (no_time ++ drop 1 piece)
 
--- what is written for what has become whole in this format: the head, or, where it is written, a piece
+-- what is written for what has become whole in this format: the head, or, if that is written, a piece
 abbrev pub sent : Limits → Format → Bool → List ℕ → List ℕ
 sent options Zkr1 head_written bytes = sent_of_first options head_written bytes
 sent options Zkr2 head_written bytes = bytes
@@ -113,7 +113,7 @@ pub record HasMovedTo (options : Limits) (x : List ℕ) (d : DamageAt) (before n
   pub decided : IsDecidedBy d x recording
   pub written : Appends before now (migrated options recording)
 
--- these bytes were read, and no damage stands in them, or this one
+-- these bytes were read, and there is no damage in them, or this one
 abbrev pub HasMovedBy : Limits → List ℕ → Bool → List ℕ → ReaderState → Option (List ℕ) → Option (List ℕ) → Option DamageAt → Type 0
 HasMovedBy options x head_written begun s before now None = HasMoved options x head_written begun s before now
 HasMovedBy options x head_written begun s before now (Some d) = HasMovedTo options x d before now
@@ -133,7 +133,7 @@ pub record IsListing (limits : Limits) (listing : Listing) (x text : List ℕ) :
 abbrev pub ListsAs : Limits → List ℕ → Limits → List ℕ → Type 0
 ListsAs limits x others y = (listing : Listing) (text : List ℕ) → IsListing limits listing x text → IsListing others listing y text
 
--- a head of this format stands before the place
+-- a head of this format comes before the place
 abbrev pub IsOf : Format → Place → Type 0
 IsOf format AtLetters = ⊥
 IsOf format (InHead other) = ⊥
@@ -156,7 +156,7 @@ abbrev pub MovesOn : Limits → Migrator → Migrator → List ℕ → Option (L
 MovesOn options old new bytes was now = (x : List ℕ) (before : Option (List ℕ)) →
     HasMigratedTo options x before was old → HasMigratedTo options (x ++ bytes) before now new
 
--- the same, where no damage stands in them; or this one does
+-- the same, and there is no damage in them, or this one
 abbrev pub MovesBy : Limits → Migrator → Migrator → List ℕ → Option (List ℕ) → Option (List ℕ) → Option DamageAt → Type 0
 MovesBy options old new bytes was now found = (x : List ℕ) (before : Option (List ℕ)) →
     HasMigratedTo options x before was old → HasMovedBy options (x ++ bytes) new.headed new.begun.items new.reader before now found

@@ -1,4 +1,4 @@
--- The recording that is built of a listing, and what two answers about the same lines have in common.
+-- The recording that is built of a listing, and what two results of the same lines have in common.
 use Rattle.std.specs.Prelude.{◌≡◌, ◌≢◌, ℕ, List, [], ◌++◌, map, Option, Some}
 use Rattle.std.specs.Io.KnownBytes.{Appends}
 use Rattle.zk_talk.specs.declared.limits.Limits.{Limits}
@@ -22,7 +22,7 @@ use Rattle.zk_listings.specs.Outcome.{HasGrownIn}
 use Rattle.zk_listings.specs.Running.{HasListed}
 use Rattle.zk_runs.specs.Building.{AreLines, IsBuilt, HasBuilt, HasBegunBuilding, recording_of, piece_of, IsNextLine, IsDotted}
 
--- what is listed of a conversation that ends whole, with so many requests that nothing answers
+-- the listing of a conversation that ends whole, with `unanswered` requests without a reply
 abbrev pub whole_listing : List Message → ℕ → List ℕ
 whole_listing messages unanswered = text_of All messages ++ last_line (Ended (whole unanswered))
 
@@ -42,12 +42,12 @@ AreAlike (SayRefused at fault) Whole = ⊥
 AreAlike (SayRefused at fault) (LineRefused other cause) = ⊥
 AreAlike (SayRefused at fault) (SayRefused other cause) = (at ≡ other) × (fault ≡ cause)
 
--- the line behind those that are accepted begins with no dot, and is that of no message
+-- the line after those that are accepted begins with no dot, and is that of no message
 abbrev pub IsForeign : Limits → List (List ℕ) → List Message → Type 0
 IsForeign limits lines messages =
     (next : List ℕ) × IsNextLine limits lines messages next × (IsDotted next → ⊥) × ((m : Message) → Fits m → next ≢ line m)
 
--- a conversation that ends whole, however it came: its messages in their order, and how many requests nothing answers
+-- a conversation that ends whole, however it came: its messages in their order, and the number of requests without a reply
 pub record WholeConversation : Type 0 where
   pub limits : Limits
   pub history : History
@@ -66,13 +66,13 @@ listing_of w = whole_listing w.messages w.unanswered
 abbrev pub listed_by : Listing → WholeConversation → List ℕ
 listed_by listing w = text_of listing w.messages ++ last_line (Ended (whole w.unanswered))
 
--- the bytes are lines that come to this
+-- the bytes are lines of which this is built
 pub record AreBuilt (limits : Limits) (x : List ℕ) (messages : List Message) (built : Built) : Type 0 where
   pub lines : List (List ℕ)
   pub are : AreLines x lines
   pub is : IsBuilt limits lines messages built
 
--- a run over these bytes that answers, answers so, and has written the recording of these messages
+-- a run over these bytes that returns no fault returns this, and has written the recording of these messages
 abbrev pub BuildsJust : Limits → List ℕ → List Message → Built → Type 0
 BuildsJust limits x messages built = (unread contents contents_now : Option (List ℕ)) (answered : Built) →
     HasBuilt limits (Some x) unread contents contents_now answered → (answered ≡ built) × Appends contents contents_now (recording_of messages)
@@ -87,12 +87,12 @@ abbrev pub BuildsWithin : Limits → List ℕ → List Message → Type 0
 BuildsWithin limits x messages = (unread contents contents_now : Option (List ℕ)) →
     HasBegunBuilding limits (Some x) unread contents contents_now → HasGrownIn contents contents_now (recording_of messages)
 
--- a run over these bytes that answers has written this text, and its status is good
+-- a run over these bytes that returns no fault has written this text, and its status is good
 abbrev pub ListsJust : Limits → Listing → List ℕ → List ℕ → Type 0
 ListsJust limits listing x text = (unread contents contents_now : Option (List ℕ)) (status : Status) →
     HasListed limits listing (Some x) unread contents contents_now status → Appends contents contents_now text × (status ≡ good_end)
 
--- two things that the same lines come to
+-- two things that are built of the same lines
 pub record BuiltTwice : Type 0 where
   pub limits : Limits
   pub lines : List (List ℕ)
@@ -103,7 +103,7 @@ pub record BuiltTwice : Type 0 where
   pub one : IsBuilt limits lines messages built
   pub two : IsBuilt limits lines others other
 
--- a run that stopped, and what the bytes come to that it read
+-- a run that stopped, and what is built of the bytes that it read
 pub record Stopped : Type 0 where
   pub limits : Limits
   pub unread : Option (List ℕ)

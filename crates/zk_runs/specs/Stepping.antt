@@ -40,12 +40,12 @@ abbrev pub HaltsWithin : Builder → List ℕ → Option (List ℕ) → Option (
 HaltsWithin old bytes was now halt = (limits : Limits) (x : List ℕ) (before : Option (List ℕ)) →
     HasBytes limits x before was old → HaltsIn limits (x ++ bytes) before halt now
 
--- what was taken is all there is, and this is what it comes to
+-- what was taken is all there is, and this is built of it
 abbrev pub IsAnswered : Builder → Option (List ℕ) → Option (List ℕ) → Built → Type 0
 IsAnswered old was now built = (limits : Limits) (x : List ℕ) (before : Option (List ℕ)) →
     HasBytes limits x before was old → BuildsAll limits x before now built
 
--- a front of the recording that it comes to is written
+-- a front of the recording that is built of it is written
 abbrev pub HasWrittenFirst : Builder → Option (List ℕ) → Option (List ℕ) → Type 0
 HasWrittenFirst old was now = (limits : Limits) (x : List ℕ) (before : Option (List ℕ)) →
     HasBytes limits x before was old → BeginsAll limits x before now

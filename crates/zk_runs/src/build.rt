@@ -1,4 +1,4 @@
-//! The engine that makes a recording of lines.
+//! `build_run`: the engine that makes a recording of lines.
 ghost use Rattle.std.specs.Prelude.{◌≡◌, ◌+◌, ◌^◌, ◌<◌, ◌≤◌, false, true, IfOk, OnErr, IsErrOf};
 ghost use Rattle.zk_listings.specs.Running.{IsSpent, OnRead};
 ghost use Rattle.zk_runs.specs.Building.{HasBuilt, HasBuiltSoFar, HasBegunBuilding};
@@ -11,12 +11,13 @@ use zk_recordings::ZKR1;
 use zk_talk::Limits;
 
 /// Reads lines, each one that of a message, and writes the recording of these messages, each message's piece before
-/// the next read. The last line may be the ending line that is due. At the first line that is refused no more is read,
-/// and the recording of the lines before it stands written.
+/// the next read. The last line may be the ending line that is due. At the first line that is refused no more is read;
+/// the recording of the lines before it is written.
 ///
 /// # Errors
-/// `Read` where the reader failed or was read 4,294,967,296 times and came to no end, `Write` where the writer failed
-/// or took nothing, `Memory` where a growth was refused.
+///
+/// `Read` if the reader failed or was read 4,294,967,296 times and came to no end, `Write` if the writer failed or took
+/// nothing, `Memory` if memory is refused.
 pub fn build_run<R: Source, W: Sink>(
     alloc: Global,
     limits: Limits,
@@ -30,16 +31,16 @@ pub fn build_run<R: Source, W: Sink>(
     // The recording is written of the lines that were read: all there are, or those before one that is refused.
     ensures ok { IfOk result (HasBuilt limits (R.remaining reader.old) (R.remaining reader.new) (W.contents writer.old) (W.contents writer.new)) }
 
-    // After a failed read, or one too many, the piece of each line that is whole in what was read stands written.
+    // After a failed read, or one too many, the piece of each line that is whole in what was read is written.
     ensures read { OnRead result (HasBuiltSoFar limits (R.remaining reader.old) (R.remaining reader.new) (W.contents writer.old) (W.contents writer.new)) }
     ensures spent { IsErrOf result RunFault.Read → IsSpent (R.has_failed reader.new) (R.read_count reader.old) (R.read_count reader.new) }
 
-    // A failed write, or one that takes nothing, is told as that.
+    // A failed write, or one that takes nothing, is reported as that.
     ensures write { IsErrOf result RunFault.Write → W.has_failed writer.new ≡ true }
     ensures open { IfOk result (λ _. W.has_failed writer.new ≡ false) }
     ensures spared { IsErrOf result RunFault.Memory → W.has_failed writer.new ≡ false }
 
-    // A failed read is never passed over, and no more is read than that often.
+    // A failed read is never passed over, and no run reads more often than that.
     ensures alive { IfOk result (λ _. R.has_failed reader.new ≡ false) }
     ensures memory { IsErrOf result RunFault.Memory → R.has_failed reader.new ≡ false }
     ensures bound { R.read_count reader.new ≤ R.read_count reader.old + 4294967296 }

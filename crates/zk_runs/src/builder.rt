@@ -1,4 +1,4 @@
-//! Lines that are read block by block, and the pieces of their messages.
+//! `Builder`: lines that are read block by block, and the pieces of their messages.
 ghost use Rattle.std.specs.Prelude.{◌≡◌, ◌≢◌, ◌+◌, ◌^◌, ◌<◌, ◌≤◌, ◌++◌, ◌∷◌, ℕ, List, Option, [], true, false, IfOk, IfErr, IsErrOf, Err, OnOk, OnErr, IsTrue, ◌↔◌, length, take, slice_index};
 ghost use Rattle.std.specs.List.{All};
 ghost use Rattle.std.specs.Int.{w32, to_be_bytes};
@@ -21,7 +21,7 @@ use zk_lines::{LineFault, LineReason, ending_line, read_line};
 use zk_listings::{Failed, RunFault, Sink, rest, write_whole};
 use zk_talk::{Ending, Limits, Message, SayFault, Side, Speaker};
 
-/// A line that begins with a dot and isn't the ending line that is due, or a line behind that one.
+/// The fault of a line that begins with a dot and isn't the ending line that is due, or of a line after that one.
 const NO_ENDING: LineFault = LineFault {
     column: 1,
     reason: LineReason::Ending,
@@ -55,7 +55,7 @@ impl Halt {
         }
     }
 
-    /// What a run answers where it halts.
+    /// What a run returns that halts here.
     pub fn answer(self) -> Result<Built, RunFault>
         ensures { result ≡ answer_of self }
     {
@@ -88,7 +88,7 @@ impl From<Failed> for Halt {
     }
 }
 
-/// How many bytes stand before the first line feed, or all of them.
+/// The number of bytes before the first line feed, or of all of them.
 fn len_before_feed(bytes: &[u8]) -> usize
     ensures within { result ≤ length bytes.now }
     ensures before { All (λ b. b ≢ 10) (take result bytes.now) }
@@ -124,7 +124,7 @@ fn byte_of(side: Side) -> u8
     }
 }
 
-/// A piece of these bytes.
+/// The piece of `content`, which is of `side`.
 fn piece_of(alloc: Global, side: Side, content: &[u8]) -> Result<Vec<u8>, AllocError>
     ensures { IfOk result (λ piece. length content.now < 2 ^ 32 → piece.items ≡ built_bytes (untimed side content.now)) }
 {
@@ -136,7 +136,7 @@ fn piece_of(alloc: Global, side: Side, content: &[u8]) -> Result<Vec<u8>, AllocE
     Ok(piece)
 }
 
-/// What was said of the lines so far, and the bytes behind the last line feed.
+/// What was said of the lines so far, and the bytes after the last line feed.
 #[derive(Drop)]
 pub(crate) struct Builder {
     speaker: Speaker,
@@ -146,7 +146,7 @@ pub(crate) struct Builder {
 }
 
 impl Builder {
-    /// Nothing was read.
+    /// A builder that has read nothing.
     pub fn new(alloc: Global, limits: Limits) -> Result<Builder, AllocError>
         ensures start { IfOk result (IsBegun limits) }
         ensures count { IfOk result (λ b. b.lines ≡ 0) }
@@ -160,7 +160,7 @@ impl Builder {
         })
     }
 
-    /// Says a message, and writes its piece.
+    /// Says `message`, and writes its piece.
     fn speak<W: Sink>(
         &mut self,
         alloc: Global,
@@ -235,7 +235,7 @@ impl Builder {
         }
     }
 
-    /// Takes the first bytes of a block, up to a line feed, and says how many.
+    /// Takes the first bytes of a block, up to a line feed, and returns how many.
     fn advance<W: Sink>(
         &mut self,
         alloc: Global,
@@ -284,7 +284,7 @@ impl Builder {
         Ok(())
     }
 
-    /// Takes the end: a line that is begun there has no line feed.
+    /// Takes the end of the input: a line that is begun there has no line feed.
     pub fn finish<W: Sink>(&mut self, alloc: Global, writer: &mut W) -> Result<Built, RunFault>
         requires room { self.old.lines + 1 < 2 ^ 64 }
         requires live { W.has_failed writer.old ≡ false }

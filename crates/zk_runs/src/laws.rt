@@ -1,4 +1,4 @@
-//! What rests on the lines and recordings: laws that are no call's result.
+//! The laws of building, listing and migrating, as contracts of functions that do nothing.
 ghost use Rattle.std.specs.Prelude.{◌≡◌, ◌⊎◌, ℕ, List};
 ghost use Rattle.zk_talk.specs.declared.limits.Limits.{Limits};
 ghost use Rattle.zk_talk.specs.Held.{Message};
@@ -21,7 +21,7 @@ ghost use Rattle.zk_runs.specs.Rebuilding.{AreBuilt, BuildsJust, BuildsAlike, Bu
 pub fn listing_is_built()
     // No line of the listing is refused, and its messages are the conversation's.
     ensures built { (w : WholeConversation) → AreBuilt w.limits (listing_of w) w.messages Whole }
-    // So a run over the listing that answers, answers so, and has written the recording of these messages.
+    // So a run over the listing that returns no fault returns that, and has written the recording of these messages.
     ensures run { (w : WholeConversation) → BuildsJust w.limits (listing_of w) w.messages Whole }
     // It has a piece for each message, and is undamaged.
     ensures pieces { (w : WholeConversation) → Spells (recording_of w.messages) (one_a_piece w.messages) }
@@ -29,17 +29,17 @@ pub fn listing_is_built()
     ensures said { (messages : List Message) → history_of (one_a_piece messages) ≡ said messages }
     // Each side's bytes are those of the conversation.
     ensures bytes { (w : WholeConversation) → HaveSameBytes (history_of (one_a_piece w.messages)) w.history }
-    // And it comes to the same messages and to the same ending.
+    // It has the same messages and the same ending.
     ensures again { (w : WholeConversation) → IsOutcome w.limits (one_a_piece w.messages) w.messages (Ended (whole w.unanswered)) }
 {}
 
-/// And what is built of it is listed again as it was: a run over that recording that answers has
-/// written the listing, or its last line alone, and its status is good.
+/// What is built of it is listed again as it was: a run over that recording that returns no fault has written the
+/// listing, or its last line alone, and its status is good.
 pub fn built_is_listed()
     ensures { (w : WholeConversation) (listing : Listing) → ListsJust w.limits listing (recording_of w.messages) (listed_by listing w) }
 {}
 
-/// Bytes are lines in one way, and lines come to one thing.
+/// Bytes are lines in one way, and one thing is built of lines.
 pub fn built_once()
     // Bytes are lines in one way.
     ensures lines { (x : List ℕ) (lines others : List (List ℕ)) → AreLines x lines → AreLines x others → lines ≡ others }
@@ -47,13 +47,13 @@ pub fn built_once()
     ensures messages { (b : BuiltTwice) → b.messages ≡ b.others }
     // So is which line is refused, if one is, and the reason why a message is not said.
     ensures alike { (b : BuiltTwice) → AreAlike b.built b.other }
-    // All of the answer is fixed, but where a line that begins with no dot is that of no message.
+    // All of the result is fixed, unless a line that begins with no dot is that of no message.
     ensures same { (b : BuiltTwice) → (b.built ≡ b.other) ⊎ IsForeign b.limits b.lines b.messages }
-    // So over known bytes every run that answers writes the recording of these messages, and answers so.
+    // So over known bytes every run that returns no fault writes the recording of these messages, and returns that.
     ensures run { (limits : Limits) (x : List ℕ) (M : List Message) (built : Built) → AreBuilt limits x M built → BuildsAlike limits x M built }
 {}
 
-/// What a run that stopped has written is a front of the recording that its bytes come to.
+/// What a run that stopped has written is a front of the recording that is built of its bytes.
 pub fn begun_is_a_front()
     // Its bytes being those that may be read, however many of them were.
     ensures known { (limits : Limits) (x : List ℕ) (M : List Message) (built : Built) → AreBuilt limits x M built → BuildsWithin limits x M }

@@ -1,5 +1,25 @@
-//! The commands over a source and a sink: a listing is built into a recording, a recording is migrated to the second
-//! format, and a command line is obeyed.
+//! The commands of the program over a source and sinks: listing, checking, building, migrating, and the command line.
+//!
+//! `run_words` is the whole program: it reads the words of a command line, does what they say over a `Source` and two
+//! `Sink`s, and returns the exit status. `settings` reads the words; `run_settings` does what they say.
+//!
+//! - `build_run` reads the lines of messages and writes their recording; it is the way back from `show_run`.
+//! - `migrate_run` reads a recording of either format and writes it in the second.
+//! - `show_run`, `check_run` and `check_earliest_run` are those of `zk_listings`, named again here, with sources, sinks,
+//!   statuses and faults: a caller of the program needs this crate alone.
+//!
+//! The contracts say what was written of what was read, also when a run fails; the laws say that a listing is built into
+//! the recording that it lists, and that a migrated recording is listed as it was.
+//!
+//! The crate rests on `zk_listings`, `zk_recordings`, `zk_lines`, `zk_items`, `zk_talk`, `zk_frames`, `zk_records`,
+//! `clap` and `thiserror`.
+//!
+//! ```text
+//! let mut reader = FromRead::new(rt.stdin());
+//! let mut writer = FromWrite::new(rt.stdout());
+//! let mut faults = FromWrite::new(rt.stderr());
+//! let status = run_words(rt.alloc(), words, &mut reader, &mut writer, &mut faults);
+//! ```
 #![tactic(auto)]
 
 mod build;

@@ -1,4 +1,4 @@
-//! The engine that makes a recording of the second format of one of either.
+//! `migrate_run`: the engine that makes a recording of the second format from one of either.
 ghost use Rattle.std.specs.Prelude.{◌≡◌, ◌+◌, ◌^◌, ◌<◌, ◌≤◌, ◌++◌, ℕ, List, [], ◌≢◌, Option, None, Some, Err, false, true, IfOk, OnOk, OnErr, IsErrOf, length, take, drop};
 ghost use Rattle.zk_talk.specs.declared.limits.Limits.{Limits};
 ghost use Rattle.zk_runs.specs.Migrating as migrating;
@@ -15,16 +15,16 @@ use zk_recordings::{Damage, DamageAt, Format, RecordingReader};
 use zk_records::Profile;
 use zk_talk::Limits;
 
-/// What a recording that is migrated comes to.
+/// How a recording was migrated: whole, or up to a damage.
 #[derive(Clone, Copy, Debug, PartialEq, Eq)]
 pub enum Migrated {
     /// All of it is written.
     Whole,
-    /// Its whole pieces before this damage are written; nothing where the head is damaged.
+    /// Its whole pieces before this damage are written; nothing if the head is damaged.
     Damaged { offset: u64, reason: Damage },
 }
 
-/// The damage and its place, in one line; nothing where there is none.
+/// The damage and its place, in one line; nothing if there is none.
 impl Display for Migrated {
     fn fmt<W: fmt::Write>(&self, f: &mut fmt::Formatter<W>) -> fmt::Result {
         match self {
@@ -68,7 +68,7 @@ fn add_time(piece: &mut Vec<u8>) -> Result<(), AllocError>
     Ok(())
 }
 
-/// Makes of a head or a piece of this format, which is whole, what is written for it.
+/// Turns a whole head or piece of this format into what is written for it.
 fn convert(
     limits: Limits,
     headed: bool,
@@ -96,12 +96,12 @@ struct Migrator {
     reader: RecordingReader,
     /// Whether the head is written.
     headed: bool,
-    /// All that was read before the head is written, then the piece that is begun.
+    /// What isn't written yet: all before the head is whole, then the piece that is begun.
     begun: Vec<u8>,
 }
 
 impl Migrator {
-    /// Nothing was read.
+    /// A migrator that has read nothing.
     fn new(alloc: Global) -> Migrator
         ensures start { (limits : Limits) (now : Option (List ℕ)) → HasMoved limits [] result.headed result.begun.items result.reader now now }
         ensures place { place_in result.reader ≡ 0 }
@@ -113,8 +113,8 @@ impl Migrator {
         }
     }
 
-    /// Takes the first bytes of a block, and says how many; what becomes whole with them is written. A recording that
-    /// has no limits gets these.
+    /// Takes the first bytes of a block, and returns how many; what becomes whole with them is written. A recording that has
+    /// no limits gets `limits`.
     fn advance<W: Sink>(
         &mut self,
         limits: Limits,
@@ -145,8 +145,7 @@ impl Migrator {
         Ok(run.used)
     }
 
-    /// Takes a block, and writes what becomes whole in it. Where the recording is damaged in it, whatever follows, the
-    /// answer is that damage.
+    /// Takes a block, and writes what becomes whole in it. Returns the damage in it, if there is one whatever follows.
     fn feed<W: Sink>(
         &mut self,
         limits: Limits,
@@ -175,7 +174,7 @@ impl Migrator {
         Ok(None)
     }
 
-    /// The damage of a recording that ends here.
+    /// The damage of the recording if it ends here.
     fn finish(&self) -> Option<DamageAt>
         ensures { (x : List ℕ) (r : Recording) → IsAt self.now.reader x r → damage_of r ≡ result }
     {
@@ -183,13 +182,14 @@ impl Migrator {
     }
 }
 
-/// Reads a recording of either format, and writes one of the second format: a head, of the limits where the recording
-/// has none, and each piece once it is whole, with the time 0 where it has none. The frames in it are not read. A piece
-/// that is cut is not written, and nothing where the head is damaged. It keeps one piece at most, as far as it came.
+/// Reads a recording of either format, and writes one of the second format: a head, of `limits` if the recording has none,
+/// and each piece once it is whole, with the time 0 if it has none. The frames in it are not read. A piece that is cut is
+/// not written, and nothing if the head is damaged. It holds one piece at most, as far as it came.
 ///
 /// # Errors
-/// `Read` where the reader failed or was read 4,294,967,296 times and came to no end, `Write` where the writer failed
-/// or took nothing, `Memory` where a growth was refused.
+///
+/// `Read` if the reader failed or was read 4,294,967,296 times and came to no end, `Write` if the writer failed or took
+/// nothing, `Memory` if memory is refused.
 pub fn migrate_run<R: Source, W: Sink>(
     alloc: Global,
     limits: Limits,
@@ -200,24 +200,24 @@ pub fn migrate_run<R: Source, W: Sink>(
     requires reads { R.read_count reader.old < 2 ^ 62 }
     requires writer { W.has_failed writer.old ≡ false }
 
-    // What was read is migrated, all there is or what is damaged whatever follows, and its damage is the answer.
+    // What was read is migrated, all there is or what is damaged whatever follows, and its damage is returned.
     ensures ok { IfOk result (HasMigrated limits (R.remaining reader.old) (R.remaining reader.new) (W.contents writer.old) (W.contents writer.new)) }
 
-    // After a failed read, or one too many, what was read stands migrated as far as its pieces are whole.
+    // After a failed read, or one too many, what was read is migrated as far as its pieces are whole.
     ensures read { OnRead result (HasMigratedSoFar limits (R.remaining reader.old) (R.remaining reader.new) (W.contents writer.old) (W.contents writer.new)) }
     ensures spent { IsErrOf result RunFault.Read → IsSpent (R.has_failed reader.new) (R.read_count reader.old) (R.read_count reader.new) }
 
-    // A failed write, or one that takes nothing, is told as that.
+    // A failed write, or one that takes nothing, is reported as that.
     ensures write { IsErrOf result RunFault.Write → W.has_failed writer.new ≡ true }
     ensures open { IfOk result (λ _. W.has_failed writer.new ≡ false) }
     ensures spared { IsErrOf result RunFault.Memory → W.has_failed writer.new ≡ false }
 
-    // A failed read is never passed over, and no more is read than that often.
+    // A failed read is never passed over, and no run reads more often than that.
     ensures alive { IfOk result (λ _. R.has_failed reader.new ≡ false) }
     ensures memory { IsErrOf result RunFault.Memory → R.has_failed reader.new ≡ false }
     ensures bound { R.read_count reader.new ≤ R.read_count reader.old + 4294967296 }
 
-    // A run that stops early has written a front of what those bytes are migrated to that it read.
+    // A run that stops early has written a front of what the bytes that it read are migrated to.
     ensures begun { OnErr result (HasBegunMigrating limits (R.remaining reader.old) (R.remaining reader.new) (W.contents writer.old) (W.contents writer.new)) }
 {
     let mut migrator = Migrator::new(alloc);

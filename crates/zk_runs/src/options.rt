@@ -1,4 +1,4 @@
-//! What a command line asks for.
+//! `Settings`, `Command`, `UsageFault`: what a command line asks for.
 
 ghost use Rattle.std.specs.Prelude.{◌≡◌};
 ghost use Rattle.clap.specs.Values.{kind_of};
@@ -12,22 +12,22 @@ use zk_talk::Limits;
 /// What the program is asked to do.
 #[derive(Clone, Copy, Debug, PartialEq, Eq)]
 pub enum Command {
-    /// To write the listing of a recording.
+    /// Write the listing of a recording.
     Show,
-    /// To write its last line.
+    /// Write the last line of that listing.
     Check,
-    /// To write the recording that a listing shows.
+    /// Write the recording that a listing shows.
     Build,
-    /// To write the recording of the second format that a recording makes.
+    /// Write a recording in the second format.
     Migrate,
 }
 
-/// A command line that is in order.
+/// A command line that could be read.
 #[derive(Clone, Copy, Debug, PartialEq, Eq)]
 pub struct Settings {
     pub command: Command,
     pub limits: Limits,
-    /// Whether `check` writes the line of the first impossible byte too. The other commands do not look at it.
+    /// Whether `check` writes the line of the first impossible byte too. The other commands ignore it.
     pub earliest: bool,
 }
 
@@ -37,7 +37,7 @@ pub enum UsageFault {
     /// They are no command line of this program, or ask for help.
     #[error("usage: zkdump show|check|build|migrate [--limit N] [--waiting N] [--profile 3.4|3.5] [--earliest]")]
     Words,
-    /// A growth was refused.
+    /// The system refused memory.
     #[error("zkdump: out of memory")]
     Memory,
 }

@@ -1,4 +1,4 @@
-//! The whole program, over a reader and two writers.
+//! `run_words`: the whole program, over a reader and two writers.
 ghost use Rattle.std.specs.Prelude.{◌≡◌, ◌+◌, ◌^◌, ◌<◌, ◌≤◌, ◌⊎◌, false, IfOk, IfErr, OnErr};
 ghost use Rattle.zk_runs.specs.Commands.{IsDone, IsFailed, Answers, Stops, IsDoneBySome, IsFailedBySome};
 ghost use Rattle.zk_runs.specs.Exits.{exit_of, exit_of_built, exit_of_migrated, refusal_of};
@@ -15,7 +15,7 @@ use zk_listings::{
     RunFault, Sink, Source, Status, check_earliest_run, check_run, show_run, write_whole,
 };
 
-/// Text on a sink.
+/// A formatter's output that goes to a sink.
 #[derive(Drop)]
 struct Message<'a, F> {
     sink: &'a mut F,
@@ -33,13 +33,13 @@ impl<F: Sink> fmt::Write for Message<'_, F> {
     }
 }
 
-/// Writes a line, as far as the sink takes it.
+/// Writes `fault` as a line, as far as the sink takes it.
 fn tell<F: Sink>(faults: &mut F, fault: &(impl Display)) {
     let mut message = Message { sink: faults };
     let _ = writeln!(message, "{fault}");
 }
 
-/// Tells why a command line is refused, and gives the status for it.
+/// Reports why a command line is refused, and returns the exit status for it.
 pub fn refuse<F: Sink>(fault: UsageFault, faults: &mut F) -> u8
     ensures { result ≡ refusal_of fault }
 {
@@ -60,7 +60,7 @@ fn exit_code(status: Status) -> u8
     }
 }
 
-/// Tells which line is refused, if one is, and gives the status for it.
+/// Reports which line is refused, if one is, and returns the exit status for it.
 fn report<F: Sink>(built: Built, faults: &mut F) -> u8
     ensures exit { result ≡ exit_of_built built }
     ensures small { result < 2 }
@@ -74,7 +74,7 @@ fn report<F: Sink>(built: Built, faults: &mut F) -> u8
     }
 }
 
-/// Tells the damage, where there is one, and gives the status for it.
+/// Reports the damage, if there is one, and returns the exit status for it.
 fn report_damage<F: Sink>(migrated: Migrated, faults: &mut F) -> u8
     ensures exit { result ≡ exit_of_migrated migrated }
     ensures small { result < 2 }
@@ -88,7 +88,7 @@ fn report_damage<F: Sink>(migrated: Migrated, faults: &mut F) -> u8
     }
 }
 
-/// Runs the engine that the words ask for, and gives the status for what it answers.
+/// Runs the engine that the settings ask for, and returns the exit status for its result.
 fn obey<R: Source, W: Sink, F: Sink>(
     alloc: Global,
     chosen: Settings,
@@ -121,7 +121,7 @@ fn obey<R: Source, W: Sink, F: Sink>(
     }
 }
 
-/// Does what the words of the command line were read as, and gives the status of the process.
+/// Does what the settings ask for, or reports why there are none, and returns the exit status.
 pub fn run_settings<R: Source, W: Sink, F: Sink>(
     alloc: Global,
     chosen: Result<Settings, UsageFault>,
@@ -137,13 +137,13 @@ pub fn run_settings<R: Source, W: Sink, F: Sink>(
     // The command that was chosen is done, under its limits: what was read is listed, or made a recording.
     ensures done { IfOk chosen (λ s. Answers s (R.remaining reader.old) (R.remaining reader.new) (W.contents writer.old) (W.contents writer.new) result) }
 
-    // Words that are refused leave everything unread and unwritten.
+    // If the words are refused, nothing is read and nothing written.
     ensures refused { IfErr chosen (λ fault. (result ≡ refusal_of fault) × (reader.new ≡ reader.old) × (writer.new ≡ writer.old)) }
 
     // A failure comes after a front of what the command writes.
     ensures stopped { IfOk chosen (λ s. Stops s (R.remaining reader.old) (R.remaining reader.new) (W.contents writer.old) (W.contents writer.new) result) }
 
-    // A failed read or write is never passed over, and no more is read than that often.
+    // A failed read or write is never passed over, and no run reads more often than that.
     ensures alive { result < 2 → R.has_failed reader.new ≡ false }
     ensures open { result < 2 → W.has_failed writer.new ≡ false }
     ensures bound { R.read_count reader.new ≤ R.read_count reader.old + 4294967296 }
@@ -161,8 +161,8 @@ pub fn run_settings<R: Source, W: Sink, F: Sink>(
     }
 }
 
-/// The whole program: reads the words of a command line, the first of which is the program's name, does what they say,
-/// and gives the status of the process. What it says of faults is lost where their writer fails, and changes nothing.
+/// The whole program: reads the words of a command line, the first of which is the program's name, does what they say, and
+/// returns the exit status. What it reports to `faults` is lost if that writer fails, and nothing else changes.
 pub fn run_words<R: Source, W: Sink, F: Sink>(
     alloc: Global,
     words: Vec<String>,
@@ -178,13 +178,13 @@ pub fn run_words<R: Source, W: Sink, F: Sink>(
     // Below 2, the words are a command line, and its command is done: what was read is listed, or made a recording.
     ensures done { result < 2 → IsDoneBySome (R.remaining reader.old) (R.remaining reader.new) (W.contents writer.old) (W.contents writer.new) result }
 
-    // Words that are refused leave everything unread and unwritten.
+    // If the words are refused, nothing is read and nothing written.
     ensures refused { result ≡ 2 → (reader.new ≡ reader.old) × (writer.new ≡ writer.old) }
 
-    // So does want of memory for the words; every other failure comes after a front of what the command writes.
+    // Nor if memory for the words is refused; every other failure comes after a front of what the command writes.
     ensures stopped { result ≡ 3 → ((reader.new ≡ reader.old) × (writer.new ≡ writer.old)) ⊎ IsFailedBySome (R.remaining reader.old) (R.remaining reader.new) (W.contents writer.old) (W.contents writer.new) }
 
-    // A failed read or write is never passed over, and no more is read than that often.
+    // A failed read or write is never passed over, and no run reads more often than that.
     ensures alive { result < 2 → R.has_failed reader.new ≡ false }
     ensures open { result < 2 → W.has_failed writer.new ≡ false }
     ensures bound { R.read_count reader.new ≤ R.read_count reader.old + 4294967296 }

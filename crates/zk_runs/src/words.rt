@@ -1,4 +1,4 @@
-//! The words of a command line, as settings.
+//! `settings`: the words of a command line, read as settings.
 ghost use Rattle.std.specs.Prelude.{◌≡◌, ◌≢◌, IfOk, MatchOption};
 ghost use Rattle.zk_records.specs.declared.profile.Profile.{Profile};
 ghost use Rattle.zk_runs.specs.declared.options.Command.{Command as command};
@@ -11,13 +11,13 @@ use std::alloc::{AllocError, Global};
 use zk_records::Profile;
 use zk_talk::Limits;
 
-/// The longest payloads of both sides in bytes where no option says otherwise.
+/// The longest payload of each side in bytes, unless an option says otherwise.
 const USUAL_LIMIT: u32 = 4_194_304;
 
-/// What may wait where no option says otherwise.
+/// The greatest weight of the requests that wait, unless an option says otherwise.
 const USUAL_WAITING: u32 = 65_536;
 
-/// The profile where no option says otherwise.
+/// The profile, unless an option says otherwise.
 const USUAL_PROFILE: &str = "3.4";
 
 /// A subcommand with its options.
@@ -35,7 +35,7 @@ fn subcommand<'a>(alloc: Global, name: &'static str) -> Result<clap::Command<'a>
         .arg(profile)
 }
 
-/// That of `check`, which has one option of its own.
+/// The subcommand `check`, which has one option of its own.
 fn check<'a>(alloc: Global) -> Result<clap::Command<'a>, AllocError> {
     let earliest = Arg::new(alloc, "earliest")
         .long("earliest")
@@ -52,7 +52,7 @@ fn command_line<'a>(alloc: Global) -> Result<clap::Command<'a>, AllocError> {
         .subcommand(subcommand(alloc, "migrate")?)
 }
 
-/// The command of a name.
+/// The command whose name is `name`; `None` if there is none.
 fn command_of(name: &str) -> Option<Command>
     ensures { MatchOption result ((c : command) → name.now ≢ command_name c) (λ c. name.now ≡ command_name c) }
 {
@@ -65,7 +65,7 @@ fn command_of(name: &str) -> Option<Command>
     }
 }
 
-/// The profile of a name.
+/// The profile whose name is `name`; `None` if there is none.
 fn profile_of(name: &str) -> Option<Profile>
     ensures { MatchOption result ((p : Profile) → name.now ≢ profile_name p) (λ p. name.now ≡ profile_name p) }
 {
@@ -81,7 +81,8 @@ fn profile_of(name: &str) -> Option<Profile>
 /// Reads a command line, whose first word is the program's name: a subcommand, and after it its options.
 ///
 /// # Errors
-/// `Memory` where a growth was refused, else `Words`; asking for help is a fault of the words.
+///
+/// `Memory` if memory is refused, else `Words`; asking for help is a fault of the words.
 pub fn settings(alloc: Global, words: Vec<String>) -> Result<Settings, UsageFault>
     ensures { IfOk result IsInRange }
 {
