@@ -1,4 +1,4 @@
--- What calls answer, in numbers.
+-- What calls return, in numbers.
 use Rattle.std.specs.Prelude.{ℕ, pos, negsuc, false, Result, Ok, Err}
 use Rattle.zk_records.specs.Codes.{op_number}
 use Rattle.zk_asks.specs.Rows.{op_of_ask}
@@ -24,7 +24,7 @@ no_fault = record { frame = 0; offset = 0; side = 0; place = 0; reason = 0; expe
 abbrev pub fault_numbers : Fault → FaultNumbers
 fault_numbers f = record { frame = f.frame; offset = f.offset; side = side_number f.side; place = f.place; reason = reason_number f.reason; expected = expected_of f.reason; got = got_of f.reason }
 
--- a step that wasn't made, for this number
+-- a step that wasn't made, with this status
 abbrev pub no_step : ℕ → StepAnswer
 no_step status = record { used = 0; status = status; whole = false; fault = no_fault }
 
@@ -43,7 +43,7 @@ ending_answer (Refused f) = record { status = 0; kind = 3; unanswered = 0; side 
 abbrev pub no_message : ℕ → MessageAnswer
 no_message status = record { status = status; kind = 0; xid = pos 0; operation = pos 0; size = 0 }
 
--- a message whose frame has so many bytes; the operation of a reply is its request's
+-- a message whose frame has `size` bytes; the operation of a reply is its request's
 abbrev pub message_answer : ℕ → Message → MessageAnswer
 message_answer size (FromClient (Connect hello read_only)) = record { status = 0; kind = 1; xid = pos 0; operation = pos 0; size = size }
 message_answer size (FromClient (Ask xid ask)) = record { status = 0; kind = 2; xid = xid; operation = op_number (op_of_ask ask); size = size }

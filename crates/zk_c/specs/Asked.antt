@@ -30,7 +30,7 @@ pub record AreAsked (number : ℤ) (numbers : List ℤ) (op : Op) (parts : List 
   pub few : length parts < 2 ^ 32
   pub lawful : op ≢ Multi → parts ≡ []
 
--- they are none's
+-- the numbers are those of no operation and its parts
 abbrev pub AreNoneAsked : ℤ → List ℤ → Type 0
 AreNoneAsked number numbers = (op : Op) (parts : List PartOp) → AreAsked number numbers op parts → ⊥
 

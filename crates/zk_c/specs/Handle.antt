@@ -34,7 +34,7 @@ pub record IsStep (old : TalkState) (side : Side) (piece : List ℕ) (outcome : 
   pub none : OnErr outcome (kept_on side new ≡ [])
   pub kept : (f : Fault) → old.fault ≡ Some f → (outcome ≡ Err f) × (new ≡ given_up side old)
 
--- the answer tells a step of the talk, which goes on behind the handle
+-- the answer is that of a step of the talk, which goes on behind the handle
 pub record TellsStep (old : TalkState) (side : Side) (piece : List ℕ) (answer : StepAnswer) (after : Option TalkState) : Type 0 where
   pub outcome : Result Stepped Fault
   pub talk : TalkState
@@ -49,7 +49,7 @@ pub record AreNumbers (c s w p : ℕ) (limits : Limits) : Type 0 where
   pub waiting : limits.waiting ≡ w
   pub profile : p ≡ profile_number limits.profile
 
--- they are no limits'
+-- the numbers are no limits'
 abbrev pub AreNoLimits : ℕ → ℕ → ℕ → ℕ → Type 0
 AreNoLimits client server waiting profile = (p : Profile) → profile ≡ profile_number p → AreLimits client server waiting → ⊥
 
@@ -66,34 +66,34 @@ pub record IsFinish (talk : TalkState) (ending : Ending) : Type 0 where
   pub stands : (h : History) (M : List Message) → Stands talk h M → IsEnding talk.limits h ending
   pub refuses : (h : History) (M : List Message) (f : Fault) → Refuses talk h M f → ending ≡ Refused f
 
--- the answer tells how the talk's history ends
+-- the answer is how the talk's history ends
 pub record TellsEnding (talk : TalkState) (answer : EndingAnswer) : Type 0 where
   pub ending : Ending
   pub told : answer ≡ ending_answer ending
   pub is : IsFinish talk ending
 
--- so many bytes of the side are held
+-- the number of the side's bytes that are held
 abbrev pub size_held : Side → TalkState → ℕ
 size_held side talk = length (held_on side talk) + length (kept_on side talk)
 
--- the answer tells the message of the frame that the side keeps, which is one
+-- the answer is the message of the frame that the side keeps, which is one
 pub record IsView (talk : TalkState) (side : Side) (answer : MessageAnswer) : Type 0 where
   pub none : kept_on side talk ≡ [] → answer ≡ no_message 69
   pub some : (m : Message) → Shows talk side m → answer ≡ message_answer (size_held side talk) m
   pub there : (kept_on side talk ≡ [] → ⊥) → (m : Message) × Shows talk side m
 
--- the text stands first in the room; or it doesn't fit, or memory is wanted, and the room is as it was
+-- the text is at the front of the room; or it doesn't fit, or memory is refused, and the room is as it was
 pub data TellsText (text before after : List ℕ) (answer : LineAnswer) : Type 0 where
   written : answer ≡ record { status = 0; length = length text } → after ≡ text ++ drop (length text) before → TellsText text before after answer
   no_room : answer ≡ record { status = 68; length = length text } → length before < length text → after ≡ before → TellsText text before after answer
   no_memory : answer ≡ no_line 5 → after ≡ before → TellsText text before after answer
 
--- the answer tells the line of that message
+-- the answer is the line of that message
 pub record IsLine (talk : TalkState) (side : Side) (before after : List ℕ) (answer : LineAnswer) : Type 0 where
   pub none : kept_on side talk ≡ [] → (answer ≡ no_line 69) × (after ≡ before)
   pub some : (m : Message) → Shows talk side m → TellsText (line m) before after answer
 
--- the answer tells the line of the ending of the talk's history
+-- the answer is the line of the ending of the talk's history
 pub record IsEndingLine (talk : TalkState) (before after : List ℕ) (answer : LineAnswer) : Type 0 where
   pub ending : Ending
   pub is : IsFinish talk ending

@@ -1,4 +1,4 @@
--- What is told of a payload, in numbers.
+-- What is returned of a payload, in numbers.
 use Rattle.std.specs.Prelude.{◌≡◌, ◌≢◌, ℕ, ℤ, negsuc, List}
 use Rattle.zk_records.specs.declared.profile.Profile.{Profile}
 use Rattle.zk_records.specs.declared.header.ReplyHeader.{ReplyHeader}
@@ -22,7 +22,7 @@ payload_answer status place = record { status = status; place = place }
 abbrev pub TellsFault : ItemFault → PayloadAnswer → Type 0
 TellsFault fault answer = answer ≡ payload_answer (reason_number fault.reason) fault.place
 
--- the answer tells a fault of this kind, and never want of memory
+-- the answer is a fault of this kind, and never that memory was refused
 pub record IsToldBy (Is : ℕ → Reason → Type 0) (answer : PayloadAnswer) : Type 0 where
   pub fault : ItemFault
   pub is : IsTold Is fault
@@ -35,36 +35,36 @@ pub record IsConnect (bytes : List ℕ) (f : ClientFrame) : Type 0 where
   pub sent : IsSent f
   pub is : bytes ≡ payload f
 
--- and of this request of the profile
+-- the bytes are the payload of this request of the profile
 pub record IsRequest (profile : Profile) (bytes : List ℕ) (f : ClientFrame) : Type 0 where
   pub later : IsLater f
   pub of : IsOfProfile profile f
   pub sent : IsSent f
   pub is : bytes ≡ payload f
 
--- and of this answer to a connect request
+-- the bytes are the payload of this reply to a connect request
 pub record IsWelcome (bytes : List ℕ) (s : ServerFrame) : Type 0 where
   pub connected : answers.IsConnected s
   pub sent : answers.IsSent s
   pub is : bytes ≡ answers.payload s
 
--- and of this reply to a request of the operation with parts of these
+-- the bytes are the payload of this reply to a request of the operation with these parts
 pub record IsReply (op : Op) (parts : List PartOp) (bytes : List ℕ) (s : ServerFrame) : Type 0 where
   pub reply : answers.IsReplyTo op parts s
   pub sent : answers.IsSent s
   pub is : bytes ≡ answers.payload s
 
--- and of this event
+-- the bytes are the payload of this event
 pub record IsNotice (bytes : List ℕ) (s : ServerFrame) : Type 0 where
   pub event : answers.IsEvent s
   pub sent : answers.IsSent s
   pub is : bytes ≡ answers.payload s
 
--- the bytes begin with a header whose xid is so
+-- the bytes begin with a header of which this holds of the xid
 abbrev pub HasHead : (ℤ → Type 0) → List ℕ → Type 0
 HasHead Is bytes = (header : ReplyHeader) × (rest : List ℕ) × IsHead bytes header rest × Is header.xid
 
--- they don't
+-- the bytes begin with no such header
 abbrev pub HasNoHead : (ℤ → Type 0) → List ℕ → Type 0
 HasNoHead Is bytes = HasHead Is bytes → ⊥
 

@@ -1,4 +1,4 @@
--- The listing of a conversation that lies there whole.
+-- The listing of a conversation that is there whole.
 use Rattle.std.specs.Prelude.{◌≡◌, ℕ, ◌⊎◌, List, [], ◌∷◌, ◌++◌}
 use Rattle.std.specs.List.{flat_map}
 use Rattle.zk_talk.specs.Held.{Message}
@@ -40,17 +40,17 @@ pub record IsListed (limits : Limits) (pieces : List Piece) (bytes text : List �
   pub cut : AreCut pieces bytes history
   pub is : (h : History) → AreCut pieces bytes h → IsListing limits h text
 
--- the answer tells the listing under limits of these numbers, or that memory is wanted
+-- the answer is the listing under limits of these numbers, or that memory was refused
 pub data TellsListing (client server waiting profile : ℕ) (h : History) (before after : List ℕ) (answer : LineAnswer) : Type 0 where
   told : (limits : Limits) (text : List ℕ) → AreNumbers client server waiting profile limits → IsListing limits h text → TellsText text before after answer → TellsListing client server waiting profile h before after answer
   lacks : answer ≡ no_line 5 → after ≡ before → TellsListing client server waiting profile h before after answer
 
--- the same, where the numbers are those of limits
+-- the same, if the numbers are those of limits
 abbrev pub ListsUnder : ℕ → ℕ → ℕ → ℕ → History → List ℕ → List ℕ → LineAnswer → Type 0
 ListsUnder client server waiting profile h before after answer =
     (p : Profile) → profile ≡ profile_number p → AreLimits client server waiting → TellsListing client server waiting profile h before after answer
 
--- nothing is listed: numbers are out of their ranges, or memory is wanted
+-- nothing is listed: numbers are out of their ranges, or memory was refused
 pub record ListsNothing (before after : List ℕ) (answer : LineAnswer) : Type 0 where
   pub told : (answer ≡ no_line 67) ⊎ (answer ≡ no_line 5)
   pub same : after ≡ before

@@ -35,11 +35,11 @@ line_number lines.Ending = 97
 abbrev pub say_answer : ℕ → ℕ → ℕ → SayAnswer
 say_answer status length column = record { status = status; length = length; column = column }
 
--- the frame is given up
+-- the frame is dropped
 abbrev pub silent : VoiceState → VoiceState
 silent v = record v { frame = [] }
 
--- why the message isn't said: memory is wanted, which it is for one that may stand alone; or the case that refuses what may not be said
+-- why the message isn't said: memory was refused, for one that is due, may be asked or answers, and fits; or the case that refuses what may not be said
 pub record IsRefusal (s : SpeakerState) (m : Message) (e : SayFault) : Type 0 where
   pub err : (e ≡ NoMemory) ⊎ ((before : List Message) → Says s before → IsSayFault s.limits before m e)
   pub lacks : e ≡ NoMemory → MayStand s m
@@ -51,7 +51,7 @@ pub data TellsSay (old : VoiceState) (text : List ℕ) (new : VoiceState) (answe
   said : (m : Message) → Fits m → text ≡ line m → new.speaker.limits ≡ old.speaker.limits → new.frame ≡ frame (payload_of m) → answer ≡ say_answer 0 (length new.frame) 0 → ((before : List Message) → Says old.speaker before → MaySay old.speaker.limits before m × Says new.speaker (before ++ m ∷ [])) → TellsSay old text new answer
   -- it is this message's, which is refused
   refused : (m : Message) → Fits m → text ≡ line m → (e : SayFault) → new ≡ silent old → answer ≡ say_answer (say_number e) 0 0 → IsRefusal old.speaker m e → TellsSay old text new answer
-  -- it is no message's, or memory is wanted
+  -- it is no message's, or memory was refused
   no_line : (e : LineFault) → new ≡ silent old → answer ≡ say_answer (line_number e.reason) 0 e.column → ((m : Message) → Fits m → text ≡ line m → e.reason ≡ lines.NoMemory) → TellsSay old text new answer
 
 -- the speaker behind the handle says the line

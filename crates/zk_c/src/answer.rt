@@ -1,4 +1,4 @@
-//! What calls answer.
+//! The structs that calls return to C.
 ghost use Rattle.std.specs.Prelude.{◌≡◌, ◌≢◌, pos};
 ghost use Rattle.zk_c.specs.Handle.{TellsText};
 ghost use Rattle.zk_c.specs.Numbers.{expected_of, got_of};
@@ -11,7 +11,7 @@ use zk_jute::Reason;
 use zk_records::op_number;
 use zk_talk::{Ending, Fault, MessageOf, MessageRef, Stepped};
 
-/// Why a conversation is refused, and where; all 0 where it isn't.
+/// Why a conversation is refused, and where; all 0 if it isn't.
 #[repr(C)]
 #[derive(Clone, Copy)]
 pub struct FaultNumbers {
@@ -19,9 +19,9 @@ pub struct FaultNumbers {
     pub frame: u64,
     /// The number of the side's bytes up to and with the one that decided it.
     pub offset: u64,
-    /// Whose byte decided it.
+    /// The side whose byte decided it.
     pub side: u32,
-    /// Bytes from the beginning of the frame's payload.
+    /// The offset in the frame's payload, in bytes.
     pub place: u32,
     /// The number of the reason.
     pub reason: u32,
@@ -31,15 +31,15 @@ pub struct FaultNumbers {
     pub got: i32,
 }
 
-/// What a step answers.
+/// What a step returns.
 #[repr(C)]
 #[derive(Clone, Copy)]
 pub struct StepAnswer {
-    /// So many of the piece's bytes were used.
+    /// The number of bytes of the piece that were used.
     pub used: usize,
     /// 0, the number of the fault's reason, or why no step was made.
     pub status: u32,
-    /// The last of them made a frame whole: a message of the conversation.
+    /// Whether the last of them made a frame whole: a message of the conversation.
     pub whole: bool,
     /// The fault of the conversation.
     pub fault: FaultNumbers,
@@ -53,11 +53,11 @@ pub struct EndingAnswer {
     pub status: u32,
     /// 1: both sides end with a whole frame. 2: a side ends within a frame. 3: it is refused.
     pub kind: u32,
-    /// So many frames of the client have no answer, of kind 1.
+    /// The number of the client's frames without a reply, of kind 1.
     pub unanswered: u32,
     /// The side that ends within a frame, of kind 2.
     pub side: u32,
-    /// So many bytes of that frame came.
+    /// The number of bytes of that frame that came.
     pub got: u32,
     /// The number of that frame.
     pub frame: u64,
@@ -71,24 +71,23 @@ pub struct EndingAnswer {
 pub struct MessageAnswer {
     /// 0, or why there is no answer.
     pub status: u32,
-    /// 1: a connect request. 2: a request. 3: the answer to a connect request. 4: a reply. 5: an
-    /// event.
+    /// 1: a connect request. 2: a request. 3: the reply to a connect request. 4: a reply. 5: an event.
     pub kind: u32,
     /// The xid of a request, a reply or an event.
     pub xid: i32,
-    /// The number of a request's operation, or of that which a reply answers.
+    /// The number of a request's operation, or of the operation that a reply answers.
     pub operation: i32,
-    /// So many bytes the frame has, its length included: the last that were used of its side.
+    /// The number of bytes of the frame, its length included: the last that were used of its side.
     pub size: u32,
 }
 
-/// What a call answers that writes text.
+/// What a call returns that writes text.
 #[repr(C)]
 #[derive(Clone, Copy)]
 pub struct LineAnswer {
     /// 0, or why there is no text.
     pub status: u32,
-    /// So many bytes the text has.
+    /// The length of the text in bytes.
     pub length: usize,
 }
 
@@ -139,7 +138,7 @@ fn fault_numbers(fault: Fault) -> FaultNumbers
 }
 
 impl StepAnswer {
-    /// No step was made.
+    /// No step was made, for this reason.
     pub fn none(status: u32) -> StepAnswer
         ensures { result ≡ no_step status }
     {
@@ -151,7 +150,7 @@ impl StepAnswer {
         }
     }
 
-    /// What a step gave.
+    /// The result of a step, in numbers.
     pub fn of(outcome: Result<Stepped, Fault>) -> StepAnswer
         ensures { result ≡ step_answer outcome }
     {
@@ -177,7 +176,7 @@ impl StepAnswer {
 }
 
 impl EndingAnswer {
-    /// There is no answer.
+    /// There is no ending, for this reason.
     pub fn none(status: u32) -> EndingAnswer
         ensures { result ≡ no_ending status }
     {
@@ -226,7 +225,7 @@ impl EndingAnswer {
 }
 
 impl MessageAnswer {
-    /// There is no answer.
+    /// There is no message, for this reason.
     pub fn none(status: u32) -> MessageAnswer
         ensures { result ≡ no_message status }
     {
@@ -263,14 +262,14 @@ impl MessageAnswer {
 }
 
 impl LineAnswer {
-    /// There is no text.
+    /// There is no text, for this reason.
     pub fn none(status: u32) -> LineAnswer
         ensures { result ≡ no_line status }
     {
         LineAnswer { status, length: 0 }
     }
 
-    /// Writes the text first in the room, where it is long enough.
+    /// Writes `text` to the front of `out`, if that is long enough.
     pub fn put(text: &[u8], out: &mut [u8]) -> LineAnswer
         ensures told { TellsText text.now out.old out.new result }
         ensures ample { result.status ≢ 5 }

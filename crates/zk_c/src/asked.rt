@@ -1,4 +1,4 @@
-//! What a reply is judged by, in numbers.
+//! `Numbered`: an operation and its parts by their numbers, by which a reply is judged.
 ghost use Rattle.std.specs.Prelude.{◌≡◌, ◌≢◌, ◌<◌, ◌^◌, List, [], length, MatchBool, MatchOption, IsTrue, ◌↔◌};
 ghost use Rattle.zk_records.specs.declared.op.Op.{Op};
 ghost use Rattle.zk_records.specs.declared.op.Op.TheVariants as ops;
@@ -8,7 +8,7 @@ ghost use Rattle.zk_c.specs.Asked.{parts_of, AreParts, AreAsked, AreNoneAsked};
 use zk_asks::Asked;
 use zk_records::{Op, PartOp, Profile, op_of, part_of};
 
-/// An operation, and the numbers of its parts' operations: it takes no memory.
+/// An operation, and the numbers of its parts' operations; nothing is allocated.
 #[derive(Drop)]
 pub struct Numbered<'a> {
     pub op: Op,
@@ -18,7 +18,7 @@ pub struct Numbered<'a> {
     pub ghost lawful: { op ≢ ops.Multi → parts_of numbers.now ≡ [] },
 }
 
-/// Whether each number is a part's.
+/// Whether each number is that of a part's operation.
 fn are_parts(numbers: &[i32]) -> bool
     ensures { MatchBool result ((parts : List PartOp) × AreParts numbers.now parts) ((parts : List PartOp) → AreParts numbers.now parts → ⊥) }
 {
@@ -32,14 +32,14 @@ fn are_parts(numbers: &[i32]) -> bool
     true
 }
 
-/// Whether there are at most 4,294,967,295.
+/// Whether there are at most 4,294,967,295 numbers.
 fn are_few(numbers: &[i32]) -> bool
     ensures { IsTrue result ↔ (length numbers.now < 2 ^ 32) }
 {
     numbers.len() <= u32::MAX as usize
 }
 
-/// Whether the operation may have so many parts.
+/// Whether the operation may have parts of these numbers: only a multi has any.
 fn may_have(op: Op, numbers: &[i32]) -> bool
     ensures { IsTrue result ↔ (op ≢ ops.Multi → length numbers.now ≡ 0) }
 {
@@ -47,7 +47,7 @@ fn may_have(op: Op, numbers: &[i32]) -> bool
 }
 
 impl<'a> Numbered<'a> {
-    /// The operation of this number, with parts of these.
+    /// The operation whose number is `number`, with the parts of these `numbers`; `None` if there is none.
     pub fn of(number: i32, numbers: &'a [i32]) -> Option<Self>
         ensures { MatchOption result (AreNoneAsked number numbers.now) (λ a. AreAsked number numbers.now a.op (parts_of a.numbers.now)) }
     {

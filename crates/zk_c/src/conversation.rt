@@ -1,4 +1,4 @@
-//! A talk, and the room in which the lines of its messages are written.
+//! `Conversation`: a talk, and a buffer for the lines of its messages.
 ghost use Rattle.std.specs.Prelude.{◌≡◌, [], IfOk};
 ghost use Rattle.zk_talk.specs.Stands.{Stands};
 ghost use Rattle.zk_c.specs.Handle.{IsStep, IsFinish, IsView, IsLine, IsEndingLine};
@@ -10,7 +10,7 @@ use std::marker::Model;
 use zk_lines::{ending_line, put_line_ref};
 use zk_talk::{Ending, Fault, Limits, Side, Stepped, Talk};
 
-/// A talk, and room for a line.
+/// A talk, and a buffer for a line.
 #[derive(Drop)]
 pub struct Conversation {
     talk: Talk,
@@ -41,7 +41,7 @@ impl Conversation {
     ///
     /// # Errors
     ///
-    /// As `Talk::step`.
+    /// Those of `Talk::step`.
     pub fn step(&mut self, side: Side, piece: &[u8]) -> Result<Stepped, Fault>
         ensures { IsStep self.old side piece.now result self.new }
     {
@@ -55,7 +55,7 @@ impl Conversation {
         self.talk.finish()
     }
 
-    /// What the side's kept frame is.
+    /// The message of the side's kept frame.
     pub fn view(&self, side: Side) -> MessageAnswer
         ensures { IsView self.now side result }
     {
@@ -65,7 +65,7 @@ impl Conversation {
         }
     }
 
-    /// Writes the line of the side's kept frame, where there is room for it.
+    /// Writes the line of the side's kept frame, if there is room for it.
     pub fn line(&mut self, side: Side, out: &mut [u8]) -> LineAnswer
         ensures same { self.new ≡ self.old }
         ensures line { IsLine self.old side out.old out.new result }
@@ -80,7 +80,7 @@ impl Conversation {
         LineAnswer::put(&self.line, out)
     }
 
-    /// Writes the line of the ending, where there is room for it.
+    /// Writes the line of the ending, if there is room for it.
     pub fn ending_line(&self, alloc: Global, out: &mut [u8]) -> LineAnswer
         ensures { IsEndingLine self.now out.old out.new result }
     {

@@ -1,4 +1,4 @@
-//! Pieces of a conversation that lie one behind the other.
+//! `Piece`: the pieces of a conversation whose bytes come one after the other.
 ghost use Rattle.std.specs.Prelude.{IfOk, MatchOption};
 ghost use Rattle.zk_talk.specs.Answer.{history_of};
 ghost use Rattle.zk_c.specs.Cut.{AreNotCut, AreJust};
@@ -13,11 +13,11 @@ use zk_talk::Side;
 pub struct Piece {
     /// 0 for the client, 1 for the server.
     pub side: u32,
-    /// So many bytes.
+    /// The number of bytes.
     pub length: usize,
 }
 
-/// The pieces with their bytes; None where a number is no side's, or the bytes are more or fewer.
+/// The pieces with their bytes; `None` if a number is no side's, or the bytes are more or fewer.
 pub fn cut_of<'a>(
     alloc: Global,
     pieces: &[Piece],

@@ -1,4 +1,21 @@
-//! What C calls: a conversation read as it comes, or said, behind a handle that C keeps.
+//! What C calls: a conversation that is read as it comes, or said, behind a handle that C keeps.
+//!
+//! `zk_talk_new`, `zk_talk_step` and their like wrap a `Talk` (`zk_talk`), `zk_speaker_new` and `zk_speaker_say` a
+//! `Speaker`; each is in a box behind a handle, which is all zeros while it holds nothing. `zk_judge_first` and its like
+//! judge single payloads without a handle. `zk_listing` lists a conversation that is there whole.
+//!
+//! Each call returns numbers: a status, 0 if the call did what it is for, and a struct that include/zk.h declares too.
+//! The contracts repeat those of `Talk` and `Speaker` over these numbers. What a caller owes, the header says; its safe
+//! calls check the pointers first. docs/LIBRARY.md is the page for who links the library.
+//!
+//! The crate rests on `zk_lines`, `zk_talk` and the types and names of the crates below.
+//!
+//! ```text
+//! struct zk_talk talk = {0};
+//! zk_talk_new(&talk, 4194304, 4194304, 65536, 34);
+//! struct zk_step step = zk_talk_step(&talk, 0, piece, length); /* step.used bytes were used */
+//! zk_talk_free(&talk);
+//! ```
 #![tactic(auto)]
 
 mod answer;

@@ -1,4 +1,4 @@
-//! The listing of a conversation that lies there whole.
+//! `zk_listing`: the listing of a conversation that is there whole.
 ghost use Rattle.std.specs.Prelude.{◌≡◌, ◌++◌, OnOk, IfOk, MatchOption};
 ghost use Rattle.zk_talk.specs.History.{History};
 ghost use Rattle.zk_c.specs.Answer.{no_line};
@@ -36,7 +36,7 @@ fn lines_of(alloc: Global, ended: &Ended) -> Result<Vec<u8>, AllocError>
     Ok(text)
 }
 
-/// The listing of the pieces; None where they aren't the bytes.
+/// The listing of the pieces; `None` if they aren't the bytes.
 fn listed(
     alloc: Global,
     limits: Limits,
@@ -53,7 +53,7 @@ fn listed(
     Ok(Some(text))
 }
 
-/// Writes the listing of the pieces, whose bytes lie one behind the other, where there is room for it.
+/// Writes the listing of the pieces, whose bytes come one after the other, if there is room for it.
 #[unsafe(no_mangle)]
 pub extern "C" fn zk_listing(
     alloc: Global,
@@ -65,7 +65,7 @@ pub extern "C" fn zk_listing(
     profile: u32,
     out: &mut [u8],
 ) -> LineAnswer
-    // Limits out of their ranges are told.
+    // Limits out of their ranges are refused.
     ensures limits { AreNoLimits client server waiting profile → (result ≡ no_line 67) × (out.new ≡ out.old) }
     // So are pieces that aren't just the bytes.
     ensures pieces { AreNotCut pieces.now bytes.now → ListsNothing out.old out.new result }

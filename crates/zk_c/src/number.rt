@@ -1,4 +1,4 @@
-//! Numbers for C: what a call answers, sides, reasons.
+//! Numbers for C: the statuses of calls, sides, reasons.
 ghost use Rattle.std.specs.Prelude.{◌≡◌};
 ghost use Rattle.zk_records.specs.declared.profile.Profile.{Profile};
 ghost use Rattle.zk_c.specs.Numbers.{side_number, side_of, reason_number};
@@ -10,7 +10,7 @@ use zk_talk::Side;
 /// The call did what it is for.
 pub const WELL: u32 = 0;
 
-/// A growth was refused.
+/// The system refused memory.
 pub const NO_MEMORY: u32 = 5;
 
 /// The handle holds nothing.
@@ -19,7 +19,7 @@ pub const EMPTY: u32 = 65;
 /// The handle holds something already.
 pub const IN_USE: u32 = 66;
 
-/// A number is out of its range, or is none's.
+/// A number is out of its range, or names nothing.
 pub const RANGE: u32 = 67;
 
 /// There is less room than is needed.
@@ -31,7 +31,7 @@ pub const NO_MESSAGE: u32 = 69;
 /// The xid is another kind's, or what is said doesn't fit.
 pub const MISFIT: u32 = 82;
 
-/// The side of this number, 0 for the client and 1 for the server.
+/// The side of this number, 0 for the client and 1 for the server; `None` for others.
 pub fn side_of(number: u32) -> Option<Side>
     ensures { result ≡ side_of number }
 {

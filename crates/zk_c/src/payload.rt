@@ -1,4 +1,4 @@
-//! Single payloads, judged with no handle.
+//! `zk_judge_first` and its like: single payloads, judged without a handle.
 ghost use Rattle.std.specs.Prelude.{◌≡◌, ◌≢◌, ◌↔◌, IsTrue};
 ghost use Rattle.zk_records.specs.declared.profile.Profile.{Profile};
 ghost use Rattle.zk_asks.specs.Held.{ClientFrame};
@@ -16,13 +16,13 @@ use zk_asks::{borrow_ask, borrow_first};
 use zk_jute::ItemFault;
 use zk_records::Profile;
 
-/// Whether a payload is a message's, and where not.
+/// Whether a payload is a message's, and if not, why and where.
 #[repr(C)]
 #[derive(Clone, Copy)]
 pub struct PayloadAnswer {
     /// 0, or the number of the reason why it isn't.
     pub status: u32,
-    /// Where in the payload the fault stands.
+    /// The offset of the fault in the payload, in bytes.
     pub place: u32,
 }
 
@@ -44,13 +44,13 @@ impl PayloadAnswer {
     }
 }
 
-/// Whether the payload is that of a connect request.
+/// Judges whether the payload is that of a connect request.
 #[unsafe(no_mangle)]
 pub extern "C" fn zk_judge_first(bytes: &[u8]) -> PayloadAnswer
-    // It is taken for one exactly where it is one's.
+    // It is taken for one exactly if it is one's.
     ensures found { result.status ≡ 0 → (f : ClientFrame) × IsConnect bytes.now f }
     ensures only { (f : ClientFrame) → IsConnect bytes.now f → result ≡ payload_answer 0 0 }
-    // Else the first case that applies is told.
+    // Else the first case that applies is reported.
     ensures fault { result.status ≢ 0 → IsToldBy (IsFirstFault bytes.now) result }
 {
     match borrow_first(bytes) {
@@ -59,15 +59,15 @@ pub extern "C" fn zk_judge_first(bytes: &[u8]) -> PayloadAnswer
     }
 }
 
-/// Whether the payload is that of a request of a profile, 34 or 35.
+/// Judges whether the payload is that of a request of a profile, 34 or 35.
 #[unsafe(no_mangle)]
 pub extern "C" fn zk_judge_request(profile: u32, bytes: &[u8]) -> PayloadAnswer
     // A number that is no profile's is refused.
     ensures range { ((p : Profile) → profile ≢ profile_number p) → result ≡ payload_answer 67 0 }
-    // It is taken for one exactly where it is one's.
+    // It is taken for one exactly if it is one's.
     ensures found { (p : Profile) → profile ≡ profile_number p → result.status ≡ 0 → (f : ClientFrame) × IsRequest p bytes.now f }
     ensures only { (p : Profile) → profile ≡ profile_number p → (f : ClientFrame) → IsRequest p bytes.now f → result ≡ payload_answer 0 0 }
-    // Else the first case that applies is told.
+    // Else the first case that applies is reported.
     ensures fault { (p : Profile) → profile ≡ profile_number p → result.status ≢ 0 → IsToldBy (IsAskFault p bytes.now) result }
 {
     let Some(profile) = Profile::of_number(profile) else {
@@ -79,13 +79,13 @@ pub extern "C" fn zk_judge_request(profile: u32, bytes: &[u8]) -> PayloadAnswer
     }
 }
 
-/// Whether the payload is that of the answer to a connect request.
+/// Judges whether the payload is that of the reply to a connect request.
 #[unsafe(no_mangle)]
 pub extern "C" fn zk_judge_connected(bytes: &[u8]) -> PayloadAnswer
-    // It is taken for one exactly where it is one's.
+    // It is taken for one exactly if it is one's.
     ensures found { result.status ≡ 0 → (s : ServerFrame) × IsWelcome bytes.now s }
     ensures only { (s : ServerFrame) → IsWelcome bytes.now s → result ≡ payload_answer 0 0 }
-    // Else the first case that applies is told.
+    // Else the first case that applies is reported.
     ensures fault { result.status ≢ 0 → IsToldBy (IsConnectedFault bytes.now) result }
 {
     match borrow_connected(bytes) {
@@ -114,17 +114,18 @@ fn is_of_reply(bytes: &[u8]) -> bool
     }
 }
 
-/// Whether the payload is that of a reply to a request of this operation with parts of these.
+/// Judges whether the payload is that of a reply to a request of the operation whose number is `operation`, with the
+/// parts of these numbers.
 #[unsafe(no_mangle)]
 pub extern "C" fn zk_judge_reply(operation: i32, parts: &[i32], bytes: &[u8]) -> PayloadAnswer
-    // Numbers that are none's, or parts of another operation than multi, are refused.
+    // Numbers that name nothing, or parts of another operation than multi, are refused.
     ensures range { AreNoneAsked operation parts.now → result ≡ payload_answer 67 0 }
     // A header with the xid of events is another message's.
     ensures event { WhereAsked operation parts.now (λ op ops. HasHead IsOfEvent bytes.now → result ≡ payload_answer 82 0) }
-    // It is taken for one exactly where it is one's.
+    // It is taken for one exactly if it is one's.
     ensures found { WhereAsked operation parts.now (λ op ops. result.status ≡ 0 → (s : ServerFrame) × IsReply op ops bytes.now s) }
     ensures only { WhereAsked operation parts.now (λ op ops. (s : ServerFrame) → IsReply op ops bytes.now s → result ≡ payload_answer 0 0) }
-    // Else the first case that applies is told.
+    // Else the first case that applies is reported.
     ensures fault { WhereAsked operation parts.now (λ op ops. HasNoHead IsOfEvent bytes.now → result.status ≢ 0 → IsToldBy (IsReplyFault op ops bytes.now) result) }
 {
     let Some(asked) = Numbered::of(operation, parts) else {
@@ -139,15 +140,15 @@ pub extern "C" fn zk_judge_reply(operation: i32, parts: &[i32], bytes: &[u8]) ->
     }
 }
 
-/// Whether the payload is that of an event.
+/// Judges whether the payload is that of an event.
 #[unsafe(no_mangle)]
 pub extern "C" fn zk_judge_event(bytes: &[u8]) -> PayloadAnswer
     // A header with another xid than that of events is another message's.
     ensures reply { HasHead IsOfReply bytes.now → result ≡ payload_answer 82 0 }
-    // It is taken for one exactly where it is one's.
+    // It is taken for one exactly if it is one's.
     ensures found { result.status ≡ 0 → (s : ServerFrame) × IsNotice bytes.now s }
     ensures only { (s : ServerFrame) → IsNotice bytes.now s → result ≡ payload_answer 0 0 }
-    // Else the first case that applies is told.
+    // Else the first case that applies is reported.
     ensures fault { HasNoHead IsOfReply bytes.now → result.status ≢ 0 → IsToldBy (IsEventFault bytes.now) result }
 {
     if is_of_reply(bytes) {

@@ -1,4 +1,4 @@
-//! What a call answers that says a line.
+//! `SayAnswer`: what a call returns that says a line.
 ghost use Rattle.std.specs.Prelude.{◌≡◌};
 ghost use Rattle.zk_c.specs.Saying.{say_number, line_number, say_answer};
 
@@ -6,15 +6,15 @@ use crate::number::{MISFIT, NO_MEMORY, WELL};
 use zk_lines::{LineFault, LineReason};
 use zk_talk::SayFault;
 
-/// Whether a line was said.
+/// Whether a line was said, and if not, why.
 #[repr(C)]
 #[derive(Clone, Copy)]
 pub struct SayAnswer {
     /// 0, or why it wasn't.
     pub status: u32,
-    /// So many bytes its frame has.
+    /// The number of bytes of its frame.
     pub length: usize,
-    /// Where in the line the fault stands, from 1, if it is no message's.
+    /// The column of the line's fault, from 1, if the line is no message's.
     pub column: u32,
 }
 
@@ -50,7 +50,7 @@ fn line_number(reason: LineReason) -> u32
 }
 
 impl SayAnswer {
-    /// Nothing was said.
+    /// Nothing was said, for this reason.
     pub fn none(status: u32) -> SayAnswer
         ensures { result ≡ say_answer status 0 0 }
     {
@@ -61,7 +61,7 @@ impl SayAnswer {
         }
     }
 
-    /// A frame of so many bytes was said.
+    /// A frame of `length` bytes was said.
     pub fn said(length: usize) -> SayAnswer
         ensures { result ≡ say_answer 0 length 0 }
     {

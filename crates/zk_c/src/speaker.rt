@@ -1,4 +1,4 @@
-//! A speaker behind a handle.
+//! `zk_speaker_new` and its like: a speaker behind a handle.
 ghost use Rattle.std.specs.Prelude.{◌≡◌, ◌≢◌, ◌⊎◌, Some, None, IsSome, MatchOption};
 ghost use Rattle.std.specs.Option.{is_some};
 ghost use Rattle.zk_c.specs.Answer.{no_line};
@@ -17,7 +17,7 @@ use std::alloc::Global;
 use std::mem::replace;
 
 /// A speaker that C keeps, or none: all bytes 0.
-// It is not let go of unopened, so what is behind it isn't lost.
+// It has no `Drop`, so that what it holds isn't lost unnoticed.
 #[repr(C)]
 pub struct SpeakerHandle {
     /// The pointer.
@@ -66,7 +66,7 @@ impl SpeakerHandle {
     }
 }
 
-/// Makes a speaker with these limits, which has said nothing.
+/// Makes a speaker with these limits, which has said nothing. Returns the status.
 #[unsafe(no_mangle)]
 pub extern "C" fn zk_speaker_new(
     alloc: Global,
@@ -78,13 +78,13 @@ pub extern "C" fn zk_speaker_new(
 ) -> u32
     // A handle that holds a speaker keeps it.
     ensures in_use { IsSome handle.old.held.value → result ≡ 66 }
-    // Limits out of their ranges are told, and those in them are refused for want of memory alone.
+    // Limits out of their ranges are refused as that, and those in them only if memory is refused.
     ensures limits { handle.old.held.value ≡ None → AreNoLimits client server waiting profile → result ≡ 67 }
     ensures range { result ≡ 67 → AreNoLimits client server waiting profile }
     ensures status { handle.old.held.value ≡ None → (result ≡ 0) ⊎ (result ≡ 5) ⊎ (result ≡ 67) }
     // What is made has said nothing.
     ensures new { result ≡ 0 → IsSilent client server waiting profile handle.new.held.value }
-    // Nothing is changed where it is refused.
+    // Nothing is changed if it is refused.
     ensures same { result ≢ 0 → handle.new ≡ handle.old }
 {
     if handle.live {
@@ -123,7 +123,7 @@ pub extern "C" fn zk_speaker_say(
     answer
 }
 
-/// Writes the frame that was said last, where there is room for it.
+/// Writes the frame that was said last, if there is room for it.
 #[unsafe(no_mangle)]
 pub extern "C" fn zk_speaker_frame(
     alloc: Global,
@@ -134,7 +134,7 @@ pub extern "C" fn zk_speaker_frame(
     ensures empty { handle.old.held.value ≡ None → (result ≡ no_line 65) × (out.new ≡ out.old) }
     // The frame is the speaker's.
     ensures frame { (v : VoiceState) → handle.old.held.value ≡ Some v → TellsText v.frame out.old out.new result }
-    // No memory is wanted.
+    // Nothing is allocated.
     ensures ample { result.status ≢ 5 }
     // The speaker stays as it is.
     ensures same { handle.new.held.value ≡ handle.old.held.value }
@@ -147,7 +147,7 @@ pub extern "C" fn zk_speaker_frame(
     answer
 }
 
-/// Gives up the speaker and its memory; with no speaker nothing is done.
+/// Frees the speaker and its memory; with no speaker nothing is done.
 #[unsafe(no_mangle)]
 pub extern "C" fn zk_speaker_free(alloc: Global, handle: &mut SpeakerHandle)
     ensures { handle.new.held.value ≡ None }

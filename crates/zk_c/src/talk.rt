@@ -1,4 +1,4 @@
-//! A conversation behind a handle.
+//! `zk_talk_new` and its like: a conversation behind a handle.
 ghost use Rattle.std.specs.Prelude.{◌≡◌, ◌≢◌, ◌⊎◌, Option, Some, None, IsSome, IfSome, MatchOption};
 ghost use Rattle.std.specs.Option.{is_some};
 ghost use Rattle.zk_talk.specs.declared.message.Side.{Side};
@@ -19,7 +19,7 @@ use zk_records::Profile;
 use zk_talk::Limits;
 
 /// A talk that C keeps, or none: all bytes 0.
-// It is not let go of unopened, so what is behind it isn't lost.
+// It has no `Drop`, so that what it holds isn't lost unnoticed.
 #[repr(C)]
 pub struct TalkHandle {
     /// The pointer.
@@ -68,7 +68,7 @@ impl TalkHandle {
     }
 }
 
-/// Limits of these numbers.
+/// The limits of these numbers; `None` if one is out of its range.
 pub fn limits_of(client: u32, server: u32, waiting: u32, profile: u32) -> Option<Limits>
     ensures none { result ≡ None → AreNoLimits client server waiting profile }
     ensures value { IfSome result (λ l. AreNumbers client server waiting profile l) }
@@ -78,7 +78,7 @@ pub fn limits_of(client: u32, server: u32, waiting: u32, profile: u32) -> Option
     Some(limits.with_profile(profile))
 }
 
-/// Makes a talk with these limits, of which nothing has come.
+/// Makes a talk with these limits, of which nothing has come. Returns the status.
 #[unsafe(no_mangle)]
 pub extern "C" fn zk_talk_new(
     alloc: Global,
@@ -90,13 +90,13 @@ pub extern "C" fn zk_talk_new(
 ) -> u32
     // A handle that holds a talk keeps it.
     ensures in_use { IsSome handle.old.held.value → result ≡ 66 }
-    // Limits out of their ranges are told, and those in them are refused for want of memory alone.
+    // Limits out of their ranges are refused as that, and those in them only if memory is refused.
     ensures limits { handle.old.held.value ≡ None → AreNoLimits client server waiting profile → result ≡ 67 }
     ensures range { result ≡ 67 → AreNoLimits client server waiting profile }
     ensures status { handle.old.held.value ≡ None → (result ≡ 0) ⊎ (result ≡ 5) ⊎ (result ≡ 67) }
-    // What is made stands for the empty history.
+    // What is made has come through the empty history.
     ensures new { result ≡ 0 → IsNew client server waiting profile handle.new.held.value }
-    // Nothing is changed where it is refused.
+    // Nothing is changed if it is refused.
     ensures same { result ≢ 0 → handle.new ≡ handle.old }
 {
     if handle.live {
@@ -141,7 +141,7 @@ pub extern "C" fn zk_talk_step(
     answer
 }
 
-/// What message the frame is that the side keeps.
+/// The message of the frame that the side keeps.
 #[unsafe(no_mangle)]
 pub extern "C" fn zk_talk_view(alloc: Global, handle: &mut TalkHandle, side: u32) -> MessageAnswer
     // A number that is no side's is refused.
@@ -164,7 +164,7 @@ pub extern "C" fn zk_talk_view(alloc: Global, handle: &mut TalkHandle, side: u32
     answer
 }
 
-/// Writes the line of the message whose frame the side keeps, where there is room for it.
+/// Writes the line of the message whose frame the side keeps, if there is room for it.
 #[unsafe(no_mangle)]
 pub extern "C" fn zk_talk_line(
     alloc: Global,
@@ -210,7 +210,7 @@ pub extern "C" fn zk_talk_finish(alloc: Global, handle: &mut TalkHandle) -> Endi
     answer
 }
 
-/// Writes the line of the ending of the history so far, where there is room for it.
+/// Writes the line of the ending of the history so far, if there is room for it.
 #[unsafe(no_mangle)]
 pub extern "C" fn zk_talk_ending_line(
     alloc: Global,
@@ -232,7 +232,7 @@ pub extern "C" fn zk_talk_ending_line(
     answer
 }
 
-/// Gives up the talk and its memory; with no talk nothing is done.
+/// Frees the talk and its memory; with no talk nothing is done.
 #[unsafe(no_mangle)]
 pub extern "C" fn zk_talk_free(alloc: Global, handle: &mut TalkHandle)
     ensures { handle.new.held.value ≡ None }

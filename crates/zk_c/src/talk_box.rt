@@ -1,4 +1,4 @@
-//! A talk behind a pointer that C keeps.
+//! `TalkBox`: the pointer of a boxed conversation, as C keeps it.
 ghost use Rattle.std.specs.Prelude.{◌≡◌, Option, Some, None, IsSome};
 ghost use Rattle.std.specs.Coded.{coded_option};
 ghost use Rattle.zk_c.specs.Owned.{owned};

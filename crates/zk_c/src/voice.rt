@@ -1,4 +1,4 @@
-//! A speaker, and the frame that it said last.
+//! `Voice`: a speaker, and the frame that it said last.
 ghost use Rattle.std.specs.Prelude.{◌≡◌, ◌≢◌, [], IfOk};
 ghost use Rattle.zk_talk.specs.Said.{Says};
 ghost use Rattle.zk_c.specs.Handle.{TellsText};
@@ -27,7 +27,7 @@ impl Model for Voice {
 }
 
 impl Voice {
-    /// Nothing was said yet.
+    /// A speaker that has said nothing.
     pub fn new(alloc: Global, limits: Limits) -> Result<Self, AllocError>
         ensures limits { IfOk result (λ v. v.speaker.limits ≡ limits) }
         ensures says { IfOk result (λ v. Says v.speaker []) }
@@ -53,7 +53,7 @@ impl Voice {
         }
     }
 
-    /// Writes the frame that was said last, where there is room for it.
+    /// Writes the frame that was said last, if there is room for it.
     pub fn frame(&self, out: &mut [u8]) -> LineAnswer
         ensures told { TellsText self.now.frame out.old out.new result }
         ensures ample { result.status ≢ 5 }

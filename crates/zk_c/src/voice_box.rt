@@ -1,4 +1,4 @@
-//! A speaker behind a pointer that C keeps.
+//! `VoiceBox`: the pointer of a boxed speaker, as C keeps it.
 ghost use Rattle.std.specs.Prelude.{◌≡◌, Option, Some, None, IsSome};
 ghost use Rattle.std.specs.Coded.{coded_option};
 ghost use Rattle.zk_c.specs.Owned.{owned};
