@@ -1,7 +1,9 @@
-//! `zkdump show` reads a recorded conversation from standard input, and writes a line for each message and how the
-//! recording ends; `zkdump check` writes how it ends alone. `zkdump build` reads such lines, and writes the recording
-//! of their messages, one piece a message, up to the first line that is refused. `zkdump migrate` reads a recording,
-//! and writes it in the second format.
+//! The program: the commands of `zk_runs` over standard input, standard output and standard error.
+//!
+//! `zkdump show` reads a recorded conversation from standard input, and writes a line for each message and one for how
+//! the recording ends; `zkdump check` writes the last of these lines alone. `zkdump build` reads such lines, and writes
+//! the recording of their messages, one piece a message, up to the first line that is refused. `zkdump migrate` reads a
+//! recording, and writes it in the second format.
 #![tactic(auto)]
 
 use std::process::ExitCode;
