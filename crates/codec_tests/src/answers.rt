@@ -1,4 +1,4 @@
-//! Server payloads.
+//! Tests of server payloads: a table of payloads, each read, judged in each way, and written again.
 use crate::digits::hex;
 use crate::values::fault_told;
 use std::alloc::Global;
@@ -13,7 +13,7 @@ use zk_asks::{Ask, ClientFrame, read_ask};
 use zk_jute::{ItemFault, Reason};
 use zk_records::{Op, Profile};
 
-/// Payloads, each behind the call that reads it and the request that it answers; what each is, or what is wrong with it.
+/// Payloads, each after the call that reads it and the request that it answers; what each is, or what is wrong with it.
 const PAYLOADS: &str =
     r#"connected - 0000000000007530010000000000000100000010000102030405060708090a0b0c0d0e0f00 = Connected { hello: ConnectResponseOf { protocol_version: 0, time_out: 30000, session_id: 72057594037927937, passwd: Full(Bytes { bytes: [0, 1, 2, 3, 4, 5, 6, 7, 8, 9, 10, 11, 12, 13, 14, 15] }) }, read_only: Some(false) }
 connected - 0000000000007530010000000000000100000010000102030405060708090a0b0c0d0e0f = Connected { hello: ConnectResponseOf { protocol_version: 0, time_out: 30000, session_id: 72057594037927937, passwd: Full(Bytes { bytes: [0, 1, 2, 3, 4, 5, 6, 7, 8, 9, 10, 11, 12, 13, 14, 15] }) }, read_only: None }
@@ -53,7 +53,7 @@ reply 000000010000000e0000000100ffffffffffffffffffffffffffffffff0000000000000002
 reply 000000010000000e0000000100ffffffffffffffffffffffffffffffff000000000000000d00ffffffffffffffffffffffff0000000500ffffffffffffffffffffffffffffffffffffffff01ffffffff 00000001000000000000000500000000ffffffff000000000000000000ffffffff00ffffff99ffffff99ffffffff01ffffffff = BadPart at 42
 reply 000000010000000e0000000d00ffffffffffffffffffffffffffffffff01ffffffff 00000001000000000000000600000000ffffffff00ffffff99ffffff9bffffffff01ffffffff = BadPart at 16"#;
 
-/// What the request leaves.
+/// What of the request `ask` its reply is read by.
 fn left(alloc: Global, ask: &Ask) -> Result<Form, Fail> {
     if ask.parts().len() > 9 {
         return Err("too many parts")?;
@@ -61,7 +61,7 @@ fn left(alloc: Global, ask: &Ask) -> Result<Form, Fail> {
     Ok(form_of(alloc, ask)?)
 }
 
-/// What the request that has this payload leaves.
+/// What of the request with the payload `digits` its reply is read by.
 fn form(alloc: Global, digits: &str) -> Result<Form, Fail> {
     let request = hex(alloc, digits)?;
     match read_ask(alloc, Profile::V35, &request) {
@@ -70,7 +70,7 @@ fn form(alloc: Global, digits: &str) -> Result<Form, Fail> {
     }
 }
 
-/// The reply to what left the form, where the payload is no event.
+/// The reply to `form`, if the payload is no event.
 fn reply(alloc: Global, form: &Form, payload: &[u8]) -> Result<ServerFrame, ItemFault> {
     let head = reply_head(payload)?;
     if head.xid == -1 {
@@ -79,7 +79,7 @@ fn reply(alloc: Global, form: &Form, payload: &[u8]) -> Result<ServerFrame, Item
     read_reply(alloc, form, payload)
 }
 
-/// The same where it lies.
+/// The reply to `form`, borrowed, if the payload is no event.
 fn reply_seen<'a>(form: &Form, payload: &'a [u8]) -> Result<ServerRef<'a>, ItemFault> {
     let head = reply_head(payload)?;
     if head.xid == -1 {
@@ -89,7 +89,7 @@ fn reply_seen<'a>(form: &Form, payload: &'a [u8]) -> Result<ServerRef<'a>, ItemF
     borrow_reply_under(form, &head, payload)
 }
 
-/// Whether the quick way says that the payload is a reply to what left the form.
+/// Whether `front_reply` returns that the payload is a reply to `form`.
 fn is_front(form: &Form, payload: &[u8]) -> bool {
     let Ok(head) = reply_head(payload) else {
         return false;
@@ -100,7 +100,7 @@ fn is_front(form: &Form, payload: &[u8]) -> bool {
     front_reply(form, &head, payload)
 }
 
-/// The event, where the payload is one.
+/// The event, if the payload is one.
 fn event(alloc: Global, payload: &[u8]) -> Result<ServerFrame, ItemFault> {
     let head = reply_head(payload)?;
     if head.xid != -1 {
@@ -109,7 +109,7 @@ fn event(alloc: Global, payload: &[u8]) -> Result<ServerFrame, ItemFault> {
     read_event(alloc, payload)
 }
 
-/// The same where it lies.
+/// The event, borrowed, if the payload is one.
 fn event_seen(payload: &[u8]) -> Result<ServerRef<'_>, ItemFault> {
     let head = reply_head(payload)?;
     if head.xid != -1 {
@@ -119,7 +119,7 @@ fn event_seen(payload: &[u8]) -> Result<ServerRef<'_>, ItemFault> {
     borrow_event_under(&head, payload)
 }
 
-/// The frame by the call of this name, of a reply with what its request left.
+/// The frame by the call of this name; a reply is one to `form`.
 fn read(alloc: Global, call: &str, form: &Form, payload: &[u8]) -> Result<ServerFrame, ItemFault> {
     match call {
         "connected" => read_connected(alloc, payload),
@@ -128,7 +128,7 @@ fn read(alloc: Global, call: &str, form: &Form, payload: &[u8]) -> Result<Server
     }
 }
 
-/// Whether it is refused where it lies, or for what.
+/// Why the payload is refused when it is scanned; `None` if it isn't.
 fn scanned(call: &str, form: &Form, payload: &[u8]) -> Option<ItemFault> {
     match call {
         "connected" => scan_connected(payload).err(),
@@ -137,7 +137,7 @@ fn scanned(call: &str, form: &Form, payload: &[u8]) -> Option<ItemFault> {
     }
 }
 
-/// The frame's payload, where it has so many bytes and no fewer.
+/// The payload of `frame`, if it has `size` bytes and no fewer.
 fn written(alloc: Global, frame: &ServerFrame, size: usize) -> Result<Vec<u8>, Fail> {
     let Some(most) = frame.size_within(i32::MAX as u32) else {
         return Err("no size")?;
@@ -155,7 +155,7 @@ fn written(alloc: Global, frame: &ServerFrame, size: usize) -> Result<Vec<u8>, F
     Ok(out)
 }
 
-/// What stands as the payload, which is written again, or what is wrong with it.
+/// The value of the payload, which is written again, or what is wrong with it, in words.
 fn told(alloc: Global, call: &str, form: &Form, payload: &[u8]) -> Result<String, Fail> {
     let frame = match read(alloc, call, form, payload) {
         Ok(frame) => frame,
@@ -168,7 +168,7 @@ fn told(alloc: Global, call: &str, form: &Form, payload: &[u8]) -> Result<String
     Ok(format!(in alloc; "{frame:?}")?)
 }
 
-/// A payload is told as it is wanted; where it lies, and by the quick way, it is judged alike.
+/// The payload is what the row says; borrowed, scanned and by `front_reply` it is judged alike.
 fn judged(
     rt: &impl Abort,
     alloc: Global,
@@ -211,7 +211,7 @@ fn payloads(rt: HostRuntime) -> Result<(), Fail> {
     Ok(())
 }
 
-/// Whether the reply to an exists request fits a request of the operation.
+/// Whether the reply to an exists request fits a request of the operation `op`.
 fn fits_one(alloc: Global, payload: &[u8], op: Op) -> Result<bool, Fail> {
     let parts = Vec::new(alloc);
     let exists = Form {

@@ -1,4 +1,4 @@
-//! Client payloads.
+//! Tests of client payloads: a table of payloads, each read, judged in each way, and written again.
 ghost use Rattle.std.specs.Prelude.{[], refl};
 ghost use Rattle.zk_asks.specs.Frames.{MaySend};
 
@@ -14,8 +14,7 @@ use zk_asks::{
 use zk_jute::ItemFault;
 use zk_records::{Op, PartOp, Profile};
 
-/// Payloads, each behind the profile that it is read under, or that it is the first; what each is, or what is wrong
-/// with it.
+/// Payloads, each after the profile that it is read under, or that it is the first; what each is, or what is wrong with it.
 const PAYLOADS: &str =
     r#"first 000000000000000000000000000075300000000000000000000000100000000000000000000000000000000000 = Connect { hello: ConnectRequestOf { protocol_version: 0, last_zxid_seen: 0, time_out: 30000, session_id: 0, passwd: Full(Bytes { bytes: [0, 0, 0, 0, 0, 0, 0, 0, 0, 0, 0, 0, 0, 0, 0, 0] }) }, read_only: Some(false) }
 first 0000000000000000000000000000753000000000000000000000001000000000000000000000000000000000 = Connect { hello: ConnectRequestOf { protocol_version: 0, last_zxid_seen: 0, time_out: 30000, session_id: 0, passwd: Full(Bytes { bytes: [0, 0, 0, 0, 0, 0, 0, 0, 0, 0, 0, 0, 0, 0, 0, 0] }) }, read_only: None }
@@ -57,7 +56,7 @@ first 0000000000000000000000000000753000000000000000000000 = Short at 24
 34 000000010000000e0000000d00ffffffff000000022f610000 = Short at 23
 35 000000010000000e0000000f00ffffffff = BadPart at 8"#;
 
-/// Whether it is refused where it lies, or for what.
+/// Why the payload is refused when it is scanned; `None` if it isn't.
 fn scanned(kind: &str, payload: &[u8]) -> Option<ItemFault> {
     let profile = match kind {
         "first" => return scan_first(payload).err(),
@@ -70,7 +69,7 @@ fn scanned(kind: &str, payload: &[u8]) -> Option<ItemFault> {
     scan_ask(profile, payload).err()
 }
 
-/// The frame's payload, where it has so many bytes and no fewer.
+/// The payload of `frame`, if it has `size` bytes and no fewer.
 fn written(alloc: Global, frame: &ClientFrame, size: usize) -> Result<Vec<u8>, Fail>
     requires { MaySend frame.now }
 {
@@ -85,7 +84,7 @@ fn written(alloc: Global, frame: &ClientFrame, size: usize) -> Result<Vec<u8>, F
     Ok(out)
 }
 
-/// What the frame is, once it is written again as its payload.
+/// The frame in words, once it is written again as its payload.
 fn frame_told(alloc: Global, frame: &ClientFrame, payload: &[u8]) -> Result<String, Fail>
     requires { MaySend frame.now }
 {
@@ -96,7 +95,7 @@ fn frame_told(alloc: Global, frame: &ClientFrame, payload: &[u8]) -> Result<Stri
     Ok(format!(in alloc; "{frame:?}")?)
 }
 
-/// What the first payload is, or what is wrong with it.
+/// The first payload in words, or what is wrong with it.
 fn first_told(alloc: Global, payload: &[u8]) -> Result<String, Fail> {
     match read_first(alloc, payload) {
         Ok(frame) => frame_told(alloc, &frame, payload),
@@ -104,7 +103,7 @@ fn first_told(alloc: Global, payload: &[u8]) -> Result<String, Fail> {
     }
 }
 
-/// What a later payload is, or what is wrong with it.
+/// A later payload in words, or what is wrong with it.
 fn ask_told(alloc: Global, profile: Profile, payload: &[u8]) -> Result<String, Fail> {
     match read_ask(alloc, profile, payload) {
         Ok(frame) => frame_told(alloc, &frame, payload),
@@ -120,7 +119,7 @@ fn told(alloc: Global, kind: &str, payload: &[u8]) -> Result<String, Fail> {
     }
 }
 
-/// A payload is told as it is wanted, and where it lies it is refused for the same.
+/// The payload is what the row says, and scanned it is refused for the same.
 fn judged(
     rt: &impl Abort,
     alloc: Global,
@@ -152,7 +151,7 @@ fn payloads(rt: HostRuntime) -> Result<(), Fail> {
 const TWO: &str =
     "000000010000000e0000000200ffffffff000000022f61ffffffff0000000d00ffffffff000000022f6100000003ffffffff01ffffffff";
 
-/// The quick ways say something.
+/// `front_ask` and `front_multi` decide.
 #[test]
 fn fronts(rt: HostRuntime) -> Result<(), Fail> {
     let exists = hex(rt.alloc(), "0000000100000003000000022f6101")?;
@@ -200,7 +199,7 @@ fn what_was_asked(rt: HostRuntime) {
     assert_eq!(rt; part_of(&Wanted { op: Op::Sync }), (Op::Sync, 0, None));
 }
 
-/// What a request leaves, where it lies: an exists, and a multi of one delete.
+/// What is kept of a scanned request: an exists, and a multi of one delete.
 #[test]
 fn what_was_scanned(rt: HostRuntime) -> Result<(), Fail> {
     let exists = scan_ask(Profile::V34, b"\0\0\0\x07\0\0\0\x03\0\0\0\x02/a\x01")?;

@@ -1,4 +1,4 @@
-//! Bytes as digits.
+//! The bytes of hexadecimal digits, for the tests.
 use std::alloc::Global;
 use std::test::Fail;
 

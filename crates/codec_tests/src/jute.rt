@@ -1,4 +1,4 @@
-//! Numbers, and what lies in a payload.
+//! Tests of jute's numbers, of borrowed values and lists, and of faults in words.
 use std::process::Abort;
 use std::test::Fail;
 use zk_jute::{
@@ -54,7 +54,7 @@ fn listed(rt: HostRuntime) -> Result<(), Fail> {
     Ok(())
 }
 
-/// A list in memory tells its length, and goes in a `for`.
+/// An owned list has its length, and goes in a `for`.
 #[test]
 fn counted(rt: HostRuntime) -> Result<(), Fail> {
     let items = Items::new(vec![in rt.alloc(); 3u8, 4u8]?);

@@ -1,4 +1,4 @@
-//! The tables of operations, errors and events.
+//! Tests of the tables of operations, parts, errors, events and profiles.
 use std::process::Abort;
 use std::test::Fail;
 use zk_records::{
@@ -6,7 +6,7 @@ use zk_records::{
     part_of,
 };
 
-/// Numbers and the names of their operations, and numbers of none; create2 is of the newer profile alone.
+/// Numbers and the names of their operations, or none; create2 is of the newer profile alone.
 const OPERATIONS: &str = "\
 1 create
 2 delete
@@ -59,7 +59,7 @@ fn operations(rt: HostRuntime) -> Result<(), Fail> {
     Ok(())
 }
 
-/// The same of the parts of a multi.
+/// Numbers and the names of their parts' operations, or none.
 const PARTS: &str = "\
 1 create
 2 delete
@@ -93,7 +93,7 @@ fn operations_of_parts(rt: HostRuntime) -> Result<(), Fail> {
     Ok(())
 }
 
-/// Errors and events by their numbers, and numbers of none.
+/// Numbers and the names of their errors and events, or none.
 const NAMES: &str = "\
 error 0 OK
 error -1 SYSTEMERROR

@@ -1,4 +1,4 @@
-//! Values, each with its bytes: a type, the bytes, and the value or what is wrong with them.
+//! Tables of values for the tests: a type, the bytes, and the value or what is wrong with them.
 
 /// Values as ZooKeeper's own library for jute wrote them.
 pub(crate) const VECTORS: &str =
@@ -44,7 +44,7 @@ AclBody ffffffff01000000000000010000000000000000dcab04589151c0350000018bcfe56800
 AclBody ffffffff7fffffffffffffff00000000000000018e34631f919696be0000000000000001ffffff907fffffffec8611eff9e878eb4bf47d237fffffffc41a4e4d7fffffffffffffff = AclBodyOf { acl: Null, stat: Stat { czxid: 9223372036854775807, mzxid: 1, ctime: -8199820034297129282, mtime: 1, version: -112, cversion: 2147483647, aversion: -326757905, ephemeral_owner: -438968011681661661, data_length: 2147483647, num_children: -1004908979, pzxid: 9223372036854775807 } }
 ChildrenBody 000000020000000b3132372e302e302e312f3800000002c3a97fffffffffffffff00000000000000000100000000000001843282662d2d891e146b8b8160d29e8bc31b67d08000000000000000ca828261062895fe8000000000000000 = ChildrenBodyOf { names: Full(Items { items: [Full(Chars { text: "127.0.0.1/8" }), Full(Chars { text: "é" })] }), stat: Stat { czxid: 9223372036854775807, mzxid: 0, ctime: 72057594037927937, mtime: -8920924536511297250, version: 342592385, cversion: 1624415883, aversion: -1021614128, ephemeral_owner: -9223372036854775808, data_length: -897416607, num_children: 103323134, pzxid: -9223372036854775808 } }"#;
 
-/// Values of each primitive, and what is none.
+/// Values of each primitive, and bytes of none.
 pub(crate) const VALUES: &str = r#"Text ffffffff = Null
 Text 00000000 = Full(Chars { text: "" })
 Text 000000022f61 = Full(Chars { text: "/a" })
@@ -74,7 +74,7 @@ List 7fffffff = Short at 4
 Stat 0000000000000004000000000000000400000000000003e800000000000003e8000000000000000000000000000000000000000000000003000000000000000000000004 = Stat { czxid: 4, mzxid: 4, ctime: 1000, mtime: 1000, version: 0, cversion: 0, aversion: 0, ephemeral_owner: 0, data_length: 3, num_children: 0, pzxid: 4 }
 CreateBody 000000022f610000000000000004000000000000000400000000000003e800000000000003e8000000000000000000000000000000000000000000000003000000000000000000000004 = CreateBodyOf { path: Full(Chars { text: "/a" }), stat: Stat { czxid: 4, mzxid: 4, ctime: 1000, mtime: 1000, version: 0, cversion: 0, aversion: 0, ephemeral_owner: 0, data_length: 3, num_children: 0, pzxid: 4 } }"#;
 
-/// Values with a boolean behind them, which may be left out.
+/// Values with a boolean after them, which may be left out.
 pub(crate) const FLAGGED: &str = r#"Text ffffffff = (Null, None)
 Text ffffffff00 = (Null, Some(false))
 Text 000000022f6101 = (Full(Chars { text: "/a" }), Some(true))

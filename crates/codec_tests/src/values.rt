@@ -1,4 +1,4 @@
-//! Values of jute and records: each is read, told, and written again.
+//! Tests of values of jute and of records: each is read, shown in words, and written again.
 use crate::digits::hex;
 use crate::samples::{FLAGGED, VALUES, VECTORS};
 use std::alloc::{AllocError, Global};
@@ -19,7 +19,7 @@ pub(crate) fn fault_told(alloc: Global, fault: &ItemFault) -> Result<String, All
     format!(in alloc; "{} at {}", reason_name(&fault.reason), fault.place)
 }
 
-/// The value's bytes, where it has so many and no fewer.
+/// The bytes of `value`, if they are `size` and no fewer.
 fn spelled<T: Spell>(alloc: Global, value: &T, size: usize) -> Result<Vec<u8>, Fail> {
     let mut out = Vec::new(alloc);
     let Some(most) = value.size_within(i32::MAX as u32) else {
@@ -32,7 +32,7 @@ fn spelled<T: Spell>(alloc: Global, value: &T, size: usize) -> Result<Vec<u8>, F
     Ok(out)
 }
 
-/// What stands as the bytes: the value, which is written again as they are, or what is wrong with them.
+/// The value of the bytes, which is written again as they are, or what is wrong with them, in words.
 fn told<'a, T: Wire + Stands<Kept<'a>> + Debug>(
     alloc: Global,
     bytes: &'a [u8],
@@ -48,7 +48,7 @@ fn told<'a, T: Wire + Stands<Kept<'a>> + Debug>(
     Ok(format!(in alloc; "{value:?}")?)
 }
 
-/// The same of a value of the type of this name.
+/// The same for a value of the type whose name is `name`.
 fn value_told(alloc: Global, name: &str, bytes: &[u8]) -> Result<String, Fail> {
     match name {
         "i32" => told::<i32>(alloc, bytes),
@@ -70,7 +70,7 @@ fn value_told(alloc: Global, name: &str, bytes: &[u8]) -> Result<String, Fail> {
     }
 }
 
-/// The same of a record of requests.
+/// The same for a record of requests.
 fn ask_told(alloc: Global, name: &str, bytes: &[u8]) -> Result<String, Fail> {
     match name {
         "Id" => told::<Id>(alloc, bytes),
@@ -90,7 +90,7 @@ fn ask_told(alloc: Global, name: &str, bytes: &[u8]) -> Result<String, Fail> {
     }
 }
 
-/// What stands as the bytes: a value and its boolean, or what is wrong with them.
+/// The value and the boolean of the bytes, or what is wrong with them, in words.
 fn flagged_told<'a, T: Wire + Stands<Kept<'a>> + Debug>(
     alloc: Global,
     bytes: &'a [u8],
@@ -106,7 +106,7 @@ fn flagged_told<'a, T: Wire + Stands<Kept<'a>> + Debug>(
     Ok(format!(in alloc; "({value:?}, {flag:?})")?)
 }
 
-/// A row's name, its bytes, and what is told of them.
+/// A row's name, its bytes, and what is expected of them.
 pub(crate) fn parsed<'a>(alloc: Global, row: &'a str) -> Result<(&'a str, Vec<u8>, &'a str), Fail> {
     let (asked, want) = row.split_once(" = ").ok_or("no row")?;
     let (name, digits) = asked.split_once(' ').ok_or("no name")?;
