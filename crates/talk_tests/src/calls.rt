@@ -1,4 +1,4 @@
-//! What a talk answers, call by call, and what its sides then hold.
+//! Tests of `Talk`, call by call: what each returns, and what the sides then hold.
 use crate::frames::hex;
 use std::alloc::Global;
 use std::process::Abort;
@@ -16,7 +16,7 @@ fn called(talk: &mut Talk, call: &str, side: Side, piece: &[u8]) -> Result<(usiz
     Ok((stepped.used, stepped.whole))
 }
 
-/// What the call of a row answers, how much is then held of the client and of the server, what waits, and whether a
+/// What the call of a row returns, how much is then held of the client and of the server, what waits, and whether a
 /// message of either is shown.
 fn told(alloc: Global, talk: &mut Talk, asked: &str) -> Result<String, Fail> {
     let (call, rest) = asked.split_once(' ').ok_or("no call")?;
@@ -35,7 +35,7 @@ fn told(alloc: Global, talk: &mut Talk, asked: &str) -> Result<String, Fail> {
     Ok(format!(in alloc; "{answer:?} held {held:?} waiting {waiting} shown {shown:?}")?)
 }
 
-/// Each call of the rows answers as its row says.
+/// Each call of the rows returns what its row says.
 fn goes(rt: &impl Abort, alloc: Global, rows: &str) -> Result<(), Fail> {
     let limits = Limits::new(4_194_304, 4_194_304, 65_536).ok_or("no limits")?;
     let mut talk = Talk::new(alloc, limits)?;
@@ -47,7 +47,7 @@ fn goes(rt: &impl Abort, alloc: Global, rows: &str) -> Result<(), Fail> {
     Ok(())
 }
 
-/// Within a request and behind it, by `take`, which keeps no frame.
+/// Within a request and after it, by `take`, which keeps no frame.
 const TAKEN: &str = "\
 take C 0000002d000000000000000000000000000075300000000000000000000000100000000000000000000000000000000000 = Ok((49, true)) held (0, 0) waiting 0 shown (false, false)
 take C 0000000f0000000100000003000000022f61 = Ok((18, false)) held (18, 0) waiting 0 shown (false, false)
@@ -73,7 +73,7 @@ fn frame_is_kept(rt: HostRuntime) -> Result<(), Fail> {
     goes(&rt, rt.alloc(), STEPPED)
 }
 
-/// A fault is answered for good, on both sides, and no byte is used.
+/// A fault is returned for good, on both sides, and no byte is used.
 const REFUSED: &str = "\
 take C 0000002d000000000000000000000000000075300000000000000000000000100000000000000000000000000000000000 = Ok((49, true))
 take S 000000250000000000007530010000000000000100000010000102030405060708090a0b0c0d0e0f00 = Ok((41, true))

@@ -1,4 +1,4 @@
-//! Frames that the tests share, and limits.
+//! Frames and limits that the tests share.
 use std::alloc::Global;
 use std::test::Fail;
 use zk_records::Profile;
@@ -8,14 +8,14 @@ use zk_talk::Limits;
 pub(crate) const CONNECT: &[u8] =
     b"\0\0\0-\0\0\0\0\0\0\0\0\0\0\0\0\0\0u0\0\0\0\0\0\0\0\0\0\0\0\x10\0\0\0\0\0\0\0\0\0\0\0\0\0\0\0\0\0";
 
-/// Its response.
+/// The reply to it.
 pub(crate) const CONNECTED: &[u8] =
     b"\0\0\0%\0\0\0\0\0\0u0\x01\0\0\0\0\0\0\x01\0\0\0\x10\0\x01\x02\x03\x04\x05\x06\x07\x08\x09\x0a\x0b\x0c\x0d\x0e\x0f\0";
 
 /// An exists request of `/a`, under xid 1.
 pub(crate) const EXISTS: &[u8] = b"\0\0\0\x0f\0\0\0\x01\0\0\0\x03\0\0\0\x02/a\x01";
 
-/// Its reply: there is no such node.
+/// The reply to it: there is no such node.
 pub(crate) const NO_NODE: &[u8] = b"\0\0\0\x10\0\0\0\x01\0\0\0\0\0\0\0\x05\xff\xff\xff\x9b";
 
 /// The usual limits, with the newer profile.

@@ -1,6 +1,8 @@
-//! The library's calls where a growth is refused: what then wants memory is called again, and answers as with ample
-//! memory, and a step wants none. tests/refusals.py runs the test over each worked example, which stands on its
-//! standard input, and refuses one growth a run; with no input it goes over the first example that has a reply.
+//! Tests of refused memory: each call of the library whose memory is refused is made again, and returns the same.
+//!
+//! A call that runs out of memory returns what it does with ample memory when it is called again, and a step allocates
+//! nothing. tests/refusals.py runs the test over each worked example, which is on its standard input, and refuses one
+//! growth a run; with no input it goes over the first example that has a reply.
 use crate::frames::{CONNECT, CONNECTED, EXISTS, NO_NODE, newer};
 use std::alloc::{AllocError, Global};
 use std::io::Read;
@@ -96,7 +98,7 @@ fn copied_line(alloc: Global, message: &MessageRef<'_>) -> Result<Vec<u8>, Alloc
     line(alloc, &copy)
 }
 
-/// The line of the message that a line is read as; none of what is no line.
+/// The line of the message that `shown` is read as; nothing if it is no line.
 fn line_again(alloc: Global, shown: &[u8]) -> Result<Vec<u8>, AllocError> {
     match message(alloc, shown) {
         Ok(message) => line(alloc, &message),
@@ -138,7 +140,7 @@ fn said_line(
     Ok(line(alloc, message)?)
 }
 
-/// The same of what was taken: where no message came, an empty line.
+/// The line of what was taken, once it is said; nothing if no message came.
 fn taken_line(
     alloc: Global,
     speaker: &mut Speaker,
@@ -175,8 +177,7 @@ fn steps(talk: &mut Talk, side: Side, piece: &[u8]) -> Option<(usize, bool)> {
     }
 }
 
-/// A step uses as much as was taken, and its frame shows the message of this line; with no line it
-/// made no frame whole.
+/// A step uses as much as was taken, and its frame shows the message of this line; with no line it made no frame whole.
 fn steps_too(
     rt: &impl Abort,
     alloc: Global,
@@ -196,7 +197,7 @@ fn steps_too(
     }
 }
 
-/// A step is refused for the same.
+/// A step is refused for the same fault.
 fn refused_too(rt: &impl Abort, talk: &mut Talk, side: Side, piece: &[u8], fault: Fault) {
     let refused = match talk.step(side, piece) {
         Ok(_) => None,
@@ -205,7 +206,7 @@ fn refused_too(rt: &impl Abort, talk: &mut Talk, side: Side, piece: &[u8], fault
     assert_eq!(rt; refused, Some(fault));
 }
 
-/// What was taken is said, stepped through, and its line told; how much it used.
+/// Says what was taken, steps through it, and returns its line, and how much was used.
 fn heard(
     rt: &impl Abort,
     alloc: Global,
@@ -225,7 +226,7 @@ fn heard(
     Ok(used)
 }
 
-/// How much of a piece is read up to the end of a frame; all of it where it is refused.
+/// How much of a piece is read up to the end of a frame; all of it if it is refused.
 fn hear_next(
     rt: &impl Abort,
     alloc: Global,
@@ -275,7 +276,7 @@ fn hear_all(
     Ok(append(&mut told.lines, &last)?)
 }
 
-/// What the pieces come to as they are taken.
+/// The bytes that were said, and the lines of the messages, of pieces that are taken one by one.
 fn asked(
     rt: &impl Abort,
     alloc: Global,
@@ -307,7 +308,7 @@ fn listed(alloc: Global, limits: Limits, pieces: &[(Side, &[u8])]) -> Result<Vec
     lines_of(alloc, &ended)
 }
 
-/// Asks all calls for what the pieces come to, and then those of a conversation once more.
+/// Makes all calls for the pieces, and then those of a conversation once more.
 fn ask(rt: &impl Abort, alloc: Global, pieces: &[(Side, &[u8])]) -> Result<(), Fail> {
     let limits = newer()?;
     let some = asked(rt, alloc, limits, pieces)?;

@@ -1,4 +1,4 @@
-//! The library as README shows it: a conversation that is read, message by message or where they lie, and one that is said.
+//! Tests of the library's usage as its page shows it: a conversation that is read, and one that is said.
 use crate::frames::{CONNECT, CONNECTED, EXISTS};
 use std::process::Abort;
 use std::test::Fail;

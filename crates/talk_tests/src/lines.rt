@@ -1,4 +1,4 @@
-//! Lines of messages and of endings, and back.
+//! Tests of lines of messages and of endings, and back; and of lines that are refused.
 use crate::samples::{FAULTS, LINES};
 use std::alloc::Global;
 use std::process::Abort;
@@ -10,7 +10,7 @@ use zk_lines::{
 };
 use zk_talk::{Ending, Fault, SayFault, Side};
 
-/// The line of the message that the line is read as, behind what stands in `lines`.
+/// Appends the line of the message that `line` is read as to `lines`.
 fn put_again(lines: &mut Vec<u8>, alloc: Global, line: &[u8]) -> Result<(), Fail> {
     match read_line(alloc, line) {
         Ok(message) => Ok(put_line(lines, &message)?),
@@ -18,7 +18,7 @@ fn put_again(lines: &mut Vec<u8>, alloc: Global, line: &[u8]) -> Result<(), Fail
     }
 }
 
-/// The same by `line_of`.
+/// The same line by `line_of`.
 fn again(alloc: Global, line: &[u8]) -> Result<Vec<u8>, Fail> {
     match read_line(alloc, line) {
         Ok(message) => Ok(line_of(alloc, &message)?),

@@ -1,4 +1,4 @@
-//! Lines, and what is wrong with others.
+//! Tables of lines for the tests: lines of messages, and lines that are refused.
 
 /// Lines of messages: all kinds, one of each shape that clients of four languages and their servers were recorded with,
 /// and one with every byte of ASCII in a text.
@@ -79,7 +79,7 @@ S 1 create2 zxid=6 path="/a" stat=(4,4,1000,1000,0,0,0,0,3,0,4)
 S 1 create2 zxid=6 err=-110/NODEEXISTS
 C 1 sync path="\00\01\02\03\04\05\06\07\08\09\0a\0b\0c\0d\0e\0f\10\11\12\13\14\15\16\17\18\19\1a\1b\1c\1d\1e\1f !\22#$%&'()*+,-./0123456789:;<=>?@ABCDEFGHIJKLMNOPQRSTUVWXYZ[\5c]^_`abcdefghijklmnopqrstuvwxyz{|}~\7f""#;
 
-/// Lines that are refused, each behind the column and the reason, and a blank.
+/// Lines that are refused, each after the column and the reason, and a blank.
 pub(crate) const FAULTS: &str = r#"1 Word 
 1 Word C
 1 Word x

@@ -1,11 +1,11 @@
-//! What may be said.
+//! Tests of `Speaker`: which messages may be said, and why others may not.
 use std::alloc::Global;
 use std::process::Abort;
 use std::test::Fail;
 use zk_lines::read_line;
 use zk_talk::{Limits, SayFault, Speaker, read_is_said, said_is_read};
 
-/// What is answered to the message of the line.
+/// What `say` returns for the message of the line.
 fn said(
     alloc: Global,
     speaker: &mut Speaker,
@@ -18,8 +18,8 @@ fn said(
     }
 }
 
-/// The messages of the rows are said in turn, each with the answer that stands before it: None where it is said, and
-/// else why not, and then nothing is changed.
+/// The messages of the rows are said in turn, each with the result that comes before it: None if it is said, and else why
+/// not, and then nothing is changed.
 fn says(rt: &impl Abort, alloc: Global, limits: (u32, u32), rows: &str) -> Result<(), Fail> {
     let (size, waiting) = limits;
     let limits = Limits::new(size, 4_194_304, waiting).ok_or("no limits")?;
