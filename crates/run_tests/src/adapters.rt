@@ -1,5 +1,6 @@
-//! `FromRead` and `FromWrite` over a reader and a writer of the standard library that fail at their first call and work
-//! at the next: the failure is told at that call, and remembered.
+//! Tests of `FromRead` and `FromWrite` over a reader and a writer that fail at their first call and work at the next.
+//!
+//! The failure is returned at that call, and remembered.
 use std::io;
 use std::io::{ErrorKind, Read, Write};
 use std::test::Fail;

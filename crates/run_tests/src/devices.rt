@@ -1,4 +1,4 @@
-//! Runs of each command over a standard input, output and error that fail.
+//! Tests of runs of each command over a standard input, output and error that fail.
 use crate::memory::{MemorySink, MemorySource};
 use crate::samples::{MESSAGES, MIGRATED, RECORDING, WHOLE, hex, run, words};
 use std::alloc::Global;
@@ -6,7 +6,7 @@ use std::process::Abort;
 use std::test::Fail;
 use zk_runs::run_words;
 
-/// A command over bytes, its output and its status; and how much of the output stands before the read behind the last
+/// A command over bytes, its output and its status; and how much of the output is written before the read after the last
 /// byte.
 #[derive(Clone, Copy)]
 struct Run<'a> {
@@ -27,7 +27,7 @@ fn expect_single_bytes(rt: &impl Abort, alloc: Global, of: &Run<'_>) -> Result<(
     Ok(())
 }
 
-/// Over single bytes where a read fails: what stands written is a front of the whole output.
+/// Over single bytes where a read fails: what is written is a front of the whole output.
 fn expect_read_failed(rt: &impl Abort, alloc: Global, of: &Run<'_>, call: u64) -> Result<(), Fail> {
     let mut reader = MemorySource::failing_at(of.input, call);
     let mut writer = MemorySink::by_steps(alloc, 1);
@@ -45,7 +45,7 @@ fn expect_read_failed(rt: &impl Abort, alloc: Global, of: &Run<'_>, call: u64) -
     Ok(())
 }
 
-/// Over a writer of single bytes that fails, or takes none, behind so many bytes: these stand written.
+/// Over a writer of single bytes that fails, or takes none, after some bytes: these are written.
 fn expect_write_failed(
     rt: &impl Abort,
     alloc: Global,
@@ -71,7 +71,7 @@ fn expect_write_failed(
     Ok(())
 }
 
-/// Each read and each write of the run in vain, one a run.
+/// Each read and each write of the run fails, one a run.
 fn each_in_vain(rt: &impl Abort, alloc: Global, of: &Run<'_>) -> Result<(), Fail> {
     expect_single_bytes(rt, alloc, of)?;
     // What refuses a recording ends the reads.
@@ -96,7 +96,7 @@ const BAD_WATCH: &str = "\
 00\
 43000000130000000f0000000100000003000000022f6102";
 
-/// What a check says of it: the path must have two bytes, so the watch is the first byte that may not stand.
+/// The output of a check of it: the path must have two bytes, so the watch is the first impossible byte.
 const BAD_WATCH_LINES: &str =
     ". refused side=C frame=1 offset=68 place=14 reason=BadBool\n. earliest=14\n";
 
@@ -126,8 +126,8 @@ fn each_call_in_vain(rt: HostRuntime) -> Result<(), Fail> {
     Ok(())
 }
 
-/// A command, its input, and the read that fails where one does; its status and output, whatever becomes of the words
-/// on standard error.
+/// A command, its input, and the read that fails, if one does; its status and output, whatever becomes of the words on
+/// standard error.
 const UNTOLD: &[(&str, &[u8], u64, u8, &[u8])] = &[
     ("build", b"no line\n", 0, 1, b"ZKR1"),
     ("other", b"", 0, 2, b""),
@@ -148,7 +148,7 @@ fn fault_is_not_told(rt: HostRuntime) -> Result<(), Fail> {
     Ok(())
 }
 
-/// A command, and bytes of which the last decides: its output, and what it says.
+/// A command, and bytes of which the last decides: its output, and what it reports.
 const DECIDED: &[(&str, &[u8], &[u8], &str)] = &[
     (
         "show",
@@ -177,7 +177,7 @@ const DECIDED: &[(&str, &[u8], &[u8], &str)] = &[
     ),
 ];
 
-/// A read behind that byte would fail.
+/// A read after that byte would fail.
 #[test]
 fn no_read_behind_what_decides(rt: HostRuntime) -> Result<(), Fail> {
     for (line, input, output, wanted) in DECIDED {

@@ -1,4 +1,4 @@
-//! The engines over memory, where their contracts name the bytes.
+//! Tests of the engines over memory, where their contracts name the bytes.
 ghost use Rattle.std.specs.Prelude.{List, ℕ, [], Option, Some, IfOk};
 ghost use Rattle.zk_listings.specs.declared.listing.Listing.TheVariants.{Last};
 ghost use Rattle.zk_listings.specs.Running.{HasListed};
@@ -14,7 +14,7 @@ use zk_recordings::Damage;
 use zk_runs::{Built, Migrated, build_run, migrate_run};
 use zk_talk::Limits;
 
-/// A slice is checked.
+/// Checks the recording `input`.
 fn checked(alloc: Global, limits: Limits, input: &[u8]) -> Result<(Status, MemorySink), RunFault>
     ensures { IfOk result (λ r. (after : Option (List ℕ)) × HasListed limits Last (Some input.now) after (Some []) (⟦<MemorySink as Sink>⟧.contents r.1) r.0) }
 {
@@ -26,7 +26,7 @@ fn checked(alloc: Global, limits: Limits, input: &[u8]) -> Result<(Status, Memor
     }
 }
 
-/// The lines of a slice are built.
+/// Builds the lines `input`.
 fn built(alloc: Global, limits: Limits, input: &[u8]) -> Result<(Built, MemorySink), RunFault>
     ensures { IfOk result (λ r. (after : Option (List ℕ)) × HasBuilt limits (Some input.now) after (Some []) (⟦<MemorySink as Sink>⟧.contents r.1) r.0) }
 {

@@ -1,4 +1,4 @@
-//! A source and a sink over memory, for tests: they go by small steps, and fail at one call.
+//! A source and a sink over memory, for the tests: they go by small steps, and fail at one call.
 ghost use Rattle.std.specs.Prelude.{◌≡◌, ◌<◌, Some, [], false};
 
 use std::alloc::Global;
@@ -30,7 +30,7 @@ impl<'a> MemorySource<'a> {
         }
     }
 
-    /// Gives at most so many bytes a call.
+    /// Gives at most `step` bytes a call.
     pub(crate) fn by_steps(bytes: &'a [u8], step: usize) -> Self
         requires { 0 < step }
         ensures count { ⟦<MemorySource<'a> as Source>⟧.read_count result ≡ 0 }
@@ -115,7 +115,7 @@ impl MemorySink {
         }
     }
 
-    /// Takes at most so many bytes a call. None is a failure at the first.
+    /// Takes at most `step` bytes a call; with a step of 0 the first call fails.
     pub(crate) fn by_steps(alloc: Global, step: usize) -> Self
         ensures { ⟦<MemorySink as Sink>⟧.has_failed result ≡ false }
     {
@@ -129,7 +129,7 @@ impl MemorySink {
         }
     }
 
-    /// Takes a byte a call, and fails at one, the first being 1.
+    /// Takes a byte a call, and fails at the call `call`, the first being 1.
     pub(crate) fn failing_at(alloc: Global, call: u64) -> Self
         ensures { ⟦<MemorySink as Sink>⟧.has_failed result ≡ false }
     {
@@ -143,7 +143,7 @@ impl MemorySink {
         }
     }
 
-    /// Takes a byte a call, and none at one, the first being 1.
+    /// Takes a byte a call, and none at the call `call`, the first being 1.
     pub(crate) fn taking_none_at(alloc: Global, call: u64) -> Self
         ensures { ⟦<MemorySink as Sink>⟧.has_failed result ≡ false }
     {

@@ -1,4 +1,4 @@
-//! A recording, what the commands make of it, and runs of the whole program.
+//! A recording, what the commands make of it, and runs of the whole program, for the tests.
 ghost use Rattle.std.specs.Prelude.{◌≡◌, ◌<◌, ◌^◌, false};
 
 use crate::memory::MemorySink;
@@ -7,7 +7,7 @@ use std::test::Fail;
 use zk_listings::{Sink, Source};
 use zk_runs::run_words;
 
-/// A recording of a connect request and its response, and of an exists request of `/a` and its reply, which is NONODE.
+/// A recording of a connect request and its reply, and of an exists request of `/a` and its reply, which is NONODE.
 pub(crate) const RECORDING: &str = "\
 5a4b5231\
 43000000310000002d0000000000000000000000000000753000000000000000000000001000000000000000000000000000000000\
@@ -43,7 +43,7 @@ pub(crate) fn hex(alloc: Global, digits: &str) -> Result<Vec<u8>, Fail> {
     Ok(hex::decode(alloc, digits)?)
 }
 
-/// The words of a command line behind the program's own name.
+/// The words of a command line after the program's own name.
 pub(crate) fn words(alloc: Global, line: &str) -> Result<Vec<String>, Fail> {
     let mut words = Vec::new(alloc);
     words.push(String::from_str(alloc, "zkdump")?)?;
@@ -53,7 +53,7 @@ pub(crate) fn words(alloc: Global, line: &str) -> Result<Vec<String>, Fail> {
     Ok(words)
 }
 
-/// Runs the program: its status, and what it says of faults.
+/// Runs the program: its status, and what it reports of faults.
 pub(crate) fn run<R: Source, W: Sink>(
     alloc: Global,
     line: &str,

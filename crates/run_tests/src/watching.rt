@@ -1,4 +1,4 @@
-//! What stands written before each read.
+//! Tests of when output is written: before each read all that the bytes so far have given.
 ghost use Rattle.std.specs.Prelude.{None, false};
 
 use crate::samples::{MESSAGES, MIGRATED, RECORDING, WHOLE, hex, run};
@@ -79,7 +79,7 @@ struct Run<'a> {
     outputs: [u64; 4],
 }
 
-/// Before the read behind a message's last byte its part of the output stands written.
+/// Before the read after a message's last byte its part of the output is written.
 fn expect_written(rt: &impl Abort, alloc: Global, of: &Run<'_>) -> Result<(), Fail> {
     let written = Cell::new(0);
     let mut reader = Watching {

@@ -1,4 +1,4 @@
-//! The words of command lines, read.
+//! Tests of the words of command lines: which settings they give, and which are refused.
 use crate::samples::words;
 use std::alloc::Global;
 use std::process::Abort;
@@ -10,8 +10,8 @@ fn of(alloc: Global, line: &str) -> Result<Result<Settings, UsageFault>, Fail> {
     Ok(settings(alloc, words))
 }
 
-/// Command lines, and the command, the greatest sizes of messages, how many requests may wait, the profile, and whether
-/// the first impossible byte is to be told.
+/// Command lines, and the command, the longest payloads, the greatest weight of what waits, the profile, and whether the
+/// first impossible byte is asked for.
 const READ: &str = "\
 check = Check 4194304 4194304 65536 V34
 show = Show 4194304 4194304 65536 V34
