@@ -50,10 +50,15 @@ impl Failure {
 /// The result of a part of a multi (`MultiResponse`): its record, or the number of an error, which may be 0.
 #[derive(Debug, Drop)]
 pub enum PartDoneOf<T> {
+    /// A node was created; its path.
     Created(T),
+    /// A node was deleted.
     Deleted,
+    /// A node's data was set; its `Stat`.
     DataSet(Stat),
+    /// A node had the version.
     Checked,
+    /// The part failed or wasn't done; the number of the error.
     PartFailed(i32),
 }
 
@@ -93,7 +98,9 @@ pub type BodyRef<'a> = BodyOf<TextRef<'a>, BlobRef<'a>, TextList<'a>, AclList<'a
 /// The outcome of a request: its body, or an error.
 #[derive(Debug, Drop)]
 pub enum OutcomeOf<D> {
+    /// Nothing failed; the body.
     Done(D),
+    /// The request of this operation failed, by this error.
     Failed(Op, Failure),
 }
 
@@ -128,6 +135,7 @@ pub enum ServerFrameOf<T, B, D> {
         hello: ConnectResponseOf<B>,
         read_only: Option<bool>,
     },
+    /// The reply to a request.
     Answered(ReplyOf<D>),
     /// An event, which answers no request: a change that a watch saw.
     Event {

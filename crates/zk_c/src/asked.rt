@@ -11,7 +11,9 @@ use zk_records::{Op, PartOp, Profile, op_of, part_of};
 /// An operation, and the numbers of its parts' operations; nothing is allocated.
 #[derive(Drop)]
 pub struct Numbered<'a> {
+    /// The operation.
     pub op: Op,
+    /// The numbers of its parts' operations.
     pub numbers: &'a [i32],
     pub ghost named: { AreParts numbers.now (parts_of numbers.now) },
     pub ghost bounded: { length (parts_of numbers.now) < 2 ^ 32 },

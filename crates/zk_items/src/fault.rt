@@ -33,7 +33,9 @@ pub enum LineReason {
 #[derive(Clone, Copy, Debug, PartialEq, Eq, Error)]
 #[error("column {column}: {reason}")]
 pub struct LineFault {
+    /// The first byte of the item.
     pub column: u32,
+    /// What is wrong with it.
     pub reason: LineReason,
 }
 

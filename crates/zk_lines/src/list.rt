@@ -18,7 +18,9 @@ use zk_jute::{Element, Elements, Items, KnownPayload, List, Series, Stands};
 /// The sign between the items, and the sign after the last.
 #[derive(Clone, Copy, Debug, PartialEq, Eq)]
 pub struct Signs {
+    /// The sign between two items.
     pub between: u8,
+    /// The sign after the last item.
     pub behind: u8,
 }
 

@@ -47,7 +47,9 @@ impl From<Failed> for RunFault {
 /// Which lines are written: all of them, or the last one alone.
 #[derive(Clone, Copy, Debug, PartialEq, Eq)]
 pub enum Listing {
+    /// The lines of all messages, and the last line.
     All,
+    /// The last line alone.
     Last,
 }
 

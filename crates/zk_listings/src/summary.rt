@@ -10,14 +10,18 @@ use zk_talk::Ending;
 /// How a recording ends: as the conversation in it does, or by a damage.
 #[derive(Clone, Copy, Debug, PartialEq, Eq)]
 pub enum Summary {
+    /// The recording is undamaged up to its end or to a fault of its conversation, which ends so.
     Ended(Ending),
+    /// The recording is damaged, and its conversation has no fault before that.
     Broken(DamageAt),
 }
 
 /// Whether a recording is that of a whole conversation.
 #[derive(Clone, Copy, Debug, PartialEq, Eq)]
 pub enum Status {
+    /// A whole conversation, undamaged.
     Good,
+    /// A fault, a damage, or a side that ends within a frame.
     Bad,
 }
 

@@ -19,7 +19,9 @@ use zk_talk::{Limits, Side};
 /// What the first `used` bytes of a block are: content of `side`, or of neither.
 #[derive(Clone, Copy, Debug, PartialEq, Eq)]
 pub struct Run {
+    /// The number of bytes, which isn't 0.
     pub used: usize,
+    /// The side whose content they are; `None` if they are no content.
     pub side: Option<Side>,
 }
 

@@ -25,7 +25,9 @@ pub enum Command {
 /// A command line that could be read.
 #[derive(Clone, Copy, Debug, PartialEq, Eq)]
 pub struct Settings {
+    /// What to do.
     pub command: Command,
+    /// The limits of a recording that has none, and of what is built.
     pub limits: Limits,
     /// Whether `check` writes the line of the first impossible byte too. The other commands ignore it.
     pub earliest: bool,

@@ -30,7 +30,9 @@ impl Display for Side {
 /// What is sent in one frame.
 #[derive(Drop)]
 pub enum MessageOf<C, S> {
+    /// A frame of the client.
     Client(C),
+    /// A frame of the server.
     Server(S),
 }
 
@@ -68,6 +70,7 @@ pub struct Fault {
     pub offset: u64,
     /// The offset in the frame's payload, in bytes.
     pub place: u32,
+    /// What is wrong there.
     pub reason: Reason,
 }
 
@@ -85,6 +88,8 @@ pub enum Ending {
 /// The messages of a history, and how it ends.
 #[derive(Drop)]
 pub struct Ended {
+    /// The messages, in the order of their last bytes.
     pub messages: Vec<Message>,
+    /// How the history ends.
     pub ending: Ending,
 }

@@ -100,6 +100,7 @@ fn go_forward(frames: &mut Frames, size: u64, piece: &[u8]) -> Advance
 }
 
 impl Stream {
+    /// A side that has sent nothing; its payloads are at most `limit` bytes.
     pub fn new(alloc: Global, limit: u32) -> Result<Self, AllocError>
         requires { limit ≤ 16777216 }
         ensures { IfOk result (λ s. s ≡ record { limit = limit; held = []; kept = []; count = 0; size = 0 }) }
