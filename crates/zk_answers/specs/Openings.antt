@@ -43,7 +43,7 @@ pub data IsBadMark : List PartOp → List ℕ → Type 0 where
   no_mark : (ops : List PartOp) (bytes rest : List ℕ) (header : MultiHeader) → HaveBytes (marked header) → (MayAnswer ops header → ⊥) → Opens bytes (marked header) rest → IsBadMark ops bytes
   no_number : (op : PartOp) (ops : List PartOp) (bytes rest : List ℕ) (e d : ℤ) → HaveBytes (marked (error_header e) ++ number_items d) → d ≢ e → Opens bytes (marked (error_header e) ++ number_items d) rest → IsBadMark (op ∷ ops) bytes
 
--- it comes after the results of the parts before
+-- such a header or error comes after the results of the parts before
 pub data IsBadPart (ops : List PartOp) (bytes : List ℕ) : ℕ → Type 0 where
   bad_part : (before after : List PartOp) (results : List Item) (rest : List ℕ) → ops ≡ before ++ after → AreResults before results → Opens bytes results rest → IsBadMark after rest → IsBadPart ops bytes (length (bytes_of results))
 
@@ -62,7 +62,8 @@ IsBadIn (Results parts) bytes place = IsBadPart parts bytes place
 abbrev pub IsBehind : ReplyHeader → (List Item → Type 0) → List Item → Type 0
 IsBehind header Values items = (body : List Item) × Values body × (items ≡ reply_header.items header ++ body)
 
--- bytes that begin with the header: what can't come next in the items from its first on, a part's header or error that can't come next, or bytes that are left
+-- bytes that begin with the header, and then with what can't come next in the items from its first on, or with a part's header
+-- or error that can't come next, or that are left over
 pub data IsOpeningBehind (header : ReplyHeader) (shape : Shape) (bytes rest : List ℕ) : ℕ → Reason → Type 0 where
   of_item : (place : ℕ) (reason : Reason) → IsFault (IsBehind header (IsOpened shape)) bytes place reason → IsOpeningBehind header shape bytes rest place reason
   of_part : (place : ℕ) → IsBadIn shape rest place → IsOpeningBehind header shape bytes rest (16 + place) BadPart

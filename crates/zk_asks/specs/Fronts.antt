@@ -31,6 +31,6 @@ IsHeadAt profile xid op src end = HasOp profile op × IsAllowed xid op × HaveBy
 abbrev pub IsAsked : Profile → ℤ → Op → List PartOp → List ℕ → Type 0
 IsAsked profile xid op parts bytes = HasOp profile op × ((a : Ask) × (op_of_ask a ≡ op) × (ops_of_ask a ≡ parts) × IsSent (frame.Ask xid a) × (bytes ≡ payload (frame.Ask xid a)))
 
--- the same, and it has no parts
+-- the payload is that of a request of the profile under this xid, of this operation, and it has no parts
 abbrev pub IsAlone : Profile → ℤ → Op → List ℕ → Type 0
 IsAlone profile xid op bytes = IsAsked profile xid op [] bytes

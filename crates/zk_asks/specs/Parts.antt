@@ -35,7 +35,7 @@ op_of_part (part.Delete body) = parts.Delete
 op_of_part (part.SetData body) = parts.SetData
 op_of_part (part.Check body) = parts.Check
 
--- its record's items
+-- the items of a part's record
 abbrev pub record_of : Part → List Item
 record_of (part.Create body) = create_ask.items body
 record_of (part.Delete body) = delete_ask.items body

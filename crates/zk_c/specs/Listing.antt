@@ -45,7 +45,7 @@ pub data TellsListing (client server waiting profile : ℕ) (h : History) (befor
   told : (limits : Limits) (text : List ℕ) → AreNumbers client server waiting profile limits → IsListing limits h text → TellsText text before after answer → TellsListing client server waiting profile h before after answer
   lacks : answer ≡ no_line 5 → after ≡ before → TellsListing client server waiting profile h before after answer
 
--- the same, if the numbers are those of limits
+-- if the numbers are those of limits, the answer is the listing under them, or that memory was refused
 abbrev pub ListsUnder : ℕ → ℕ → ℕ → ℕ → History → List ℕ → List ℕ → LineAnswer → Type 0
 ListsUnder client server waiting profile h before after answer =
     (p : Profile) → profile ≡ profile_number p → AreLimits client server waiting → TellsListing client server waiting profile h before after answer

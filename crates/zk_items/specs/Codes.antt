@@ -30,7 +30,7 @@ code name = record {
   at = λ bytes. num_at 31 bytes >>= λ q. name_at (name q.0) q.1 >>= λ rest. Some (q.0, rest);
 }
 
--- the same, but for zero
+-- a number that isn't 0, and its name
 abbrev pub other_code : (ℤ → Option (List ℕ)) → Form ℤ
 other_code name = record {
   fits = λ n. (in_range 31 n ≡ true) × (is_zero n ≡ false);

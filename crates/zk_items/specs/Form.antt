@@ -88,7 +88,7 @@ closed f w = record {
   at = λ bytes. f.at bytes >>= λ q. word_at w q.1 >>= λ rest. Some (q.0, rest);
 }
 
--- one after the other
+-- a value of one form after a value of another
 infixr 20 ◌and◌
 abbrev pub ◌and◌ : {X Y : Type 0} → Form X → Form Y → Form (X × Y)
 f and g = record {

@@ -9,7 +9,7 @@ abbrev pub IsPlain : Bool → Layout → Type 0
 IsPlain false l = Unit {0}
 IsPlain true l = IsTrue (takes_none l)
 
--- it holds, if it is known; else nothing is claimed
+-- P holds, if it is known; else nothing is claimed
 abbrev pub Known : Bool → Type 0 → Type 0
 Known false P = Unit {0}
 Known true P = P

@@ -86,7 +86,7 @@ by_part P f (part.Check a) = f parts.Check a
 abbrev pub part_written : Part → Written
 part_written p = by_part (λ _. Written) (written part_line_of) p
 
--- its name and its record
+-- a part: its name and its record
 abbrev pub part_form : Form Part
 part_form = named (bodies_of part_name part_named op_of_part part_line_of part_written)
 
@@ -140,10 +140,10 @@ by_line P f a = by_op P (by_row P f) a
 abbrev pub ask_written : Ask → Written
 ask_written a = by_line (λ _. Written) (written line_of) a
 
--- its name and its record's fields
+-- a request: its operation's name and its record's fields
 abbrev pub ask_form : Form Ask
 ask_form = named (bodies_of op_name op_named op_of_ask line_of ask_written)
 
--- the xid and the request
+-- the xid of a request, and the request
 abbrev pub request : Form (ℤ × Ask)
 request = int and field words.Blank ask_form

@@ -59,7 +59,7 @@ pub record Finishes (limits : Limits) (x : List ℕ) (messages : List Message) (
   pub is : IsOutcome limits recording messages summary
   pub kept : IsKept (limits_of limits recording) talk (history_of recording) messages summary
 
--- the same, and the summary stays whatever follows
+-- these bytes are a recording with this summary, which stays whatever follows
 pub record Decides (limits : Limits) (x : List ℕ) (messages : List Message) (talk : Option TalkState) (summary : Summary) : Type 0 where
   pub recording : Recording
   pub spells : Spells x recording
@@ -78,12 +78,12 @@ pub record Opens (limits : Limits) (x : List ℕ) (messages : List Message) : Ty
 
 -- ---- what some bytes do to a talk, and to the lines before them
 
--- it has taken the bytes, or refused them
+-- the talk has taken the bytes, or refused them
 abbrev pub Judges : TalkState → History → List Message → Option Fault → Type 0
 Judges talk h messages None = Stands talk h messages
 Judges talk h messages (Some fault) = Refuses talk h messages fault
 
--- the same, and the lines of their messages were appended
+-- the talk has taken the bytes, or refused them, and the lines of their messages were appended
 abbrev pub Takes : Listing → TalkState → List ℕ → History → Option Fault → TalkState → List ℕ → Type 0
 Takes listing old lines bytes refused new lines_now = (h : History) (messages : List Message) → Stands old h messages →
     (more : List Message) × Judges new (h ++ bytes) (messages ++ more) refused × (lines_now ≡ lines ++ text_of listing more)
@@ -99,12 +99,12 @@ Gives limits listing old lines bytes refused new lines_now = (h : History) (mess
 
 -- ---- what a block does to a recording that is read
 
--- it goes on, or its summary is known
+-- the recording goes on, or its summary is known
 abbrev pub Reaches : Limits → List ℕ → List Message → Progress → Option Summary → Type 0
 Reaches limits x messages p None = Follows limits x messages p
 Reaches limits x messages p (Some summary) = Decides limits x messages p.talk summary
 
--- the same, and the lines of its messages were appended
+-- the block was read: the recording goes on, or its summary is known, and the lines of its messages were appended
 abbrev pub Advances : Listing → Progress → List ℕ → List ℕ → Option Summary → Progress → List ℕ → Type 0
 Advances listing p lines block found now lines_now =
     (limits : Limits) (x : List ℕ) (messages : List Message) → Follows limits x messages p →

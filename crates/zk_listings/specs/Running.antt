@@ -30,12 +30,12 @@ pub record HasFound (limits : Limits) (listing : Listing) (unread unread_now con
   pub found : IsFound limits unread unread_now messages summary
   pub written : Appends contents contents_now (text_of listing messages)
 
--- the same, and if it is refused, the talk has refused it
+-- the lines of all messages in what was read were written, it has this summary, and if it is refused, the talk has refused it
 pub record HasFoundBy (limits : Limits) (listing : Listing) (unread unread_now contents contents_now : Option (List ℕ)) (talk : Option TalkState) (summary : Summary) : Type 0 where
   pub all : HasFound limits listing unread unread_now contents contents_now summary
   pub kept : IsKept (limits_of limits all.found.recording) talk (history_of all.found.recording) all.messages summary
 
--- the same, of what a run returns
+-- the same, of the summary and the progress that a run returns
 abbrev pub HasFoundWith : Limits → Listing → Option (List ℕ) → Option (List ℕ) → Option (List ℕ) → Option (List ℕ) → Summary × Progress → Type 0
 HasFoundWith limits listing unread unread_now contents contents_now found = HasFoundBy limits listing unread unread_now contents contents_now found.1.talk found.0
 

@@ -174,9 +174,9 @@ limits_at options (InPieces head pieces) = head_limits options head
 limits_at options _ = options
 
 pub data Recording : Type 0 where
-  -- it ends between two parts, within one, or by a value that is not good
+  -- the recording ends between two parts, within one, or by a value that is not good
   Breaks : (place : Place) (b : Break) → Recording
-  -- it ends within a content
+  -- the recording ends within a content
   Ends : (head : Head) (pieces : List Piece) (last : Piece) → Recording
 
 -- where its last piece is, be it whole, cut or none

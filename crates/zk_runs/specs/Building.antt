@@ -83,7 +83,7 @@ pub record AreAccepted (limits : Limits) (lines : List (List ℕ)) (messages : L
   pub fit : AllByRecursion Fits messages
   pub said : AreSaid limits messages
 
--- and after them comes the ending line that is due
+-- the lines are those of messages that may be said one after another, and then the ending line that is due
 pub record AreEnded (limits : Limits) (lines : List (List ℕ)) (messages : List Message) : Type 0 where
   pub before : List (List ℕ)
   pub ends : lines ≡ before ++ due_ending messages ∷ []
@@ -110,7 +110,7 @@ ending_fault = record { column = 1; reason = Ending }
 pub data IsBuilt (limits : Limits) (lines : List (List ℕ)) (messages : List Message) (built : Built) : Type 0 where
   without_ending : AreAccepted limits lines messages → built ≡ Whole → IsBuilt limits lines messages built
   with_ending : AreEnded limits lines messages → built ≡ Whole → IsBuilt limits lines messages built
-  -- whatever it holds
+  -- whatever the line after the ending line holds
   behind_ending : (next : List ℕ) → IsBehindEnding limits lines messages next →
       built ≡ LineRefused (length messages + 2) ending_fault → IsBuilt limits lines messages built
   other_ending : (next : List ℕ) → IsNextLine limits lines messages next → IsDotted next → next ≢ due_ending messages →

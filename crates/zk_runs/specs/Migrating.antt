@@ -37,7 +37,7 @@ migrated_at options (InPieces head pieces) = front (InPieces (second options hea
 abbrev pub migrated : Limits → Recording → List ℕ
 migrated options r = migrated_at options (place_of r)
 
--- the result
+-- what a run returns by the damage that was found
 abbrev pub answered : Option DamageAt → Migrated
 answered None = Whole
 answered (Some d) = Damaged d.offset d.reason
@@ -61,7 +61,7 @@ pub record HasMigratedSoFar (options : Limits) (unread unread_now contents conte
   pub unbroken : IsBroken bytes recording → ⊥
   pub written : Appends contents contents_now (migrated options recording)
 
--- a front of that was written
+-- a front of what was read, migrated, was written
 pub record HasBegunMigrating (options : Limits) (unread unread_now contents contents_now : Option (List ℕ)) : Type 0 where
   pub bytes : List ℕ
   pub recording : Recording
@@ -156,7 +156,7 @@ abbrev pub MovesOn : Limits → Migrator → Migrator → List ℕ → Option (L
 MovesOn options old new bytes was now = (x : List ℕ) (before : Option (List ℕ)) →
     HasMigratedTo options x before was old → HasMigratedTo options (x ++ bytes) before now new
 
--- the same, and there is no damage in them, or this one
+-- the bytes are read too, and there is no damage in them, or this one
 abbrev pub MovesBy : Limits → Migrator → Migrator → List ℕ → Option (List ℕ) → Option (List ℕ) → Option DamageAt → Type 0
 MovesBy options old new bytes was now found = (x : List ℕ) (before : Option (List ℕ)) →
     HasMigratedTo options x before was old → HasMovedBy options (x ++ bytes) new.headed new.begun.items new.reader before now found

@@ -58,11 +58,11 @@ pub record WholeConversation : Type 0 where
   pub order : IsOrder limits history conversation messages
   pub ending : IsEnding limits history (whole unanswered)
 
--- its listing
+-- the listing of a conversation that ends whole
 abbrev pub listing_of : WholeConversation → List ℕ
 listing_of w = whole_listing w.messages w.unanswered
 
--- that listing, or its last line alone
+-- the listing of a conversation that ends whole, or its last line alone
 abbrev pub listed_by : Listing → WholeConversation → List ℕ
 listed_by listing w = text_of listing w.messages ++ last_line (Ended (whole w.unanswered))
 
@@ -77,7 +77,8 @@ abbrev pub BuildsJust : Limits → List ℕ → List Message → Built → Type 
 BuildsJust limits x messages built = (unread contents contents_now : Option (List ℕ)) (answered : Built) →
     HasBuilt limits (Some x) unread contents contents_now answered → (answered ≡ built) × Appends contents contents_now (recording_of messages)
 
--- the same, but for what a refused line that is no message's holds
+-- a run over these bytes that returns no fault has written the recording of these messages, and returns this, but for what a
+-- refused line that is no message's holds
 abbrev pub BuildsAlike : Limits → List ℕ → List Message → Built → Type 0
 BuildsAlike limits x messages built = (unread contents contents_now : Option (List ℕ)) (answered : Built) →
     HasBuilt limits (Some x) unread contents contents_now answered → AreAlike built answered × Appends contents contents_now (recording_of messages)

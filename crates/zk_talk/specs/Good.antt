@@ -34,7 +34,7 @@ IsCausal v h =
     length (server_bytes (sent ++ s ∷ [])) ≤ length (side_bytes Server front) →
     length (client_bytes (asked ++ c ∷ [])) ≤ length (side_bytes Client front)
 
--- The history is the frames of these and then two beginnings.
+-- The history is the frames of these frames' payloads, and then a beginning on each side.
 pub record IsWhole (limits : Limits) (h : History) (client : List ClientFrame) (server : List ServerFrame) (client_rest server_rest : List ℕ) : Type 0 where
   pub client_cut : IsCut limits.client (side_bytes Client h) (client_payloads client) client_rest
   pub server_cut : IsCut limits.server (side_bytes Server h) (server_payloads server) server_rest
@@ -87,7 +87,7 @@ pub record Spelt (limits : Limits) (h : History) : Type 0 where
   pub server_rest : List ℕ
   pub good : Good limits h conversation client_rest server_rest
 
--- the same, and its messages in their order
+-- a good history, and its messages in their order
 pub record Ordered (limits : Limits) (h : History) : Type 0 where
   pub spelt : Spelt limits h
   pub messages : List Message
@@ -97,7 +97,7 @@ pub record Ordered (limits : Limits) (h : History) : Type 0 where
 abbrev pub AreWholly : Limits → History → Conversation → List Message → Type 0
 AreWholly limits h v messages = Good limits h v [] [] × IsOrder limits h v messages
 
--- one conversation, and one beginning on each side
+-- the two are one conversation, and one beginning on each side
 abbrev pub AreSpeltAlike : {limits : Limits} → {h : History} → Spelt limits h → Spelt limits h → Type 0
 AreSpeltAlike a b = (a.conversation ≡ b.conversation) × (a.client_rest ≡ b.client_rest) × (a.server_rest ≡ b.server_rest)
 

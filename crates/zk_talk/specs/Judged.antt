@@ -68,7 +68,7 @@ HasAsk (Connected hello read_only) w = Unit {0}
 HasAsk (Answered reply) w = (r : Request) × (slice_get (queue_on (lane_of reply.xid) w) 0 ≡ Some r)
 HasAsk (Event zxid event) w = Unit {0}
 
--- it fits the oldest ask of its lane
+-- a reply fits the oldest ask of its lane
 abbrev pub IsDue : ServerFrame → Lanes → Type 0
 IsDue (Connected hello read_only) w = Unit {0}
 IsDue (Answered reply) w = (r : Request) × (slice_get (queue_on (lane_of reply.xid) w) 0 ≡ Some r) × IsReplyTo r.op r.parts (Answered reply)
@@ -93,7 +93,7 @@ pub record IsNextServer (asked count : ℕ) (waiting : Lanes) (p : List ℕ) (s 
   pub is : server_payload s ≡ p
   pub may : (v : Conversation) → Describes asked count waiting v → ServerMay v.client v.server s
 
--- there is one, in the frame that the stream holds
+-- the stream holds a frame that may come next
 abbrev pub HasNextClient : Profile → StreamState → Lanes → Type 0
 HasNextClient profile stream waiting = (f : ClientFrame) × IsNextClient profile stream.count waiting (drop 4 stream.held) f
 

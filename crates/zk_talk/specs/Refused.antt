@@ -33,7 +33,7 @@ header_size Server = 16
 abbrev pub AnswersOp : Conversation → ℤ → Op → Type 0
 AnswersOp v xid op = (ask : Asked) × IsNext v (lane_of xid) xid ask × (op ≡ op_of_ask ask) × (op ≢ ops.Multi)
 
--- it answers none, or a multi
+-- the next reply with this xid answers no request, or a multi
 abbrev pub AnswersNone : Conversation → ℤ → Type 0
 AnswersNone v xid = (ask : Asked) → IsNext v (lane_of xid) xid ask → op_of_ask ask ≢ ops.Multi → ⊥
 

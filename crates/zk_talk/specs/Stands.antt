@@ -50,7 +50,7 @@ pub record Stands (t : TalkState) (h : History) (messages : List Message) : Type
   pub queues : (lane : Lane) → IsQueue lane conversation (queue_on lane t.waiting)
   pub no_fault : t.fault ≡ None
 
--- it holds of any conversation that such a history spells, and of what its sides have begun
+-- this holds of any conversation that the talk's history spells, and of what its sides have begun
 abbrev pub WhereItStands : TalkState → (Conversation → List ℕ → List ℕ → Type 0) → Type 0
 WhereItStands t Says = (h : History) (M : List Message) (v : Conversation) (client_rest server_rest : List ℕ)
     → Stands t h M → Good t.limits h v client_rest server_rest → Says v client_rest server_rest

@@ -2,8 +2,8 @@
 use Rattle.std.specs.Prelude.{◌≡◌, ℕ, ◌<◌, ◌≤◌, ◌+◌, ◌^◌, Bool, true, false, List, [], ◌++◌, length}
 use Rattle.zk_frames.specs.Framing.{IsFrame}
 
--- its limit; what is held of a frame that isn't counted; the frame that is counted and kept; how many frames were whole;
--- how many bytes came before the frame that is whole now, or in all
+-- The state of a side: its limit; what is held of a frame that isn't counted; the frame that is counted and kept; how many
+-- frames were whole; how many bytes came before the frame that is whole now, or in all.
 pub record StreamState : Type 0 where
   pub limit : ℕ
   pub held : List ℕ

@@ -32,7 +32,7 @@ Steps old side used true new = (m : Message) × GoesOn old side used (m ∷ []) 
 abbrev pub TakesOn : TalkState → Side → List ℕ → ℕ → List Message → TalkState → Type 0
 TakesOn old side piece used messages new = (used ≤ length piece) × (0 < length piece → 0 < used) × GoesOn old side (take used piece) messages new
 
--- the same, and the frame that they made whole is kept
+-- the first `used` bytes of the piece were used, at least one if it has any, and if they made a frame whole it is kept
 abbrev pub StepsOn : TalkState → Side → List ℕ → ℕ → Bool → TalkState → Type 0
 StepsOn old side piece used whole new = (used ≤ length piece) × (0 < length piece → 0 < used) × Steps old side (take used piece) whole new
 
