@@ -1,4 +1,4 @@
-//! The laws of server payloads, as contracts of functions that do nothing: a payload has one frame or one fault.
+//! What the layer above rests on: a payload has one frame or one fault.
 ghost use Rattle.std.specs.Prelude.{◌≡◌, ℕ, List};
 ghost use Rattle.zk_jute.specs.Flagged.{IsFlaggedOpeningFault};
 ghost use Rattle.zk_records.specs.Records.{connect_response};
@@ -41,7 +41,7 @@ pub fn event_laws()
     ensures unique { HaveOneFault IsEventFault }
 {}
 
-/// The laws of replies to a request of one operation and its parts.
+/// The laws of replies, given what the request leaves for them.
 pub fn reply_laws()
     ensures injective { (op : Op) (parts : List PartOp) → HaveApartPayloads (IsReplyTo op parts) }
     ensures excludes { (op : Op) (parts : List PartOp) (s : ServerFrame) → IsReplyTo op parts s → IsSent s → HasNoFault (IsReplyFault op parts) (payload s) }
