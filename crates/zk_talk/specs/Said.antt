@@ -159,7 +159,7 @@ MayAnswer asked w (Event zxid event) = Unit {0}
 abbrev pub ClientMayStand : Bool → Limits → ClientFrame → Type 0
 ClientMayStand asked limits f = MatchBool asked (IsLater f) (IsFirst f) × MayAsk limits f × Fit limits.client (asks.frame_items f)
 
--- the server's message is of the kind that is due, answers what is there, and is within its side's limit
+-- and the server's, which answers
 abbrev pub ServerMayStand : Bool → Bool → Lanes → Limits → ServerFrame → Type 0
 ServerMayStand asked welcomed w limits f = MatchBool welcomed (IsConnected f → ⊥) (IsConnected f) × MayAnswer asked w f × Fit limits.server (answers.frame_items f)
 
@@ -180,7 +180,7 @@ SaysClient limits asked old f new = (welcomed : Bool) (v : Conversation) → Hea
 abbrev pub RefusesClient : Limits → Bool → Lanes → ClientFrame → SayFault → Type 0
 RefusesClient limits asked old f e = (welcomed : Bool) (v : Conversation) → Heard asked welcomed old v → IsClientRefusal limits v f e
 
--- whatever was heard, the server may say this after it, and has said it
+-- and the server
 abbrev pub SaysServer : Limits → Bool → Bool → Lanes → ServerFrame → Lanes → Type 0
 SaysServer limits asked welcomed old s new = (v : Conversation) → Heard asked welcomed old v → IsSaidServer limits v s × Heard asked true new (with_server v s)
 

@@ -193,7 +193,7 @@ pub fn say_client(
     ensures said { OnOk result (SaysClient limits asked waiting.old message.now waiting.new) }
     ensures same { OnErr result ((waiting.new ≡ waiting.old) × (out.new.items ≡ out.old.items)) }
     ensures err { IfErr result (λ e. (e ≡ NoMemory) ⊎ RefusesClient limits asked waiting.old message.now e) }
-    // Memory is needed only for what is due, may be asked and fits.
+    // Memory is wanted alone for what is due, may be asked and fits.
     ensures lacks { IfErr result (λ e. e ≡ NoMemory → ClientMayStand asked limits message.now) }
 {
     if is_connect(message) == asked {
@@ -280,7 +280,7 @@ pub fn say_server(
     ensures said { OnOk result (SaysServer limits asked welcomed waiting.old message.now waiting.new) }
     ensures same { OnErr result ((waiting.new ≡ waiting.old) × (out.new.items ≡ out.old.items)) }
     ensures err { IfErr result (λ e. (e ≡ NoMemory) ⊎ RefusesServer limits asked welcomed waiting.old message.now e) }
-    // Memory is needed only for what is due, replies and fits.
+    // Memory is wanted alone for what is due, answers and fits.
     ensures lacks { IfErr result (λ e. e ≡ NoMemory → ServerMayStand asked welcomed waiting.old limits message.now) }
 {
     if is_connected(message) == welcomed {
