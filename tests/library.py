@@ -7,8 +7,8 @@ Each call that crates/zk_c/src exports stands in include/zk.h with as many words
 fields, and each number by the same name. The examples (docs/LIBRARY.md) in C, Rust and Python are compiled where there
 is a compiler, and give the listing of each recording in captures/; the one in C gives up its memory, where the compiler
 has what looks for that; the one in Python says the lines of whole listings again, and judges kazoo's requests where kazoo
-is installed. Payloads of docs/EXAMPLES.md are judged. Null pointers and lengths that no bytes have are refused
-(tests/nulls.c). What is skipped is told.
+is installed. Payloads of docs/EXAMPLES.md are judged. Lines are refused by their reasons and columns. Null pointers and
+lengths that no bytes have are refused (tests/nulls.c). What is skipped is told.
 
 Where no other is named, the library is proved and built here, over the libraries below it that `rt ci` left; where it
 left none, `rt lib` proves these too. It prints what failed and one last line. The status is 0 where nothing did.
@@ -82,6 +82,41 @@ JUDGED = (
     ("event", "ffffffff ffffffffffffffff 00000001 00000003 00000003 00000002 2f", "EVENT_ERR", 12),
     ("event", "ffffffff ffffffffffffffff 00000000 00000003 00000003 00000002 2f61 00", "TRAILING", 30),
     ("event", STAT, "MISFIT", 0),
+)
+
+# Lines that are refused by docs/FORMATS.md, sections 10 and 11, and docs/CONVERSATION.md, section 24: how many of the
+# lines that may be said were said before, the line, the status and the column. No payload is longer than 64 bytes, and
+# one request may wait.
+MAY_BE_SAID = (
+    b"C connect version=0 zxid=0 timeout=30000 session=0 passwd=#00000000000000000000000000000000 ro=0",
+    b"S connect version=0 timeout=30000 session=1 passwd=#000102030405060708090a0b0c0d0e0f ro=0",
+    b'C 1 exists path="/a" watch=1',
+    b"S 1 exists zxid=5 err=-101/NONODE",
+)
+REFUSED_LINES = (
+    (0, b"", "LINE_WORD", 1),
+    (0, b". whole unanswered=0", "LINE_WORD", 1),
+    (0, b'C 1 exists path="/a" watch=2', "LINE_WORD", 28),
+    (0, b"C connect versio=0", "LINE_WORD", 10),
+    (0, b"C 1 multi x", "LINE_WORD", 10),
+    (0, b"C 2147483648 ping", "LINE_NUMBER", 3),
+    (0, b"S 1 delete zxid=5 err=0/OK", "LINE_NUMBER", 23),
+    (0, b'C 1 sync path="a\tb"', "LINE_TEXT", 15),
+    (0, b'C 1 setData path="/a" blob=#6 version=1', "LINE_BLOB", 28),
+    (0, b"S 1 delete zxid=5 err=-101", "LINE_NAME", 23),
+    (0, b"S 1 delete zxid=5 err=-101/NONODEX", "LINE_REST", 34),
+    (0, b'C 1 exists path="/a" watch=1', "NOT_FIRST", 0),
+    (0, MAY_BE_SAID[1], "UNASKED", 0),
+    (1, MAY_BE_SAID[0], "NOT_FIRST", 0),
+    (1, b'S event zxid=-1 kind=3/NodeDataChanged state=3 path="/a"', "NOT_FIRST", 0),
+    (2, b"C 1 ping", "MISFIT", 0),
+    (2, b'C 1 create2 path="/a" blob=~ acl=[31:"world":"anyone"] flags=0', "MISFIT", 0),
+    (2, b'C 1 exists path="/%s" watch=1' % (b"a" * 51), "TOO_LONG", 0),
+    (2, MAY_BE_SAID[3], "UNASKED", 0),
+    (3, b'C 2 exists path="/a" watch=1', "QUEUE_FULL", 0),
+    (3, b"S 2 exists zxid=5 err=-101/NONODE", "XID_ORDER", 0),
+    (3, b"S 1 setData zxid=5 stat=(4,4,1000,1000,0,0,0,0,3,0,4)", "MISFIT", 0),
+    (3, b"S -1 exists zxid=5 err=-101/NONODE", "MISFIT", 0),
 )
 
 
@@ -223,6 +258,20 @@ def judge_payloads(shared):
                f"zk_judge_{call} {digits}: {answer.status} at {answer.place}, not {status} at {place}")
 
 
+def refuse_lines(shared):
+    """Whether each line of the table is refused as it says, and the next one that may be said is said after it."""
+    talk, numbers = importlib.import_module("talk"), declared()[2]
+    library = talk.Library(shared)
+    for before, refused, status, column in REFUSED_LINES:
+        wanted = [(0, 0)] * before + [(numbers[status], column), (0, 0)]
+        with talk.Speaker(library, limit=64, waiting=1) as speaker:
+            answers = [library.zk_speaker_say(speaker.handle, line, len(line))
+                       for line in (*MAY_BE_SAID[:before], refused, MAY_BE_SAID[before])]
+        found = [(answer.status, answer.column) for answer in answers]
+        yield (refused.decode(), found == wanted,
+               f"zk_speaker_say {refused.decode()}: statuses and columns {found}, not {wanted}")
+
+
 def list_whole(shared):
     """Whether each recording's listing comes by one call, or its length where there is no room; and pieces that aren't
     the bytes are refused."""
@@ -259,6 +308,7 @@ def main():
             results += run_examples(name, words)
             if name == "Python":
                 results += judge_payloads(words[-1])
+                results += refuse_lines(words[-1])
                 results += list_whole(words[-1])
     failures = [told for _, good, told in results if not good]
     print("\n".join(failures[:50]), end="\n" if failures else "")

@@ -1,5 +1,5 @@
 //! What the layer above rests on: a payload has one frame or one fault.
-ghost use Rattle.std.specs.Prelude.{◌≡◌, ℕ, List};
+ghost use Rattle.std.specs.Prelude.{◌≡◌, ℕ, ℤ, List};
 ghost use Rattle.zk_jute.specs.Flagged.{IsFlaggedOpeningFault};
 ghost use Rattle.zk_records.specs.Records.{connect_response};
 ghost use Rattle.zk_answers.specs.Openings.{IsReplyOpening, IsEventOpening};
@@ -8,8 +8,10 @@ ghost use Rattle.zk_jute.specs.Once.{HaveOneFault, HasNoFault, AreSameFaults};
 ghost use Rattle.zk_records.specs.declared.header.ReplyHeader.{ReplyHeader};
 ghost use Rattle.zk_records.specs.declared.op.Op.{Op};
 ghost use Rattle.zk_records.specs.declared.op.PartOp.{PartOp};
-ghost use Rattle.zk_answers.specs.Held.{ServerFrame};
-ghost use Rattle.zk_answers.specs.Frames.{frame_items, IsConnected, IsEvent, IsReplyTo, IsSent, HaveApartPayloads, payload};
+ghost use Rattle.zk_records.specs.Held.{WatcherEvent};
+ghost use Rattle.zk_answers.specs.declared.frame.ServerFrameOf.TheVariants as frame;
+ghost use Rattle.zk_answers.specs.Held.{Reply, ServerFrame};
+ghost use Rattle.zk_answers.specs.Frames.{frame_items, event_header, header_of, IsConnected, IsEvent, IsReplyTo, IsSent, HaveApartPayloads, payload};
 ghost use Rattle.zk_answers.specs.Forms.{IsConnectedForm, IsReplyForm, IsEventForm};
 ghost use Rattle.zk_answers.specs.Faults.{IsConnectedFault, IsHead, IsHeadFault, IsReplyFault, IsEventFault};
 
@@ -36,6 +38,8 @@ pub fn connected_laws()
 
 /// The laws of events.
 pub fn event_laws()
+    // A payload begins with the header of an event.
+    ensures head { (zxid : ℤ) (e : WatcherEvent) → IsSent (frame.Event zxid e) → (rest : List ℕ) × IsHead (payload (frame.Event zxid e)) (event_header zxid) rest }
     ensures injective { HaveApartPayloads IsEvent }
     ensures excludes { (s : ServerFrame) → IsEvent s → IsSent s → HasNoFault IsEventFault (payload s) }
     ensures unique { HaveOneFault IsEventFault }
@@ -43,6 +47,8 @@ pub fn event_laws()
 
 /// The laws of replies, given what the request leaves for them.
 pub fn reply_laws()
+    // A payload begins with the reply's header, whatever the request.
+    ensures head { (r : Reply) → IsSent (frame.Answered r) → (rest : List ℕ) × IsHead (payload (frame.Answered r)) (header_of r) rest }
     ensures injective { (op : Op) (parts : List PartOp) → HaveApartPayloads (IsReplyTo op parts) }
     ensures excludes { (op : Op) (parts : List PartOp) (s : ServerFrame) → IsReplyTo op parts s → IsSent s → HasNoFault (IsReplyFault op parts) (payload s) }
     ensures unique { (op : Op) (parts : List PartOp) → HaveOneFault (IsReplyFault op parts) }

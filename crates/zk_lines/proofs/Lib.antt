@@ -14,3 +14,4 @@ pub mod Lines
 pub mod LawsHeld
 pub mod LawsShown
 pub mod LawsEndings
+pub mod LawsApart

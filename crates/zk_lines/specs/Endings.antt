@@ -1,9 +1,10 @@
 -- The line of an ending.
-use Rattle.std.specs.Prelude.{ℕ, List, [], ◌++◌, codes}
+use Rattle.std.specs.Prelude.{◌≡◌, ℕ, ℤ, ◌<◌, ◌^◌, List, [], ◌++◌, codes}
 use Rattle.std.specs.Fmt.{signed_decimal, decimal}
 use Rattle.zk_jute.specs.declared.fault.Reason.{Reason}
 use Rattle.zk_jute.specs.declared.fault.Reason.TheVariants as reasons
 use Rattle.zk_jute.specs.Names.{reason_name}
+use Rattle.zk_items.specs.Leaf.{int}
 use Rattle.zk_talk.specs.declared.message.Side.{Side}
 use Rattle.zk_talk.specs.declared.message.Side.TheVariants as sides
 use Rattle.zk_talk.specs.declared.message.Fault.{Fault}
@@ -50,3 +51,13 @@ abbrev pub ending_text : Ending → List ℕ
 ending_text (ending.Whole unanswered) = count (codes ". whole unanswered=") unanswered
 ending_text (ending.Cut side frame got) = sided (codes ". cut side=") side ++ (count (codes " frame=") frame ++ count (codes " got=") got)
 ending_text (ending.Refused f) = place_text f ++ reason_text f.reason
+
+-- ---- the endings that a program can hold: numbers of their types
+
+abbrev pub ReasonFits : Reason → Type 0
+ReasonFits reason = (expected got : ℤ) → reason ≡ reasons.XidOrder expected got → int.fits expected × int.fits got
+
+abbrev pub EndingFits : Ending → Type 0
+EndingFits (ending.Whole unanswered) = unanswered < 2 ^ 64
+EndingFits (ending.Cut side frame got) = (frame < 2 ^ 64) × (got < 2 ^ 64)
+EndingFits (ending.Refused f) = (f.frame < 2 ^ 64) × (f.offset < 2 ^ 64) × (f.place < 2 ^ 64) × ReasonFits f.reason

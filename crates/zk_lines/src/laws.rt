@@ -1,7 +1,7 @@
 //! The laws of lines and of ending lines, as contracts of functions that do nothing.
 ghost use Rattle.std.specs.Prelude.{◌≡◌, ◌≢◌, ◌≤◌, ℕ, List, ◌∷◌};
 ghost use Rattle.std.specs.List.{AllByRecursion};
-ghost use Rattle.zk_lines.specs.Endings.{ending_text};
+ghost use Rattle.zk_lines.specs.Endings.{EndingFits, ending_text};
 ghost use Rattle.zk_lines.specs.Lines.{Fits, line};
 ghost use Rattle.zk_talk.specs.declared.limits.Limits.{Limits};
 ghost use Rattle.zk_talk.specs.declared.message.Ending.{Ending};
@@ -24,6 +24,8 @@ pub fn line_laws()
 
 /// The laws of the lines of endings.
 pub fn ending_laws()
+    // Two endings that a program can hold have two lines.
+    ensures different { (e f : Ending) → EndingFits e → EndingFits f → ending_text e ≡ ending_text f → e ≡ f }
     // Such a line begins with a dot.
     ensures dotted { (e : Ending) → (rest : List ℕ) × (ending_text e ≡ 46 ∷ rest) }
     // It is made of the ASCII characters from the blank to `~`.

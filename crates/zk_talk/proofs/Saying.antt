@@ -22,7 +22,7 @@ use Rattle.zk_talk.specs.Conversation.{Conversation, with_client, with_server, i
 use Rattle.zk_talk.specs.Describes.{Describes}
 use Rattle.zk_talk.specs.Judged.{IsRemembered, IsForgotten, HasAsk}
 use Rattle.zk_talk.specs.Fault.{IsNext}
-use Rattle.zk_talk.specs.Said.{Heard, HasSpoken, MayAsk, IsSaidClient, IsSaidServer, IsClientRefusal, IsServerRefusal, IsUnwritten, IsUnput, IsUnfit, MayAnswer, CannotAnswer}
+use Rattle.zk_talk.specs.Said.{Heard, HasSpoken, MayAsk, ClientMayStand, IsSaidClient, IsSaidServer, IsClientRefusal, IsServerRefusal, IsUnwritten, IsUnput, IsUnfit, MayAnswer, CannotAnswer}
 use Rattle.zk_talk.specs.Said.IsClientRefusal.{not_allowed, too_long, queue_full}
 use Rattle.zk_talk.specs.Said.IsServerRefusal.{no_connect, long_connected, long_event, event_xid, unasked, xid_order, misfit, long_reply}
 use Rattle.zk_talk.specs.Said.IsUnfit.{not_a_reply, none_waits, other_waits, unlike}
@@ -118,11 +118,18 @@ module _ (limits : Limits) (asked welcomed : Bool) (w : Lanes) (v : Conversation
         go (Ask xid ask) false q k may fit later l =
             queue_full (clients_some (other_side connect asked turn q)) later may fit (omega (arith, l, room, weight_is_load v w heard.queues)) full.1
 
-    pub client_said : (x : Lanes) → w.max ≡ limits.waiting → MayAsk limits f → Fit limits.client (asks.frame_items f) → IsRemembered f w x → IsSaidClient limits v f × Heard true welcomed x (with_client v f)
+    pub client_stands : MayAsk limits f → Fit limits.client (asks.frame_items f) → ClientMayStand limits v f
     unfolding client_payload
+    client_stands may fit = (may_stand connect refl kind, fit.1)
+      where
+        may_stand : (b : Bool) → connect ≡ b → MatchBool b (IsFirst f) (IsLater f) → ClientMay limits.profile v.client f
+        may_stand true q k = first_may (length v.client) (length v.server) w v describes limits.profile f (zero_length v.client (clients_none (opposite connect asked turn q))) k (may.0, fit.0)
+        may_stand false q k = later_may (length v.client) (length v.server) w v describes limits.profile f (some_length v.client (clients_some (other_side connect asked turn q))) k (may.0, fit.0) may.1
+
+    pub client_said : (x : Lanes) → w.max ≡ limits.waiting → MayAsk limits f → Fit limits.client (asks.frame_items f) → IsRemembered f w x → IsSaidClient limits v f × Heard true welcomed x (with_client v f)
     client_said x room may fit put =
-        let clientMay = may_stand connect refl kind in (
-          (clientMay, fit.1, loads f connect refl kind put),
+        let stands = client_stands may fit in (
+          (stands.0, stands.1, loads f connect refl kind put),
           record {
             client = λ e. not_empty v.client f [] e;
             server = heard.server;
@@ -131,10 +138,6 @@ module _ (limits : Limits) (asked welcomed : Bool) (w : Lanes) (v : Conversation
           },
         )
       where
-        may_stand : (b : Bool) → connect ≡ b → MatchBool b (IsFirst f) (IsLater f) → ClientMay limits.profile v.client f
-        may_stand true q k = first_may (length v.client) (length v.server) w v describes limits.profile f (zero_length v.client (clients_none (opposite connect asked turn q))) k (may.0, fit.0)
-        may_stand false q k = later_may (length v.client) (length v.server) w v describes limits.profile f (some_length v.client (clients_some (other_side connect asked turn q))) k (may.0, fit.0) may.1
-
         loads : (g : ClientFrame) (b : Bool) → connect ≡ b → MatchBool b (IsFirst g) (IsLater g) → IsRemembered g w x → load (v.client ++ g ∷ []) v.server ≤ limits.waiting
         loads (Connect t h) true q k put =
             let none = subst (λ z. load z v.server ≤ limits.waiting) (sym (clients_none (opposite connect asked turn q))) (omega arith) in
@@ -211,16 +214,19 @@ module _ (limits : Limits) (asked welcomed : Bool) (w : Lanes) (v : Conversation
       go (x ∷ xs) e n = ((may.0, may.2, fit.0), subst (λ z. IsAnswered v.client z r) e answered)
   server_may (Event z x) c k turn may fit = event_may (length v.client) (length v.server) w v describes (Event z x) (some_length v.server (behind (Event z x) c k turn (λ z. z))) tt (tt, tt, fit.0)
 
+  pub server_stands : (s : ServerFrame) (connected : Bool) → MatchBool connected (IsConnected s) (IsConnected s → ⊥) → (connected ≡ welcomed → ⊥) → MayAnswer asked w s → Fit limits.server (answers.frame_items s) → IsSaidServer limits v s
+  unfolding server_payload
+  server_stands s c k turn may fit = (server_may s c k turn may fit, fit.1)
+
   pub server_said : (s : ServerFrame) (connected : Bool) → MatchBool connected (IsConnected s) (IsConnected s → ⊥) → (connected ≡ welcomed → ⊥) → (x : Lanes) → MayAnswer asked w s → Fit limits.server (answers.frame_items s) → IsForgotten s w x →
       IsSaidServer limits v s × Heard asked true x (with_server v s)
-  unfolding server_payload
   server_said s c k turn x may fit left =
-      let here = server_may s c k turn may fit in (
-        (here, fit.1),
+      let stands = server_stands s c k turn may fit in (
+        stands,
         record {
           client = heard.client;
           server = λ e. not_empty v.server s [] e;
-          may = EachAfter-push (ServerMay v.client) v.server s heard.may here;
+          may = EachAfter-push (ServerMay v.client) v.server s heard.may stands.0;
           queues = λ lane. forgotten (length v.client) (length v.server) w x v describes s (has_ask s may) left lane;
         },
       )

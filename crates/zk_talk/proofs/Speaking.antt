@@ -18,7 +18,7 @@ use Rattle.zk_talk.specs.Conversation.{Conversation, with_client, with_server, S
 use Rattle.zk_talk.specs.Good.{clients, servers}
 use Rattle.zk_talk.specs.Queues.{IsQueue}
 use Rattle.zk_talk.specs.Ending.{unanswered, unwelcomed}
-use Rattle.zk_talk.specs.Said.{SpeakerState, Says, Heard, HasSpoken, MaySay, IsSayFault, IsSaidClient, IsSaidServer, IsClientRefusal, IsServerRefusal, conversation_of}
+use Rattle.zk_talk.specs.Said.{SpeakerState, Says, Heard, HasSpoken, MaySay, MayStand, IsSayFault, IsSaidClient, IsSaidServer, StandsClient, StandsServer, IsClientRefusal, IsServerRefusal, conversation_of}
 use Rattle.zk_talk.proofs.Lists.{EachAfter-push, EachAfter-nil}
 use Rattle.zk_talk.proofs.Standing.{clients-append, servers-append}
 use Rattle.zk_talk.proofs.Queues.{count_is_waiting}
@@ -103,6 +103,12 @@ module _ (s : SpeakerState) (m : Message) where
       (e ≡ NoMemory) ⊎ ((before : List Message) → Says s before → IsSayFault s.limits before m e)
   err_server f e is (inl wanting) = inl wanting
   err_server f e is (inr all) = inr (λ before says. subst (λ z. IsSayFault s.limits before z e) (sym is) (all (conversation_of before) says.heard))
+
+  pub lacks_client : (f : ClientFrame) → m ≡ FromClient f → StandsClient s.limits s.asked s.waiting f → (before : List Message) → Says s before → MayStand s.limits before m
+  lacks_client f is all before says = subst (MayStand s.limits before) (sym is) (all s.welcomed (conversation_of before) says.heard)
+
+  pub lacks_server : (f : ServerFrame) → m ≡ FromServer f → StandsServer s.limits s.asked s.welcomed s.waiting f → (before : List Message) → Says s before → MayStand s.limits before m
+  lacks_server f is all before says = subst (MayStand s.limits before) (sym is) (all (conversation_of before) says.heard)
 
 -- want of memory, or a refusal whatever is known of the other side
 pub either_way : (e : SayFault) (H P : Bool → Conversation → Type 0) → ((b : Bool) (v : Conversation) → H b v → (e ≡ NoMemory) ⊎ P b v) → (e ≡ NoMemory) ⊎ ((b : Bool) (v : Conversation) → H b v → P b v)

@@ -59,6 +59,10 @@ AreSized messages = (length (side_bytes Client (said messages)) < 2 ^ 62) × (le
 abbrev pub conversation_of : List Message → Conversation
 conversation_of messages = record { client = clients messages; server = servers messages }
 
+-- the client's frame may come after those of v, within its side's limit
+abbrev pub ClientMayStand : Limits → Conversation → ClientFrame → Type 0
+ClientMayStand limits v f = ClientMay limits.profile v.client f × (length (client_payload f) ≤ limits.client)
+
 -- the frame may be said after those of v, within its side's limit and the load
 abbrev pub IsSaidClient : Limits → Conversation → ClientFrame → Type 0
 IsSaidClient limits v f = ClientMay limits.profile v.client f × (length (client_payload f) ≤ limits.client) × (load (v.client ++ f ∷ []) v.server ≤ limits.waiting)
@@ -70,6 +74,11 @@ IsSaidServer limits v s = ServerMay v.client v.server s × (length (server_paylo
 abbrev pub MaySay : Limits → List Message → Message → Type 0
 MaySay limits before (FromClient f) = IsSaidClient limits (conversation_of before) f
 MaySay limits before (FromServer s) = IsSaidServer limits (conversation_of before) s
+
+-- the message may come after these, and is within its side's limit: it may be said, if there is room for a request
+abbrev pub MayStand : Limits → List Message → Message → Type 0
+MayStand limits before (FromClient f) = ClientMayStand limits (conversation_of before) f
+MayStand limits before (FromServer s) = IsSaidServer limits (conversation_of before) s
 
 -- these messages, frame after frame, are a conversation within the limits and the load
 abbrev pub AreSaid : Limits → List Message → Type 0
@@ -155,18 +164,6 @@ MayAnswer asked w (Connected hello read_only) = asked ≡ true
 MayAnswer asked w (Answered r) = FitsNext w r
 MayAnswer asked w (Event zxid event) = Unit {0}
 
--- the client's message is of the kind that is due, may be asked, and is within its side's limit
-abbrev pub ClientMayStand : Bool → Limits → ClientFrame → Type 0
-ClientMayStand asked limits f = MatchBool asked (IsLater f) (IsFirst f) × MayAsk limits f × Fit limits.client (asks.frame_items f)
-
--- and the server's, which answers
-abbrev pub ServerMayStand : Bool → Bool → Lanes → Limits → ServerFrame → Type 0
-ServerMayStand asked welcomed w limits f = MatchBool welcomed (IsConnected f → ⊥) (IsConnected f) × MayAnswer asked w f × Fit limits.server (answers.frame_items f)
-
-abbrev pub MayStand : SpeakerState → Message → Type 0
-MayStand s (FromClient f) = ClientMayStand s.asked s.limits f
-MayStand s (FromServer f) = ServerMayStand s.asked s.welcomed s.waiting s.limits f
-
 abbrev pub CannotAnswer : Bool → Lanes → ServerFrame → SayFault → Type 0
 CannotAnswer asked w (Connected hello read_only) e = (asked ≡ false) × (e ≡ Unasked)
 CannotAnswer asked w (Answered r) e = IsUnfit w r e
@@ -180,9 +177,16 @@ SaysClient limits asked old f new = (welcomed : Bool) (v : Conversation) → Hea
 abbrev pub RefusesClient : Limits → Bool → Lanes → ClientFrame → SayFault → Type 0
 RefusesClient limits asked old f e = (welcomed : Bool) (v : Conversation) → Heard asked welcomed old v → IsClientRefusal limits v f e
 
+-- whatever was heard, it may come after it
+abbrev pub StandsClient : Limits → Bool → Lanes → ClientFrame → Type 0
+StandsClient limits asked old f = (welcomed : Bool) (v : Conversation) → Heard asked welcomed old v → ClientMayStand limits v f
+
 -- and the server
 abbrev pub SaysServer : Limits → Bool → Bool → Lanes → ServerFrame → Lanes → Type 0
 SaysServer limits asked welcomed old s new = (v : Conversation) → Heard asked welcomed old v → IsSaidServer limits v s × Heard asked true new (with_server v s)
 
 abbrev pub RefusesServer : Limits → Bool → Bool → Lanes → ServerFrame → SayFault → Type 0
 RefusesServer limits asked welcomed old s e = (v : Conversation) → Heard asked welcomed old v → IsServerRefusal limits v s e
+
+abbrev pub StandsServer : Limits → Bool → Bool → Lanes → ServerFrame → Type 0
+StandsServer limits asked welcomed old s = (v : Conversation) → Heard asked welcomed old v → IsSaidServer limits v s

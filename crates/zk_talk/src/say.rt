@@ -10,7 +10,7 @@ ghost use Rattle.zk_talk.specs.declared.say.SayFault.TheVariants.{NoMemory};
 ghost use Rattle.zk_talk.specs.Payloads.{client_payload, server_payload};
 ghost use Rattle.zk_talk.specs.Judged.{IsRemembered};
 ghost use Rattle.zk_talk.specs.SayNames as names;
-ghost use Rattle.zk_talk.specs.Said.{MayAsk, IsUnwritten, IsUnput, FitsNext, IsUnfit, MayAnswer, CannotAnswer, ClientMayStand, ServerMayStand, SaysClient, RefusesClient, SaysServer, RefusesServer};
+ghost use Rattle.zk_talk.specs.Said.{MayAsk, IsUnwritten, IsUnput, FitsNext, IsUnfit, MayAnswer, CannotAnswer, SaysClient, StandsClient, RefusesClient, SaysServer, StandsServer, RefusesServer};
 
 use crate::judge::{forget, remember};
 use crate::limits::Limits;
@@ -193,8 +193,8 @@ pub fn say_client(
     ensures said { OnOk result (SaysClient limits asked waiting.old message.now waiting.new) }
     ensures same { OnErr result ((waiting.new ≡ waiting.old) × (out.new.items ≡ out.old.items)) }
     ensures err { IfErr result (λ e. (e ≡ NoMemory) ⊎ RefusesClient limits asked waiting.old message.now e) }
-    // Memory is wanted alone for what is due, may be asked and fits.
-    ensures lacks { IfErr result (λ e. e ≡ NoMemory → ClientMayStand asked limits message.now) }
+    // Memory is wanted for what may come, within its limit, alone.
+    ensures lacks { IfErr result (λ e. e ≡ NoMemory → StandsClient limits asked waiting.old message.now) }
 {
     if is_connect(message) == asked {
         return Err(SayFault::NotFirst);
@@ -280,8 +280,8 @@ pub fn say_server(
     ensures said { OnOk result (SaysServer limits asked welcomed waiting.old message.now waiting.new) }
     ensures same { OnErr result ((waiting.new ≡ waiting.old) × (out.new.items ≡ out.old.items)) }
     ensures err { IfErr result (λ e. (e ≡ NoMemory) ⊎ RefusesServer limits asked welcomed waiting.old message.now e) }
-    // Memory is wanted alone for what is due, answers and fits.
-    ensures lacks { IfErr result (λ e. e ≡ NoMemory → ServerMayStand asked welcomed waiting.old limits message.now) }
+    // Memory is wanted for what may be said alone.
+    ensures lacks { IfErr result (λ e. e ≡ NoMemory → StandsServer limits asked welcomed waiting.old message.now) }
 {
     if is_connected(message) == welcomed {
         return Err(SayFault::NotFirst);

@@ -69,8 +69,8 @@ impl Speaker {
         ensures same { OnErr result ((self.new ≡ self.old) × (out.new.items ≡ out.old.items)) }
         // Memory was refused, or the message is, by this case.
         ensures err { IfErr result (λ e. (e ≡ NoMemory) ⊎ ((before : List Message) → Says self.old before → IsSayFault self.old.limits before message.now e)) }
-        // Memory is wanted alone for a message that is due, may be asked or answers, and is within its side's limit.
-        ensures lacks { IfErr result (λ e. e ≡ NoMemory → MayStand self.old message.now) }
+        // Memory is wanted alone for a message that may come after those said, within its side's limit.
+        ensures lacks { IfErr result (λ e. e ≡ NoMemory → (before : List Message) → Says self.old before → MayStand self.old.limits before message.now) }
         // Only what may not be said is refused, but for want of memory.
         ensures exact { IfErr result (λ e. e ≢ NoMemory → (before : List Message) → Says self.old before → MaySay self.old.limits before message.now → ⊥) }
     {

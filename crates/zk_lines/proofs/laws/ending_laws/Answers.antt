@@ -1,7 +1,11 @@
 use Rattle.zk_lines.specs.Endings.{ending_text}
 use Rattle.zk_lines.proofs.LawsPrinted.{in_range, unbroken}
 use Rattle.zk_lines.proofs.LawsEndings.{ending_printed, ending_dotted}
+use Rattle.zk_lines.proofs.LawsApart.{ending_apart}
 use Rattle.zk_lines.proofs.laws.ending_laws.Goals as goal
+
+pub returns-clause-different : goal.returns-clause-different
+returns-clause-different c = ending_apart
 
 pub returns-clause-dotted : goal.returns-clause-dotted
 returns-clause-dotted c = ending_dotted

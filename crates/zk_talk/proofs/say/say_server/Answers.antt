@@ -2,7 +2,7 @@ use Rattle.std.proofs.Common.{inr, subst}
 use Rattle.zk_jute.specs.Item.{Fit}
 use Rattle.zk_answers.specs.Frames.{frame_items}
 use Rattle.zk_talk.specs.Said.{IsUnwritten}
-use Rattle.zk_talk.proofs.Saying.{server_unfit, server_long, server_said, unequal, either}
+use Rattle.zk_talk.proofs.Saying.{server_unfit, server_long, server_stands, server_said, unequal, either}
 use Rattle.zk_talk.proofs.say.say_server.Goals as goal
 
 pub returns-in-Err-clause-err : goal.returns-in-Err-clause-err
@@ -16,3 +16,7 @@ returns-in-Err-put_server-clause-err c =
 pub returns-clause-said : goal.returns-clause-said
 returns-clause-said c = λ v heard.
     server_said c.args.limits c.args.asked c.args.welcomed c.args.waiting.now v heard c.args.message.now c.is_connected.result c.is_connected.ensures (unequal _ _ c.if-is_connected-welcomed.false) c.forget.new.waiting c.in-Ok.ensures.ok (subst (λ z. Fit z (frame_items c.args.message.now)) c.server.ensures c.in-Ok-put_server.ensures.fits) c.forget.ensures.forgotten
+
+pub returns-in-Err-put_server-clause-lacks : goal.returns-in-Err-put_server-clause-lacks
+returns-in-Err-put_server-clause-lacks c = λ wanting v heard.
+    server_stands c.args.limits c.args.asked c.args.welcomed c.args.waiting.now v heard c.args.message.now c.is_connected.result c.is_connected.ensures (unequal _ _ c.if-is_connected-welcomed.false) c.in-Ok.ensures.ok (subst (λ z. Fit z (frame_items c.args.message.now)) c.server.ensures (c.in-Err-put_server.ensures.lacks wanting))
