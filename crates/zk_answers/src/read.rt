@@ -29,7 +29,12 @@ pub fn reply_head(payload: &[u8]) -> Result<ReplyHeader, ItemFault>
     Ok(ReplyHeader { xid, zxid, err })
 }
 
-/// The reply to the connect request: a `ConnectResponse`, and one boolean if more bytes follow it.
+/// The reply to the connect request: a `ConnectResponse`, and one boolean if more bytes follow it
+/// (`ClientCnxnSocket.readConnectResult`).
+///
+/// # Errors
+///
+/// The first fault of the record, then of the boolean; `Trailing` after it; `NoMemory`, at place 0, if memory is refused.
 #[tactic(auto, unfolding(zk_jute::specs::Told::IsTold))]
 pub fn read_connected(alloc: Global, payload: &[u8]) -> Result<ServerFrame, ItemFault>
     // What is read has the form, and is the payload's one value.
@@ -42,8 +47,13 @@ pub fn read_connected(alloc: Global, payload: &[u8]) -> Result<ServerFrame, Item
     Ok(borrow_connected(payload)?.own(alloc)?)
 }
 
-/// A reply to the request `form`: a header, and the body that the request fixes. The header, if it is whole, has another
-/// xid than -1.
+/// A reply to the request `form`: a header, and after it nothing if it has an error, else the body that the request fixes
+/// (`ClientCnxn.SendThread.readResponse`). The header, if it is whole, has another xid than -1.
+///
+/// # Errors
+///
+/// The first fault of the header, then of the body, in a multi also `BadPart` at a header or an error that can't come
+/// next; `Trailing` after it; `NoMemory`, at place 0, if memory is refused.
 #[tactic(auto, unfolding(zk_jute::specs::Told::IsTold))]
 pub fn read_reply<F: Asked>(
     alloc: Global,
@@ -61,7 +71,13 @@ pub fn read_reply<F: Asked>(
     Ok(borrow_reply(form, payload)?.own(alloc)?)
 }
 
-/// An event: a header with the xid -1 and the error 0, and a `WatcherEvent`. The header, if it is whole, has the xid -1.
+/// An event: a header with the xid -1 and the error 0, and a `WatcherEvent` (`ClientCnxn.SendThread.readResponse`). The
+/// header, if it is whole, has the xid -1.
+///
+/// # Errors
+///
+/// The first fault of the header; `EventErr` at 12, an error other than 0; the first fault of the record; `Trailing` after it;
+/// `NoMemory`, at place 0, if memory is refused.
 #[tactic(auto, unfolding(zk_jute::specs::Told::IsTold))]
 pub fn read_event(alloc: Global, payload: &[u8]) -> Result<ServerFrame, ItemFault>
     requires { (header : records.ReplyHeader) (rest : List ℕ) → IsHead payload.now header rest → header.xid ≡ negsuc 0 }

@@ -130,7 +130,8 @@ impl ServerFrame {
     }
 }
 
-/// Appends the payload of `frame` to `out`. No reply has the xid -1.
+/// Appends the payload of `frame` to `out`, as `NIOServerCnxn.sendResponse` writes it after the length. No reply has the
+/// xid -1.
 ///
 /// # Errors
 ///

@@ -6,8 +6,8 @@ use zk_records::{Op, PartOp};
 
 /// A request without parts, as an `Asked`.
 #[derive(Clone, Copy, Debug)]
-/// Its operation.
 pub struct Alone {
+    /// Its operation.
     pub op: Op,
 }
 

@@ -8,7 +8,7 @@ ghost use Rattle.zk_earliest.specs.Sizes.{IsAmong, plus};
 use crate::front::{Numbers, front};
 use crate::sizes::Sizes;
 
-/// The possible lengths of a run with `room` bytes after its length, if `behind` can be what follows the run.
+/// The possible lengths of a run with `room` bytes after its length, if what follows the run has a length in `behind`.
 pub(crate) fn lengths(room: usize, behind: Sizes) -> Numbers
     requires frame { room < 2 ^ 31 }
     requires least { behind.least ≤ room }
@@ -53,7 +53,7 @@ fn least_count(free: bool) -> u32
 }
 
 /// The possible counts of a list with `room` bytes after its count, if each element has any number of bytes from `least`
-/// on and `behind` can be what follows the list.
+/// on, and what follows the list has a length in `behind`.
 pub(crate) fn counts(room: usize, least: usize, behind: Sizes) -> Numbers
     requires frame { room < 2 ^ 31 }
     requires some { 0 < least }

@@ -19,8 +19,8 @@ pub(crate) trait Stretch: Form {
         ensures value { result ≡ sizes }
         ensures are_sizes { AreSizes (Spells (IsValueOf Self.wired.layout)) sizes };
 
-    /// The place after the value at `place`, if there is one that leaves just as many bytes as `behind` allows; else the
-    /// first byte that no such value has there.
+    /// The place after the value at `place`, if there is one that leaves a number of bytes in `behind`; else the first
+    /// byte that no such value has there.
     fn reach(src: &[u8], place: usize, behind: Sizes) -> Result<usize, usize>
         requires place { place ≤ length src.now }
         requires frame { length src.now < 2 ^ 31 }

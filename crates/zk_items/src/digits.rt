@@ -42,8 +42,8 @@ fn write_block(room: &mut [u8], bytes: &[u8], at: usize)
 }
 
 /// Writes the digits of sixteen bytes or more.
-// The first block is written for the bytes that are no multiple of sixteen, and the next one begins after these: so the
-// last one ends with the bytes, and none is written one by one.
+// The first block is written for the bytes beyond a multiple of sixteen, and the next one begins after these: so the last
+// one ends with the bytes, and none is written one by one.
 fn write_blocks(room: &mut [u8], bytes: &[u8])
     requires some { 16 ≤ length bytes.now }
     requires room { length room.old ≡ 2 * length bytes.now }

@@ -33,7 +33,7 @@ pub enum LineReason {
 #[derive(Clone, Copy, Debug, PartialEq, Eq, Error)]
 #[error("column {column}: {reason}")]
 pub struct LineFault {
-    /// The first byte of the item.
+    /// The column of the item's first byte.
     pub column: u32,
     /// What is wrong with it.
     pub reason: LineReason,

@@ -21,10 +21,10 @@ pub enum Damage {
 
 /// The first damage of a recording, and its place in it.
 #[derive(Clone, Copy, Debug, PartialEq, Eq)]
-/// The offset in bytes from the beginning of the recording.
 pub struct DamageAt {
-    /// What is wrong there.
+    /// The offset in bytes from the beginning of the recording.
     pub offset: u64,
+    /// What is wrong there.
     pub reason: Damage,
 }
 

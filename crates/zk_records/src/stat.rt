@@ -18,7 +18,7 @@ pub struct Stat {
     pub mtime: i64,
     /// How often its data was set.
     pub version: i32,
-    /// How often its data was set.
+    /// How often its children changed.
     pub cversion: i32,
     /// How often its access list was set.
     pub aversion: i32,

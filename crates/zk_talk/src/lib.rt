@@ -2,27 +2,25 @@
 //!
 //! A `Talk` is fed the bytes of both sides, piece by piece, in the order in which they came. `Talk::step` is the main
 //! call: it takes a piece up to the end of the first frame that becomes whole, judges the frame, and keeps it until the
-//! side's next call; `Talk::view` shows its message, borrowed. `Talk::take` does the same and returns an owned message.
+//! side's next call; `Talk::view` shows its message, borrowed. `Talk::take` returns an owned message instead.
 //! `Talk::finish` says how the bytes so far end: whole, within a frame, or refused with a `Fault`. `read_all` is all of
 //! it for a list of pieces.
 //!
 //! A conversation is good if each side's bytes are frames of its payloads, if each reply answers the oldest request of
 //! its lane (`zk_waiting`) and comes after it, and if the requests that wait weigh no more than the `Limits`. Else it
-//! has one fault, at the first byte with which it is no longer good. ZooKeeper's client checks the same order in
+//! has one fault, at the first byte with which it is no longer good. ZooKeeper's client checks the order of replies in
 //! `ClientCnxn.SendThread.readResponse`.
 //!
 //! A `Speaker` goes the other way: `Speaker::say` appends the frame of a message, if the messages so far and it are a
 //! conversation. `said_is_read` and `read_is_said` say that the two agree.
 //!
-//! Memory is allocated by `Talk::new` alone: a frame for each side, and what may wait. The crate rests on `zk_jute`,
-//! `zk_records`, `zk_asks`, `zk_answers`, `zk_frames` and `zk_waiting`.
+//! `Talk::new` allocates a frame for each side and what may wait; after it only `take` allocates, for its message. The
+//! crate rests on `zk_jute`, `zk_records`, `zk_asks`, `zk_answers`, `zk_frames`, `zk_waiting` and `thiserror`.
 //!
 //! ```text
 //! let mut talk = Talk::new(rt.alloc(), limits)?;
 //! let stepped = talk.step(Side::Client, piece)?; // stepped.used bytes of the piece were used
-//! if stepped.whole {
-//!     let message = talk.view(Side::Client);     // Some(..): the message, borrowed
-//! }
+//! let message = talk.view(Side::Client);         // Some if stepped.whole: the message, borrowed
 //! let ending = talk.finish();                    // Whole, Cut or Refused
 //! ```
 #![tactic(auto)]
