@@ -4,13 +4,13 @@ ghost use Rattle.zk_talk.specs.declared.limits.Limits.{Limits};
 ghost use Rattle.zk_listings.specs.Outcome.{IsDecided, HasOneOutcome, KeepsOutcome};
 ghost use Rattle.zk_recordings.specs.Recording.{Recording, Spells};
 
-/// Any bytes are one recording, and it comes to one thing.
+/// Any bytes are one recording, and it comes to one thing at most.
 pub fn recording_laws()
     // Any bytes are a recording.
     ensures any { (x : List ℕ) → (r : Recording) × Spells x r }
     // They are no other.
     ensures once { (x : List ℕ) (r s : Recording) → Spells x r → Spells x s → s ≡ r }
-    // It comes to the same messages and to the same summary.
+    // What it comes to has the same messages and the same summary.
     ensures outcome { (limits : Limits) (r : Recording) → HasOneOutcome limits r }
     // What a front decides stands whatever follows it.
     ensures decided { (limits : Limits) (x more : List ℕ) (r s : Recording) → Spells x r → Spells (x ++ more) s → IsDecided limits x r → KeepsOutcome limits r s }
