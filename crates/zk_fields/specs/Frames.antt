@@ -1,0 +1,79 @@
+-- The fields of a frame.
+use Rattle.std.specs.Prelude.{◌≡◌, ℕ, Bool, List, [], ◌++◌, length, take, drop, Option, Some, None}
+use Rattle.zk_jute.specs.Item.{Item, bytes_of}
+use Rattle.zk_records.specs.Codes.{op_number}
+use Rattle.zk_records.specs.Records.{reply_header}
+use Rattle.zk_asks.specs.declared.frame.AskOf.TheVariants as ask
+use Rattle.zk_asks.specs.declared.frame.ClientFrameOf.TheVariants as client
+use Rattle.zk_asks.specs.Held.{Ask, ClientFrame}
+use Rattle.zk_asks.specs.Forms.{header_items}
+use Rattle.zk_asks.specs.Parts.{end_header, marked}
+use Rattle.zk_asks.specs.Rows.{op_of_ask}
+use Rattle.zk_answers.specs.declared.frame.BodyOf.TheVariants as body
+use Rattle.zk_answers.specs.declared.frame.OutcomeOf.TheVariants as outcome
+use Rattle.zk_answers.specs.declared.frame.ServerFrameOf.TheVariants as server
+use Rattle.zk_answers.specs.Held.{Body, Outcome, ServerFrame}
+use Rattle.zk_answers.specs.Frames.{header_of, event_header}
+use Rattle.zk_fields.specs.declared.field.Field.{Field}
+use Rattle.zk_fields.specs.Names.{the_read_only}
+use Rattle.zk_fields.specs.Fields.{Entry, fields_from, items_of}
+use Rattle.zk_fields.specs.Named.{a_boolean}
+use Rattle.zk_fields.specs.Records.{connect_request, connect_response, watcher_event}
+use Rattle.zk_fields.specs.Asks.{ask_entries}
+use Rattle.zk_fields.specs.Answers.{body_entries}
+
+abbrev pub flag_entries : Option Bool → List Entry
+flag_entries None = []
+flag_entries (Some b) = a_boolean.entries the_read_only b
+
+-- what stands before the fields, the fields, and what stands behind them
+pub record Framed : Type 0 where
+  pub front : List Item
+  pub entries : List Entry
+  pub behind : List Item
+
+-- a multi's end marker
+abbrev pub ask_behind : Ask → List Item
+ask_behind (ask.Multi ps) = marked end_header
+ask_behind a = []
+
+abbrev pub body_behind : Body → List Item
+body_behind (body.Multi ds) = marked end_header
+body_behind b = []
+
+abbrev pub rest_entries : Outcome → List Entry
+rest_entries (outcome.Done b) = body_entries b
+rest_entries (outcome.Failed op e) = []
+
+abbrev pub rest_behind : Outcome → List Item
+rest_behind (outcome.Done b) = body_behind b
+rest_behind (outcome.Failed op e) = []
+
+-- the header's numbers are told beside the fields
+abbrev pub client_framed : ClientFrame → Framed
+client_framed (client.Connect hello flag) = record { front = []; entries = connect_request.entries 0 hello ++ flag_entries flag; behind = [] }
+client_framed (client.Ask xid a) = record { front = header_items xid (op_number (op_of_ask a)); entries = ask_entries a; behind = ask_behind a }
+
+abbrev pub server_framed : ServerFrame → Framed
+server_framed (server.Connected hello flag) = record { front = []; entries = connect_response.entries 0 hello ++ flag_entries flag; behind = [] }
+server_framed (server.Answered r) = record { front = reply_header.items (header_of r); entries = rest_entries r.outcome; behind = rest_behind r.outcome }
+server_framed (server.Event zxid event) = record { front = reply_header.items (event_header zxid); entries = watcher_event.entries 0 event; behind = [] }
+
+-- all items, in order
+abbrev pub framed_items : Framed → List Item
+framed_items f = f.front ++ (items_of f.entries ++ f.behind)
+
+-- the fields, each with its place in the payload
+abbrev pub framed_fields : Framed → List Field
+framed_fields f = fields_from (length (bytes_of f.front)) f.entries
+
+abbrev pub client_fields : ClientFrame → List Field
+client_fields f = framed_fields (client_framed f)
+
+abbrev pub server_fields : ServerFrame → List Field
+server_fields s = framed_fields (server_framed s)
+
+-- the fields stand in the room from its beginning on, as far as it goes; all are counted
+pub record AreWritten (fields before after : List Field) (count : ℕ) : Type 0 where
+  pub count_is : count ≡ length fields
+  pub room_is : after ≡ take (length before) fields ++ drop (length fields) before

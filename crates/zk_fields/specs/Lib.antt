@@ -1,0 +1,10 @@
+pub mod Names
+pub mod Fields
+pub mod Named
+pub mod Records
+pub mod Asks
+pub mod Answers
+pub mod Frames
+pub mod Contents
+pub mod Room
+pub mod Walks

@@ -1,0 +1,184 @@
+-- What a payload has, item by item from a place on, as far as it is there.
+use Rattle.std.specs.Prelude.{◌≡◌, ℕ, zero, suc, ℤ, pos, negsuc, ◌==◌, if◌then◌else◌, List, [], ◌∷◌, ◌++◌, length, take, nat_le, Option, Some, None, Ok, Err}
+use Rattle.std.specs.Option.{option_map}
+use Rattle.zk_jute.specs.Item.{Int, Boolean, Ustring, Buffer, Item, ACount}
+use Rattle.zk_jute.specs.Layout.{One, End}
+use Rattle.zk_jute.specs.Reading.{Read, ◌>>=◌, int_at, bool_at, size_at, items_at}
+use Rattle.zk_records.specs.declared.header.MultiHeader.{MultiHeader}
+use Rattle.zk_records.specs.declared.op.Op.{Op}
+use Rattle.zk_records.specs.declared.op.Op.TheVariants as ops
+use Rattle.zk_records.specs.declared.op.PartOp.{PartOp}
+use Rattle.zk_records.specs.declared.op.PartOp.TheVariants as parts
+use Rattle.zk_fields.specs.declared.field.Field.{Field}
+use Rattle.zk_fields.specs.declared.field.At.{At}
+use Rattle.zk_fields.specs.declared.walk.Walked.{Walked}
+use Rattle.zk_fields.specs.declared.opened.Mark.{Mark}
+use Rattle.zk_fields.specs.declared.opened.Mark.TheVariants as mark
+use Rattle.zk_fields.specs.declared.opened.Opened.{Opened}
+use Rattle.zk_fields.specs.declared.opened.Opened.TheVariants as opened
+use Rattle.zk_fields.specs.Names.{the_path, the_data, the_acl, the_children, the_read_only, the_err}
+use Rattle.zk_fields.specs.Fields.{Entry, Under, Head, named, fields_from}
+use Rattle.zk_fields.specs.Named.{Shape, Nothing, An, Both, Many}
+use Rattle.zk_fields.specs.Records.{texts, rights, stat, connect_request, connect_response, watcher_event, create_ask, delete_ask, set_data_ask, set_acl_ask, check_ask, watch_ask, path_ask, auth_ask, set_watches_ask}
+use Rattle.zk_fields.specs.Room.{Takes}
+
+-- the entries that are there, and the place behind them where all are
+pub record Met : Type 0 where
+  pub entries : List Entry
+  pub end : Option ℕ
+
+abbrev pub none_met : Met
+none_met = record { entries = []; end = None }
+
+abbrev pub item_met : ℕ → Read (List Item) → Met
+item_met name (Ok x) = record { entries = named name x.0; end = Some x.1 }
+item_met name (Err f) = none_met
+
+-- these entries, and what is at the place behind them
+abbrev pub behind : List Entry → Option ℕ → (ℕ → Met) → Met
+behind es None others = record { entries = es; end = None }
+behind es (Some place) others = record { entries = es ++ (others place).entries; end = (others place).end }
+
+abbrev pub met_then : Met → (ℕ → Met) → Met
+met_then m others = behind m.entries m.end others
+
+-- so many, one after the other
+abbrev pub times_met : (ℕ → Met) → ℕ → ℕ → Met
+times_met f zero place = record { entries = []; end = Some place }
+times_met f (suc n) place = met_then (f place) (times_met f n)
+
+abbrev pub count_met : ℕ → (ℕ → Met) → Option ℕ × ℕ → Met
+count_met name f (None, after) = record { entries = Under name (ACount None) ∷ []; end = Some after }
+count_met name f (Some n, after) = behind (Under name (ACount (Some n)) ∷ []) (Some after) (times_met f n)
+
+abbrev pub list_met : ℕ → (ℕ → Met) → Read (Option ℕ) → Met
+list_met name f (Ok x) = count_met name f x
+list_met name f (Err e) = none_met
+
+abbrev pub walk : Shape → List ℕ → ℕ → Met
+walk Nothing src place = record { entries = []; end = Some place }
+walk (An name kind) src place = item_met name (items_at (One kind End) src place)
+walk (Both a b) src place = met_then (walk a src place) (walk b src)
+walk (Many name s) src place = list_met name (walk s src) (size_at src place)
+
+-- ---- the parts and the results of a multi: each begins with a header, which tells what follows
+
+abbrev pub header_at : List ℕ → ℕ → Read MultiHeader
+header_at src place = int_at src place >>= λ kind. bool_at src kind.1 >>= λ done. int_at src done.1 >>= λ err. Ok (record { kind = kind.0; done = done.0; err = err.0 }, err.1)
+
+-- the part that has the number, if one has
+abbrev pub part_with : ℕ → Option PartOp
+part_with n = if n == 1 then Some parts.Create else if n == 2 then Some parts.Delete else if n == 5 then Some parts.SetData else if n == 13 then Some parts.Check else None
+
+abbrev pub part_of : ℤ → Option PartOp
+part_of (pos n) = part_with n
+part_of (negsuc n) = None
+
+-- what a header stands before that isn't the end marker: in a request, and in a reply
+unfoldable pub part_mark : MultiHeader → Option Mark
+part_mark header = if header.done then None else option_map mark.Part (part_of header.kind)
+
+abbrev pub own_or_error : ℤ → Option Mark
+own_or_error (pos n) = option_map mark.Own (part_with n)
+own_or_error (negsuc zero) = Some mark.Error
+own_or_error (negsuc (suc n)) = None
+
+unfoldable pub result_mark : MultiHeader → Option Mark
+result_mark header = if header.done then None else own_or_error header.kind
+
+abbrev pub record_shape : PartOp → Shape
+record_shape parts.Create = create_ask.shape 0
+record_shape parts.Delete = delete_ask.shape 0
+record_shape parts.SetData = set_data_ask.shape 0
+record_shape parts.Check = check_ask.shape 0
+
+abbrev pub mark_shape : Mark → Shape
+mark_shape (mark.Part op) = record_shape op
+mark_shape (mark.Own parts.Create) = An the_path Ustring
+mark_shape (mark.Own parts.Delete) = Nothing
+mark_shape (mark.Own parts.SetData) = stat.shape 0
+mark_shape (mark.Own parts.Check) = Nothing
+mark_shape mark.Error = An the_err Int
+
+abbrev pub under : MultiHeader → Option Mark → List ℕ → ℕ → Met
+under header None src place = none_met
+under header (Some m) src place = behind (Head header ∷ []) (Some place) (walk (mark_shape m) src)
+
+abbrev pub headed : (MultiHeader → Option Mark) → List ℕ → Read MultiHeader → Met
+headed mark_of src (Ok x) = under x.0 (mark_of x.0) src x.1
+headed mark_of src (Err f) = none_met
+
+abbrev pub head_met : (MultiHeader → Option Mark) → List ℕ → ℕ → Met
+head_met mark_of src place = headed mark_of src (header_at src place)
+
+-- ---- whole payloads, by what they would be
+
+-- fields, or as many parts or results as there are
+pub data Content : Type 0 where
+  Fields : Shape → Content
+  Heads : (MultiHeader → Option Mark) → Content
+
+abbrev pub content_met : Content → List ℕ → ℕ → Met
+content_met (Fields s) src place = walk s src place
+content_met (Heads f) src place = times_met (head_met f src) (length src) place
+
+abbrev pub ask_content : Op → Content
+ask_content ops.Create = Fields (create_ask.shape 0)
+ask_content ops.Delete = Fields (delete_ask.shape 0)
+ask_content ops.Exists = Fields (watch_ask.shape 0)
+ask_content ops.GetData = Fields (watch_ask.shape 0)
+ask_content ops.SetData = Fields (set_data_ask.shape 0)
+ask_content ops.GetAcl = Fields (path_ask.shape 0)
+ask_content ops.SetAcl = Fields (set_acl_ask.shape 0)
+ask_content ops.GetChildren = Fields (watch_ask.shape 0)
+ask_content ops.Sync = Fields (path_ask.shape 0)
+ask_content ops.Ping = Fields Nothing
+ask_content ops.GetChildren2 = Fields (watch_ask.shape 0)
+ask_content ops.Multi = Heads part_mark
+ask_content ops.Create2 = Fields (create_ask.shape 0)
+ask_content ops.Auth = Fields (auth_ask.shape 0)
+ask_content ops.SetWatches = Fields (set_watches_ask.shape 0)
+ask_content ops.CloseSession = Fields Nothing
+
+abbrev pub body_content : Op → Content
+body_content ops.Create = Fields (An the_path Ustring)
+body_content ops.Delete = Fields Nothing
+body_content ops.Exists = Fields (stat.shape 0)
+body_content ops.GetData = Fields (Both (An the_data Buffer) (stat.shape 0))
+body_content ops.SetData = Fields (stat.shape 0)
+body_content ops.GetAcl = Fields (Both (rights.shape the_acl) (stat.shape 0))
+body_content ops.SetAcl = Fields (stat.shape 0)
+body_content ops.GetChildren = Fields (texts.shape the_children)
+body_content ops.Sync = Fields (An the_path Ustring)
+body_content ops.Ping = Fields Nothing
+body_content ops.GetChildren2 = Fields (Both (texts.shape the_children) (stat.shape 0))
+body_content ops.Multi = Heads result_mark
+body_content ops.Create2 = Fields (Both (An the_path Ustring) (stat.shape 0))
+body_content ops.Auth = Fields Nothing
+body_content ops.SetWatches = Fields Nothing
+body_content ops.CloseSession = Fields Nothing
+
+-- what stands behind the header, if there is one
+abbrev pub opened_content : Opened → Content
+opened_content opened.First = Fields (Both (connect_request.shape 0) (An the_read_only Boolean))
+opened_content (opened.Ask op) = ask_content op
+opened_content opened.Connected = Fields (Both (connect_response.shape 0) (An the_read_only Boolean))
+opened_content (opened.Reply op) = body_content op
+opened_content opened.Event = Fields (watcher_event.shape 0)
+
+abbrev pub opened_start : Opened → ℕ
+opened_start opened.First = 0
+opened_start (opened.Ask op) = 8
+opened_start opened.Connected = 0
+opened_start (opened.Reply op) = 16
+opened_start opened.Event = 16
+
+-- the fields of all items that end before the place, in order
+abbrev pub opened_fields : Opened → List ℕ → ℕ → List Field
+opened_fields o payload place = if nat_le (opened_start o) (length (take place payload)) then fields_from (opened_start o) (content_met (opened_content o) (take place payload) (opened_start o)).entries else []
+
+-- ---- what a walk does
+
+-- the entries' fields are written, and the walk ends behind them, or where the next item isn't there
+unfoldable pub Walks : At → List Field → Met → Walked → List Field → Type 0
+Walks at room met next new = Takes at room met.entries next.at new × (next.end ≡ met.end)

@@ -1,0 +1,127 @@
+//! Replies.
+ghost use Rattle.std.specs.Prelude.{◌≡◌};
+ghost use Rattle.std.specs.List.{flat_map};
+ghost use Rattle.zk_answers.specs.Results.{mark_before};
+ghost use Rattle.zk_fields.specs.Room.{Takes};
+ghost use Rattle.zk_fields.specs.Answers.{result_entries, done_entries, body_entries};
+
+use crate::ask::show_head;
+use crate::field::{At, Field};
+use crate::list::{Left, show_all};
+use crate::name::{ACL, CHILDREN, DATA, ERR, NONE, PATH};
+use crate::show::Show;
+use zk_answers::{BodyOf, BodyRef, DoneItems, DoneList, PartDoneOf, PartDoneRef};
+use zk_records::MultiHeader;
+
+/// The header that begins a result.
+fn mark_before(done: &PartDoneRef<'_>) -> MultiHeader
+    ensures { result ≡ mark_before done.now }
+{
+    match done {
+        PartDoneOf::Created(_) => MultiHeader {
+            kind: 1,
+            done: false,
+            err: 0,
+        },
+        PartDoneOf::Deleted => MultiHeader {
+            kind: 2,
+            done: false,
+            err: 0,
+        },
+        PartDoneOf::DataSet(_) => MultiHeader {
+            kind: 5,
+            done: false,
+            err: 0,
+        },
+        PartDoneOf::Checked => MultiHeader {
+            kind: 13,
+            done: false,
+            err: 0,
+        },
+        PartDoneOf::PartFailed(error) => MultiHeader {
+            kind: -1,
+            done: false,
+            err: *error,
+        },
+    }
+}
+
+/// What stands behind its header.
+#[tactic(auto, using(crate::proofs::Rooms::takes_nothing))]
+fn show_result(done: &PartDoneRef<'_>, room: &mut [Field], at: At) -> At
+    ensures { Takes at room.old (result_entries done.now) result room.new }
+{
+    match done {
+        PartDoneOf::Created(path) => path.show(PATH, room, at),
+        PartDoneOf::Deleted => at,
+        PartDoneOf::DataSet(stat) => stat.show(NONE, room, at),
+        PartDoneOf::Checked => at,
+        PartDoneOf::PartFailed(error) => error.show(ERR, room, at),
+    }
+}
+
+impl<'a> Show for PartDoneRef<'a> {
+    ghost entries = { λ _ d. done_entries d };
+
+    #[tactic(auto, using(crate::proofs::Rooms::takes_headed))]
+    fn show(&self, _name: u16, room: &mut [Field], at: At) -> At {
+        let at = show_head(&mark_before(self), room, at);
+        show_result(self, room, at)
+    }
+}
+
+impl<'a> Left for DoneItems<'a> {
+    type One = PartDoneRef<'a>;
+
+    ghost left = { λ dones. dones };
+
+    fn take(&mut self) -> Option<PartDoneRef<'a>> {
+        self.next()
+    }
+}
+
+impl<'a> Show for DoneList<'a> {
+    ghost entries = { λ _ ds. flat_map done_entries ds };
+
+    fn show(&self, name: u16, room: &mut [Field], at: At) -> At {
+        show_all(self.items(), name, room, at)
+    }
+}
+
+impl<'a> Show for BodyRef<'a> {
+    ghost entries = { λ _ b. body_entries b };
+
+    #[tactic(auto, using(crate::proofs::Rooms::takes_nothing, crate::proofs::Rooms::takes_both))]
+    fn show(&self, _name: u16, room: &mut [Field], at: At) -> At {
+        match self {
+            BodyOf::Create { path } => path.show(PATH, room, at),
+            BodyOf::Delete => at,
+            BodyOf::Exists { stat } => stat.show(NONE, room, at),
+            BodyOf::GetData { blob, stat } => {
+                let at = blob.show(DATA, room, at);
+                stat.show(NONE, room, at)
+            }
+            BodyOf::SetData { stat } => stat.show(NONE, room, at),
+            BodyOf::GetAcl { acl, stat } => {
+                let at = acl.show(ACL, room, at);
+                stat.show(NONE, room, at)
+            }
+            BodyOf::SetAcl { stat } => stat.show(NONE, room, at),
+            BodyOf::GetChildren { names } => names.show(CHILDREN, room, at),
+            BodyOf::Sync { path } => path.show(PATH, room, at),
+            BodyOf::Ping => at,
+            BodyOf::GetChildren2 { names, stat } => {
+                let at = names.show(CHILDREN, room, at);
+                stat.show(NONE, room, at)
+            }
+            BodyOf::Multi(dones) => dones.show(NONE, room, at),
+            BodyOf::Create2 { path, stat } => {
+                let at = path.show(PATH, room, at);
+                stat.show(NONE, room, at)
+            }
+            BodyOf::Auth => at,
+            BodyOf::SetWatches => at,
+            BodyOf::CloseSession => at,
+        }
+    }
+}

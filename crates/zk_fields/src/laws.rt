@@ -1,0 +1,18 @@
+//! The laws of fields, as contracts.
+ghost use Rattle.std.specs.Prelude.{◌≡◌, length};
+ghost use Rattle.zk_jute.specs.Item.{bytes_of};
+ghost use Rattle.zk_asks.specs.Held.{ClientFrame};
+ghost use Rattle.zk_asks.specs.Frames as asks;
+ghost use Rattle.zk_answers.specs.Held.{ServerFrame};
+ghost use Rattle.zk_answers.specs.Frames as answers;
+ghost use Rattle.zk_fields.specs.Frames.{Framed, framed_items, client_framed, server_framed};
+ghost use Rattle.zk_fields.specs.Contents.{AreAt};
+
+/// The laws of a message's fields; the function does nothing.
+pub fn field_laws()
+    // The header, the fields' items and a multi's end are the message's items, in order.
+    ensures client { (f : ClientFrame) → framed_items (client_framed f) ≡ asks.frame_items f }
+    ensures server { (s : ServerFrame) → framed_items (server_framed s) ≡ answers.frame_items s }
+    // Each field's place and length are those of its content in the payload.
+    ensures contents { (f : Framed) → AreAt (bytes_of (framed_items f)) (length (bytes_of f.front)) f.entries }
+{}

@@ -1,0 +1,96 @@
+//! Lists.
+ghost use Rattle.std.specs.Prelude.{◌≡◌, ◌<◌, ◌^◌, ◌∷◌, [], List, Some, None, pos};
+ghost use Rattle.std.specs.List.{flat_map};
+ghost use Rattle.std.specs.Iterator.{YieldsFirst};
+ghost use Rattle.zk_jute.specs.Item.{ACount};
+ghost use Rattle.zk_fields.specs.Fields.{Under};
+ghost use Rattle.zk_fields.specs.Named.{list_entries};
+ghost use Rattle.zk_fields.specs.Room.{Takes};
+
+use crate::field::{At, Field, put};
+use crate::show::Show;
+use zk_jute::{Element, Elements, KnownPayload, Series, Stands};
+
+/// What is left of a list where it lies.
+pub(crate) trait Left: Drop {
+    type One: Show + Drop;
+
+    ghost left: { Self → List Self.One };
+
+    /// The next one, which is no longer left; None where none is.
+    fn take(&mut self) -> Option<Self::One>
+        ensures { YieldsFirst left self.old result self.new };
+}
+
+impl<'a, R: Element + Stands<KnownPayload<'a>> + Show> Left for Elements<'a, R> {
+    type One = R;
+
+    ghost left = { λ items. items };
+
+    fn take(&mut self) -> Option<R> {
+        self.next()
+    }
+}
+
+/// The fields of all that is left, one after the other.
+pub(crate) fn show_all<I: Left>(items: I, name: u16, room: &mut [Field], at: At) -> At
+    ensures { Takes at room.old (flat_map (I.One.entries name) (I.left items)) result room.new }
+{
+    let mut items = items;
+    let mut at = at;
+    while let Some(item) = items.take() {
+        at = item.show(name, room, at);
+    }
+    at
+}
+
+/// The number of a list's count.
+fn count_number(count: usize) -> i64
+    ensures { count < 2 ^ 31 → result ≡ pos count }
+{
+    i64::try_from(count).unwrap_or(i64::MAX)
+}
+
+/// A list's count.
+#[tactic(auto, using(crate::proofs::Rooms::takes_count))]
+pub(crate) fn show_count(name: u16, count: usize, room: &mut [Field], at: At) -> At
+    ensures { Takes at room.old (Under name (ACount (Some count)) ∷ []) result room.new }
+{
+    let field = Field {
+        place: at.place,
+        length: 4,
+        number: count_number(count),
+        name,
+        kind: 6,
+        null: 0,
+    };
+    put(field, 4, room, at)
+}
+
+/// The count of a list that is null.
+#[tactic(auto, using(crate::proofs::Rooms::takes_one))]
+pub(crate) fn show_null(name: u16, room: &mut [Field], at: At) -> At
+    ensures { Takes at room.old (Under name (ACount None) ∷ []) result room.new }
+{
+    let field = Field {
+        place: at.place,
+        length: 4,
+        number: 0,
+        name,
+        kind: 6,
+        null: 1,
+    };
+    put(field, 4, room, at)
+}
+
+impl<'a, R: Element + Stands<KnownPayload<'a>> + Show> Show for Series<'a, R> {
+    ghost entries = { list_entries R.entries };
+
+    fn show(&self, name: u16, room: &mut [Field], at: At) -> At {
+        if self.is_null() {
+            return show_null(name, room, at);
+        }
+        let at = show_count(name, self.count(), room, at);
+        show_all(self.items(), name, room, at)
+    }
+}
