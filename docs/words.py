@@ -39,7 +39,7 @@ DIALECT = {
     r"behind": 40,
 }
 DIARY = re.compile(r"\b\d{1,2} (?:January|February|March|April|May|June|July|August|September|October|November|December)"
-                   r"|\b(?:this|one|that) machine\b|\b(?:hours?|minutes?) (?:on|of one)\b|\bat a load of\b", re.I)
+                   r"|\b(?:this|that) machine\b|\b(?:hours?|minutes?) on\b|\bat a load of\b")
 
 GENERATED = re.compile(r"<!-- The lines from here on are written by .*?<!-- Up to here. -->", re.S)
 FENCE = re.compile(r"^```.*?^```$", re.M | re.S)
@@ -93,14 +93,16 @@ def anchors(text):
 
 
 def lost(path, text):
-    """The links of a page that lead nowhere."""
-    for target in (found[1] for found in LINK.findall(FENCE.sub("", text))):
+    """The links of a page that lead nowhere: no file, no heading, or no function of the name that is linked."""
+    for name, target in LINK.findall(FENCE.sub("", text)):
         file, _, anchor = target.partition("#")
         if re.match(r"\w+:", target):
             continue
         to = (path.parent / file).resolve() if file else path
-        if not to.exists() or (anchor and anchor not in anchors(to.read_text())):
-            yield f"{name_of(path)}: the link {target} leads nowhere"
+        code = re.fullmatch(r"`(?:\w+::)*(\w+)`", name) if file.endswith(".rt") else None
+        if (not to.exists() or (anchor and anchor not in anchors(to.read_text()))
+                or (code and not re.search(rf"\b(?:fn|macro_rules!) {code[1]}\b", to.read_text()))):
+            yield f"{name_of(path)}: the link {name} to {target} leads nowhere"
 
 
 def judged(texts):
