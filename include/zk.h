@@ -198,7 +198,7 @@ struct zk_payload zk_judge_request(uint32_t profile, const uint8_t *bytes, size_
 struct zk_payload zk_judge_connected(const uint8_t *bytes, size_t length);
 
 /* Whether the payload is that of a reply to a request of this operation; for a multi, parts are the operations of its
- * count parts. ZK_RANGE if a number is none's, or another operation has parts; ZK_MISFIT if the xid is -1, an event's. */
+ * count parts. ZK_RANGE if a number is unknown or another operation has parts; ZK_MISFIT if the xid is an event's, -1. */
 struct zk_payload zk_judge_reply(int32_t operation, const int32_t *parts, size_t count, const uint8_t *bytes, size_t length);
 
 /* Whether the payload is that of an event. ZK_MISFIT if the xid isn't -1: a reply's. */
@@ -206,7 +206,7 @@ struct zk_payload zk_judge_event(const uint8_t *bytes, size_t length);
 
 /* Writes the listing of a whole conversation: the line of each message and of the ending, each with a line feed. The
  * pieces are in the order in which they came, and bytes are those of all, one after the other; the numbers are those of
- * zk_talk_new. ZK_RANGE if one is out of its range, or the pieces aren't just the bytes; ZK_ROOM with the length that is
+ * zk_talk_new. ZK_RANGE if one is out of range, or the pieces aren't just the bytes; ZK_ROOM with the length that is
  * needed, and out as it was. It allocates all messages and the text. */
 struct zk_line zk_listing(const struct zk_piece *pieces, size_t count, const uint8_t *bytes, size_t length, uint32_t client, uint32_t server, uint32_t waiting, uint32_t profile, uint8_t *out, size_t room);
 
