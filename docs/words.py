@@ -32,11 +32,11 @@ DIALECT = {
     r"says? no more": 0,
     r"where (?:it|they) lies?": 0,
     r"(?:is|are|was|were) told": 2,
-    r"tells?": 12,
-    r"wants?": 8,
-    r"stands?": 60,
-    r"comes? to": 12,
-    r"behind": 40,
+    r"tells?": 4,
+    r"wants?": 6,
+    r"stands?": 35,
+    r"comes? to": 10,
+    r"behind": 10,
 }
 DIARY = re.compile(r"\b\d{1,2} (?:January|February|March|April|May|June|July|August|September|October|November|December)"
                    r"|\b(?:this|that) machine\b|\b(?:hours?|minutes?) on\b|\bat a load of\b")
