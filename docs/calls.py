@@ -1,13 +1,12 @@
 #!/usr/bin/env python3
-"""Lists every public call with its contract's clauses, in docs/CALLS.md.
+"""Lists every public call with its contract's clauses, in docs/PROVED.md.
 
     docs/calls.py [--check]
 
 It reads the signatures in the folders src/ of what each crate's lib.rt names as public, and writes them between two
 marks of the page: what a call answers, its conditions, and the names of its clauses, by whether they speak of an
-answer, of a refusal or of both. Above the marks the page names
-clauses as `Type::call` (clause, ..): each must be one of that call. And docs/MUST_FAIL.md names edits as `crate/edit`:
-each must be there. With --check it writes nothing and fails where the page isn't current.
+answer, of a refusal or of both. And docs/MUST_FAIL.md names edits as `crate/edit`: each must be there. With --check it
+writes nothing and fails where the page isn't current. (docs/clauses.py looks at the clauses that pages name.)
 
 The status is 0 where the page is current or was written, 1 where --check or a name finds that it isn't, 2 for other
 words.
@@ -18,7 +17,7 @@ import re
 import sys
 
 TOP = pathlib.Path(__file__).resolve().parent.parent
-PAGE, EDITS = TOP / "docs" / "CALLS.md", TOP / "docs" / "MUST_FAIL.md"
+PAGE, EDITS = TOP / "docs" / "PROVED.md", TOP / "docs" / "MUST_FAIL.md"
 BEGIN, END = "<!-- The lines from here on are written by docs/calls.py. -->", "<!-- Up to here. -->"
 
 CLAUSE = re.compile(r"\s*(requires|ensures)\*?\s+(\w+\s+)?\{")
@@ -128,17 +127,6 @@ def table(crate, every):
     return "\n".join(rows)
 
 
-def unknown(text, every):
-    """What the page names as clauses of calls that have none such."""
-    clauses = {}
-    for call in every:
-        clauses.setdefault(call.name, set()).update(name for name, _ in call.clauses)
-    for call, names in re.findall(r"`([\w:]+)` \(([\w, ]+)\)", text):
-        for name in names.split(", "):
-            if name not in clauses.get(call, ()):
-                yield f"docs/CALLS.md: `{call}` has no clause {name}"
-
-
 def missing():
     """The edits that a page names and that aren't there."""
     for crate, edit in re.findall(r"`(zk\w*)/(\w+)`", EDITS.read_text()):
@@ -156,11 +144,11 @@ def main():
     crates = list(dict.fromkeys(call.crate for call in every))
     told = "\n\n".join(table(crate, every) for crate in crates)
     current = f"{head}{BEGIN}\n\n{told}\n\n{END}{rest.partition(END)[2]}"
-    wrong = [*unknown(head, every), *missing()]
+    wrong = [*missing()]
     if "--check" not in sys.argv:
         PAGE.write_text(current)
     elif page != current:
-        wrong.append("docs/CALLS.md isn't current: run docs/calls.py")
+        wrong.append("docs/PROVED.md isn't current: run docs/calls.py")
     print("\n".join([*wrong, f"{0 if wrong else 1} passed, {len(wrong)} failed"]))
     return 1 if wrong else 0
 

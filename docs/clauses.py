@@ -5,7 +5,7 @@
 
 A page names clauses of a function as `call` (clause, ..) or, within brackets, as (`call`, clause, ..; ..), and calls of
 a trait or type as `Type` (call, ..). Each such word must be the name of a clause of a function of that name in
-crates/*/src, or of a call of that type. Without words it reads README.md, tools/README.md and docs/*.md.
+crates/*/src, or of a call of that type. Without words it reads README.md, those of tools and crates, and docs/*.md.
 
 It prints what is wrong and one last line. The status is 0 where nothing is.
 """
@@ -66,7 +66,8 @@ def named(page):
 
 def main():
     pages = [pathlib.Path(word) for word in sys.argv[1:]] or [
-        TOP / "README.md", TOP / "tools" / "README.md", *sorted((TOP / "docs").glob("*.md"))]
+        *(TOP / name for name in ("README.md", "tools/README.md", "crates/README.md")),
+        *sorted((TOP / "docs").glob("*.md"))]
     clauses, members = known()
     wrong, right = [], 0
     for path in pages:

@@ -206,7 +206,7 @@ def generated():
         more = [definition for definition in rests if definition not in before]
         text = f"### `{title.replace(' and ', '` and `')}`\n\n{specs} definitions and {len(rests) - specs} types, in {files} files"
         if before:
-            text += f"; {len(rests) - len(more)} of them stand above, and these {len(more)} are new"
+            text += f"; {len(rests) - len(more)} of them are above, and these {len(more)} are new"
         parts.append(f"{text}.\n\n{table(more)}")
         before += more
     return "\n\n".join(parts)

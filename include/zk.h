@@ -94,7 +94,7 @@ struct zk_fault {
     int32_t got;
 };
 
-/* What a step answers: so many bytes of the piece were used; whole: the last of them made a frame whole. */
+/* What a step returns: the bytes used of the piece, and whether the last of them completed a frame. */
 struct zk_step {
     size_t used;
     uint32_t status;
@@ -135,33 +135,33 @@ struct zk_line {
     size_t length;
 };
 
-/* Whether a line was said: so many bytes its frame has; the column of the fault, from 1, where it is no message's. */
+/* Whether a line was said: the length of its frame, or the column of the fault, from 1, if it is no message's. */
 struct zk_say {
     uint32_t status;
     size_t length;
     uint32_t column;
 };
 
-/* Whether a payload is a message's, and where its first fault stands. */
+/* Whether a payload is a message's, and where its first fault is. */
 struct zk_payload {
     uint32_t status;
     uint32_t place;
 };
 
-/* So many bytes of a side, for zk_listing. */
+/* A number of bytes of a side, for zk_listing. */
 struct zk_piece {
     uint32_t side;
     size_t length;
 };
 
-/* Makes a talk: payloads of the client and of the server of at most so many bytes (64 to 16777216), at most so many
- * requests and parts that wait (1 to 1048576), a profile. ZK_WELL, ZK_IN_USE, ZK_RANGE or ZK_NO_MEMORY. */
+/* Makes a talk. client and server are the greatest payloads of the sides (64 to 16777216 bytes), waiting is how many
+ * requests and parts may wait (1 to 1048576). Returns ZK_WELL, ZK_IN_USE, ZK_RANGE or ZK_NO_MEMORY. */
 uint32_t zk_talk_new(struct zk_talk *talk, uint32_t client, uint32_t server, uint32_t waiting, uint32_t profile);
 
-/* Takes bytes of a side up to the end of the first frame that becomes whole, or all of them. No memory is taken. */
+/* Takes bytes of a side up to the end of the first frame that becomes whole, or all of them. It never allocates. */
 struct zk_step zk_talk_step(struct zk_talk *talk, uint32_t side, const uint8_t *piece, size_t length);
 
-/* The message whose frame the side keeps: the one that its last step made whole. */
+/* The message whose frame the side keeps: the one that its last step completed. */
 struct zk_message zk_talk_view(struct zk_talk *talk, uint32_t side);
 
 /* Writes that message's line (docs/FORMATS.md, section 9), without line feed. */
@@ -173,7 +173,7 @@ struct zk_ending zk_talk_finish(struct zk_talk *talk);
 /* Writes the line of the ending (section 11), without line feed. */
 struct zk_line zk_talk_ending_line(struct zk_talk *talk, uint8_t *out, size_t room);
 
-/* Gives up the talk and its memory; the handle is then empty. */
+/* Frees the talk; the handle is then empty. */
 void zk_talk_free(struct zk_talk *talk);
 
 /* Makes a speaker, which has said nothing; the numbers are those of zk_talk_new. */
@@ -185,7 +185,7 @@ struct zk_say zk_speaker_say(struct zk_speaker *speaker, const uint8_t *line, si
 /* Writes that frame. */
 struct zk_line zk_speaker_frame(struct zk_speaker *speaker, uint8_t *out, size_t room);
 
-/* Gives up the speaker and its memory; the handle is then empty. */
+/* Frees the speaker; the handle is then empty. */
 void zk_speaker_free(struct zk_speaker *speaker);
 
 /* Whether the payload is that of a connect request. */
@@ -197,18 +197,17 @@ struct zk_payload zk_judge_request(uint32_t profile, const uint8_t *bytes, size_
 /* Whether the payload is that of the answer to a connect request. */
 struct zk_payload zk_judge_connected(const uint8_t *bytes, size_t length);
 
-/* Whether the payload is that of a reply to a request of this operation; of a multi with so many parts, of which these
- * are the operations. ZK_RANGE where a number is none's, or another operation has parts; ZK_MISFIT where the xid is -1,
- * an event's. */
+/* Whether the payload is that of a reply to a request of this operation; for a multi, parts are the operations of its
+ * count parts. ZK_RANGE if a number is unknown or another operation has parts; ZK_MISFIT if the xid is an event's, -1. */
 struct zk_payload zk_judge_reply(int32_t operation, const int32_t *parts, size_t count, const uint8_t *bytes, size_t length);
 
-/* Whether the payload is that of an event. ZK_MISFIT where the xid isn't -1: a reply's. */
+/* Whether the payload is that of an event. ZK_MISFIT if the xid isn't -1: a reply's. */
 struct zk_payload zk_judge_event(const uint8_t *bytes, size_t length);
 
-/* Writes the listing of a conversation that lies there whole: the line of each message and of the ending, each with a
- * line feed. The pieces are in the order in which they came, and the bytes of all lie one behind the other; the numbers
- * are those of zk_talk_new. ZK_RANGE where one is out of its range, or the pieces aren't just the bytes; ZK_ROOM with
- * the length that is needed, and the room as it was. It takes memory for all messages and for the text. */
+/* Writes the listing of a whole conversation: the line of each message and of the ending, each with a line feed. The
+ * pieces are in the order in which they came, and bytes are those of all, one after the other; the numbers are those of
+ * zk_talk_new. ZK_RANGE if one is out of range, or the pieces aren't just the bytes; ZK_ROOM with the length that is
+ * needed, and out as it was. It allocates all messages and the text. */
 struct zk_line zk_listing(const struct zk_piece *pieces, size_t count, const uint8_t *bytes, size_t length, uint32_t client, uint32_t server, uint32_t waiting, uint32_t profile, uint8_t *out, size_t room);
 
 /* ---- Null pointers, and lengths of more than PTRDIFF_MAX bytes

@@ -1,6 +1,6 @@
 #!/usr/bin/env python3
-"""Runs the proved program over truncated, cut and changed conversations: those of the worked examples
-(docs/EXAMPLES.md) and the small recordings in captures/.
+"""Runs the proved program over truncated, cut and changed conversations: those of the stored cases
+(crates/zkdump/cases) and the small recordings in captures/.
 
     damage.py [--jobs N] [--only WORD] [PROGRAM]
 

@@ -7,7 +7,7 @@ Each call that crates/zk_c/src exports stands in include/zk.h with as many words
 fields, and each number by the same name. The examples (docs/LIBRARY.md) in C, Rust and Python are compiled where there
 is a compiler, and give the listing of each recording in captures/; the one in C gives up its memory, where the compiler
 has what looks for that; the one in Python says the lines of whole listings again, and judges kazoo's requests where kazoo
-is installed. Payloads of docs/EXAMPLES.md are judged. Lines are refused by their reasons and columns. Null pointers and
+is installed. Single payloads are judged. Lines are refused by their reasons and columns. Null pointers and
 lengths that no bytes have are refused (tests/nulls.c). What is skipped is told.
 
 Where no other is named, the library is proved and built here, over the libraries below it that `rt ci` left; where it
@@ -39,8 +39,8 @@ C_TYPES = {"u8": "uint8_t", "u32": "uint32_t", "i32": "int32_t", "u64": "uint64_
            "LineAnswer": "struct zk_line", "Piece": "struct zk_piece", "PayloadAnswer": "struct zk_payload"}
 INSIDE = {"TalkBox", "VoiceBox"}
 
-# Payloads, from docs/EXAMPLES.md, "Single payloads": the call, of a reply with the numbers of the operation and of its
-# parts, the payload, the status and the place.
+# Payloads, as in the tables PAYLOADS of crates/codec_tests/src (asks.rt, answers.rt): the call, of a reply with the
+# numbers of the operation and of its parts, the payload, the status and the place.
 HELLO = "00000000 0000000000000000 00007530 0000000000000000 00000010 00000000000000000000000000000000"
 WELCOME = "00000000 00007530 0100000000000001 00000010 000102030405060708090a0b0c0d0e0f"
 SIXTEEN = "00000001 0000000000000005 00000000 0000000000000004 0000000000000004 00000000000003e8 00000000000003e8"

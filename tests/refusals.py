@@ -1,11 +1,11 @@
 #!/usr/bin/env python3
-"""Runs the proved program and the library's calls over the worked examples, with each growth of memory refused in turn.
+"""Runs the proved program and the library's calls over the stored cases, with each growth of memory refused in turn.
 
     refusals.py [--jobs N] [--only WORD] [--program PATH] [--tests PATH]
 
 tests/refuse.c, which a C compiler makes a library of, stands in the place of the C library's malloc and realloc, which
-are all that a program asks for memory by, and refuses the Nth call of a run. For each worked example (docs/EXAMPLES.md)
-and N counting up from 1 until a run meets no refusal
+are all that a program asks for memory by, and refuses the Nth call of a run. For each stored case
+(crates/zkdump/cases) and N counting up from 1 until a run meets no refusal
 
 - show, check, build, migrate: over the stored cases, and `build` over the listings of those of show, too, the run does what it
   does with ample memory; or it ends with status 3, `zkdump: out of memory` on standard error, and a front of the output

@@ -129,7 +129,7 @@ class Known:
         """The message of an object."""
         connection, n = self.connection, value(made, "n", (int,))
         if connection.ending or n <= self.last:
-            raise ValueError(f"message {n} of connection {json.dumps(connection.name)} comes behind its message "
+            raise ValueError(f"message {n} of connection {json.dumps(connection.name)} comes after its message "
                              f"{self.last} or its ending: two recordings have this name, or the order is lost")
         self.last = n
         side, op = value(made, "side", (str,)), word(made, "op")
@@ -171,7 +171,7 @@ class Known:
     def end(self, made):
         """Takes the ending."""
         if self.connection.ending:
-            raise ValueError("a line behind the ending line")
+            raise ValueError("a line after the ending line")
         waiting = made.pop("waiting", None)
         made.pop("connection", None)
         if made["ending"] not in listing.ENDINGS or not all(

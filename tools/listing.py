@@ -244,7 +244,7 @@ class Listing(Conversations):
     def end(self, line, n):
         """Takes an ending line, as the last one."""
         if self.connection.ending:
-            raise NoListing(f"line {n}: a line behind the ending line")
+            raise NoListing(f"line {n}: a line after the ending line")
         if not line.startswith("."):
             head = ONLY_HEAD.match(line)
             raise no_line(n, head.end() if head else 0)

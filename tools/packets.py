@@ -147,7 +147,7 @@ def block_body(source, order, head, least):
         raise NotRead(f"a block of {size} bytes")
     body = source.exactly(size - least)
     if source.exactly(4) != head:
-        raise NotRead("a block has one length before it and another behind it")
+        raise NotRead("a block has one length before it and another after it")
     return body
 
 

@@ -14,10 +14,10 @@ packets= has the numbers of its first and its last packet in the capture, and re
 captured again. closed=C says that the client sent the first FIN, reset=S that the server sent a reset, and open that
 neither was captured; `ended` is the time of that, or of the last packet.
 
-Bytes are written only behind everything that their sender had acknowledged, so that no reply stands before its
+Bytes are written only after everything that their sender had acknowledged, so that no reply comes before its
 request, in whatever order packets were captured. Where bytes are missing, the recording ends before them, and the line
 says `hole=C` or `hole=S`, the side that they are of. What follows them is PREFIX-1.2.zkr and so on, each with its line:
-from a request on that has its reply, behind a connect request and response that are made up (all numbers -1). The line
+from a request on that has its reply, after a connect request and response that are made up (all numbers -1). The line
 says how many bytes of each side were not captured before it (`lost=C:0,S:96`), how many were captured but are left out
 (`skipped=C:120,S:300`), and how many replies are, since their requests are not in it (`unasked=3`). `snapped` says that
 packets were not captured whole.

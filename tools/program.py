@@ -28,7 +28,7 @@ def prove_runs(parser, path):
             told = show.stdout.read(len(b". whole"))
             if told:
                 show.kill()
-        trouble = "" if told == b". whole" else f"it tells no listing, and its status is {show.returncode}"
+        trouble = "" if told == b". whole" else f"it writes no listing, and its status is {show.returncode}"
     except OSError as error:
         trouble = error.strerror
     if trouble:

@@ -12,7 +12,7 @@ number of its request, and under `asked` that one's path. The last object of a c
 `waiting` are the numbers of the requests without a reply.
 
 With its recording a message has a time under `at`, in milliseconds since 1970, that of its last byte, and a reply has
-under `ms` how long it took. A ZKR2 recording has times of its own; for another they stand in FILE, or REC.zkr.times.
+under `ms` how long it took. A ZKR2 recording has times of its own; for another they are in FILE, or REC.zkr.times.
 """
 
 import json

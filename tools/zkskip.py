@@ -5,7 +5,7 @@
     zkskip.py [--profile 3.4|3.5] < REC.zkr > PLAIN.zkr
 
 Left out are operations of later releases and of SASL, a check outside a multi, multis with parts of later releases,
-and auth under another xid than -4, which some Go clients send. Each is told in a line on standard error. Numbers that
+and auth under another xid than -4, which some Go clients send. Each has a line on standard error. Numbers that
 no release has stay, and so does everything else. The new recording has the format of the old one, and one frame a
 piece, in the order of their last bytes; from where a side has no frames any more, its bytes stay as they are. Where
 REC.zkr.times is there, PLAIN.zkr.times is written, too. Neither may be there already.

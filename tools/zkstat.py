@@ -8,7 +8,7 @@ It reads recordings by their names (zkdump show makes their listings), listings,
 these, also of several connections; without a name a listing or zkjson's lines from standard input. Where there are
 times there are latencies: from a request's last byte to its reply's. p50, p95 and p99 are those of HdrHistogram with
 three significant digits, in microseconds; max is exact. A multi has failed where one of its parts has. Connections of
-one session stand together.
+one session are grouped.
 """
 
 import collections

@@ -1,12 +1,12 @@
 #!/usr/bin/env python3
-"""A proxy that tells what the ZooKeeper connections through it say, while they say it.
+"""A proxy that shows what the ZooKeeper connections through it say, while they say it.
 
     zkwatch.py [--zkdump PATH] [--profile 3.4|3.5] [--limit N] [--once] [HOST:]PORT SERVER:PORT
 
-It listens on PORT (0 is any free one; the first line of standard output tells it) and passes every connection on to the
+It listens on PORT (0 is any free one; the first line of standard output has it) and passes every connection on to the
 server. Each has a `zkdump show` of its own, which gets every piece before it is passed on; so a request is read before
-its reply can come. The lines of all are told with the time and the connection's number. Once a conversation is refused,
-or is no longer read for another reason, that is told, and its bytes still go on. Ctrl-C, or SIGTERM, ends it.
+its reply can come. The lines of all are printed with the time and the connection's number. Once a conversation is refused,
+or is no longer read for another reason, a line says so, and its bytes still go on. Ctrl-C, or SIGTERM, ends it.
 
 No connection waits for `show`, or for who reads the lines: a connection of which MOST_WAITING bytes wait to be read is
 no longer watched. As an example for authors of proxies: `show` writes a message's line as soon as its last byte is

@@ -182,7 +182,7 @@ class Zkjson(ToolCase):
     def test_lines_behind_the_ending_line_and_of_zkjson(self):
         lines = "C -2 ping\n. whole unanswered=1\nS -2 ping zxid=5\n"
         status, out, err = self.run_tool("zkjson.py", stdin=lines.encode())
-        self.assertEqual((status, out.count("\n"), err), (1, 1, "zkjson.py: line 3: a line behind the ending line\n"))
+        self.assertEqual((status, out.count("\n"), err), (1, 1, "zkjson.py: line 3: a line after the ending line\n"))
 
     def test_lists_of_texts(self):
         texts = ["", ",", "a", '","', "~", "]", "a b", "\\"]

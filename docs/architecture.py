@@ -1,0 +1,88 @@
+#!/usr/bin/env python3
+"""Lists the crates in docs/ARCHITECTURE.md, and the files of each in crates/README.md.
+
+    docs/architecture.py [--check]
+
+What a crate or a file has is what it says of itself: the first paragraph of the `//!` comment of lib.rt or main.rt, and
+of the other src/*.rt, or the comment that a file of specs/ begins with. What a crate uses is said in crates.txt. The
+lines are written between two marks of each page. With --check nothing is written, and it fails where a page isn't
+current, or where a file says nothing of itself.
+
+The status is 0 where the pages are current or were written, 1 where something is wrong, 2 for other words.
+"""
+
+import pathlib
+import re
+import sys
+
+TOP = pathlib.Path(__file__).resolve().parent.parent
+BEGIN, END = "<!-- The lines from here on are written by docs/architecture.py. -->", "<!-- Up to here. -->"
+HEAD = {".rt": r"(?://!(?: .*)?\n)+", ".antt": r"(?:-- .*\n)+"}
+ROOTS = ("lib.rt", "main.rt")
+
+
+def crates():
+    """The crates, from the lowest on, each with what it uses."""
+    for line in (TOP / "crates.txt").read_text().splitlines():
+        if line and not line.startswith("#"):
+            name, _, used = line.partition(":")
+            yield name.split()[0], used.split()
+
+
+def head(path):
+    """What a file says of itself, in one line."""
+    found = re.match(HEAD[path.suffix], path.read_text())
+    lines = [re.sub(r"^(//!|--) ?", "", line) for line in found[0].splitlines()] if found else []
+    first = " ".join(lines[:lines.index("")] if "" in lines else lines)
+    return first.replace("|", "\\|")
+
+
+def root(crate):
+    """The file that a crate begins with."""
+    return next(path for name in ROOTS if (path := TOP / "crates" / crate / "src" / name).exists())
+
+
+def files(crate):
+    """The files of a crate that have something of their own."""
+    folder = TOP / "crates" / crate
+    sources = sorted(path for path in folder.glob("src/**/*.rt") if path.name not in ROOTS)
+    return [*sources, *sorted(path for path in folder.glob("specs/**/*.antt") if path.stem != "Lib")]
+
+
+def crate_table():
+    rows = [f"| `{crate}` | {head(root(crate))} | {', '.join(f'`{name}`' for name in used) or 'nothing'} |"
+            for crate, used in crates()]
+    return "\n".join(["| Crate | What it has | Uses |", "|---|---|---|", *rows])
+
+
+def file_tables():
+    parts = []
+    for crate, _ in crates():
+        rows = [f"| `{path.relative_to(TOP / 'crates' / crate)}` | {head(path)} |" for path in files(crate)]
+        parts.append("\n".join([f"### {crate}\n", "| File | What it has |", "|---|---|", *rows]) if rows else "")
+    return "\n\n".join(filter(None, parts))
+
+
+PAGES = ((TOP / "docs" / "ARCHITECTURE.md", crate_table), (TOP / "crates" / "README.md", file_tables))
+
+
+def main():
+    if sys.argv[1:] not in ([], ["--check"]):
+        print(__doc__.split("\n\n")[1].strip(), file=sys.stderr)
+        return 2
+    every = [path for crate, _ in crates() for path in (root(crate), *files(crate))]
+    wrong = [f"{path.relative_to(TOP)} doesn't say what it has" for path in every if not head(path)]
+    for path, written in PAGES:
+        page = path.read_text()
+        before, _, rest = page.partition(BEGIN)
+        current = f"{before}{BEGIN}\n\n{written()}\n\n{END}{rest.partition(END)[2]}"
+        if "--check" not in sys.argv:
+            path.write_text(current)
+        elif page != current:
+            wrong.append(f"{path.relative_to(TOP)} isn't current: run docs/architecture.py")
+    print("\n".join([*wrong, f"{0 if wrong else len(PAGES)} passed, {len(wrong)} failed"]))
+    return 1 if wrong else 0
+
+
+if __name__ == "__main__":
+    sys.exit(main())

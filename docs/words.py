@@ -1,0 +1,146 @@
+#!/usr/bin/env python3
+"""Measures how the pages are written, and holds their links.
+
+    docs/words.py [--check]
+
+It prints each page's words (those of `wc -w`, without the parts that scripts write), the limit, and the longest
+sentence. With --check it prints only what is wrong: a page or docs/ above its limit of words, a sentence above the
+page's, a word of DIALECT more often than its number allows, a date, a machine or an hour outside of bench/README.md and
+CHANGELOG.md, and a link between pages whose file or heading isn't there.
+
+A sentence ends with a full stop, a question or an exclamation mark; a table's cell, an item of a list and a heading are
+sentences of their own. Code within a sentence is one word; blocks of code are none.
+
+The status is 0 where nothing is wrong, 1 where something is, 2 for other words.
+"""
+
+import pathlib
+import re
+import sys
+
+TOP = pathlib.Path(__file__).resolve().parent.parent
+
+# The greatest number of words of a page, and of all of docs/; and of words in one sentence.
+WORDS = {"README.md": 1300, "docs/DECISIONS.md": 3000, "docs/MUST_FAIL.md": 1500, "docs/": 22000}
+SHORT, LONG = 40, 60
+PLAIN = {"README.md": SHORT, "tools/README.md": SHORT, "docs/LIBRARY.md": SHORT}
+
+# Words that are rarely the plainest, and how often all pages together may have them.
+DIALECT = {
+    r"so many": 0,
+    r"(?:wants?|wanted|want of) memory|memory is wanted": 0,
+    r"says? no more": 0,
+    r"where (?:it|they) lies?": 0,
+    r"(?:is|are|was|were) told": 2,
+    r"tells?": 4,
+    r"wants?": 6,
+    r"stands?": 35,
+    r"comes? to": 10,
+    r"behind": 10,
+}
+DIARY = re.compile(r"\b\d{1,2} (?:January|February|March|April|May|June|July|August|September|October|November|December)"
+                   r"|\b(?:this|that) machine\b|\b(?:hours?|minutes?) on\b|\bat a load of\b")
+
+GENERATED = re.compile(r"<!-- The lines from here on are written by .*?<!-- Up to here. -->", re.S)
+FENCE = re.compile(r"^```.*?^```$", re.M | re.S)
+LINK = re.compile(r"\[([^\]]*)\]\(([^)\s]+)\)")
+ENDS = re.compile(r"(?<=[.?!])[\"')*]*\s+")
+
+
+def name_of(path):
+    return str(path.relative_to(TOP))
+
+
+def pages():
+    """The pages that are read: those at the top, of docs/, and each folder's README."""
+    return sorted({*TOP.glob("*.md"), *TOP.glob("docs/*.md"), *TOP.glob("*/README.md"), *TOP.glob("bench/*.md"),
+                   *TOP.glob("crates/*/cases/README.md")} - {TOP / "CHANGELOG.md"})
+
+
+def prose(text):
+    """The page without blocks of code, comments and what scripts write."""
+    text = re.sub(r"<!--.*?-->", "", FENCE.sub("", GENERATED.sub("", text)), flags=re.S)
+    return "\n".join(line for line in text.splitlines() if not line.startswith("    "))
+
+
+def blocks(text):
+    """Its paragraphs, items, cells and headings, each as one text."""
+    lines = []
+    for line in prose(text).splitlines():
+        if re.match(r"\s*(#|\||[-*] |\d+\. )", line) or not line.strip() or not lines:
+            lines.append(line.strip())
+        elif lines[-1]:
+            lines[-1] += " " + line.strip()
+        else:
+            lines.append(line.strip())
+    for line in lines:
+        cells = re.split(r"(?<!\\)\|", re.sub(r"`[^`]*`", "code", line)) if line.startswith("|") else [line]
+        yield from (re.sub(r"^\s*(#+|[-*]|\d+\.) ", "", cell) for cell in cells)
+
+
+def sentences(text):
+    """Each sentence, and the number of its words."""
+    for block in blocks(text):
+        block = LINK.sub(r"\1", re.sub(r"`[^`]*`", "code", block))
+        for sentence in ENDS.split(block):
+            yield sentence, len(re.findall(r"[\w'\"(*]+\S*", sentence))
+
+
+def anchors(text):
+    """The names of its headings, as links spell them."""
+    return {re.sub(r"[^\w\- ]", "", head.replace("`", "")).strip().lower().replace(" ", "-")
+            for head in re.findall(r"^#+ (.*)$", text, re.M)}
+
+
+def lost(path, text):
+    """The links of a page that lead nowhere: no file, no heading, or no function of the name that is linked."""
+    for name, target in LINK.findall(FENCE.sub("", text)):
+        file, _, anchor = target.partition("#")
+        if re.match(r"\w+:", target):
+            continue
+        to = (path.parent / file).resolve() if file else path
+        code = re.fullmatch(r"`(?:\w+::)*(\w+)`", name) if file.endswith(".rt") else None
+        if (not to.exists() or (anchor and anchor not in anchors(to.read_text()))
+                or (code and not re.search(rf"\b(?:fn|macro_rules!) {code[1]}\b", to.read_text()))):
+            yield f"{name_of(path)}: the link {name} to {target} leads nowhere"
+
+
+def judged(texts):
+    """What is wrong."""
+    sizes = {name_of(path): len(GENERATED.sub("", text).split()) for path, text in texts.items()}
+    sizes["docs/"] = sum(size for name, size in sizes.items() if name.startswith("docs/"))
+    for name, limit in WORDS.items():
+        if sizes[name] > limit:
+            yield f"{name}: {sizes[name]} words, and at most {limit} are allowed"
+    for path, text in texts.items():
+        name = name_of(path)
+        for sentence, size in sentences(text):
+            if size > PLAIN.get(name, LONG):
+                yield f"{name}: a sentence of {size} words: {sentence[:90]}"
+        if name != "bench/README.md":
+            yield from (f"{name}: a diary's words: {found[0]}" for found in DIARY.finditer(prose(text)))
+        yield from lost(path, text)
+    every = " ".join(re.sub(r"\s+", " ", re.sub(r"`[^`]*`", "", prose(text))) for text in texts.values())
+    for word, limit in DIALECT.items():
+        count = len(re.findall(rf"\b(?:{word})\b", every, re.I))
+        if count > limit:
+            yield f"the pages have \"{word}\" {count} times, and at most {limit} are allowed"
+
+
+def main():
+    if sys.argv[1:] not in ([], ["--check"]):
+        print(__doc__.split("\n\n")[1].strip(), file=sys.stderr)
+        return 2
+    texts = {path: path.read_text() for path in pages()}
+    if not sys.argv[1:]:
+        for path, text in texts.items():
+            name = name_of(path)
+            longest = max(size for _, size in sentences(text))
+            print(f"{len(GENERATED.sub('', text).split()):6} {WORDS.get(name, '-'):>6} {longest:4}  {name}")
+    wrong = list(judged(texts))
+    print("\n".join([*wrong, f"{0 if wrong else len(texts)} passed, {len(wrong)} failed"]))
+    return 1 if wrong else 0
+
+
+if __name__ == "__main__":
+    sys.exit(main())
