@@ -5,14 +5,14 @@
 
 Each row is a size of one of these: the parts of one multi; the requests that wait at once, as many as usually may, and
 more; the names of one list; the bytes of one path; the bytes of one frame that come in pieces of one byte; and the
-megabytes of a long recording. All but the last stand in their recording as often as makes the same total, so that
-linear work takes the same time at each size. `build` reads the listing of it. What the program takes for a recording of
-no pieces, and for its listing, is taken off.
+megabytes of a long recording. All but the last are repeated in their recording up to the same total, so that linear
+work takes the same time at each size. `build` reads the listing of it. The cost of a recording of no pieces, and of its
+listing, is subtracted.
 
 It prints a table: the size, and for each command CPU seconds (the least of three runs), nanoseconds for each (part,
 request, name or byte), and the greatest memory. The status is 1 where twice the size takes more than three times the
 time, beyond noise, where a longer recording takes a megabyte more memory, or where a run doesn't find its recording
-whole. With --quick, which takes some ten seconds, sizes and totals are smaller.
+whole. With --quick sizes and totals are smaller.
 """
 
 import functools
@@ -51,26 +51,26 @@ def multi(parts):
 
 
 def queue(requests):
-    """So many requests, and then their replies."""
+    """`requests` requests, and then their replies."""
     asked = making.frame(making.request(1, making.EXISTS, making.text("/a") + b"\0"))
     told = making.frame(making.reply(1, error=making.NO_NODE))
     return making.pieces(b"C", asked * requests) + making.pieces(b"S", told * requests)
 
 
 def names(count):
-    """One getChildren, whose reply has so many names."""
+    """One getChildren, whose reply has `count` names."""
     listed = making.texts([f"n{number:07}" for number in range(count)])
     return exchange(making.GET_CHILDREN, making.text("/a") + b"\0", listed)
 
 
 def path(size):
-    """One sync of a path of so many bytes, every fourth of which a line spells otherwise."""
+    """One sync of a path of `size` bytes, every fourth of which a line escapes."""
     spelled = making.blob(b'/ab"' * (size // 4))
     return exchange(making.SYNC, spelled, spelled)
 
 
 def bytewise(size):
-    """One getData, whose reply has so many bytes, byte by byte."""
+    """One getData, whose reply has `size` bytes, in pieces of one byte."""
     return exchange(making.GET_DATA, making.text("/a") + b"\0", making.blob(bytes(size)) + STAT, 1)
 
 
@@ -96,12 +96,12 @@ SHAPES = (
     Shape("bytes that come singly", bytewise, (1 << 8, 1 << 14, 1 << 20), (1 << 8, 1 << 13, 1 << 18), 1 << 22, 1 << 18),
 )
 LONG = "MB of a recording"
-# Of a run of a few milliseconds up to 0.9 MB less are told than of a longer one.
+# The system reports up to 0.9 MB less for a run of a few milliseconds than for a longer one.
 MEGABYTES, QUICK_MEGABYTES = (10, 40, 160), (10, 30, 90)
 
 
 def repeated(shape, total, recording, size):
-    """Writes a recording in which a shape stands as often as it takes; tells how many units that are."""
+    """Writes a recording that repeats a shape up to the total; returns the number of units."""
     times = max(1, total // size)
     part = shape.make(size)
     with open(recording, "wb") as out:
@@ -137,7 +137,7 @@ class Measured(NamedTuple):
 
 
 class Growth:
-    """The runs, and how many rows there are, and tell what ought not to be."""
+    """The runs, and the counts of rows and of failures."""
 
     def __init__(self, program, folder):
         self.program, self.recording, self.rows, self.failed = program, folder / "recording", 0, 0
@@ -151,7 +151,7 @@ class Growth:
         return min(timing.run([self.program, *words], read) for _ in range(3))
 
     def series(self, name, sizes, write, words=(), flat=False):
-        """The rows of one shape; `write` makes the recording of a size, and tells how many units it has."""
+        """The rows of one shape; `write` makes the recording of a size, and returns its number of units."""
         before = {command: [] for command in COMMANDS}
         for size in sizes:
             units, row, faults = write(self.recording, size), f"| {name} | {size:,} |", []

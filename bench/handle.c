@@ -1,11 +1,11 @@
-/* How fast the library for C is, and what memory it asks for.
+/* How fast the library for C is, and how often it allocates.
  *
  *     handle step|line|view [THREADS] < RECORDING
  *
  * Steps through the recording (format ZKR1), and with `line` writes each message's line, with `view` asks for its
  * numbers. With THREADS that many threads do so at once, each with a handle of its own. It prints the messages, the
- * ending, the CPU seconds of the steps and how often memory was asked for between the first message and the last.
- * bench/README.md has how it is made. */
+ * ending, the CPU seconds of the steps and the number of allocations between the first message and the last.
+ * bench/README.md says how to compile it. */
 #include "zk.h"
 
 #include <pthread.h>

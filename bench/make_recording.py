@@ -63,7 +63,7 @@ def frame(payload):
 
 
 def pieces(side, data, size=LARGEST_READ):
-    """These bytes of a side, in pieces of at most so many."""
+    """These bytes of a side, in pieces of at most `size`."""
     return b"".join(side + blob(data[at:at + size]) for at in range(0, len(data), size))
 
 
@@ -174,7 +174,7 @@ MIXES = {"small": Small, "big": Big, "listing": Listing}
 
 
 class Repeated:
-    """Pieces of a conversation behind its connect messages, at the end of which no request waits."""
+    """Pieces of a conversation after its connect messages, at the end of which no request waits."""
 
     def __init__(self, mix, size):
         self.mix, self.chance = mix, mix.chance
@@ -214,7 +214,7 @@ class Repeated:
 
 
 def write(path, mix, megabytes):
-    """Writes a recording of about that size; tells how many bytes and messages it has."""
+    """Writes a recording of about that size; returns its numbers of bytes and messages."""
     size = megabytes * 1_000_000
     times = max(1, math.ceil(size / REPEATED))
     repeated = Repeated(MIXES[mix](random.Random(mix)), size / times)

@@ -4,8 +4,8 @@
     measure_record.py [--rounds N] [--megabytes N]
 
 A server of its own on loopback answers each 100 bytes with 100 bytes. One client, and then 64 at once, ask it N times
-each, directly and through the recorder; then it is told three requests at a time; then N megabytes go each way. The
-recordings lie in a folder that is gone afterwards. It prints the rows of a table.
+each, directly and through the recorder; then three requests at a time; then N megabytes go each way. The recordings are
+in a temporary folder. It prints the rows of a table.
 """
 
 import argparse
@@ -46,7 +46,7 @@ def connect(port):
 
 
 def answers(port, clients, rounds, at_once=1):
-    """The milliseconds of each answer, where so many clients ask one question after the other (or some at once)."""
+    """The milliseconds of each answer to `clients` clients, each of which sends `at_once` requests at a time."""
     ready, took, left = selectors.DefaultSelector(), [], clients
     for _ in range(clients):
         ready.register(connect(port), selectors.EVENT_READ, [0, 0, 0])

@@ -1,4 +1,4 @@
-"""Runs a command over a recording, and tells what it cost: what run.py and growth.py share.
+"""Runs a command over a recording, and measures what it costs: what run.py and growth.py share.
 
 Times are CPU seconds, which other work on the machine disturbs less than the time on the clock. For a program of one
 thread on a quiet machine both are the same. The system counts their sum exactly, and samples what share of it is the
@@ -19,8 +19,8 @@ LONGEST = 120  # CPU seconds, after which a run is ended
 WHOLE = b". whole unanswered=0\n"
 
 # A process that this script itself started would count the script's memory as its own. So a shell starts it and ends,
-# and the script takes in what is left behind; that begins once the shell is gone, or the shell might take it in. The
-# shell has 1 MB, and nothing below that is told.
+# and the orphan becomes a child of the script. The command begins once the shell has ended. The shell has 1 MB, so less
+# than that is not seen.
 START = f"""
 in=$0 out=$1; shift; exec 3<&0
 {{ read -r begin <&3; ulimit -t {LONGEST}; exec "$@" < "$in" > "$out" 2> /dev/null 3<&-; }} &

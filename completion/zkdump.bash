@@ -18,5 +18,5 @@ _zkdump() {
     esac
     mapfile -t COMPREPLY < <(compgen -W "$words" -- "$word")
 }
-# Behind < and > these are names of files.
+# After < and > come names of files.
 complete -o default -F _zkdump zkdump

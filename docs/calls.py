@@ -61,7 +61,7 @@ class Call:
 
 
 def generics(text, at):
-    """The place behind the parameters in angle brackets that may stand there."""
+    """The place after the parameters in angle brackets, if there are any here."""
     depth = 0
     while depth or text[at] == "<":
         depth += {"<": 1, ">": 0 if text[at - 1] == "-" else -1}.get(text[at], 0)
@@ -70,7 +70,7 @@ def generics(text, at):
 
 
 def balanced(text, at, pair):
-    """The place behind the bracket that closes the one at this place."""
+    """The place after the bracket that closes the one at this place."""
     depth = 0
     for place in range(at, len(text)):
         depth += {pair[0]: 1, pair[1]: -1}.get(text[place], 0)

@@ -1,5 +1,5 @@
 #!/usr/bin/env python3
-"""Holds what the pages say of clauses against the sources.
+"""Checks what the pages say of clauses against the sources.
 
     docs/clauses.py [PAGE..]
 

@@ -56,7 +56,7 @@ def imports(text, keyword):
 
 
 class Definition:
-    """A definition of a folder specs/, or a type of a folder src/: where it stands, its name, and its text."""
+    """A definition of a folder specs/, or a type of a folder src/: its file, its name, and its text."""
 
     def __init__(self, module, name, text, scope):
         self.module, self.name, self.text, self.scope = module, name, text, scope

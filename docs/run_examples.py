@@ -3,17 +3,17 @@
 
     docs/run_examples.py [--program PATH] [--seconds N] PAGE ..
 
-A command is a line of four blanks, "$ " and the command; "> " in place of "$ " goes on with it. The lines of four
-blanks behind it are what it prints, on standard output and standard error together. Where such a line has " .. " or
-ends with " ..", any text may stand there; a line of ".." alone stands for any lines. A time of day with its date, and
-a client's port at 127.0.0.1, stand for any.
+A command is a line of four blanks, "$ " and the command; "> " in place of "$ " continues it. The lines of four blanks
+after it are what it prints, on standard output and standard error together. " .. " in such a line, or " .." at its end,
+matches any text; a line of ".." alone matches any lines. A time of day with its date matches any time, and a client's
+port at 127.0.0.1 any port.
 
-The commands of a page run one after another with sh, in a new folder that has links to what lies at the repository's
-top, so that files which they make are there for the next. The folder is their HOME, too, and has an empty folder bin.
+The commands of a page run one after another with sh, in a new folder that has links to what is at the repository's top,
+so that files which they make are there for the next. The folder is their HOME, too, and has an empty folder bin.
 There ./zkdump, and zkdump on the PATH, are the script of that name, or what --program names.
 
-There is no ZooKeeper and no client of one, so tools/zkplay.py stands for both. It plays a recording: that of the stored
-run, or the one that a line `<!-- played: FILE -->` before the block names.
+There is no ZooKeeper and no client of one, so tools/zkplay.py takes the place of both. It plays a recording: that of
+the stored run, or the one that a line `<!-- played: FILE -->` before the block names.
 
 - localhost:2181 in a command is a server that plays it.
 - Where 2181 or 2182 is a word by itself, the command is one that listens. A client connects to that port and plays the
@@ -23,7 +23,7 @@ run, or the one that a line `<!-- played: FILE -->` before the block names.
 
 What isn't run is marked with a line `<!-- not run: WHY -->` before its block. Any other block of four blanks that
 does not begin with a command fails, and so does any block of code but for those of Rust: a block that begins with
-"```rust FILE" must stand in that file, line for line, but for how far it is indented.
+"```rust FILE" must be in that file, line for line, but for how far it is indented.
 
 It prints what differs, what is marked, and one last line, N passed, M failed. The status is 0 where nothing differs, 1
 where something does, 2 where the words are not understood or a page cannot be read.
@@ -52,7 +52,7 @@ ANY = (re.compile(r"\b\d{4}-\d\d-\d\dT\d\d:\d\d:\d\d\.\d{3}Z"), re.compile(r"(?<
 
 
 class Example:
-    """A command, the line that it stands in, the lines that it prints, and the recording that is played to it."""
+    """A command, the number of its line, the lines that it prints, and the recording that is played to it."""
 
     def __init__(self, at, command, played):
         self.at, self.command, self.played = at, command, played
@@ -95,7 +95,7 @@ class Page:
 
 
 def fits_line(wanted, found):
-    """Whether the line is the wanted one, where ".." and what is in ANY stand for any text."""
+    """Whether the line is the expected one, where ".." and what is in ANY match any text."""
     for each in ANY:
         wanted, found = each.sub("..", wanted), each.sub("..", found)
     parts = re.split(r"(?<= )\.\.(?= |$)", wanted)
@@ -103,7 +103,7 @@ def fits_line(wanted, found):
 
 
 def fits(wanted, found):
-    """Whether these are the wanted lines, where a line of ".." stands for any."""
+    """Whether these are the expected lines, where a line of ".." matches any."""
     if not wanted:
         return not found
     if wanted[0] == "..":
@@ -199,7 +199,7 @@ def shown(lines):
 
 
 def run_commands(name, text, program, seconds):
-    """Runs the page's commands; gives how many print what is wanted, and how many don't."""
+    """Runs the page's commands; returns how many print what is expected, and how many don't."""
     passed = failed = 0
     page = Page(text)
     for at, line, why in page.marked:
@@ -216,7 +216,7 @@ def run_commands(name, text, program, seconds):
                 continue
             failed += 1
             told = "did not end in time" if found is None else "prints" + shown(found)
-            print(f"{name}:{example.at}: $ {example.command}\n    {told}\n    wanted{shown(example.lines)}")
+            print(f"{name}:{example.at}: $ {example.command}\n    {told}\n    expected{shown(example.lines)}")
         folder.close()
     return passed, failed
 
@@ -238,7 +238,7 @@ def compare_code(page, text):
             passed += 1
         else:
             failed += 1
-            print(f"{page}: this code does not stand in {block[1]}:\n{textwrap.indent(block[2], INDENT)}")
+            print(f"{page}: this code is not in {block[1]}:\n{textwrap.indent(block[2], INDENT)}")
     return passed, failed
 
 

@@ -1,5 +1,5 @@
 #!/usr/bin/env python3
-"""Measures how the pages are written, and holds their links.
+"""Measures how the pages are written, and checks their links.
 
     docs/words.py [--check]
 

@@ -4,7 +4,7 @@
 
 use std::io::Write;
 
-/// The library's calls, behind types that keep what they ask for.
+/// The library's calls, in types that keep what the calls require.
 mod zk {
     #[repr(C)]
     struct Handle {
@@ -56,7 +56,7 @@ mod zk {
     pub struct Talk(Handle);
 
     impl Talk {
-        /// A status where the limits are out of their ranges, or memory is wanted.
+        /// A status where a limit is out of its range, or memory runs out.
         pub fn new(limit: u32, waiting: u32) -> Result<Talk, u32> {
             let mut talk = Talk(Handle { held: std::ptr::null_mut(), live: false });
             match unsafe { zk_talk_new(&mut talk.0, limit, limit, waiting, 34) } {
@@ -65,7 +65,7 @@ mod zk {
             }
         }
 
-        /// How many bytes were used, and whether they made a message whole.
+        /// How many bytes were used, and whether they completed a message.
         pub fn step(&mut self, side: Side, piece: &[u8]) -> Result<(usize, bool), Fault> {
             let step = unsafe { zk_talk_step(&mut self.0, side as u32, piece.as_ptr(), piece.len()) };
             if step.status == 0 { Ok((step.used, step.whole)) } else { Err(step.fault) }
@@ -82,7 +82,7 @@ mod zk {
         }
     }
 
-    /// Calls with the room that there is, and once more where it was too small.
+    /// Calls with the room that the text has, and once more with enough where that was too small.
     fn written(text: &mut Vec<u8>, mut write: impl FnMut(*mut u8, usize) -> Line) -> Result<(), u32> {
         text.resize(text.capacity().max(256), 0);
         let mut line = write(text.as_mut_ptr(), text.len());

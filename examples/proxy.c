@@ -29,7 +29,7 @@ static void put_line(struct zk_line line) {
     fwrite(text, 1, line.length + 1, stdout);
 }
 
-/* Shows the messages that the bytes make whole. False at a fault. */
+/* Shows the messages that the bytes complete. False at a fault. */
 static bool show(struct zk_talk *talk, uint32_t side, const uint8_t *bytes, size_t length) {
     while (length > 0) {
         struct zk_step step = zk_talk_step(talk, side, bytes, length);

@@ -79,7 +79,7 @@ class Library:
 
 
 class Talk:
-    """A conversation as it comes; `with Talk(library) as talk:` gives its memory up."""
+    """A conversation as it comes; `with Talk(library) as talk:` frees its memory."""
 
     def __init__(self, library, limit=4194304, waiting=65536, profile=34):
         self.library, self.handle, self.text = library, Handle(), ctypes.create_string_buffer(4096)
@@ -94,7 +94,7 @@ class Talk:
         self.library.zk_talk_free(self.handle)
 
     def lines(self, side, piece):
-        """The line of each message that the piece makes whole."""
+        """The line of each message that the piece completes."""
         while piece:
             step = self.library.zk_talk_step(self.handle, side, piece, len(piece))
             if step.status != 0:
@@ -138,7 +138,7 @@ def listing(library, recording):
 
 
 class Speaker:
-    """Lines to frames; `with Speaker(library) as speaker:` gives its memory up."""
+    """Lines to frames; `with Speaker(library) as speaker:` frees its memory."""
 
     def __init__(self, library, limit=4194304, waiting=65536, profile=34):
         self.library, self.handle = library, Handle()
@@ -173,7 +173,7 @@ def said(library, listing):
 
 
 def judge_kazoo(library):
-    """As a unit test of a client library would: each of its requests is one, and damaged it is refused."""
+    """As a unit test of a client library would: each of its requests is accepted, and refused once it is damaged."""
     from kazoo.protocol.serialization import Create, Exists, GetChildren, GetData, SetData, Transaction, int_struct
     from kazoo.security import OPEN_ACL_UNSAFE
 

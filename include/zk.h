@@ -1,13 +1,13 @@
-/* A conversation of ZooKeeper's client protocol, read as it comes, by the proved library libzk.
+/* A conversation of ZooKeeper's client protocol, parsed as its bytes arrive, by the proved library libzk.
  *
- * docs/LIBRARY.md says how a program is linked with it, and what each call promises. tests/library.py holds this header
+ * docs/LIBRARY.md says how to link a program with it, and what each call promises. tests/library.py checks this header
  * against the library's source (crates/zk_c/src).
  *
- * What a caller owes: a pointer points to as much as is said; a handle is all zeros before its first zk_talk_new
- * (`struct zk_talk talk = ZK_ZEROS;`), is written by these calls alone, is used by one call at a time, whichever threads
- * make them, and is never copied and then used twice. All else is refused by a number: a null pointer too, and a length
- * that no bytes have, by the functions at the end of this header, which stand before the library's own. Only together
- * with the length 0 is a null pointer taken, as no bytes. */
+ * The caller's duties: a pointer points to as many bytes as the call says. A handle is all zeros before its first
+ * zk_talk_new (`struct zk_talk talk = ZK_ZEROS;`), only these calls write it, one call at a time uses it, on any
+ * thread, and it is never copied and then used twice. Everything else is refused by a status. The functions at the end
+ * of this header, which are called in place of the library's own, also refuse a null pointer and a length above
+ * PTRDIFF_MAX. A null pointer with the length 0 is no bytes, and accepted. */
 #ifndef ZK_H
 #define ZK_H
 
@@ -58,11 +58,11 @@ enum {
     ZK_ROOM = 68,      /* the text is longer than the room */
     ZK_NO_MESSAGE = 69, /* no frame is kept on the side */
     ZK_NULL = 70,      /* a pointer is null */
-    ZK_NOT_FIRST = 81, /* a message can't be said: a connect message where its side has spoken, or another before it */
+    ZK_NOT_FIRST = 81, /* a connect message after its side's first message, or another message before the connect one */
     ZK_MISFIT = 82,    /* the xid or the operation isn't allowed, or the reply doesn't fit its request; or the payload's
                           xid is that of the other kind, a reply or an event */
     ZK_TOO_LONG = 83,  /* the payload is longer than its side's limit */
-    ZK_LINE_WORD = 91, /* a line is no message's (docs/REASONS.md): its column is told */
+    ZK_LINE_WORD = 91, /* a line is no message's (docs/REASONS.md): its column is reported */
     ZK_LINE_NUMBER = 92,
     ZK_LINE_TEXT = 93,
     ZK_LINE_BLOB = 94,
@@ -77,7 +77,7 @@ struct zk_talk {
     bool live;
 };
 
-/* A handle of a speaker, likewise. */
+/* A handle: a speaker, or nothing where it is all zeros. Its fields are the library's. */
 struct zk_speaker {
     void *held;
     bool live;
@@ -212,11 +212,11 @@ struct zk_line zk_listing(const struct zk_piece *pieces, size_t count, const uin
 
 /* ---- Null pointers, and lengths of more than PTRDIFF_MAX bytes
  *
- * The library's calls take what is there, and no null pointer. The functions below look at each pointer and length first,
- * and answer ZK_NULL or ZK_RANGE; the names above stand for them from here on. Nothing is changed then. Where the length
- * is 0, another pointer takes the place of a null pointer. */
+ * The library's calls take no null pointer. The functions below check each pointer and length first, and return ZK_NULL
+ * or ZK_RANGE, which changes nothing; from here on the names above call them. Where the length is 0, a null pointer is
+ * replaced by another pointer. */
 
-/* A fault of so many things of this size at a pointer, or ZK_WELL. */
+/* ZK_NULL or ZK_RANGE for `count` elements of `size` bytes at a pointer, or ZK_WELL. */
 static inline uint32_t zk_fault_at(const void *at, size_t count, size_t size) {
     if (at == NULL) {
         return ZK_NULL;
@@ -224,7 +224,7 @@ static inline uint32_t zk_fault_at(const void *at, size_t count, size_t size) {
     return count > (size_t)PTRDIFF_MAX / size ? ZK_RANGE : ZK_WELL;
 }
 
-/* The same of things of which there may be none, with or without a pointer. */
+/* The same, but no elements are well with any pointer. */
 static inline uint32_t zk_fault_of(const void *at, size_t count, size_t size) {
     return count == 0 ? (uint32_t)ZK_WELL : zk_fault_at(at, count, size);
 }
@@ -241,7 +241,7 @@ static inline uint8_t *zk_into(uint8_t *at) {
     return at != NULL ? at : &none;
 }
 
-/* The first of two that is a fault. */
+/* The first of two statuses that isn't ZK_WELL. */
 static inline uint32_t zk_first_of(uint32_t one, uint32_t other) {
     return one != ZK_WELL ? one : other;
 }

@@ -1,4 +1,4 @@
-"""The proved library for C, as `rt lib` makes it, and where the toolchain lies. As a script it proves and builds it."""
+"""The proved library for C, as `rt lib` makes it, and the toolchain's folder. As a script it proves and builds it."""
 
 import os
 import pathlib
@@ -16,7 +16,8 @@ def kit():
 
 
 def below(name):
-    """The libraries that a crate stands on, those of the repository and the toolchain's, by crates.txt."""
+    """The libraries that a crate uses, directly or through others: the repository's and the toolchain's, by
+    crates.txt."""
     uses = {}
     for line in (TOP / "crates.txt").read_text().splitlines():
         crate, colon, libraries = line.split("#")[0].partition(":")

@@ -48,7 +48,7 @@ License: Apache-2.0
  On Debian systems the text of this license is in
  /usr/share/common-licenses/Apache-2.0.
 """
-# What Python keeps of the tools goes with them.
+# The tools' compiled files are removed with them.
 REMOVAL = f"""#!/bin/sh
 set -e
 find "$DPKG_ROOT/usr/{OWN}/tools" -name __pycache__ -exec rm -rf {{}} +
@@ -61,7 +61,7 @@ def missing():
 
 
 def libc(*paths):
-    """What is needed of the C library, by the versions of the names that these files use."""
+    """The version of the C library that is needed, by the versions of the names that these files use."""
     text = "".join(subprocess.run(["objdump", "-T", path], capture_output=True, text=True, check=True).stdout for path in paths)
     newest = max((tuple(map(int, version.split("."))) for version in re.findall(r"\bGLIBC_([\d.]+)", text)), default=(2, 2))
     return f"libc6 (>= {'.'.join(map(str, newest))})"
@@ -83,7 +83,7 @@ def split(whole, folder):
 
 
 def describe(package, folder):
-    """Writes a package's control files, and what every package says of itself."""
+    """Writes a package's control files, copyright and changelog."""
     page, control = folder / "usr/share/doc" / package, folder / "DEBIAN"
     page.mkdir(parents=True)
     control.mkdir()
@@ -105,7 +105,7 @@ def describe(package, folder):
 
 
 def settle(folder):
-    """One time and plain modes for all of a package."""
+    """Sets one time and plain modes for all files of a package."""
     for path in [folder, *folder.rglob("*")]:
         if not path.is_symlink():
             path.chmod(0o755 if path.is_dir() or os.access(path, os.X_OK) or path.name == "prerm" else 0o644)

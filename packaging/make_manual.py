@@ -19,18 +19,18 @@ def missing():
 
 
 def escaped(text):
-    """Text as scdoc has to read it to print it as it is."""
+    """Text, escaped for scdoc."""
     return re.sub(r"([\\*_])", r"\\\1", " ".join(text.split()))
 
 
 def calls():
-    """Each function of the header, with what the header says of it."""
+    """Each function of the header, with its comment there."""
     for said, function in re.findall(r"/\* ((?:(?!\*/).)*?) \*/\n([a-z][\w ]*[ *]zk_\w+\([^)]*\);)", HEADER.read_text(), re.S):
         yield f"*{escaped(function)}*\n\t{escaped(said.replace(chr(10) + ' *', ' '))}\n"
 
 
 def tools(commands):
-    """Each command, with the first line of what its script says of itself."""
+    """Each command, with the first line of its script's docstring."""
     for name, script in commands:
         said = ast.get_docstring(ast.parse(script.read_text())) or name
         yield f"*{name}*\n\t{escaped(said.splitlines()[0])}\n"

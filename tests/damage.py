@@ -7,7 +7,7 @@
 The program is crates/zkdump/out/zkdump where none is named. For each conversation
 
 - fronts: each front of its bytes ends as the definitions say: with the fault, where that is decided, else cut or whole,
-  by counting frames;
+  which counting frames decides;
 - cuts: each piece, cut in two at each place, gives the same listing;
 - bytes: with each byte replaced by 00, 01, 7f, 80 and ff it is refused, not before that byte, or cut, or whole, and
   then the listing is built into the bytes that were fed;
@@ -15,7 +15,7 @@ The program is crates/zkdump/out/zkdump where none is named. For each conversati
   address space.
 
 And once: ping (273 feedings of a ping and its reply), and limit (data of 4,194,216 bytes, and a length of 4,194,305).
-It prints what is otherwise, the greatest memory of a run, and one last line. The status is 0 where nothing is.
+It prints what differs, the greatest memory of a run, and one last line. The status is 0 where nothing differs.
 """
 
 import argparse
@@ -97,7 +97,7 @@ MULTI = 14
 
 
 def walk(payload, at, fields, found):
-    """Goes over fields, and keeps the places of lengths and counts; gives the place behind them."""
+    """Goes over fields, and keeps the places of lengths and counts; returns the place after them."""
     for field in fields:
         if field in SIZES:
             at += SIZES[field]
@@ -203,7 +203,7 @@ class Tests:
         self.hold(what, found == (line + b"\n", b"", 0 if line.startswith(b". whole") else 1), "wanted", line, "found", found)
 
     def judge(self, what, pieces, before, space=None):
-        """A changed conversation ends as it may, where so many bytes come before the change; gives the last line."""
+        """A changed conversation ends as it may, where the change is after `before` bytes; returns the last line."""
         output, errors, status = self.run("show", recording(pieces), space)
         line = last_line(output)
         if self.fault is not None and self.fault <= before:
@@ -275,7 +275,7 @@ class Tests:
 
 
 def conversations():
-    """The worked examples and the small recordings, each once: those whose recording isn't damaged."""
+    """The worked examples and the small recordings whose recording isn't damaged, each once."""
     seen = set()
     for name, words, data, line in stored():
         pieces, rest = split(data)

@@ -1,21 +1,21 @@
 #!/usr/bin/env python3
-"""Runs the proved program over the worked examples, on a standard input and output that give and take few bytes, or fail.
+"""Runs the proved program over the worked examples, on a standard input and output that pass few bytes, or fail.
 
     devices.py [--only WORD] [--program PATH]
 
-tests/device.c, which a C compiler makes a library of, stands in the place of the C library's read and write. For each
+tests/device.c, which a C compiler makes a library of, takes the place of the C library's read and write. For each
 stored case of show, check, build and migrate (crates/zkdump/cases)
 
 - steps: with reads and writes of 1 and of 7 bytes the run does what it does with all at once;
-- reads: where a read fails, with an input or output error or as interrupted, behind a front of the input, the run ends
-  with status 3 and `zkdump: read failed`, and what it wrote is a front of what it writes otherwise; `show` has
-  written the line of each message that is whole in that front, and no more, and `build` and `migrate` the pieces; where
-  the front decides all, the run is as ever;
-- writes: where a write fails, or takes no byte, behind a front of the output, the run ends with status 3 and
-  `zkdump: write failed`, and that front stands written.
+- reads: where a read fails after a front of the input, with an input or output error or as interrupted, the run ends
+  with status 3 and `zkdump: read failed`, and what it wrote is a front of what it writes otherwise. `show` has
+  written the line of each message that is whole in that front, and no more, and `build` and `migrate` the pieces. Where
+  the front decides everything, the run is the usual one;
+- writes: where a write fails, or takes no byte, after a front of the output, the run ends with status 3 and
+  `zkdump: write failed`, and has written that front.
 
-It prints what is otherwise and one last line. The status is 0 where nothing is. Where there is no C compiler it says so,
-and runs nothing.
+It prints what differs and one last line. The status is 0 where nothing differs. Where there is no C compiler it says
+so, and runs nothing.
 """
 
 import argparse
@@ -52,7 +52,8 @@ def content(path):
 
 
 def fronts(size):
-    """How long some fronts of so many bytes are, none of them all, the shortest and the longest among them."""
+    """The lengths of some fronts of `size` bytes, each shorter than `size`: the shortest and the longest are among
+    them."""
     return sorted({*range(0, size, max(1, size // TRIES)), size - 1} - {-1})
 
 
@@ -89,11 +90,11 @@ class Devices:
                 else:
                     # (the front decides all)
                     right = found == ample
-                self.hold(f"{name}, a failed read behind {size} bytes", found, right)
+                self.hold(f"{name}, a failed read after {size} bytes", found, right)
 
     @staticmethod
     def written(command, output):
-        """What stands written of a front, when its next read fails, given what a run over the front alone writes."""
+        """What a run has written when the read after a front fails, given what a run over the front alone writes."""
         if command == "show":
             # (the line of the ending isn't)
             return output[:output.rstrip(b"\n").rfind(b"\n") + 1]
@@ -103,7 +104,7 @@ class Devices:
         for size in fronts(len(ample[0])):
             for error in (0, *ERRORS):
                 found = self.run(words, data, WRITE_ROOM=size, WRITE_ERROR=error)
-                self.hold(f"{name}, a failed write behind {size} bytes", found, found == (ample[0][:size], WRITE_FAILED, 3))
+                self.hold(f"{name}, a failed write after {size} bytes", found, found == (ample[0][:size], WRITE_FAILED, 3))
 
 
 def main():

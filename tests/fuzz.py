@@ -3,11 +3,12 @@
 
     fuzz.py [--seed N] [--first N] [--program PATH] [--keep FOLDER] COUNT
 
-The recordings are those of captures/ and of the worked examples that are of the first format. Each mutant has one to four changes: bits and bytes
-flipped, bytes cut out or doubled, another recording's end or middle put in, pieces swapped, dropped or doubled, and
-lengths changed. A mutant is fixed by the seed and its number, so --first N and COUNT 1 give the mutant N again. Of each
+The recordings are those of captures/ and of the worked examples that are of the first format. Each mutant has one to
+four changes: bits and bytes flipped, bytes cut out or doubled, another recording's end or middle put in, pieces
+swapped, dropped or doubled, and lengths changed. A mutant is fixed by the seed and its number, so --first N and COUNT 1
+make the mutant N again. Of each
 
-- the status is 0 or 1, nothing stands on standard error, and the run ends within ten seconds;
+- the status is 0 or 1, standard error is empty, and the run ends within ten seconds;
 - what `show` ends with is what `check` says of the same bytes cut into other pieces, but for the offset of a damage,
   which moves with the heads of pieces before it;
 - the status is 0 where that line is whole, and else 1;
@@ -15,8 +16,8 @@ lengths changed. A mutant is fixed by the seed and its number, so --first N and 
 - where it is whole, `build` of the listing gives each side's bytes again, one message a piece, and `show` of that
   gives the listing.
 
-It prints the mutants that do otherwise, what the mutants came to, and one last line. With --keep they are written to
-that folder. The status is 0 where none does.
+It prints the mutants that do otherwise, counts of how the mutants end, and one last line. With --keep the mutants that
+do otherwise are written to that folder. The status is 0 where there are none.
 """
 
 import argparse
@@ -77,7 +78,7 @@ def splice(chance, data, others):
     return data[:chance.randint(4, max(4, len(data)))] + other[chance.randint(4, max(4, len(other))):]
 
 
-# ---- changes of a recording's pieces, which leave the bytes behind them
+# ---- changes of a recording's pieces, which keep the bytes after the last whole piece
 
 
 def of_pieces(change):
@@ -114,7 +115,7 @@ def join(chance, pieces, others):
 
 @of_pieces
 def turn(chance, pieces, _):
-    """A piece is told to be the other side's."""
+    """A piece is marked as the other side's."""
     at = chance.randrange(len(pieces))
     side, data = pieces[at]
     return [*pieces[:at], (b"S" if side == b"C" else b"C", data), *pieces[at + 1:]]
@@ -122,7 +123,7 @@ def turn(chance, pieces, _):
 
 @of_pieces
 def until(chance, pieces, _):
-    """Whole pieces from the beginning on, which most often leave a conversation that is good."""
+    """Whole pieces from the beginning on, which most often are a good conversation."""
     return pieces[:chance.randint(1, len(pieces))]
 
 
@@ -144,7 +145,7 @@ def mutant(seed, number_of_it, recordings):
 
 
 def cut_again(chance, data):
-    """The same bytes in other pieces, and by how much the bytes behind them have moved."""
+    """The same bytes in other pieces, and by how much the bytes after them have moved."""
     pieces, rest = split(data)
     joined, cut_now = [], []
     for side, content in pieces:

@@ -1,14 +1,14 @@
 #!/usr/bin/env python3
-"""Holds the library for C against its header, and runs the examples that link it over the recordings.
+"""Compares the library for C with its header, and runs the examples that link it over the recordings.
 
     library.py [--library PATH]
 
-Each call that crates/zk_c/src exports stands in include/zk.h with as many words, each struct that C sees with the same
-fields, and each number by the same name. The examples (docs/LIBRARY.md) in C, Rust and Python are compiled where there
-is a compiler, and give the listing of each recording in captures/; the one in C gives up its memory, where the compiler
-has what looks for that; the one in Python says the lines of whole listings again, and judges kazoo's requests where kazoo
-is installed. Single payloads are judged. Lines are refused by their reasons and columns. Null pointers and
-lengths that no bytes have are refused (tests/nulls.c). What is skipped is told.
+Each call that crates/zk_c/src exports is in include/zk.h with the same parameters, each struct that C sees with the
+same fields, and each number by the same name. The examples (docs/LIBRARY.md) in C, Rust and Python are compiled where
+there is a compiler, and print the listing of each recording in captures/. The one in C frees its memory, which the
+address sanitizer checks where the compiler has it. The one in Python says the lines of whole listings again, and judges
+kazoo's requests where kazoo is installed. Single payloads are judged. Lines are refused by their reasons and columns.
+Null pointers and lengths above PTRDIFF_MAX are refused (tests/nulls.c). What is skipped is reported.
 
 Where no other is named, the library is proved and built here, over the libraries below it that `rt ci` left; where it
 left none, `rt lib` proves these too. It prints what failed and one last line. The status is 0 where nothing did.
@@ -222,8 +222,8 @@ def sides(recording):
 
 
 def run_examples(name, words):
-    """Over each recording: its name, whether the example gives its listing, and what to tell. And whether the lines of
-    a whole listing, said again, give each side's bytes."""
+    """Over each recording: its name, whether the example prints its listing, and the message if not. And whether the
+    lines of a whole listing, said again, give each side's bytes."""
     for path in sorted((TOP / "captures").glob("*.zkr")):
         listing = path.with_suffix(".show")
         found = subprocess.run([*words, path], capture_output=True)

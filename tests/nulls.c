@@ -1,5 +1,5 @@
-/* Null pointers, and lengths that no bytes have, are refused by a number and change nothing; a null pointer with the
- * length 0 is no bytes. It prints each call that answers something else. */
+/* Null pointers, and lengths above PTRDIFF_MAX, are refused by a status and change nothing; a null pointer with the
+ * length 0 is no bytes. It prints each call that returns something else. */
 #include "zk.h"
 
 #include <stdio.h>

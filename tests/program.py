@@ -59,7 +59,7 @@ def recording(pieces):
 
 @functools.lru_cache(256)
 def split(data):
-    """The whole pieces of a recording, and the bytes behind them, which are empty where it isn't damaged."""
+    """The whole pieces of a recording, and the bytes after them, which are empty where it isn't damaged."""
     pieces, at = [], len(HEAD)
     if data[:at] != HEAD:
         return [], data
@@ -79,7 +79,7 @@ def sides(pieces):
 
 def stored():
     """The recordings of the stored cases and of real clients: a name, the program's words, the recording and the
-    line that a plain `check` writes of it, without what --earliest tells below it."""
+    line that a plain `check` writes of it, without what --earliest adds below it."""
     for args in sorted((TOP / "crates/zkdump/cases/check").glob("*.args")):
         source, wanted = args.with_suffix(".in"), args.with_suffix(".out")
         if source.exists() and wanted.exists():

@@ -3,21 +3,21 @@
 
     refusals.py [--jobs N] [--only WORD] [--program PATH] [--tests PATH]
 
-tests/refuse.c, which a C compiler makes a library of, stands in the place of the C library's malloc and realloc, which
-are all that a program asks for memory by, and refuses the Nth call of a run. For each stored case
-(crates/zkdump/cases) and N counting up from 1 until a run meets no refusal
+tests/refuse.c, which a C compiler makes a library of, takes the place of the C library's malloc and realloc, by which
+alone a program allocates, and refuses the Nth call of a run. For each stored case (crates/zkdump/cases) and N counting
+up from 1 until a run meets no refusal
 
-- show, check, build, migrate: over the stored cases, and `build` over the listings of those of show, too, the run does what it
-  does with ample memory; or it ends with status 3, `zkdump: out of memory` on standard error, and a front of the output
-  that it has with ample memory;
+- show, check, build, migrate: over the stored cases, and `build` over the listings of those of show, too, the run does
+  what it does with ample memory; or it ends with status 3, `zkdump: out of memory` on standard error, and a front of
+  the output that it has with ample memory;
 - calls: over the recordings of the first format that check is stored with, a test of the library
   (crates/talk_tests/src/growth.rt) passes, with the example on its standard input: each call of read_all, Talk::new,
   Talk::take, Speaker::new, Speaker::say, MessageRef::to_message, line_of, line_of_ref, read_line and ending_line that
-  answers want of memory answers, when it is called again, as it does with ample memory; and Talk::step and Talk::view,
-  which are called once, never want any.
+  runs out of memory returns, when it is called again, what it returns with ample memory; and Talk::step and Talk::view,
+  which are called once, never allocate.
 
 The program is crates/zkdump/out/zkdump, and the tests are crates/talk_tests/out/talk_tests_tests, where no others are
-named; `./test` leaves both there, and so do `./zkdump` and, in crates/talk_tests, `rt test`. It prints the runs that do
+named; `./test` builds both there, and so do `./zkdump` and, in crates/talk_tests, `rt test`. It prints the runs that do
 otherwise and one last line. The status is 0 where none does. Where there is no C compiler it says so, and runs nothing.
 """
 
@@ -41,7 +41,7 @@ OUT_OF_MEMORY = b"zkdump: out of memory\n"
 
 
 class Refusing(Program):
-    """A program of which one growth is refused, by a library that stands before the C library."""
+    """A program of which one growth is refused, by a library that is loaded before the C library."""
 
     def __init__(self, path, library):
         super().__init__(path)
@@ -50,7 +50,7 @@ class Refusing(Program):
         self.actions.append((os.POSIX_SPAWN_DUP2, self.note.fileno(), 3))
 
     def run_without(self, growth, words, data):
-        """What a run gives of which this growth is refused, and whether there was one."""
+        """The result of a run whose call number `growth` is refused, and whether the run made that call."""
         os.ftruncate(self.note.fileno(), 0)
         self.environment = {"LD_PRELOAD": self.library, "REFUSED_GROWTH": str(growth)}
         found = self.run(words, data)
@@ -59,7 +59,7 @@ class Refusing(Program):
 
 
 def is_right(found, ample, kind):
-    """Whether a run of which a growth was refused gave what it may."""
+    """Whether the result of a run with a refused growth is allowed."""
     if found == ample:
         return True
     output, errors, status = found

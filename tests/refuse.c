@@ -1,6 +1,6 @@
-/* The C library's malloc and realloc, of which one call is refused: the call whose number, counted from 1, stands in the
-   environment variable REFUSED_GROWTH. A byte on file descriptor 3 tells that it was. tests/refusals.py runs the proved
-   program with these functions in the place of those of the C library. */
+/* The C library's malloc and realloc, of which one call is refused: the call whose number, counted from 1, is in the
+   environment variable REFUSED_GROWTH. A byte on file descriptor 3 reports that it was refused. tests/refusals.py runs
+   the proved program with these functions in place of those of the C library. */
 #include <stddef.h>
 #include <stdlib.h>
 #include <unistd.h>

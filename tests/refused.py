@@ -3,10 +3,10 @@
 
     python3 tests/refused.py
 
-tests/refused/NAME.txt is the text of a crate over the repository's crates, of which the lines that say
-`// refused: CODE`, and no others, must be refused with that code. tests/refused/NAME.edit changes a crate of the
-repository, as a must-fail edit does, and says in its lines `refused: CODE` how each new text, and no other line, must be
-refused. It prints what fails and `N passed, M failed`; its status is 1 where one failed.
+tests/refused/NAME.txt is the text of a crate that uses the repository's crates. Its lines with `// refused: CODE`, and
+no others, must be refused with that code. tests/refused/NAME.edit changes a crate of the repository, as a must-fail
+edit does. Its lines `refused: CODE` say how each new text, and no other line, must be refused. It prints what fails and
+`N passed, M failed`; its status is 1 where one failed.
 """
 import re
 import shutil
@@ -21,13 +21,13 @@ import build_library  # noqa: E402 (the folder is named above)
 
 
 def uses(crates):
-    """By each crate of a list of crates the libraries that it stands on."""
+    """By each crate of a list of crates the libraries that its line names."""
     lines = [line.split("#")[0].partition(":") for line in crates.read_text().splitlines()]
     return {crate.split()[0]: libraries.split() for crate, colon, libraries in lines if colon}
 
 
 def check(crate):
-    """What is said of the crate before any proof; those below it are read as their sources."""
+    """What the checker says of the crate before any proof; those below it are read as their sources."""
     every, home = uses(crate.parent.parent / "crates.txt"), build_library.kit()
     below, left, kits = {}, list(every[crate.name]), {"core", "std"}
     while left:
@@ -42,7 +42,7 @@ def check(crate):
              "-L", f"dependency={home / 'rlibs'}"]
     for name in sorted(kits):
         words += ["--extern", f"{name}={home / 'rlibs' / name}.rlib"]
-    # (each library stands behind those that it uses, as in the list of crates)
+    # (each library comes after those that it uses, as in the list of crates)
     for name in (one for one in every if one in below):
         words += ["--lib", f"{name}:{below[name]}={crate.parent / name / 'src' / 'lib.rt'}"]
     said = subprocess.run(words, cwd=crate, stdout=subprocess.PIPE, stderr=subprocess.STDOUT, text=True, check=False)

@@ -1,12 +1,12 @@
 #!/usr/bin/env python3
-"""Makes a release of the program and the library that the gate left, and uses it as one who installs it would.
+"""Makes a release of the program and the library that the gate built, and uses it as one who installs it would.
 
     release.py
 
 The number in VERSION is that of zk.h and of CHANGELOG.md. The header compiles without a warning as C11 and as C++17. The
 archive is unpacked: its program gives the listing of a recording, and examples/proxy.c, linked with each of its
 libraries, too. The libraries show the header's functions and no other name. The Debian packages are installed below a
-folder, used and removed. A second release has the same bytes. What is left out, since a tool is missing, is told.
+folder, used and removed. A second release has the same bytes. What is skipped, since a tool is missing, is reported.
 
 It prints what failed and one last line. The status is 0 where nothing did.
 """
@@ -30,7 +30,7 @@ import make_library  # noqa: E402
 RECORDING = TOP / "captures" / "kazoo_basic.zkr"
 LISTING = RECORDING.with_suffix(".show").read_bytes()
 STRICT = ("-Wall", "-Wextra", "-Wpedantic", "-Werror")
-# What of the C library may be called, and what is kept outside of handles: a byte to which nothing is written.
+# The functions of the C library that may be called, and the data outside of handles: a byte that is never written.
 CALLED = {"malloc", "realloc", "free", "memcpy", "memmove", "memset", "memcmp", "bcmp", "strlen",
           "__x86_get_cpuid_feature_leaf"}
 KEPT = {"nothing"}
@@ -74,7 +74,7 @@ def run(*words, **options):
 
 
 def skip(what, *tools):
-    """Whether a tool is missing, which is then told."""
+    """Whether a tool is missing, which is then reported."""
     lacking = [tool for tool in tools if not shutil.which(tool)]
     if lacking:
         print(f"skipped: {what}: {', '.join(lacking)} is missing")

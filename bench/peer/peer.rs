@@ -76,7 +76,7 @@ impl Item<'_> for bool {
     }
 }
 
-/// A boolean that old peers leave out behind the connect messages.
+/// A boolean that old peers leave out at the end of the connect messages.
 struct ReadOnly(#[allow(dead_code)] Option<bool>);
 
 impl Item<'_> for ReadOnly {
@@ -153,7 +153,7 @@ fields_in_order!(A B C D E);
 fields_in_order!(A B C D E F);
 fields_in_order!(A B C D E F G H I J K);
 
-// ---- records, by ZooKeeper's jute; what has no name of its own stands in `body_of_request` and `body_of_reply`
+// ---- records, by ZooKeeper's jute; those without a name of their own are in `body_of_request` and `body_of_reply`
 
 type Acl<'a> = List<'a, (i32, Text<'a>, Text<'a>)>;
 type Names<'a> = List<'a, Text<'a>>;
@@ -442,7 +442,7 @@ struct Input {
 }
 
 impl Input {
-    /// What was read and not used, read on until there is so much; less, where the input ends.
+    /// What was read and not used: at least `size` bytes, fewer where the input ends.
     fn at_least(&mut self, size: usize) -> Answer<&[u8]> {
         if self.to - self.from < size {
             self.block.copy_within(self.from..self.to, 0);

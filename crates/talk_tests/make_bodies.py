@@ -5,7 +5,7 @@
 
 The answers are made by the definition alone: the longest front of a body that begins some spelling of
 just as many bytes. Whether a front does is tried out: it is written as a pattern, in which each later
-byte may be any, and `ends` tells where an item that fits the pattern may end.
+byte may be any, and `ends` gives the places where an item that fits the pattern may end.
 """
 
 import functools
@@ -135,7 +135,7 @@ def all_ends(items, pattern, places):
 
 
 def parts_end(pattern, place):
-    """The ends of a multi: parts, each behind its header, and the end marker."""
+    """The ends of a multi: parts, each after its header, and the end marker."""
     found, so_far = set(), {place}
     while so_far:
         found |= {at + 9 for at in so_far if stands(pattern, at, END)}

@@ -53,7 +53,7 @@ class Runner:
         return done.stdout, done.stderr, done.returncode
 
     def expect(self, name, words, data, wanted):
-        """Counts a run, and tells how it differs from what is wanted; gives whether it is the same."""
+        """Counts a run, and prints how it differs from what is expected; returns whether it is the same."""
         self.total += 1
         found = self.run(words, data)
         if found == wanted:

@@ -21,7 +21,7 @@ class Played:
             pytest.fail(self.process.communicate()[1])
 
     def end(self):
-        """Waits until all is played; gives zkplay's lines. The test fails where the client said something else."""
+        """Waits until all is played; returns zkplay's lines. The test fails where the client said something else."""
         out, err = self.process.communicate(timeout=30)
         if self.process.returncode:
             pytest.fail(err)
@@ -30,7 +30,7 @@ class Played:
 
 @pytest.fixture
 def zkplay():
-    """What plays a recording: `zkplay(RECORDING, OPTION ..)` gives a Played."""
+    """What plays a recording: `zkplay(RECORDING, OPTION ..)` returns a Played."""
     begun = []
 
     def play(recording, *words):
