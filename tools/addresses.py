@@ -4,7 +4,7 @@ import socket
 
 
 def address_text(address):
-    """A socket's address, as it is told."""
+    """A socket's address, as it is printed."""
     host, port = address[:2]
     return f"[{host}]:{port}" if ":" in host else f"{host}:{port}"
 

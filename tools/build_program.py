@@ -5,8 +5,8 @@
 
 FOLDER is the repository. Crates are proved in the order of crates.txt's uses; those that don't use each other are
 proved side by side, as far as there are processors and memory. `rt check` keeps every other `rt` out of the crates that
-it uses, so each check beside the first has a copy of the sources, a lane; what it has proved is then given to all lanes.
-The program that was there stays until the new one is built. Standard error tells how far it is.
+it uses, so each further check has a copy of the sources, a lane; what it has proved is then copied to all lanes. The
+old program stays until the new one is built. Standard error reports the progress.
 """
 
 import concurrent.futures
@@ -32,7 +32,8 @@ def say(text):
 
 
 def crates_below(text, top):
-    """The crates that `top` stands on, and `top`: what each uses of them, by name; lowest first. `text` is a crates.txt."""
+    """`top` and the crates that it is built on: what each uses of them, by name; lowest first. `text` is a
+    crates.txt."""
     uses = {}
     for line in text.splitlines():
         words, colon, used = line.partition("#")[0].partition(":")
@@ -50,7 +51,7 @@ def crates_below(text, top):
 
 
 def memory_left():
-    """The bytes of memory that are available; enough for one check, where the system doesn't tell."""
+    """The bytes of memory that are available; enough for one check, where the system doesn't say."""
     try:
         with open("/proc/meminfo", encoding="ascii") as lines:
             return next(int(line.split()[1]) * 1024 for line in lines if line.startswith("MemAvailable:"))
@@ -63,7 +64,7 @@ class Failed(Exception):
 
 
 class Build:
-    """The crates, the lanes in which they are proved, and how far that is."""
+    """The crates, the lanes in which they are proved, and the progress."""
 
     def __init__(self, top):
         self.top, self.crate = top, top / "crates" / PROGRAM
@@ -119,8 +120,9 @@ class Build:
         return folder
 
     def give(self, name, lane, other):
-        """Gives another lane what was proved of a crate in this one: its library, and what a later check begins with. It
-        keeps every `rt` out of the crate meanwhile, as `rt` itself does. What can't be given, `rt` makes again."""
+        """Copies to another lane what was proved of a crate in this one: its library, and what a later check begins
+        with. It keeps every `rt` out of the crate meanwhile, as `rt` itself does. What can't be copied, `rt` makes
+        again."""
         made, to = lane / "crates" / name, other / "crates" / name
         held = [os.open(folder, os.O_RDONLY) for folder in (made, to)]
         try:
@@ -139,7 +141,7 @@ class Build:
 
     @staticmethod
     def link_or_copy(one, other):
-        """Gives a file a second name, if it is one of those that `rt` replaces and never changes; else copies it."""
+        """Links a file, if it is one of those that `rt` replaces and never changes; else copies it."""
         try:
             if one.endswith(".oantt") or "/out/rlib/" in one:
                 os.link(one, other)
@@ -149,8 +151,9 @@ class Build:
         shutil.copy2(one, other)
 
     def prove_all(self, lanes):
-        """Proves all crates below the program: a crate begins once all that it uses are proved and a lane is free, that
-        with the longest chain behind it first. It gets all jobs but those of the crates beside it, which get one each."""
+        """Proves all crates below the program. A crate begins once all that it uses are proved and a lane is free, the
+        one with the longest chain above it first. It gets all jobs but those of the other crates that are being proved
+        or begin with it, which get one each."""
         free, done, running = list(lanes), set(), {}
         left = sorted([name for name in self.uses if name != PROGRAM], key=self.behind, reverse=True)
         with concurrent.futures.ThreadPoolExecutor(len(lanes)) as pool:
@@ -216,7 +219,7 @@ class Build:
             os.killpg(child.pid, signal.SIGTERM)
 
     def end_children(self):
-        """Ends what still runs, where one has failed or all are to end."""
+        """Ends what still runs, once one has failed or all are to end."""
         with self.writing:
             self.is_over = True
             children = list(self.children)

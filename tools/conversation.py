@@ -1,8 +1,8 @@
-"""What was captured of a connection, as recordings and as the lines that tell them.
+"""What was captured of a connection, as recordings and as the lines that report them.
 
 A connection has one recording up to the first bytes that were not captured, PREFIX-1.zkr, and one of what follows each
-such loss, PREFIX-1.2.zkr and so on, as far as that can be known (stretches.py). Those begin with a connect request and
-a connect response that are made up, with -1 for every number.
+such loss, PREFIX-1.2.zkr and so on, as far as that can be known (stretches.py). The later ones begin with a made-up
+connect request and connect response, with -1 for every number.
 """
 
 import struct
@@ -31,10 +31,10 @@ class Conversation:
         self.stretches = ()
 
     def begin(self):
-        """Begins the first stretch. The client goes on with the last one; those before it wait for replies."""
+        """Begins the first stretch. The client continues with the last one; those before it wait for replies."""
         self.cutter = zkr.Cutter(self.series.head)
         self.stretches = [Stretch(self.put, self.first, self.began, not self.late)]
-        # The sides whose connect message has passed; those whose frames were not found yet, with the bytes in which
+        # The sides whose connect message has passed; the sides whose frames were not found yet, with the bytes in which
         # they may be; and those of which it is sure that they were found.
         self.connected, self.sought, self.trusted = set(), {}, set(SIDES)
         if self.late:
@@ -66,7 +66,7 @@ class Conversation:
             self.cutter.held[side].clear()
 
     def take(self, side, number, milliseconds, data):
-        """Takes the next bytes of a side where a stretch does not have all that is said."""
+        """Takes the next bytes of a side where a stretch lacks some of them."""
         if side in self.sought:
             data = self.found(side, data)
             if not data:
@@ -95,8 +95,7 @@ class Conversation:
                 self.seek(side)
 
     def found(self, side, data):
-        """The bytes of a side from that frame on which is the first to end in these bytes; none where it isn't found
-        yet."""
+        """The bytes of a side from the first frame on that ends in these bytes; none where it isn't found yet."""
         before = self.sought[side]
         data, fresh = before + data, len(before)
         place, keep = resync.resynchronise(side, data, self.cutter.limits[side])
@@ -168,13 +167,13 @@ class Conversation:
         stretch.recording.take(side, number, milliseconds, data)
 
     def hole(self, side, size):
-        """Bytes of this side, so many, were not captured."""
+        """`size` bytes of this side were not captured."""
         if not self.late or self.series.join:
             self.holes = self.holes or dict.fromkeys(SIDES, 0)
             self.holes[side] += size
 
     def go_on(self, number, milliseconds):
-        """Goes on behind holes."""
+        """Continues after holes."""
         holes, self.holes = self.holes, None
         first, last = self.stretches[0], self.stretches[-1]
         lost, whole = {side for side in SIDES if holes[side]}, last.whole
@@ -196,12 +195,12 @@ class Conversation:
         self.end_settled()
 
     def end_settled(self):
-        """Ends the stretches that wait for nothing any more."""
+        """Ends the stretches that no longer wait for a reply."""
         while len(self.stretches) > 1 and not self.stretches[0].waits() and not self.unfinished:
             self.end_first()
 
     def end_first(self):
-        """Ends the first stretch, which has another behind it."""
+        """Ends the first stretch, which has another after it."""
         stretch = self.stretches.pop(0)
         stretch.end(False)
         if stretch.whole:
@@ -212,7 +211,7 @@ class Conversation:
             self.stretches[0].join(stretch)
 
     def finish(self):
-        """Ends it all: the connection is over."""
+        """Ends all stretches: the connection is over."""
         stream, how, ended = self.stream, [], self.stream.last_time
         if stream.reset:
             how, ended = [f"reset={stream.reset.decode()}"], stream.reset_time
@@ -232,7 +231,7 @@ class Conversation:
         self.stretches = ()
 
     def tell(self, stretch, last, ended, how=()):
-        """Ends the recording of a stretch, where there is one, and tells it."""
+        """Ends the recording of a stretch, where there is one, and prints its line."""
         recording, notes, lost = stretch.recording, [], any(stretch.lost.values())
         path, count = "-", dict.fromkeys(SIDES, 0)
         if recording:

@@ -31,7 +31,7 @@ def add_program(parser):
 
 def conversations(parser, words, objects, progress, before_read=lambda: None):
     """The conversations that these words name, each a Listing, or a Joined where `objects` says that these may come.
-    Before each read `before_read` is called; `progress` is told how far it is."""
+    Before each read `before_read` is called; `progress` is updated with the number of lines."""
     if words.recording and len(words.inputs) > 1:
         parser.error("--recording goes with one listing")
     if words.times and not words.recording and len(words.inputs) != 1:

@@ -1,8 +1,8 @@
 """The forms of a listing's lines (docs/FORMATS.md, section 9), and the JSON that zkjson makes of them.
 
-A form is a row of fields, each with a name and a kind. A short line is matched as a whole. A long one is gone through
-step by step and becomes pieces of JSON, none of them long, so that it takes no more memory than the line; and so is a
-line that doesn't match, to find the place.
+A form is a row of fields, each with a name and a kind. A short line is matched as a whole. A long one is parsed step by
+step and becomes pieces of JSON, none of them long, so that it takes no more memory than the line. A line that doesn't
+match is parsed in the same way, to find the place.
 """
 
 import codecs
@@ -20,12 +20,12 @@ STAT = ("czxid", "mzxid", "ctime", "mtime", "version", "cversion", "aversion", "
 HEXADECIMAL = {"czxid", "mzxid", "ephemeralOwner", "pzxid"}
 STAT_FORM = "{" + ", ".join(f'"{name}": "0x%x"' if name in HEXADECIMAL else f'"{name}": %d' for name in STAT) + "}"
 MASK = 0xffff_ffff_ffff_ffff
-USUAL = 64      # lists that are no longer are often the same again
+USUAL = 64      # lists up to this length are often the same again
 BITS = {"0": "false", "1": "true", "-": "null"}
 
 
 class NoField(ValueError):
-    """What is no field, or stands where none does; `at` is its place."""
+    """No field, or one in a wrong place; `at` is the place."""
 
     def __init__(self, at):
         super().__init__(at)
@@ -33,7 +33,7 @@ class NoField(ValueError):
 
 
 def readable(value):
-    """A text as JSON, with no character that a terminal would obey."""
+    """A text as JSON, without control characters."""
     return (READABLE if value.isprintable() else ASCII)(value)
 
 
@@ -45,7 +45,7 @@ def text(spelled):
 
 
 def pieces_of_text(line, at, end):
-    """The text that stands in the line from one place to the other, as pieces of JSON."""
+    """The text in the line from one place to the other, as pieces of JSON."""
     if line[at] == "~":
         yield "null"
         return
@@ -74,7 +74,7 @@ def printable(value):
 
 
 def parts_of_data(line, at, end):
-    """The text that stands in the line as hexadecimal digits, in parts; a ValueError where it can't be printed."""
+    """The text that the line has as hexadecimal digits, in parts; a ValueError where it can't be printed."""
     decoder = codecs.getincrementaldecoder("utf-8")()
     for begin in range(at, end, BLOCK):
         part = decoder.decode(bytes.fromhex(line[begin:min(begin + BLOCK, end)]), begin + BLOCK >= end)
@@ -84,7 +84,7 @@ def parts_of_data(line, at, end):
 
 
 def pieces_of_data(line, at, end, secret=False):
-    """Bytes that stand in the line, as pieces of JSON."""
+    """Bytes in the line, as pieces of JSON."""
     if line[at] == "~":
         yield "null"
         return
@@ -138,7 +138,7 @@ class Kind:
         self.pattern, self.match, self.json, self.found = pattern, re.compile(pattern, re.ASCII).match, json_of, pieces
 
     def pieces(self, line, at):
-        """The value that stands in the line, as pieces of JSON; gives the place behind it."""
+        """The value at this place of the line, as pieces of JSON; returns the place after it."""
         found = self.match(line, at)
         if not found:
             raise NoField(at)
@@ -150,7 +150,7 @@ class Kind:
 
 
 class List:
-    """A list of values: `plain` matches those which JSON spells as the line does, and `element` one value."""
+    """A list of values: `plain` matches the lists that JSON spells as the line does, and `element` one value."""
 
     pattern = r'(?:~|\[[^"\]]*(?:"[ !#-~]*"[^"\]]*)*\])'
 
@@ -167,7 +167,7 @@ class List:
         return "".join(self.pieces(spelled, 0))
 
     def pieces(self, line, at):
-        """The list that stands in the line, as pieces of JSON; gives the place behind it."""
+        """The list at this place of the line, as pieces of JSON; returns the place after it."""
         if line.startswith("~", at):
             yield "null"
             return at + 1
@@ -212,7 +212,8 @@ class Form:
                      if kind is not KINDS["number"]]
 
     def json(self, line, at):
-        """The fields that stand in the line, as JSON, and the place behind them; a ValueError where they don't."""
+        """The fields at this place of the line, as JSON, and the place after them; a ValueError where they aren't
+        there."""
         found = self.match(line, at)
         if not found:
             raise NoField(at)
@@ -222,7 +223,7 @@ class Form:
         return self.form % tuple(values), found.end()
 
     def pieces(self, line, at):
-        """The fields that stand in the line, as pieces of JSON; gives the place behind them."""
+        """The fields at this place of the line, as pieces of JSON; returns the place after them."""
         for before, name, kind in self.fields:
             try:
                 if not line.startswith(before, at):
@@ -234,7 +235,7 @@ class Form:
         return at
 
 
-# What an operation asks, and what the reply to it tells behind its zxid; a multi has parts, and results.
+# The fields of each operation's request, and of its reply after the zxid; a multi has parts, and results.
 WATCH, VERSION = "path:text watch:bit", "path:text version:number"
 ASKS = {
     "connect": "version:number zxid:hexadecimal timeout:number session:hexadecimal passwd:secret ro:readonly",

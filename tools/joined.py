@@ -67,8 +67,8 @@ class Joined(listing.Conversations):
     """The lines of zkjson, message by message, with the interface of a Listing; `name` is the connection of objects
     that name none.
 
-    A reply belongs to the request whose number it has, so lines may have been left out; where the request is not
-    there, what the reply tells of it is given in its place.
+    A reply belongs to the request whose number it has, so lines may have been left out. Where the request is not there,
+    what the reply says of it is returned in its place.
     """
 
     def __init__(self, name, lines, progress):

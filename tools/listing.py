@@ -1,6 +1,6 @@
 """Reads the listings that `zkdump show` writes (docs/FORMATS.md, sections 9 and 11), line by line.
 
-A line becomes a Message, which has what stands at the line's beginning. A Listing gives the messages of one connection,
+A line becomes a Message, which has what the line begins with. A Listing gives the messages of one connection,
 each with its line and with the request that it answers, and what is known of the connection itself is in its
 Connection. Joined, in joined.py, gives the same of the lines that zkjson makes; conversations.py opens either.
 """
@@ -53,7 +53,7 @@ class Connection:
     `name` is what it is called, and `session` the number of its session in hexadecimal: that of the connect response,
     else that which the client asked for, else None. `begun` and `ended` are the times of its first and its last
     message, in milliseconds since 1970; `ending` is its ending line, its numbers as numbers; and `backwards` counts the
-    replies whose time lies before that of their request. `known` says that it is too late to learn the session.
+    replies whose time is before that of their request. `known` says that the session no longer changes.
     """
 
     def __init__(self, name):
@@ -81,8 +81,8 @@ class Message:
     `connection` is the Connection that it belongs to. `error` is the name of a reply's error, or its number: of a
     failed multi, that of the part that failed; and of an event, its kind. `at` is the message's time as it is spelled,
     `moment` the same as a number of milliseconds since 1970, and `microseconds`, or `ms`, how long a reply took, unless
-    its time lies before that of its request. `end` is the
-    place behind the operation in the line; `parts` is for who reads the rest of it, and `chosen` for who chooses.
+    its time is before that of its request. `end` is the place after the operation in the line; `parts` is for the
+    readers of the rest of it, and `chosen` for selection.py.
     """
 
     at = moment = microseconds = chosen = None
@@ -117,7 +117,7 @@ def text(spelled):
 
 
 def parts_of_text(line, at, end):
-    """The text that stands in the line, with its quotes, from one place to the other: in parts, none of them long."""
+    """The text in the line, with its quotes, from one place to the other: in parts, none of them long."""
     decoder, at, end = codecs.getincrementaldecoder("utf-8")(), at + 1, end - 1
     while at < end:
         to = min(at + BLOCK, end)
@@ -187,8 +187,8 @@ class Listing(Conversations):
     """The listing of one connection, message by message.
 
     Iterating gives the line of each message, the message, and the request that it answers, or None. `connection` is
-    what is known of the connection, and `left()` gives the requests that wait. `times` gives the time of each message,
-    where it isn't None (times.Times); `progress` is told how far it is.
+    what is known of the connection, and `left()` returns the requests that wait. `times` gives the time of each
+    message, where it isn't None (times.Times); `progress` is updated with the number of lines.
     """
 
     def __init__(self, name, lines, times, progress):

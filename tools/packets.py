@@ -8,7 +8,7 @@ A segment is a plain tuple, since there are many of them:
     number, milliseconds, ends, source, target, sequence, acknowledged, flags, data, snapped
 
 `number` is the packet's number in the capture, from 1, as Wireshark counts. `ends` are the source's and the target's
-address and their ports, as they stand in the packet: an own value for each direction of each connection. `source` and
+address and their ports, as the packet has them: a value of its own for each direction of each connection. `source` and
 `target` are the ports; `snapped` says that bytes of the segment were not captured.
 """
 
@@ -31,13 +31,13 @@ class NotRead(ValueError):
 
 
 class Source:
-    """The bytes of a stream: `data`, of which those before `at` are done with."""
+    """The bytes of a stream: `data`, of which those before `at` have been used."""
 
     def __init__(self, stream):
         self.read, self.data, self.at = stream.read1, b"", 0
 
     def more(self, at):
-        """Reads on, where the bytes before `at` are done with. False at the stream's end."""
+        """Reads on, and drops the bytes before `at`. False at the stream's end."""
         rest = self.data[at:]
         # As much again as is there, so that a large packet isn't copied once for each small part of it.
         new = self.read(max(BLOCK, len(rest)))
@@ -45,7 +45,7 @@ class Source:
         return bool(new)
 
     def exactly(self, size):
-        """The next bytes, so many."""
+        """The next `size` bytes."""
         while len(self.data) - self.at < size:
             if not self.more(self.at):
                 raise EOFError("the capture ends within a packet")
@@ -120,7 +120,7 @@ def packets_of_pcapng(source):
     kind, order, interfaces = SECTION, "<", []
     while True:
         head = source.exactly(4)
-        if kind == SECTION:  # the order of its bytes stands in it
+        if kind == SECTION:  # it says in which order its bytes are
             mark = source.exactly(4)
             order, interfaces = "<" if mark == b"\x4d\x3c\x2b\x1a" else ">", []
             body = block_body(source, order, head, 16)
@@ -140,7 +140,7 @@ def packets_of_pcapng(source):
 
 
 def block_body(source, order, head, least):
-    """What stands in a block of pcapng, of which `least` bytes are its head and its end; each of those has its
+    """The content of a block of pcapng, without its head and its end, which are `least` bytes and both have the
     length."""
     size = struct.unpack(order + "I", head)[0]
     if not least <= size <= LARGEST_PACKET:

@@ -16,7 +16,7 @@ BLOCK = 65536
 
 
 class Refused(ValueError):
-    """The peer doesn't say what was recorded, or there is nothing at which a fault is to be made."""
+    """The peer doesn't say what was recorded, or the place of a fault isn't in the recording."""
 
 
 class Position:
@@ -27,7 +27,7 @@ class Position:
         self.frame, self.place, self.length, self.offset = 0, -LENGTH, b"", 0
 
     def parts(self, data):
-        """Gives these bytes frame by frame, and goes past each part behind that."""
+        """Yields these bytes frame by frame, and moves past each part once it is used."""
         data = memoryview(data)
         while data:
             head = self.length + bytes(data[:max(0, -self.place)])
@@ -45,17 +45,17 @@ class Position:
 
 
 class Faults:
-    """What is done to the own side: a wait of `delay` seconds before each piece; `flips` has bytes by frame and place,
-    where None stands for the recorded one with its lowest bit changed; at `end`, a frame and a place, it ends its side,
-    or resets the connection where `reset` is true."""
+    """The faults of the own side: a wait of `delay` seconds before each piece; `flips` has bytes by frame and place,
+    where None is the recorded byte with its lowest bit changed; at `end`, a frame and a place, it ends its side, or
+    resets the connection where `reset` is true."""
 
     def __init__(self, delay=0, flips=(), end=None, reset=False):
         self.delay, self.flips, self.end, self.reset = delay, dict(flips), end, reset
 
 
 class Play:
-    """One connection. `pings` counts the client's pings that were not recorded and were answered, `spare` those of them
-    that no recorded one has been set against, and `missed` the recorded ones whose replies are still to be left out."""
+    """One connection. `pings` counts the client's pings that were answered and not recorded, `spare` those of them that
+    no recorded ping has been set against, and `missed` the recorded pings whose replies are still to be left out."""
 
     def __init__(self, open_recording, own, connection, wait, faults=Faults()):
         self.open_recording, self.own, self.connection, self.wait = open_recording, own, connection, wait
@@ -68,7 +68,7 @@ class Play:
         connection.setsockopt(socket.IPPROTO_TCP, socket.TCP_NODELAY, 1)
 
     def run(self):
-        """Goes through the recording, or to the fault that ends it."""
+        """Plays the recording, to its end or to the fault that ends it."""
         is_end = False
         with self.open_recording() as recording:
             for piece in zkr.Reader(recording):
@@ -85,12 +85,12 @@ class Play:
             self.hear_end()
 
     def told(self):
-        """What was played, as it is told."""
+        """What was played, as it is printed."""
         count = "{} bytes of the client, {} of the server".format(*(self.at[side].offset for side in NAMES))
         return count + (f", and {self.pings} pings answered" if self.pings else "")
 
     def say(self, data):
-        """Says a piece with its faults; gives whether the connection was ended in it."""
+        """Sends a piece with its faults; returns whether the connection was ended in it."""
         said, at, is_end = bytearray(), self.at[self.own], False
         if self.delay:
             self.pause(self.delay)
@@ -119,13 +119,13 @@ class Play:
             raise self.refused(f"it takes no more: {error.strerror or error}") from None
 
     def before_the_end(self, at, size):
-        """How many of a part's bytes are still said, where its end is to be made in it."""
+        """How many of a part's bytes are still sent, where the side ends in it."""
         if self.end and (at.frame, at.place + size) >= self.end:
             return max(0, self.end[1] - at.place) if at.frame == self.end[0] else 0
         return None
 
     def flipped(self, at, part):
-        """A part with the bytes that are to be others."""
+        """A part, with the bytes that `flips` replaces."""
         made = bytearray(part)
         for frame, place in [it for it in self.flips if it[0] == at.frame and 0 <= it[1] - at.place < len(part)]:
             byte = self.flips.pop((frame, place))
@@ -158,7 +158,7 @@ class Play:
         return self.own == zkr.SERVER and self.at[self.own].frame > 0 and self.at[self.peer].begins()
 
     def take(self, until):
-        """Takes what the peer says next, up to this moment; gives why there is nothing more."""
+        """Takes what the peer says next, up to this moment; returns why there is nothing more."""
         try:
             self.connection.settimeout(max(0.001, until - time.monotonic()))
             got = b"" if self.has_ended else self.connection.recv(BLOCK)
@@ -196,7 +196,7 @@ class Play:
                 raise self.refused(f"{self.heard[other]:02x} in place of {due[same + other]:02x}", same + other)
 
     def is_coming(self, due, until):
-        """Answers the pings that come before this part of a frame. Gives whether the part itself is to come: a recorded
+        """Answers the pings that come before this part of a frame. Returns whether the part itself is due: a recorded
         ping is not, where one was answered before, or another frame comes."""
         if due == PING and self.spare:
             self.spare -= 1
@@ -223,7 +223,7 @@ class Play:
         self.send(PING_REPLY + self.zxid + bytes(4))
 
     def hear_end(self):
-        """Waits for the peer's end, before which nothing but pings may come; silence is as good."""
+        """Waits for the peer's end, before which nothing but pings may come; silence counts as an end."""
         until, is_over = time.monotonic() + self.wait, False
         while not is_over:
             while self.may_ping() and self.heard.startswith(PING):
@@ -234,8 +234,8 @@ class Play:
             raise self.refused(f"{self.heard[0]:02x} where the recording has no more")
 
     def refused(self, reason, same=0):
-        """The refusal of the peer's next byte, behind so many that are as recorded. The numbers are those that zkdump's
-        ending lines have for the recording."""
+        """The refusal of the peer's next byte, after `same` bytes that are as recorded. The numbers are those of
+        zkdump's ending lines for the recording."""
         at = self.at[self.peer]
         return Refused(f"{NAMES[self.peer]} frame={at.frame} offset={at.offset + same + 1} "
                        f"place={max(0, at.place + same)}: {reason}")

@@ -14,7 +14,7 @@ def add_program(parser):
 
 
 def prove_runs(parser, path):
-    """Ends with a line, where the program at this path is not there or doesn't read a recording of no bytes."""
+    """Ends with a line, where there is no program at this path, or it doesn't read a recording of no pieces."""
     if not shutil.which(path):
         parser.error(f"there is no program {path}: --zkdump PATH names it")
     try:

@@ -1,7 +1,7 @@
 """A proxy that passes connections on while somebody looks on: what record.py and zkwatch.py have in common.
 
-One loop serves all connections, and nothing in it waits: not for an end that doesn't read, not for a file or a
-process, and not for whoever reads what is told. An end of one direction is passed on, and so is a reset.
+One loop serves all connections, and nothing in it waits: not for an end that doesn't read, not for a file or a process,
+and not for the reader of its lines. An end of one direction is passed on, and so is a reset.
 """
 
 import errno
@@ -20,19 +20,19 @@ from teller import Teller
 BLOCK = 65536
 READ, WRITE = selectors.EVENT_READ, selectors.EVENT_WRITE
 OTHER = {zkr.CLIENT: zkr.SERVER, zkr.SERVER: zkr.CLIENT}
-REST = 0.1                  # for so many seconds no clients are taken where the system has no room for one
-LAST_WORDS = 30             # and as many seconds lookers-on have to end in, or until a second signal
+REST = 0.1                  # the seconds without new clients, once the system has no room for one
+LAST_WORDS = 30             # the seconds that lookers-on have to end, unless a second signal comes
 
 
 class Way:
-    """One direction of a connection: what one end says and the other has not been sent yet."""
+    """One direction of a connection: what one end has said and the other has not been sent yet."""
 
     def __init__(self, side, source, target):
         self.side, self.source, self.target, self.unsent, self.ended = side, source, target, b"", False
 
 
 class Connection:
-    """A client's connection and the one to the server that it is passed on to. `ends` tells how its sides have ended,
+    """A client's connection and the one to the server that it is passed on to. `ends` lists how its sides have ended,
     in order: FIN, RST, or the system's name of an error. `room` has the descriptors that its looker-on may take."""
 
     def __init__(self, proxy, number, client, peer, room):
@@ -61,7 +61,7 @@ class Connection:
         self.proxy.left(self)
 
     def step(self, end, events):
-        """Goes on with one end of the connection that is ready."""
+        """Serves one end of the connection that is ready."""
         if not self.ways:
             self.connected()
             return
@@ -93,7 +93,7 @@ class Connection:
         self.watch()
 
     def watch(self):
-        """Waits for just that for which something is to be done; where nothing is, the connection is over."""
+        """Waits for the events that something is left to do for; where there are none, the connection is over."""
         if all(way.ended for way in self.ways):
             self.close()
             return
@@ -102,7 +102,7 @@ class Connection:
                                 self)
 
     def receive(self, way):
-        """Takes what an end has said, shows it to the looker-on, and passes it on."""
+        """Takes what an end has said, gives it to the looker-on, and passes it on."""
         try:
             data = way.source.recv(BLOCK)
         except BlockingIOError:
@@ -131,12 +131,12 @@ class Connection:
         except BlockingIOError:
             pass
         except OSError as error:
-            # It takes no more; what it said before is still passed on.
+            # This end takes no more; what it said before is still passed on.
             self.broke(OTHER[way.side], error)
             way.unsent, way.ended = b"", True
 
     def broke(self, side, error):
-        """Notes that a side's connection broke, in place of ending."""
+        """Notes that a side's connection broke, and did not end."""
         is_reset = error.errno in (errno.ECONNRESET, errno.EPIPE)
         how = side, "RST" if is_reset else errno.errorcode.get(error.errno, "lost")
         if how not in self.ends:
@@ -156,7 +156,7 @@ class Connection:
         self.proxy.left(self)
 
     def ended_words(self):
-        """How it ended, as it is told: which side closed it first, and which broke it; `open` where neither did."""
+        """How it ended, as it is printed: which side closed it first, and which broke it; `open` where neither did."""
         words = [f"closed={side.decode()}" for side, how in self.ends if how == "FIN"][:1]
         words += [f"reset={side.decode()}" for side, how in self.ends if how == "RST"][:1]
         words += [f"broken={side.decode()}:{how}" for side, how in self.ends if how not in ("FIN", "RST")][:1]
@@ -184,11 +184,11 @@ class Room:
 
 
 class Proxy:
-    """Takes clients' connections and passes them on, until a signal comes. What is to be done with each is up to the
-    classes that stand on it: `look_on` gives a looker-on, which has `piece(side, data)`, called before the bytes are
-    passed on, and `over()`."""
+    """Takes clients' connections and passes them on, until a signal comes. What is done with each is up to the derived
+    classes: `look_on` returns a looker-on, which has `piece(side, data)`, called before the bytes are passed on, and
+    `over()`."""
 
-    descriptors = 0         # how many a looker-on opens, at most
+    descriptors = 0         # the most descriptors of a looker-on
 
     def __init__(self, name, server):
         self.server, self.ready = server, selectors.DefaultSelector()
@@ -204,18 +204,18 @@ class Proxy:
         raise NotImplementedError
 
     def busy(self):
-        """Whether a looker-on has something to do though its connection is over."""
+        """Whether a looker-on has something left to do after its connection is over."""
         return False
 
     def taken(self, connection):
         """Called when a client's connection begins."""
 
     def unreached(self, connection, reason):
-        """Tells that a client's connection has ended, since there is none to the server."""
+        """Reports that a client's connection has ended, since there is none to the server."""
         raise NotImplementedError
 
     def say(self, text):
-        """Tells a line on standard output. Where nobody reads it any more, the connections go on."""
+        """Writes a line on standard output. Where nobody reads it any more, the connections continue."""
         if not self.lines.tell(text):
             self.complaints.tell_once("standard output is not read, so lines are lost")
 
@@ -239,7 +239,7 @@ class Proxy:
             self.waits.discard(file)
 
     def after(self, seconds, call):
-        """Calls this once, after so many seconds."""
+        """Calls this once, after `seconds`."""
         self.due[call] = time.monotonic() + seconds
 
     def run(self, listeners):
@@ -259,7 +259,7 @@ class Proxy:
         self.complaints.end()
 
     def turn(self, seconds=None):
-        """Does what is ready or due; it waits for that, or for as many seconds."""
+        """Does what is ready or due; it waits for that, for `seconds` at most."""
         if self.due:
             left = max(0, min(self.due.values()) - time.monotonic())
             seconds = left if seconds is None else min(seconds, left)
@@ -274,7 +274,7 @@ class Proxy:
             call()
 
     def stop(self):
-        """Ends every connection, and gives those who look on time for their last words."""
+        """Ends every connection, and gives the lookers-on time for their last lines."""
         for listener in self.listeners:
             self.wait_for(listener, 0)
         self.listeners = []
@@ -289,7 +289,7 @@ class Proxy:
             self.wait_for(listener, READ, self)
 
     def rest(self, error):
-        """Takes no clients for a moment, while those that it has go on."""
+        """Takes no clients for a moment; those that it has continue."""
         self.complaints.tell_once(f"no more clients are taken for now: {error.strerror}; the connections go on")
         for listener in self.listeners:
             self.wait_for(listener, 0)
@@ -317,7 +317,7 @@ class Proxy:
             connection.connect("no address")
 
     def left(self, connection):
-        """Called once a connection is over: where clients waited for room, there is some."""
+        """Called once a connection is over: if clients wait for room, there is some now."""
         self.connections.discard(connection)
         if self.take_clients in self.due:
             self.due[self.take_clients] = 0

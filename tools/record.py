@@ -3,14 +3,14 @@
 
     record.py [HOST:]PORT SERVER:PORT PREFIX
 
-Point the client at PORT, where this listens: on 127.0.0.1, or on HOST. An IPv6 address stands in brackets. The
+Point the client at PORT, where this listens: on 127.0.0.1, or on HOST. An IPv6 address is written in brackets. The
 connections become PREFIX-1.zkr, PREFIX-2.zkr and so on; a number whose file is there already is passed over. Standard
-output has a line for each connection that begins or ends, with the client's address and the time; that of its end tells
+output has a line for each connection that begins or ends, with the client's address and the time; that of its end says
 who ended it, as closed=C (the client closed it first, by a FIN) or reset=S (the server reset it). Ctrl-C, or SIGTERM,
 ends it.
 
-Every piece is in its file before it is passed on, so that no reply stands in the recording before its request. An end
-of one direction is passed on, and so is a reset. Only the owner may read the files: they have everything that was said,
+Every piece is in its file before it is passed on, so that in the recording no reply comes before its request. An end of
+one direction is passed on, and so is a reset. Only the owner may read the files: they have everything that was said,
 passwords of sessions and data of nodes included.
 """
 
@@ -28,7 +28,7 @@ def now():
 
 
 class Recording:
-    """What is written of a connection; `writer` is None where it can't be, or can't be any more."""
+    """The recording of a connection; `writer` is None where it can't be written, or can't be any more."""
 
     def __init__(self, recorder, connection):
         self.recorder, self.connection, self.writer, self.words = recorder, connection, None, []
@@ -53,7 +53,7 @@ class Recording:
                 self.close()
 
     def close(self):
-        """Ends the recording, whether its connection ends or goes on."""
+        """Ends the recording, whether its connection ends or continues."""
         writer, self.writer = self.writer, None
         self.words = [f"client={writer.count[zkr.CLIENT]}", f"server={writer.count[zkr.SERVER]}"]
         try:

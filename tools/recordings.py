@@ -61,7 +61,7 @@ class Series:
             return made, number, part
 
     def say(self, line):
-        """Tells a line; where nobody reads it any more, the rest goes on."""
+        """Prints a line; where nobody reads it any more, the rest continues."""
         try:
             print(line, flush=True)
         except OSError as error:

@@ -1,15 +1,15 @@
-"""Where the frames of one side begin again behind bytes that were not captured.
+"""Where the frames of one side begin again after bytes that were not captured.
 
-The rule, which any reader of captured connections can follow. It takes the bytes of one side that were captured without
-a gap since the loss, up to the end of a segment. Frames begin again at the first place from which frames that are
-plausible follow one another, up to the end of those bytes or three of them at least, and each of them whole. Where
-there is no such place, wait for the next segment and look again. Bytes are kept meanwhile from the first place on that
-still may be one, but no more than 65,536: a frame that is longer is passed over.
+Any reader of captured connections can follow this rule. Its input is the bytes of one side that were captured without a
+gap since the loss, up to the end of a segment. Frames begin again at the first place from which plausible whole frames
+follow one another, up to the end of those bytes or three of them at least. Where there is no such place, wait for the
+next segment and look again. Meanwhile bytes are kept from the first place on that may still be one, but no more than
+65,536: a longer frame is passed over.
 
 A client's frame is plausible where its length is at least 8 and within the limit, and its xid and its operation belong
 together: -2 and ping; -4 and auth; -8 or a positive number and setWatches or setWatches2; a positive number and any
 other operation that ZooKeeper has. Where the operation's body begins with a path, the path begins with "/", and its
-length leaves what the operation has behind it: just so much where that has a fixed size, and else at least so much. An
+length leaves room for the fields after it: exactly their size where that is fixed, and else at least the least size. An
 operation without a body has a frame of 8 bytes.
 
 A server's frame is plausible where its length is at least 16 and within the limit, and it is one of these:
@@ -20,12 +20,12 @@ A server's frame is plausible where its length is at least 16 and within the lim
 - an error: a positive xid, a zxid of at least -1, an err from -1 to -200 and 16 bytes;
 - another reply: a positive xid, a zxid above 0, err 0, and a body that is one of these by its first int n and the size
   of the whole payload: none (16 bytes), a stat (84), a number or an empty or null list (20); n bytes of data, or an
-  empty or null list, and a stat (88 and n); a path of n bytes, which begins with "/", with or without a stat behind it;
+  empty or null list, and a stat (88 and n); a path of n bytes, which begins with "/", with or without a stat after it;
   a list of n elements, of which the first is a name of at least a byte, or permissions from 1 to 31 and a scheme; the
   results of a multi, the first with the number n of a part, a boolean and an int from -200 to 0.
 
-So a place can be passed over that is one, which costs a message; a place that is none is taken hardly ever, and then
-what is read from it on is not plausible for long (joined.py).
+So a frame's beginning can be passed over, which loses a message. A place that is none is hardly ever taken, and then
+the frames from it on are not plausible for long (joined.py).
 """
 
 import re
@@ -36,7 +36,7 @@ import zkr
 ENOUGH, MOST_KEPT = 3, 1 << 16
 EVENT, PING, AUTH, SET_WATCHES = -1, -2, -4, -8
 LANES = (PING, AUTH, SET_WATCHES)
-# By operation, what it has behind its path: exactly so many bytes, or at least so many.
+# By operation, how many bytes follow its path: exactly, or at least.
 BEHIND_PATH = {2: 4, 3: 1, 4: 1, 6: 0, 8: 1, 9: 0, 12: 1, 17: 4, 18: 4, 20: 0, 103: 0, 104: 0, 106: 4}
 LEAST_BEHIND_PATH = {1: 12, 5: 8, 7: 8, 15: 12, 19: 12, 21: 20}
 # By other operation, how long the payload of its request is, and the least length of it.

@@ -1,4 +1,4 @@
-"""How a tool of this folder runs: its standard streams, its status, what it tells on standard error."""
+"""How a tool of this folder runs: its standard streams, its status, its messages on standard error."""
 
 import errno
 import os
@@ -14,12 +14,12 @@ def allow_many_files():
 
 
 def shown(text):
-    """A text with an escape for each character that a terminal may obey."""
+    """A text with an escape for each control character."""
     return text if text.isprintable() else "".join(each if each.isprintable() else ascii(each)[1:-1] for each in text)
 
 
 def complain(trouble):
-    """Tells trouble in one line on standard error, where that can be written."""
+    """Reports trouble in one line on standard error, where that can be written."""
     if isinstance(trouble, OSError) and trouble.strerror:
         file = "" if trouble.filename is None else f"{os.fsdecode(trouble.filename)}: "
         trouble = file + trouble.strerror
@@ -50,13 +50,13 @@ def hold_standard_streams():
 
 
 def read_no_more():
-    """Does without standard output, whose reader has gone."""
+    """Drops standard output, whose reader has gone."""
     os.dup2(os.open(os.devnull, os.O_WRONLY), sys.stdout.fileno())
 
 
 def tool(main):
-    """Runs a tool's main function. What it can't do is told in one line; the status is then 1 for what it has read
-    and 3 for the system."""
+    """Runs a tool's main function. An error is reported in one line; the status is then 1 where it is in the input, and
+    3 where it is the system's."""
     hold_standard_streams()
     try:
         if sys.stdout is None:
@@ -81,15 +81,14 @@ def tool(main):
 
 
 class Progress:
-    """Tells on standard error how far long work is, where a person looks on: on a terminal alone, and only where it
-    `may` be told there."""
+    """Shows the progress of long work on standard error: on a terminal alone, and only where `may` is true."""
 
     def __init__(self, what, may=True):
         self.what, self.shown = what, False
         self.due = time.monotonic() + 1 if may and sys.stderr and sys.stderr.isatty() else float("inf")
 
     def tell(self, amount):
-        """Tells the amount that is done, once a second; `amount` is a text, or a function that gives it."""
+        """Shows the amount that is done, once a second; `amount` is a text, or a function that returns it."""
         if time.monotonic() >= self.due:
             self.due, self.shown = time.monotonic() + 1, True
             text = amount() if callable(amount) else amount

@@ -63,7 +63,7 @@ def add_words(parser):
 
 
 class Selection:
-    """What the words choose. A reply goes with its request, save that --slower chooses replies and nothing else."""
+    """What the arguments choose. A reply goes with its request, but --slower chooses replies and nothing else."""
 
     def __init__(self, words):
         self.paths, self.sessions, self.operations = words.path, words.session, words.op
@@ -96,7 +96,7 @@ class Selection:
                 yield line, made, asked
 
     def of_sessions(self, found):
-        """Keeps what comes before the session of a connection is known, until it is."""
+        """Holds messages back until the session of their connection is known."""
         held = {}
         for each in found:
             connection = each[1].connection

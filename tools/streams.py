@@ -1,8 +1,9 @@
 """The two sides of a TCP connection out of its segments, put into one order.
 
-Bytes are given on only behind everything that their sender had acknowledged, so that no reply comes before its request,
-in whatever order packets were captured. Where bytes are missing, those behind them wait: they may have been captured
-later. They are lost for good once the connection is over, or once too much waits; what is behind them then goes on.
+Bytes are passed on only after everything that their sender had acknowledged, so that no reply comes before its request,
+in whatever order packets were captured. Where bytes are missing, those after them wait: the missing ones may have been
+captured later. They are lost for good once the connection is over, or once too much waits; what follows them is then
+passed on.
 """
 
 import collections
@@ -15,16 +16,16 @@ from packets import ACK, FIN, RST, SYN
 SIDES = (zkr.CLIENT, zkr.SERVER)
 OTHER = {zkr.CLIENT: zkr.SERVER, zkr.SERVER: zkr.CLIENT}
 WRAP, MASK = 1 << 31, (1 << 32) - 1
-# What a part that waits takes beside its bytes.
+# The memory of a part that waits, without its bytes.
 PART_COST = 256
-# A reset counts only where its number is near that which is next.
+# A reset counts only where its number is near the next one.
 NEAR = 1 << 24
 
 
 class Part(NamedTuple):
-    """Bytes of one side in their place. `follows` is how much of the other side stands before them: what their sender
-    had acknowledged. `number` is that of their packet. Places count from the first byte of the side. A part without
-    bytes stands for as many as `lost` says, which were not captured."""
+    """Bytes of one side in their place. `follows` is the number of bytes of the other side before them: what their
+    sender had acknowledged. `number` is that of their packet. Places count from the first byte of the side. A part
+    without bytes is a hole: `lost` bytes that were not captured."""
     place: int
     follows: int
     number: int
@@ -36,9 +37,10 @@ class Part(NamedTuple):
 class Half:
     """One side of a connection: puts what was captured in order.
 
-    `next` is the sequence number behind the bytes that are in order, or -1, and `place` their place. `apart` has what
-    came before its turn; `ready` what is in order, and is given on once that is which it follows. `written` is the
-    place of what is given on, `end` that of the side's end, and `fin` what is known of the first segment with a FIN.
+    `next` is the sequence number after the bytes that are in order, or -1, and `place` its place. `apart` has what came
+    out of order. `ready` has what is in order and waits for the other side's bytes that it follows. `written` is the
+    place up to which bytes were passed on, `end` that of the side's end, and `fin` what is known of the first segment
+    with a FIN.
     """
 
     __slots__ = ("stream", "side", "other", "first", "next", "place", "written", "end", "fin", "acknowledged", "apart",
@@ -57,7 +59,7 @@ class Half:
         stream.last_time = milliseconds
         if sequence == self.next and flags & 23 == ACK and not (stream.held or stream.reset or snapped) \
                 and (acknowledged == other.next or 0 <= other.next and acknowledged - other.next & MASK >= WRAP):
-            # All before is there on both sides, as nearly always.
+            # Everything before it is there on both sides, as nearly always.
             if data:
                 size = len(data)
                 self.place += size
@@ -102,7 +104,7 @@ class Half:
             self.first = self.next = sequence
 
     def place_of(self, sequence):
-        """The place of a sequence number, which is known up to 2^32 alone: the one next to where this half is."""
+        """The place of a sequence number: of all places with that number modulo 2^32, the nearest to `place`."""
         return self.place + (sequence - self.next + WRAP & MASK) - WRAP
 
     def put(self, part):
@@ -123,7 +125,7 @@ class Half:
         self.sort()
 
     def sort(self):
-        """Moves what has its turn now from `apart` to `ready`."""
+        """Moves what is in order now from `apart` to `ready`."""
         while self.apart and self.apart[0].place <= self.place:
             part = heapq.heappop(self.apart)
             if part.place < self.place:
@@ -144,13 +146,13 @@ class Half:
         self.next = self.next + size & MASK
 
     def lose(self, size, number, milliseconds):
-        """Takes the bytes that are next for lost: so many of them."""
+        """Takes the next `size` bytes for lost."""
         self.add(Part(self.place, 0, number, milliseconds, b"", size), size)
         self.stream.hold(PART_COST)
         self.sort()
 
     def reached(self):
-        """How much of this half is given on; its end counts as one more."""
+        """How many bytes of this half were passed on; its end counts as one more."""
         return self.written + (self.end == self.written)
 
     def lacks(self):
@@ -184,7 +186,7 @@ class Stream:
             self.reset, self.reset_at, self.reset_time = side, place, milliseconds
 
     def write(self):
-        """Gives on what is in order on its side and follows nothing that isn't given on."""
+        """Passes on what is in order on its side, once what it follows was passed on."""
         client, server = self.halves
         while client.ready or server.ready:
             half = self.next_half()
@@ -200,8 +202,8 @@ class Stream:
                 self.sink.piece(half.side, part.number, part.milliseconds, part.data)
 
     def next_half(self):
-        """The half whose next bytes are given on next: of those that follow nothing, what was captured first. Bytes
-        that were captured behind a hole of the other side wait for what is in it."""
+        """The half whose bytes are passed on next: of those that have to wait for nothing, what was captured first.
+        Bytes that were captured after a hole of the other side wait for what is in it."""
         found, blocked = None, 0
         for half in self.halves:
             if half.ready:
@@ -215,7 +217,8 @@ class Stream:
         return self.halves[0] if blocked == 2 else found
 
     def give_up(self):
-        """Takes the bytes for lost that all else waits for, and goes on behind them. False where nothing waits."""
+        """Takes the bytes for lost that everything else waits for, and continues after them. False where nothing
+        waits."""
         for half in self.halves:
             if half.ready and half.ready[0].follows > half.other.reached() and not half.other.ready:
                 head, other = half.ready[0], half.other
@@ -225,7 +228,7 @@ class Stream:
                 elif (other.end or 0) > other.place:
                     size = min(size, other.end - other.place)
                 if size == 1 and not other.apart and other.end is None:
-                    other.end = other.place  # one alone, with nothing behind it, is the end that wasn't captured
+                    other.end = other.place  # one alone, with nothing after it, is the end that wasn't captured
                 else:
                     other.lose(size, head.number, head.milliseconds)
                 break
@@ -240,13 +243,13 @@ class Stream:
         return True
 
     def let_go(self):
-        """Takes apart what refers to each other, so that its memory is free at once."""
+        """Breaks cycles of references, so that the memory is free at once."""
         for half in self.halves:
             half.stream = half.other = None
         self.sink.stream = self.sink = None
 
     def is_complete(self):
-        """Whether both sides have ended, and all is given on."""
+        """Whether both sides have ended, and all is passed on."""
         return all(half.end == half.written for half in self.halves)
 
     def closer(self):

@@ -4,13 +4,12 @@ A stretch that begins with the connection keeps everything. Of one that follows 
 not known which replies belong to what was asked before it, nor which requests were answered by what was lost. So all is
 held back until the first reply whose request is in it: an ordinary one, with the request's xid; or one to a ping, where
 it isn't the first to a ping, and one ping alone was sent since that. From this request on every request is kept, since
-all that the server says behind it is there; what the client said before it is left out, and so is every reply without
+all that the server says after it is there; what the client said before it is left out, and so is every reply without
 its request. Events are kept in any case.
 
-A stretch ends where bytes of the client are lost, but the replies to what it had asked before come behind that, and
-are still taken. Where bytes of the server are lost, no more replies are taken to what is kept already; what is held
-back goes on to wait for its first reply. What is held back when the connection ends is kept: no reply to it was
-captured.
+A stretch ends where bytes of the client are lost, but the replies to what it had asked before come after that, and are
+still taken. Where bytes of the server are lost, no more replies are taken to what is kept already; what is held back
+still waits for its first reply. What is held back when the connection ends is kept: no reply to it was captured.
 """
 
 import collections
@@ -37,12 +36,12 @@ class Message(NamedTuple):
 
 
 class Stretch:
-    """Gives `put(stretch, message)` what is kept. `whole` says that it begins with the connection.
+    """Calls `put(stretch, message)` with what is kept. `whole` says that it begins with the connection.
 
     `waiting` has the xids of the requests that wait for their replies, the oldest first: those of pings, auth and
-    setWatches by themselves. `lost` and `skipped` count the bytes of each side that were not captured before it, and
-    those that were and are left out; `unasked` the replies that are left out, whose bytes are not among those. `holes`
-    are the sides of which bytes are missing behind it.
+    setWatches by themselves. `lost` counts the bytes of each side that were not captured before it, `skipped` those
+    that were and are left out, and `unasked` the replies that are left out, whose bytes `skipped` doesn't count.
+    `holes` are the sides of which bytes are missing after it.
     """
 
     def __init__(self, put, number, milliseconds, whole):
@@ -63,7 +62,7 @@ class Stretch:
             lane.popleft()
 
     def passes(self, side, xid):
-        """Whether a frame with this xid is kept for sure, and then notes it."""
+        """Whether a frame with this xid is certainly kept; it is then noted."""
         if not self.anchored:
             return False
         lane = self.waiting.get(xid, self.ordinary)
@@ -98,8 +97,8 @@ class Stretch:
             self.bound()
 
     def answer(self, reply, last):
-        """Takes a reply, where its request is here. Where no loss is behind this stretch, `last`, it also takes one
-        that is none to what waits, once it took one: that is a fault, which the recording is to show."""
+        """Takes a reply, where its request is here. Where no loss follows this stretch, `last`, and it has a reply, it
+        also takes an ordinary one without a request: that is a fault, which the recording is to show."""
         xid = reply.payload[:4]
         lane = self.waiting.get(xid, self.ordinary)
         if not self.anchored:
@@ -153,7 +152,7 @@ class Stretch:
             del self.asked[message.payload[:4]]
 
     def bound(self):
-        """Holds no more back than a bound."""
+        """Holds at most MOST_BACK messages back."""
         if len(self.back) > MOST_BACK:
             oldest = self.back.popleft()
             if oldest.side == zkr.SERVER:
@@ -162,7 +161,7 @@ class Stretch:
                 self.skip(oldest)
 
     def end(self, over):
-        """Ends it, where a loss is behind it or the connection is `over`."""
+        """Ends it, at a loss or because the connection is `over`."""
         if over:
             for message in self.back:
                 self.put(self, message)
@@ -170,7 +169,7 @@ class Stretch:
             self.release()
 
     def lose(self, holes):
-        """Bytes of each side, so many, are lost before what of it is kept."""
+        """Counts lost bytes, `holes` of each side, before what is kept."""
         for side in SIDES:
             self.lost[side] += holes[side]
 
@@ -181,7 +180,7 @@ class Stretch:
             self.holes.add(zkr.SERVER)
 
     def join(self, before):
-        """Also stands for the one before it, of which nothing is kept."""
+        """Takes over the beginning and the counts of the stretch before, of which nothing is kept."""
         self.first, self.began = before.first, before.began
         self.lose(before.lost)
         for side in SIDES:

@@ -1,4 +1,4 @@
-"""The tables that zkstat writes for a person. All of it is told in characters that no terminal obeys."""
+"""The tables that zkstat writes for a person, without control characters."""
 
 import json
 import re
@@ -22,8 +22,8 @@ def cells(counts):
 
 
 def aligned(rows, left):
-    """The lines of a table, whose cells in the columns `left` stand at the left; the last column is not padded. A row
-    that is a text stands as it is."""
+    """The lines of a table. The cells in the columns `left` are aligned to the left; the last column is not padded. A
+    row that is a text is a line as it is."""
     widths = [max(map(len, column)) for column in zip(*(row for row in rows if not isinstance(row, str)))]
     for row in rows:
         if isinstance(row, str):

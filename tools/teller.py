@@ -1,4 +1,4 @@
-"""Lines that a proxy tells, written so that no connection ever waits for whoever reads them."""
+"""Lines that a proxy prints, written so that no connection ever waits for their reader."""
 
 import os
 import select
@@ -18,8 +18,9 @@ def open_closed_streams():
 
 
 class Teller(threading.Thread):
-    """Writes lines to the file of this number, each behind `head`, in a thread of its own. It holds MOST_HELD bytes that
-    nobody reads; what comes behind them is lost, and so is what can't be written, for which `failed(error)` is called."""
+    """Writes lines to the file of this number, each after `head`, in a thread of its own. It holds MOST_HELD bytes that
+    nobody reads; what comes after them is lost, and so is what can't be written, for which `failed(error)` is
+    called."""
 
     def __init__(self, number, head="", failed=lambda error: None):
         super().__init__(daemon=True)
@@ -29,7 +30,7 @@ class Teller(threading.Thread):
         self.start()
 
     def tell(self, text):
-        """Tells a line, and gives whether it was taken."""
+        """Writes a line, and returns whether it was taken."""
         line = f"{self.head}{text}\n".encode(errors="backslashreplace")
         with self.change:
             if self.is_full():
@@ -40,7 +41,7 @@ class Teller(threading.Thread):
         return True
 
     def tell_once(self, text, seconds=60):
-        """Tells a trouble that may come thousands of times: once in as many seconds."""
+        """Reports a trouble that may come thousands of times: once in `seconds`."""
         now = time.monotonic()
         if now - self.told.get(text, -seconds) >= seconds:
             self.told[text] = now

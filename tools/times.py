@@ -18,8 +18,8 @@ class Beginning:
         self.got, self.size, self.first = 0, None, b""
 
     def take(self, data, at):
-        """Takes bytes from there on, to the frame's end at most, and gives the place behind them. Where no frame has
-        its length, it has no end."""
+        """Takes bytes from place `at` on, to the frame's end at most, and returns the place after them. A frame whose
+        length no frame has doesn't end."""
         if self.got < 4:
             part = data[at:at + 4 - self.got]
             self.first += part
@@ -43,8 +43,8 @@ class Times:
     """The frames of a recording, each with its time, which is that of its last byte.
 
     `frames` gives of each frame, in the order of their last bytes, its side, its xid and its time, or None. `times` are
-    those of the recording's pieces, one each; where it is None, those that the pieces have. There 0 is no time.
-    Whatever the listing has that the recording has not, or the other way round, is a NoListing.
+    those of the recording's pieces, one each; where it is None, those that the pieces have. There 0 is no time. Any
+    difference between the listing and the recording is a NoListing.
     """
 
     def __init__(self, pieces, times):
@@ -76,14 +76,14 @@ class Times:
             self.damage = damage
 
     def refuse(self, n, side, lines):
-        """Says why message n of the listing, behind which there are these lines, isn't the recording's next."""
+        """Raises why message `n` of the listing, which these lines follow, isn't the recording's next."""
         if side:
             raise listing.NoListing(f"line {n}: the recording has another message there")
         messages = n + sum(not line.startswith(".") for line in lines)
         raise listing.NoListing(f"the listing has {messages} messages, and the recording {n - 1}")
 
     def compare(self, ending):
-        """Looks whether the recording ends as the listing does. A listing without an ending line may be a front."""
+        """Checks that the recording ends as the listing does. A listing without an ending line may be a front."""
         if not ending:
             return
         read, more = sum(self.count.values()), sum(1 for _ in self.frames)
@@ -109,8 +109,8 @@ class Times:
 
 
 def times_of(parser, path, beside, needed):
-    """The times of the messages of the recording at this path, which stand in the file `beside`, where that is named;
-    else in the recording, or in the usual file. None where there are none, unless they are `needed`."""
+    """The times of the messages of the recording at this path: in the file `beside`, where that is named; else in the
+    recording, or in the usual file. None where there are none, unless they are `needed`."""
     pieces = zkr.Reader(open(path, "rb"))
     if pieces.head.form == "zkr2" and not beside:
         return Times(pieces, None)

@@ -30,7 +30,7 @@ PART = re.compile(r"([{;])([A-Za-z]+)", re.ASCII)
 
 
 def form_of(line, made):
-    """The form of what stands behind the operation; a KeyError where there is none."""
+    """The form of what follows the operation; a KeyError where there is none."""
     if made.side == "C":
         return forms.REQUESTS[made.op]
     if made.error and made.op != listing.EVENT and FAILS.match(line, made.end):
@@ -87,7 +87,7 @@ def fields(line, made, asked):
 
 
 def parts(line, at, made, asked):
-    """The parts of a multi, or their results, as pieces of JSON; gives the place behind them. A failed part has the
+    """The parts of a multi, or their results, as pieces of JSON; returns the place after them. A failed part has the
     path that its request's part has."""
     if not line.startswith(" {", at):
         raise forms.NoField(at)

@@ -4,15 +4,15 @@
     zkplay.py [OPTIONS] [HOST:]PORT RECORDING
     zkplay.py --client [OPTIONS] HOST:PORT RECORDING
 
-It listens on PORT (0 is any free one; the first line of standard output tells it), takes a connection, and goes through
-the recording: the client has to send just the recorded bytes, and each piece of the server is sent once the client's
+It listens on PORT (0 is any free one; the first line of standard output names it), accepts a connection, and plays the
+recording: the client has to send exactly the recorded bytes, and each piece of the server is sent once the client's
 pieces before it have come. The first other byte, silence or an end where a byte is due is refused with one line, and
 the status is 1. Session and password are the recorded ones. Pings of the client that were not recorded are answered,
 and recorded ones may be missing. After the last piece it waits for the client's end. With --client it plays the client
 to a server: two of them are the two ends of a bench for proxies.
 
-A listing may stand in place of a recording: `zkdump build` makes a recording of it. With --then RECORDING this one is
-played to the next connection; with --connections N they are played to N connections, again from the first one on.
+A listing may be given in place of a recording: `zkdump build` makes a recording of it. With --then RECORDING this one
+is played to the next connection; with --connections N they are played to N connections, again from the first one on.
 
 Faults, on each connection and the side that is played, whose FRAMEs are counted from 0: PLACE is a byte of the frame's
 payload, as in zkdump's ending lines, and a FRAME alone is the place before its length.
@@ -37,7 +37,7 @@ MOST_CONNECTIONS = range(1, 10_001)
 
 
 def clients(listeners, count):
-    """So many connections of clients, one after the other; then nobody listens any more."""
+    """`count` connections of clients, one after the other; then the listeners are closed."""
     for _ in range(count):
         ready, _, _ = select.select(listeners, [], [])
         yield ready[0].accept()[0]
@@ -46,7 +46,7 @@ def clients(listeners, count):
 
 
 def opener(parser, path, words):
-    """What opens the recording at this path, or the one that is made of a listing there."""
+    """A function that opens the recording at this path, or the one that is made of a listing there."""
     with open(path, "rb", buffering=0) as file:
         is_listing = file.read(2) in (b"C ", b"S ")
         file.seek(0)
@@ -62,7 +62,7 @@ def opener(parser, path, words):
 
 
 class Bench:
-    """Connections that are played side by side, and the status that they come to."""
+    """Connections that are played side by side, and the exit status of all."""
 
     def __init__(self, openers, words):
         self.openers, self.words, self.status, self.telling = openers, words, 0, threading.Lock()
@@ -80,7 +80,7 @@ class Bench:
         return self.status
 
     def play(self, number, connection):
-        """Plays to one connection, and tells how that went."""
+        """Plays to one connection, and prints the result."""
         head = f"#{number + 1} " if self.words.connections > 1 else ""
         try:
             with connection:
@@ -93,7 +93,7 @@ class Bench:
             self.tell(sys.stderr, f"zkplay.py: {head}{error}")
 
     def tell(self, stream, line):
-        """Tells a line, where the stream is open."""
+        """Prints a line, where the stream is open."""
         with self.telling:
             if stream:
                 print(line, file=stream, flush=True)

@@ -5,7 +5,7 @@ number of bytes, and the bytes (docs/FORMATS.md, section 12). One of the second 
 ints: the greatest payload of the client's frames and of the server's, how many requests may wait, and the profile
 (34 or 35). Its pieces have eight bytes between the side and the number of bytes: milliseconds since 1970.
 
-The times of a recording's pieces may also stand in a file beside it, RECORDING.times: a line for each piece, its
+The times of a recording's pieces may also be in a file beside it, RECORDING.times: a line for each piece, its
 milliseconds since 1970 in decimal, with a fraction. All times in this module are such numbers of milliseconds.
 """
 
@@ -26,7 +26,7 @@ LIMITS, USUAL_LIMIT = range(64, 16_777_217), 4_194_304
 WAITINGS, USUAL_WAITING = range(1, 1_048_577), 65_536
 PROFILES = {"3.4": 34, "3.5": 35}
 RELEASES = {number: release for release, number in PROFILES.items()}
-# What stands before a piece's bytes: the side, the time in a ZKR2 recording, and the number of bytes.
+# The head of a piece, before its bytes: the side, the time in a ZKR2 recording, and the number of bytes.
 PIECE_HEADS = {"zkr1": struct.Struct(">ci"), "zkr2": struct.Struct(">cqi")}
 
 
@@ -39,7 +39,8 @@ class Damaged(ValueError):
 
 
 class Head(NamedTuple):
-    """What stands before the pieces. The numbers are those of a ZKR2 head; a ZKR1 head has none, so they are usual."""
+    """The head, before the pieces. The numbers are those of a ZKR2 head; a ZKR1 head has none, so they are the
+    defaults."""
     form: str = "zkr1"
     client_limit: int = USUAL_LIMIT
     server_limit: int = USUAL_LIMIT
@@ -71,8 +72,8 @@ class Piece(NamedTuple):
 class Reader:
     """Reads a recording from a stream of bytes. `head` is its head; iterating gives its pieces one by one.
 
-    Where the recording is damaged, Damaged is raised once everything before is given, the bytes of a piece that is
-    cut short included.
+    Where the recording is damaged, Damaged is raised after everything before it, the bytes of a piece that is cut short
+    included.
     """
 
     def __init__(self, stream):
@@ -128,7 +129,7 @@ class Reader:
         return pieces
 
     def damage(self, begin):
-        """The damage of what stands before a piece's bytes, as far as it is there."""
+        """The damage of a piece's head, as far as the head is there."""
         if begin[:1] not in (CLIENT, SERVER):
             return Damaged(self.offset, "BadSide")
         at = 1
@@ -145,7 +146,7 @@ def times_path(path):
 
 
 def read_times(path):
-    """The times in a file of times, one for each piece of its recording, as they stand there."""
+    """The times in a file of times, one for each piece of its recording, as the file spells them."""
     with open(path, encoding="ascii", errors="replace") as lines:
         for number, line in enumerate(iter(lambda: lines.readline(LONGEST_TIME), ""), 1):
             if not TIME.fullmatch(line):
@@ -154,8 +155,8 @@ def read_times(path):
 
 
 def times_beside(path, beside=None):
-    """The times of the pieces of the recording at this path, which stand in the file `beside`, usually the one beside
-    it. A ValueError where that has another number of times than the recording has pieces."""
+    """The times of the pieces of the recording at this path, in the file `beside`, by default the one beside it. A
+    ValueError where that has another number of times than the recording has pieces."""
     beside = beside or times_path(path)
     times = sum(1 for _ in read_times(beside))
     with open(path, "rb") as recording:
@@ -226,7 +227,7 @@ class NewFile:
         self.file = open(path, "xb", buffering=0, opener=lambda name, flags: os.open(name, flags, 0o600))
 
     def flush(self):
-        """Writes what waits: all of it, or after an OSError none of it, as far as the system takes it back."""
+        """Writes what waits: all of it, or after an OSError none of it, if the file can be truncated."""
         data, self.waiting = memoryview(self.waiting), bytearray()
         at = 0
         try:
@@ -239,7 +240,7 @@ class NewFile:
 
 
 class Writer:
-    """A new recording, with a file of times where `times` is true. What `piece` is given is in the file once it
+    """A new recording, with a file of times where `times` is true. The bytes given to `piece` are in the file once it
     returns; `gather` says how many bytes may be gathered first. An OSError leaves whole pieces in the file."""
 
     def __init__(self, path, head, times, gather=0):
@@ -256,7 +257,7 @@ class Writer:
             raise
 
     def piece(self, side, milliseconds, data):
-        """Writes bytes of a side, of any number, as pieces. Their time is to a microsecond the same in both files."""
+        """Writes any number of bytes of a side as pieces. Their time is the same in both files, to a microsecond."""
         milliseconds = round(milliseconds, 3)
         for at in range(0, len(data), LARGEST_PIECE):
             self.recording.waiting += self.head.piece(side, milliseconds, data[at:at + LARGEST_PIECE])
@@ -280,7 +281,7 @@ class Writer:
                 self.times.file.close()
 
     def remove(self):
-        """Does without the recording and its times, as if they had never been there."""
+        """Removes the recording and its times."""
         for new in (self.recording, self.times):
             if new:
                 new.file.close()
@@ -303,7 +304,7 @@ class Series:
 
 
 def clock(milliseconds):
-    """A time as it is told: date and time of day in UTC; behind the year 9999 its milliseconds since 1970."""
+    """A time as it is printed: date and time of day in UTC; after the year 9999 its milliseconds since 1970."""
     whole, part = divmod(int(milliseconds), 1000)
     try:
         moment = datetime.datetime(1970, 1, 1) + datetime.timedelta(seconds=whole)
@@ -313,7 +314,7 @@ def clock(milliseconds):
 
 
 class Words(argparse.ArgumentParser):
-    """The words of a command: what is wrong with them is told in one line, with status 2."""
+    """The arguments of a command: what is wrong with them is reported in one line, with status 2."""
 
     def __init__(self, description):
         super().__init__(description=description, allow_abbrev=False,
@@ -342,7 +343,7 @@ class Words(argparse.ArgumentParser):
         self.add_argument("--profile", choices=PROFILES, help="the release whose operations are spoken (3.4)")
 
     def head_of(self, words):
-        """The head that these words ask for."""
+        """The head that these arguments choose."""
         asked = {"--limit": words.limit, "--waiting": words.waiting, "--profile": words.profile}
         if words.format == "zkr1":
             for option, value in asked.items():

@@ -9,7 +9,8 @@ has any number of connections. Captures have times; recordings have them within 
 -o writes one page that needs no other file and no network: the sessions in time, the latency of requests, and tables,
 each row of which leads to the messages around it. --text writes the tables to standard output. --trace writes the
 requests as trace events, which Perfetto (ui.perfetto.dev) and Chrome open. --against compares the run with another one,
-without xids, zxids, sessions and times, and is given for each file of that; the status is 1 where they differ.
+without xids, zxids, sessions and times; it is given once for each file of the other run. The status is 1 where the runs
+differ.
 
 The page has no passwords of sessions and no credentials, but it has data of nodes: its owner alone may read it.
 """
@@ -29,7 +30,7 @@ NAMED = 6       # the files that a page's title names
 
 
 class Reader:
-    """Reads runs: whatever the words choose of files."""
+    """Reads runs: what the arguments choose of files."""
 
     def __init__(self, parser, words, folder):
         self.port, self.folder, self.chosen = words.port, folder, selection.Selection(words)
@@ -58,7 +59,7 @@ class Reader:
 
 @contextlib.contextmanager
 def new_file(path):
-    """A new file to write to, or None where there is no path. It is gone again where its writing fails."""
+    """A new file to write to, or None where there is no path. It is removed where writing it fails."""
     if path is None:
         yield None
         return

@@ -4,11 +4,11 @@
     zkskip.py [--profile 3.4|3.5] REC.zkr PLAIN.zkr
     zkskip.py [--profile 3.4|3.5] < REC.zkr > PLAIN.zkr
 
-Left out are operations of later releases and of SASL, a check outside a multi, multis with parts of later releases,
-and auth under another xid than -4, which some Go clients send. Each has a line on standard error. Numbers that
-no release has stay, and so does everything else. The new recording has the format of the old one, and one frame a
-piece, in the order of their last bytes; from where a side has no frames any more, its bytes stay as they are. Where
-REC.zkr.times is there, PLAIN.zkr.times is written, too. Neither may be there already.
+Left out are operations of later releases and of SASL, a check outside a multi, multis with parts of later releases, and
+auth under another xid than -4, which some Go clients send. Each has a line on standard error. Operations that no
+release has stay, and so does everything else. The new recording has the format of the old one, and one frame a piece,
+in the order of their last bytes; from where a side can no longer be cut into frames, its bytes stay as they are. Where
+REC.zkr.times is there, PLAIN.zkr.times is written, too. Neither file may be there already.
 """
 
 import collections
@@ -68,7 +68,7 @@ def lacking(payload, operations):
 
 
 class Skipping:
-    """Says of each frame whether it stays. A reply answers the oldest request of its xid."""
+    """Decides of each frame whether it stays. A reply answers the oldest request of its xid."""
 
     def __init__(self, operations):
         self.operations = operations
@@ -104,7 +104,7 @@ def tell(frame, xid, lacks):
 
 
 class StandardOutput:
-    """A recording on standard output, with what zkr.Writer has of one in a file."""
+    """A recording on standard output, with the methods of zkr.Writer."""
 
     def __init__(self, head):
         self.head, self.file = head, sys.stdout.buffer

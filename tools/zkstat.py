@@ -54,7 +54,7 @@ class Counts:
 
 
 class Slow:
-    """A request and its reply, as far as it is told of the slowest."""
+    """A request and its reply, with the fields that are reported of the slowest."""
 
     def __init__(self, asked, made, zxid):
         self.told = {"time": time(asked.moment), "ms": made.microseconds / 1000,
@@ -63,7 +63,7 @@ class Slow:
 
 
 def cut(path):
-    """A path as the line has it, as far as it is told."""
+    """A path as the line has it, cut to LONGEST_PATH characters."""
     return path if path is None or len(path) <= LONGEST_PATH else path[:LONGEST_PATH] + '".. and more'
 
 
@@ -121,8 +121,8 @@ class Statistics:
                 "slowest": [slow.told for *_, slow in sorted(self.slowest, reverse=True)]}
 
     def rows(self):
-        """What is told of each connection, those of one session together; of a later one how long after the end of the
-        one before it began, in seconds."""
+        """The row of each connection, those of one session together; of a later one `gap` is the seconds from the end
+        of the one before to its beginning."""
         sessions = collections.defaultdict(list)
         for each in self.connections:
             sessions[each.session or each].append(each)
@@ -149,7 +149,7 @@ def time(moment):
 
 
 def request(made):
-    """What is told of a request that was never answered."""
+    """The row of a request that was never answered."""
     told = {"connection": made.connection.name, "n": made.n, "xid": made.xid and int(made.xid), "op": made.op,
             "path": made.path}
     return {name: value for name, value in told.items() if value is not None}

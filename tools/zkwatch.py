@@ -5,11 +5,12 @@
 
 It listens on PORT (0 is any free one; the first line of standard output has it) and passes every connection on to the
 server. Each has a `zkdump show` of its own, which gets every piece before it is passed on; so a request is read before
-its reply can come. The lines of all are printed with the time and the connection's number. Once a conversation is refused,
-or is no longer read for another reason, a line says so, and its bytes still go on. Ctrl-C, or SIGTERM, ends it.
+its reply can come. The lines of all are printed with the time and the connection's number. Once a conversation is
+refused, or is no longer read for another reason, a line says so, and its bytes are still passed on. Ctrl-C, or SIGTERM,
+ends it.
 
-No connection waits for `show`, or for who reads the lines: a connection of which MOST_WAITING bytes wait to be read is
-no longer watched. As an example for authors of proxies: `show` writes a message's line as soon as its last byte is
+No connection waits for `show`, or for the reader of the lines: a connection of which MOST_WAITING bytes wait to be read
+is no longer watched. As an example for authors of proxies: `show` writes a message's line as soon as its last byte is
 there, before it reads on, and it waits where the reader of its lines waits.
 """
 
@@ -32,7 +33,7 @@ HEAD = zkr.Head()
 
 
 class Show:
-    """A connection's `show`: what waits to be written to it, and what of a line it has told."""
+    """A connection's `show`: what waits to be written to it, and the beginning of a line that it has written."""
 
     def __init__(self, watch, number):
         self.watch, self.number, self.waiting, self.line = watch, number, bytearray(HEAD.to_bytes()), bytearray()
@@ -50,7 +51,7 @@ class Show:
         self.write()
 
     def piece(self, side, data):
-        """Gives `show` a piece, as far as it takes it."""
+        """Writes a piece to `show`, as far as it is taken; the rest waits."""
         if self.process and not self.unread:
             self.waiting += HEAD.piece(side, 0, data)
             if len(self.waiting) > MOST_WAITING:
@@ -59,7 +60,7 @@ class Show:
             self.write()
 
     def over(self):
-        """Ends with the connection: once all is read, and all lines are told."""
+        """Ends with the connection: once all is read, and all lines are printed."""
         self.is_over = True
         if self.process:
             self.write()
@@ -79,7 +80,7 @@ class Show:
             self.read()
 
     def write(self):
-        """Writes what waits, as far as it is taken, and ends behind it where the connection is over."""
+        """Writes what waits, as far as it is taken, and closes the pipe after it where the connection is over."""
         stdin = self.process.stdin
         if stdin.closed:
             return
@@ -95,7 +96,7 @@ class Show:
             stdin.close()
 
     def read(self):
-        """Tells the lines that are there; it waits where they can't be told."""
+        """Prints the lines that are there; it waits where they can't be printed."""
         stdout = self.process.stdout
         if self.watch.lines.is_full():
             self.watch.wait_for(stdout, 0)
@@ -122,7 +123,7 @@ class Show:
             self.watch.wait_for(self.process.stdout, READ, self)
 
     def reap(self):
-        """Waits for the end of the process, which has told all."""
+        """Waits for the end of the process, which has written all its lines."""
         status = self.process.poll()
         if status is None:
             self.watch.after(0.01, self.reap)
@@ -136,7 +137,7 @@ class Show:
             self.watch.seen(self)
 
     def tell_unread(self):
-        """Tells that the connection is no longer read."""
+        """Reports that the connection is no longer read."""
         self.waiting.clear()
         reason = f"{self.unread}: " if self.unread else ""
         self.watch.say_of(self.number, f"{reason}what follows is passed on, and not read")
@@ -176,7 +177,7 @@ class Watch(proxy.Proxy):
         return bool(self.shows)
 
     def seen(self, show):
-        """Called once a connection is over, and all that it said is told."""
+        """Called once a connection is over, and all its lines are printed."""
         self.shows.discard(show)
         self.over |= self.once
 

@@ -2,7 +2,7 @@
 
 The connections of both are compared in pairs, in their order. Of each pair the requests are compared in their order,
 each with its reply, however many others were under way; and the events of watches, in theirs. Pings are left out, since
-they tell of time alone.
+they depend on time alone.
 """
 
 import collections
@@ -22,7 +22,7 @@ SHOWN = 160
 
 
 class Exchange:
-    """A request and its reply as they are compared, with the numbers of their messages."""
+    """A request and its reply, as they are compared, with the numbers of their messages."""
 
     __slots__ = ("request", "n", "reply", "answer")
 

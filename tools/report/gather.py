@@ -213,7 +213,7 @@ class Reading:
             entry[3:] = self.connection.number, made.n
 
     def set_again(self, path, made):
-        """Counts a watch that a client sets again behind a reconnection."""
+        """Counts a watch that a client sets again after a reconnection."""
         entry = self.watch(path, made)
         entry[0] += 1
         entry[1] += 1

@@ -1,4 +1,4 @@
-// The picture of the requests: latency against time. Where the page has not every request, a shade tells how many there
+// The picture of the requests: latency against time. Where the page has not every request, a shade shows how many there
 // were; the slowest, the failed and the unanswered ones are marks in any case.
 
 const TALL = 260, BAND = 22, FOOT = 40;

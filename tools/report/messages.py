@@ -72,7 +72,7 @@ class Shortening:
 
 
 def is_cut(value):
-    """Whether a list ends with an object that tells how much more there was."""
+    """Whether a list ends with an object that says how much more there was."""
     return bool(value) and isinstance(value[-1], dict) and "more" in value[-1]
 
 
@@ -107,7 +107,7 @@ class Window:
             self.before.append((line, made, asked))
 
     def is_over(self, n):
-        """Whether nothing more is wanted behind message n."""
+        """Whether no message after message n is needed."""
         return not self.everything and not self.linked and n > max(self.last, self.until)
 
 
@@ -147,7 +147,7 @@ class Windows:
         return self.shortening.value(None, made, SHOWN[0])
 
     def to_json(self):
-        """By connection, its messages: as much of each value as all of them have room for."""
+        """By connection, its messages: each value is cut to what all of them have room for."""
         found = {number: window.found for number, window in self.windows.items() if window.found}
         for shown in SHOWN:
             text = json.dumps({number: [self.shortening.value(None, each, shown) for each in found]

@@ -54,7 +54,7 @@ function visible(text) {
   return text.replace(/[\p{C}\p{Zl}\p{Zp}]/gu, each => `\\u{${each.codePointAt(0).toString(16)}}`);
 }
 
-// A path, or another text that may have been cut, with its length told behind it.
+// A path, or another text that may have been cut, with its length after it.
 function shownText(value) {
   if (value === null || value === undefined) return "null";
   if (typeof value === "string") return visible(value);
@@ -161,7 +161,7 @@ function rowsOf(name, indices) {
   return filter.op === "" ? rows : rows.filter(row => row[0] === filter.op);
 }
 
-// What is said where the page has not every request, so that some tables can't follow the filters.
+// The note of tables that can't follow the filters, since the page has not every request.
 function shortcoming() {
   if (data.complete || !isFiltered()) return "";
   const others = filter.path || filter.outcome || filter.slower !== null || filter.from !== null || filter.to !== null;

@@ -116,7 +116,7 @@ def session_of(session):
 
 
 def density_of(found):
-    """The cells of the density by connection: bucket, bin and count, one behind another. Buckets count from `first`.
+    """The cells of the density by connection: bucket, bin and count, in one list. Buckets count from `first`.
     `troubles` has in the same way bucket, 1 for failed or 2 for unanswered, and count."""
     density = found.run.density
     return {"bins": kept.BINS, "binsOfTen": kept.BINS_OF_TEN, "leastExponent": kept.LEAST_EXPONENT,

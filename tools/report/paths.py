@@ -8,7 +8,8 @@ LONGEST, FRONT = 300, 100       # characters of a path's spelling in a line, and
 
 
 class Cut(NamedTuple):
-    """The front of a long path, its length in bytes, and a number that tells it from others of that front."""
+    """The front of a long path, its length in bytes, and a number that differs from those of other paths of that
+    front."""
     front: str
     size: int
     key: int
@@ -34,5 +35,5 @@ def length_of(spelled):
 
 
 def shown(path):
-    """A path as a line spells it; a long one with its length behind it."""
+    """A path as a line spells it; a long one with its length after it."""
     return f"{listing.spelled(path.front)}.. {path.size} bytes" if isinstance(path, Cut) else listing.spelled(path)

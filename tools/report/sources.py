@@ -47,7 +47,8 @@ class Opener:
 
     @contextlib.contextmanager
     def conversation(self, source):
-        """The messages of a source: a Listing, or a Joined. What is wrong with them is told with the file's name."""
+        """The messages of a source: a Listing, or a Joined. What is wrong with them is reported with the file's
+        name."""
         if source.path is None:
             yield Nothing(source.name, (), self.progress)
             return

@@ -72,8 +72,8 @@ class Session:
         self.connections = sorted(connections, key=lambda each: (each.span()[0] or 0, each.number))
 
     def gaps(self):
-        """The times at which none of its connections is open: the connection before, the one behind, and how many
-        milliseconds it lasts. Between parts of one connection there is no gap, but a hole of the recording."""
+        """The times at which none of its connections is open: the connection before, the one after, and the length in
+        milliseconds. Between parts of one connection there is no gap, but a hole of the recording."""
         last = None
         for each in self.connections:
             begun, ended = each.span()
@@ -85,7 +85,7 @@ class Session:
                 last = each
 
     def holes(self):
-        """The parts of one connection between which bytes are missing: the one before and the one behind."""
+        """The parts of one connection between which bytes are missing: the one before and the one after."""
         last = {}
         for each in self.connections:
             first = each.first or each

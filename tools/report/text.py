@@ -1,4 +1,4 @@
-"""The tables of a report as text for a terminal: ASCII, and nothing in it that a terminal would obey."""
+"""The tables of a report as text for a terminal: ASCII without control characters."""
 
 import tables
 import zkr
@@ -59,5 +59,5 @@ def cell(kind, value):
 
 
 def printable(text):
-    """A text in characters of ASCII that no terminal obeys."""
+    """A text in ASCII, without control characters."""
     return text if text.isascii() and text.isprintable() else ascii(text)[1:-1]

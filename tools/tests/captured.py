@@ -34,8 +34,8 @@ def capture_of(sent, **more):
 
 
 def disturbed(sent, chance):
-    """These segments as a bad network and a busy machine have them captured: some twice, some again with other cuts,
-    and in another order within eight. The three of the beginning stay where they are."""
+    """These segments as they are captured on a bad network and a busy machine: some twice, some again with other cuts,
+    and each up to eight places out of order. The first three stay where they are."""
     begin, rest, last = sent[:3], [], {}
     for each in sent[3:]:
         rest.append(each)
@@ -61,7 +61,7 @@ def disturbed(sent, chance):
 
 class PcapCase(ToolCase):
     def convert(self, capture, *words):
-        """Converts a capture: the status, the lines told, and the recordings."""
+        """Converts a capture: the status, the lines printed, and the recordings."""
         source = self.folder / "capture"
         source.write_bytes(capture)
         for old in self.folder.glob("r-*"):
@@ -75,8 +75,8 @@ class PcapCase(ToolCase):
         return status, out.getvalue().splitlines(), [path.read_bytes() for path in paths]
 
     def convert_within(self, capture, limit, most):
-        """Converts a capture where a resource of the system has this limit: the status, how many lines are told, the
-        complaint, and the most memory that it took, in MB."""
+        """Converts a capture where a resource of the system has this limit: the status, the number of lines printed,
+        the complaint, and the greatest memory, in MB."""
         source, tool = self.folder / "capture", str(TOOLS / "pcap2zkr.py")
         source.write_bytes(capture)
         done = subprocess.run([sys.executable, "-c", WITHIN.format(limit=limit, most=most, tool=tool), source,
@@ -94,7 +94,7 @@ class PcapCase(ToolCase):
         return made[0]
 
     def assert_causal(self, made, sent):
-        """That nothing stands in the recording before what its sender had acknowledged."""
+        """That nothing comes in the recording before what its sender had acknowledged."""
         least = {zkr.CLIENT: [], zkr.SERVER: []}
         first = {each.side: each.number + 1 for each in sent[:2]}
         for each in sent[3:]:

@@ -47,7 +47,7 @@ runpy.run_path(sys.argv[0], run_name="__main__")
 
 
 class Echo(threading.Thread):
-    """A server that says back what it hears, to any number of clients, and drops one whose answers are not taken."""
+    """A server that echoes to any number of clients, and drops one that doesn't take its answers."""
 
     def __init__(self):
         super().__init__(daemon=True)
@@ -102,7 +102,7 @@ class TroubleCase(ToolCase):
         return self.port()
 
     def run_proxy(self, command, stdout):
-        """Runs this command, and gathers what it tells."""
+        """Runs this command, and gathers what it prints."""
         self.tool = subprocess.Popen(command, stdout=stdout, stderr=subprocess.PIPE, text=True)
         self.out, self.err = [], []
         self.addCleanup(self.tool.wait)
@@ -130,7 +130,7 @@ class TroubleCase(ToolCase):
         self.fail(f"it doesn't listen: {self.err}")
 
     def descriptors(self):
-        """What the tool's descriptors stand for."""
+        """What the tool's descriptors refer to."""
         folder = f"/proc/{self.tool.pid}/fd"
         found = []
         for name in os.listdir(folder):
@@ -162,7 +162,7 @@ class TroubleCase(ToolCase):
         self.assertLess(took[rounds // 2][0], 0.1 + 5 * usual, took)
 
     def lines(self, count, stream=None):
-        """The lines on a stream, which is standard output, once they are so many."""
+        """The lines on a stream, by default standard output, once they are `count`."""
         stream = self.out if stream is None else stream
         until = time.monotonic() + SECONDS
         while len(stream) < count and time.monotonic() < until:
@@ -170,7 +170,7 @@ class TroubleCase(ToolCase):
         return list(stream)
 
     def complaints(self, count=0):
-        """The lines on standard error, but for those that tell where record.py listens, once they are so many."""
+        """The lines on standard error, but for those that say where record.py listens, once they are `count`."""
         until = time.monotonic() + SECONDS
         while True:
             found = [line for line in self.err if "listens on" not in line]

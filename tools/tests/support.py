@@ -20,7 +20,7 @@ import zkr  # noqa: E402  (found by the line above)
 
 
 class ToolCase(unittest.TestCase):
-    """A test with a folder of its own, `folder`, which is gone afterwards. It fails where it takes a minute."""
+    """A test with a temporary folder of its own, `folder`. It fails where it takes a minute."""
 
     def setUp(self):
         signal.signal(signal.SIGALRM, self.took_too_long)
@@ -59,7 +59,8 @@ class ToolCase(unittest.TestCase):
         return status or 0, out.getvalue().decode(), err.getvalue().decode()
 
     def assert_bad_words(self, tool, *words):
-        """That these words are refused with one line on standard error and status 2, and nothing else is said."""
+        """That these arguments are refused with one line on standard error and status 2, and nothing else is
+        printed."""
         status, out, err = self.run_tool(tool, *words)
         self.assertEqual((status, out, err.count("\n")), (2, "", 1), (words, err))
 
@@ -71,7 +72,7 @@ class ToolCase(unittest.TestCase):
 
 
 def receive(end, size):
-    """The next bytes from a socket: so many, unless it ends before."""
+    """The next `size` bytes from a socket, fewer where it ends before."""
     data = b""
     while len(data) < size and (part := end.recv(size - len(data))):
         data += part

@@ -1,4 +1,4 @@
-"""Tests of what no tool may answer with a traceback: closed streams, folders, and bytes that are nothing."""
+"""Tests of inputs that no tool may end on with a traceback: closed streams, folders, and bytes of no format."""
 
 import os
 import subprocess

@@ -10,7 +10,7 @@ CONNECTS = ("C connect version=0 zxid=0 timeout=30000 session=0 passwd=# ro=-\n"
             "S connect version=0 timeout=30000 session=72057594037927937 passwd=# ro=-\n")
 
 
-# Runs a command, and prints its status and the most memory that it took. It is small itself, since what it has counts.
+# Runs a command, and prints its status and its greatest memory. It is small itself, since its own memory counts.
 MEASURE = """import os, sys
 child = os.fork()
 if not child:
@@ -22,7 +22,7 @@ print(status, used.ru_maxrss * 1024, file=sys.stderr)
 
 class Memory(ToolCase):
     def most_of(self, tool, path):
-        """The most memory that a tool took over this listing, in bytes, and the number of bytes that it wrote."""
+        """The greatest memory of a tool over this listing, in bytes, and the number of bytes that it wrote."""
         with open(self.folder / "out", "wb") as out:
             done = subprocess.run([sys.executable, "-S", "-c", MEASURE, sys.executable, TOOLS / tool, path], stdout=out,
                                   stderr=subprocess.PIPE, check=False)
@@ -31,7 +31,7 @@ class Memory(ToolCase):
         return most, (self.folder / "out").stat().st_size
 
     def listing(self, *parts):
-        """A listing of these parts, each written so many times."""
+        """A listing of these parts, each a text and how often it is repeated."""
         path = self.folder / "listing"
         with open(path, "w", encoding="ascii") as out:
             out.write(CONNECTS)

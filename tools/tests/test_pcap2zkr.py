@@ -81,7 +81,7 @@ class Forms(PcapCase):
 
     def test_blocks_of_pcapng_with_impossible_lengths(self):
         whole = bytearray(wire.pcapng(packed(wire.conversation(pieces(SMALL[0].read_bytes())))))
-        second = struct.unpack("<I", whole[4:8])[0]  # where the block behind the first begins
+        second = struct.unpack("<I", whole[4:8])[0]  # where the block after the first begins
         for place in (4, second + 4):
             for size in (0, 10, 11, 15, 40, 1 << 27, (1 << 32) - 1):
                 with self.subTest(place=place, size=size):
@@ -198,7 +198,7 @@ class Missing(PcapCase):
                     self.assertTrue(all(each.startswith(part) for each, part in zip(whole, left)))
                     before = sum(len(each.data) for each in sent[:gone] if each.side == side)
                     self.assertEqual(len(left[0 if side == zkr.CLIENT else 1]), before)
-                    # Replies to what the client had said before come behind what it lost.
+                    # Replies to what the client had said before the loss come after it.
                     known = [each for each in sent if each.side == side or side == zkr.SERVER]
                     self.assert_causal(made[0], [*sent[:3], *[each for each in known if each not in sent[:3]]])
                     self.assertGreater(size, 0)

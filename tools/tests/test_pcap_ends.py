@@ -1,4 +1,4 @@
-"""Tests of how pcap2zkr.py tells the ends of connections, and lets them go."""
+"""Tests of how pcap2zkr.py reports the ends of connections, and forgets them."""
 
 import random
 import unittest.mock
@@ -18,7 +18,7 @@ def opened(said=(ASK, REPLY), **more):
 
 
 def then(sent, *segments):
-    """These segments, and behind them others of no bytes: each a side and its flags."""
+    """These segments, and after them others of no bytes: each a side and its flags."""
     found = list(sent)
     for side, flags in segments:
         last = {each.side: each for each in found}
@@ -30,7 +30,7 @@ def then(sent, *segments):
 
 class Ends(PcapCase):
     def told_of(self, sent):
-        """The words that tell the end, and the milliseconds since the capture began."""
+        """The words that say how it ended, and the milliseconds since the capture began."""
         status, told, _ = self.convert(capture_of(sent))
         words = told[0].split()
         self.assertEqual((status, len(told), words[4], words[6]), (0, 1, "begun", "ended"), told)
@@ -71,7 +71,7 @@ class Ends(PcapCase):
                 self.assertEqual(sides(made[0]), (b"askask", b"reply"))
 
     def test_what_the_other_side_said_before_a_reset_is_kept(self):
-        """Also where it was captured behind the reset, as was what the side itself had said."""
+        """Also where it was captured after the reset, as was what the side itself had said."""
         for side, late in ((zkr.SERVER, ASK), (zkr.CLIENT, ASK), (zkr.SERVER, REPLY), (zkr.CLIENT, REPLY)):
             with self.subTest(side=side, late=late):
                 sent = opened([ASK, REPLY, late])
@@ -163,7 +163,7 @@ class Many(PcapCase):
         self.assertEqual((status, told), (1, []))
 
     def test_what_waits_has_one_bound_for_all(self):
-        """Twenty connections, each of which lacks its first bytes and has 6,000 behind them."""
+        """Twenty connections, each of which lacks its first bytes and has 6,000 after them."""
         packets, most = [], []
         for at in range(20):
             sent = opened([zkr.Piece(zkr.CLIENT, None, bytes(6_600))], most=600)

@@ -95,7 +95,7 @@ class Late(JoinedCase):
         self.assertEqual(pieces(made[0])[2:], [EVENT, asks[3], replies[3], asks[4], replies[4]])
 
     def test_frames_that_are_cut_are_put_together(self):
-        """The first reply begins in one segment and ends in the next, with another behind it."""
+        """The first reply begins in one segment and ends in the next, with another after it."""
         asks, replies = [ask(xid) for xid in range(1, 5)], [reply(xid) for xid in range(1, 5)]
         cut = [replies[0]._replace(data=replies[0].data[:7]),
                replies[1]._replace(data=replies[0].data[7:] + replies[1].data)]
@@ -110,8 +110,8 @@ class Behind(JoinedCase):
     """What follows a loss."""
 
     def parts(self, said, *gone):
-        """The lines without their paths, and what is in the recordings, where the segments of these pieces of what is
-        said are gone."""
+        """The lines without their paths, and what is in the recordings, where the segments of these pieces were not
+        captured."""
         sent = list(wire.conversation([*CONNECT, *said]))
         keep = [each for at, each in enumerate(sent) if at - 5 not in gone]
         status, told, made = self.convert(capture_of(keep))
@@ -142,15 +142,15 @@ class Behind(JoinedCase):
         self.assert_parts(made, said[:2], said[4:])
 
     def test_replies_to_what_was_asked_before_a_lost_request(self):
-        """They come behind it, and belong to the recording before it."""
+        """They come after it, and belong to the recording before it."""
         said = [*map(ask, range(1, 7)), reply(1), EVENT, *map(reply, range(2, 7))]
         _, ends, made = self.parts(said, 2)
         self.assert_parts(made, [*said[:2], reply(1), EVENT, reply(2)], [*said[3:6], *map(reply, range(4, 7))])
         self.assertRegex(ends[1], r" lost=C:19,S:0 skipped=C:0,S:0 unasked=1$")
 
     def test_lost_replies_of_many_requests_under_way(self):
-        """Those that were asked for before the loss can't stand behind it, since their requests are in the recording
-        before; those that were asked for behind a lost request can."""
+        """Replies to requests from before the loss can't be in the recording after it, since their requests are in the
+        one before; replies to requests after a lost request can."""
         said = [*map(ask, range(1, 9)), *map(reply, range(1, 9))]
         _, _, made = self.parts(said, 10)
         self.assert_parts(made, [*said[:8], reply(1), reply(2)])
@@ -164,7 +164,7 @@ class Behind(JoinedCase):
         self.assertRegex(ends[1], r"unasked=1$")
 
     def test_pings(self):
-        """The reply to a ping stands beside no other: that behind the loss may be one to a ping before it."""
+        """The reply to a ping has no xid of its own: the first one after the loss may be one to a ping before it."""
         said = [PING, PONG, ask(1), reply(1), PING, PONG, ask(2), reply(2), PING, PONG]
         _, _, made = self.parts(said, 3)
         self.assert_parts(made, said[:3], said[6:])
@@ -200,8 +200,8 @@ class Behind(JoinedCase):
         self.assertEqual((self.folder / "s-1.2.zkr").read_bytes(), b"old")
 
     def lose(self, chance, least):
-        """Loses packets of each recording with this chance: every part is of frames that were said, each reply behind
-        its request, and so much is kept at least."""
+        """Loses packets of each recording with this chance. Every part consists of frames that were said, each reply
+        after its request, and at least this share is kept."""
         lottery, kept, captured, checked = random.Random(5), 0, 0, 0
         for path in SMALL:
             if re.search("refused|small|create2", path.name):

@@ -39,14 +39,14 @@ def serve(talk, host="127.0.0.1"):
 
 
 def echo(connection):
-    """Says again what it hears; at the end of that, says `end` and ends."""
+    """Echoes what it hears; at the end of that, says `end` and ends."""
     while data := connection.recv(65536):
         connection.sendall(data)
     connection.sendall(b"end")
 
 
 def exactly(connection, size):
-    """So many bytes, or all up to the end."""
+    """`size` bytes, or all up to the end."""
     data = b""
     while len(data) < size and (part := connection.recv(size - len(data))):
         data += part
@@ -84,7 +84,7 @@ class RecordCase(ToolCase):
         return self.tool.stdout.readline().split()
 
     def ended(self):
-        """The words of the next line that tells an end."""
+        """The words of the next line that reports an end."""
         while (words := self.told())[2] != "ended":
             pass
         return words

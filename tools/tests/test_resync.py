@@ -114,7 +114,7 @@ class Places(unittest.TestCase):
         self.assertEqual(70_000 - keep, 1 << 16)
 
     def test_a_stat_is_no_frame(self):
-        """Its numbers can look like a reply's header: version 32 as a length, and small numbers behind it."""
+        """Its numbers can look like a reply's header: version 32 as a length, and small numbers after it."""
         stat = struct.pack(">qqqqiiiqiiq", 9, 9, 1 << 40, 1 << 40, 32, 1, 0, 0, 5, 0, 9)
         data = reply(4, 9, more=stat)
         for cut in range(1, len(data)):
@@ -141,7 +141,7 @@ class Places(unittest.TestCase):
         self.assertGreater(found, 100)
 
     def test_a_time_is_no_frame(self):
-        """The first half of a time in 2026 is 418, and 418 bytes behind its second half may be where a frame begins."""
+        """The first half of a time in 2026 is 418, and 418 bytes after its second half may be where a frame begins."""
         time = 418 << 32 | 36_408_704
         stat = struct.pack(">qqqqiiiqiiq", 9, 9, time, time, 0, 0, 0, 0, 5, 0, 9)
         sizes = enumerate((0, 0, 0, 2, 0), 5)

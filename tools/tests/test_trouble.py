@@ -1,4 +1,4 @@
-"""Tests of record.py and zkwatch.py in trouble: every other connection goes on at its pace, and the trouble is told once."""
+"""Tests of record.py and zkwatch.py in trouble: the other connections are not delayed, and it is reported once."""
 
 import socket
 import subprocess

@@ -60,7 +60,7 @@ class Output(TroubleCase):
 
 class Programs(TroubleCase):
     def watched(self, count):
-        """What zkwatch has told of its connections, without the time, once these are so many lines."""
+        """The lines that zkwatch has printed of its connections, without the time, once there are `count` lines."""
         return [line.partition(" ")[2] for line in self.lines(count + 1)[1:]]
 
     def test_a_program_that_does_not_run_is_told_at_once(self):

@@ -1,4 +1,4 @@
-"""Tests of the script zkdump at the top and of tools/build_program.py, in a copy of the repository's frame with a
+"""Tests of the script zkdump at the top and of tools/build_program.py, in a copy of the repository's folders with a
 toolchain that proves nothing."""
 
 import os
@@ -15,8 +15,8 @@ sys.path.insert(0, str(TOOLS))
 import build_program  # noqa: E402
 
 # Writes down where it was called and how, and when that ended. Like the toolchain, it keeps every other call out of the
-# crate and those that it uses, which stand in the file uses; a library is there once it is built. At the last crate it
-# makes a program that tells its words and its input.
+# crate and those that it uses, which are in the file uses; a library is there once it is built. At the last crate it
+# makes a program that prints its words and its input.
 RT = """#!/bin/sh
 name=$(basename "$PWD")
 echo "$name $*" >> "$CALLS"
@@ -72,7 +72,7 @@ class WrapperCase(ToolCase):
         return {"PATH": self.path, "CALLS": str(self.calls), **more}
 
     def zkdump(self, *words, script=None, **environment):
-        """Runs the script: its status, output and standard error, and the calls of the toolchain in order of names."""
+        """Runs the script: its status, output and standard error, and the calls of the toolchain, sorted by name."""
         self.calls.write_text("")
         done = subprocess.run([script or self.top / "zkdump", *words], input="input", capture_output=True, text=True,
                               env=self.environment(**environment), cwd="/", check=False)
@@ -214,7 +214,7 @@ class Replacing(WrapperCase):
 
 class Lanes(WrapperCase):
     def run_lanes(self, count, **environment):
-        """Proves in so many lanes; gives the calls and their ends, in order."""
+        """Proves in `count` lanes; returns the calls and their ends, in order."""
         self.calls.write_text("")
         script = ("import sys; sys.path.insert(0, sys.argv[1]); import build_program as b; "
                   f"b.Build.lane_count = lambda self: {count}; b.Build(b.pathlib.Path(sys.argv[2])).run()")

@@ -16,7 +16,7 @@ STAT_NAMED = {"czxid": "0x4", "mzxid": "0x5", "ctime": 1000, "mtime": 1001, "ver
               "pzxid": "0x100000000000001"}
 ANYONE = [{"perms": 31, "scheme": "world", "id": "anyone"}]
 
-# A line of each kind, by the tables of docs/FORMATS.md, section 9, and what stands behind its side, xid and operation.
+# A line of each kind, by the tables of docs/FORMATS.md, section 9, and what follows its side, xid and operation.
 LINES = {
     CONNECT: {"version": 0, "zxid": "0x0", "timeout": 30000, "session": "0x0", "passwd": {"hex": "00" * 16},
               "ro": False},
@@ -48,7 +48,7 @@ LINES = {
     'S event zxid=-1 kind=9 state=3 path="/a"': {"zxid": "0xffffffffffffffff", "kind": 9, "state": 3, "path": "/a"},
 }
 
-# Requests, and then replies to them in their order: what stands in a reply behind its side, xid and operation.
+# Requests, and then replies to them in their order: what follows a reply's side, xid and operation.
 REPLIES = {
     ('C 1 exists path="/a" watch=1', "S 1 exists zxid=5 err=-101/NONODE"):
         {"zxid": "0x5", "err": -101, "errName": "NONODE", "asked": "/a"},
@@ -230,7 +230,7 @@ class Zkjson(ToolCase):
                 self.assertIn("ending", ending)
 
     def with_times(self, capture):
-        """A copy of a recording, beside which stand the times of its pieces."""
+        """A copy of a recording, beside a file with the times of its pieces."""
         copy = self.folder / capture.name
         copy.write_bytes(capture.read_bytes())
         with open(capture, "rb") as recording:

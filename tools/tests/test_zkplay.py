@@ -1,4 +1,4 @@
-"""Tests of zkplay: a client that says what was recorded is played with, and any other is refused."""
+"""Tests of zkplay: it plays to a client that says what was recorded, and refuses any other."""
 
 import select
 import socket
@@ -29,7 +29,7 @@ class Zkplay(ToolCase):
         return player.returncode, out, err
 
     def refusal(self, said, *words, end=False, recording=RUN):
-        """What is told of a client that says this to the stored run, and waits or ends."""
+        """The message about a client that says this to the stored run, and waits or ends."""
         player, address = self.play(recording, *words)
         with socket.create_connection(address) as client:
             client.sendall(said)

@@ -56,7 +56,7 @@ class Captures(ToolCase):
         self.assertEqual(gaps, [("#1", "#2", 1250)])
 
     def capture(self, *recordings, close=True):
-        """A capture of these recordings' connections, one behind another."""
+        """A capture of these recordings' connections, one after another."""
         packets = []
         for number, recording in enumerate(recordings):
             for sent in wire.conversation(pieces(recording.read_bytes()), close=close):

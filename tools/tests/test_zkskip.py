@@ -1,4 +1,4 @@
-"""Tests of zkskip: what is left out, what stays, and what is told."""
+"""Tests of zkskip: what is left out, what stays, and what is reported."""
 
 import stat
 import struct
@@ -33,7 +33,7 @@ def recording(frames, head=zkr.Head()):
         for at, (side, payload) in enumerate(every))
 
 
-# Frames, those numbers of them (from 0) that profile 3.4 leaves out, and what is told of the first of these.
+# Frames, those numbers of them (from 0) that profile 3.4 leaves out, and the line of the first of these.
 CASES = {
     "all operations of 3.4": (
         [request(n, kind) for n, kind in enumerate((1, 2, 3, 4, 5, 6, 7, 8, 9, 12, 101, -11))]
@@ -70,7 +70,7 @@ CASES = {
 
 class Zkskip(ToolCase):
     def skip(self, data, *words, status=0):
-        """What zkskip makes of a recording, and the lines that it tells."""
+        """What zkskip makes of a recording, and the lines that it prints."""
         done = self.run_raw("zkskip.py", *words, stdin=data)
         self.assertEqual(done.returncode, status, done.stderr)
         return done.stdout, done.stderr.decode().splitlines()

@@ -1,4 +1,4 @@
-"""Tests of zkstat: what is counted, and what is told of it."""
+"""Tests of zkstat: what is counted, and what is printed of it."""
 
 import json
 import struct

@@ -1,4 +1,4 @@
-"""Tests of zkwatch: what goes through it, and what it tells of it, with the program or with a stand-in for it."""
+"""Tests of zkwatch: what goes through it, and what it prints of it, with the program or with a stand-in for it."""
 
 import pathlib
 import re
@@ -19,7 +19,7 @@ S 1 exists zxid=5 err=-101/NONODE
 . whole unanswered=0
 """
 STAND_IN = f"""#!{sys.executable}
-# Tells each frame as its side, its number and how many bytes it has; a frame of no bytes is refused.
+# Prints each frame as its side, its number and its number of bytes; a frame of no bytes is refused.
 import sys
 sys.path.insert(0, {str(TOOLS)!r})
 import zkr
@@ -37,7 +37,7 @@ SECONDS = 20
 
 
 class Echo(threading.Thread):
-    """A server that says back what it hears, and ends once its client has; with `slow` it waits for that end first."""
+    """A server that echoes, and ends once its client has; with `slow` it waits for that end before it echoes."""
 
     def __init__(self, slow=False, host="127.0.0.1"):
         super().__init__(daemon=True)
@@ -86,7 +86,7 @@ class Zkwatch(ToolCase):
         return echo
 
     def lines(self, watcher):
-        """What it has told of its connections, once it has ended: number and line."""
+        """What it has printed of its connections, once it has ended: number and line."""
         out, err = watcher.communicate(timeout=SECONDS)
         self.assertEqual((watcher.returncode, err), (0, ""))
         return [LINE.fullmatch(line).groups() for line in out.splitlines()]
