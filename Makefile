@@ -1,7 +1,7 @@
-# For who builds: `make` proves and builds the program and the library, `make install` installs what was built.
+# `make` proves and builds the program and the library, `make install` installs what was built.
 #
 #     make install DESTDIR= PREFIX=/usr/local LIBDIR=lib
-#     make uninstall, with the same words
+#     make uninstall, with the same arguments
 
 PREFIX = /usr/local
 LIBDIR = lib

@@ -32,14 +32,14 @@ static uint8_t *recording;
 static size_t size;
 static char what;
 
-struct told {
+struct result {
     long messages, kinds, growths;
     double seconds;
     char ending[200];
 };
 
 static void *run(void *to) {
-    struct told *told = to;
+    struct result *result = to;
     struct zk_talk talk = {0};
     size_t room = 1 << 24;
     uint8_t *text = __real_malloc(room);
@@ -58,17 +58,17 @@ static void *run(void *to) {
             bytes += step.used;
             left -= step.used;
             if (!step.whole) continue;
-            told->messages++;
-            if (what == 'v') told->kinds += zk_talk_view(&talk, side).kind;
-            if (what == 'l') told->kinds += (long)zk_talk_line(&talk, side, text, room).length;
+            result->messages++;
+            if (what == 'v') result->kinds += zk_talk_view(&talk, side).kind;
+            if (what == 'l') result->kinds += (long)zk_talk_line(&talk, side, text, room).length;
         }
     }
 ended:
-    told->growths = growths - before;
+    result->growths = growths - before;
     clock_gettime(CLOCK_THREAD_CPUTIME_ID, &end);
-    told->seconds = (double)(end.tv_sec - begin.tv_sec) + (double)(end.tv_nsec - begin.tv_nsec) / 1e9;
-    struct zk_line line = zk_talk_ending_line(&talk, (uint8_t *)told->ending, sizeof told->ending - 1);
-    told->ending[line.status == ZK_WELL ? line.length : 0] = 0;
+    result->seconds = (double)(end.tv_sec - begin.tv_sec) + (double)(end.tv_nsec - begin.tv_nsec) / 1e9;
+    struct zk_line line = zk_talk_ending_line(&talk, (uint8_t *)result->ending, sizeof result->ending - 1);
+    result->ending[line.status == ZK_WELL ? line.length : 0] = 0;
     zk_talk_free(&talk);
     return NULL;
 }
@@ -80,11 +80,11 @@ int main(int count, char **words) {
     size_t room = 1 << 28;
     recording = malloc(room);
     size = fread(recording, 1, room, stdin);
-    static struct told told[64];
+    static struct result results[64];
     pthread_t ids[64];
-    for (int i = 0; i < threads; i++) pthread_create(&ids[i], NULL, run, &told[i]);
+    for (int i = 0; i < threads; i++) pthread_create(&ids[i], NULL, run, &results[i]);
     for (int i = 0; i < threads; i++) pthread_join(ids[i], NULL);
     for (int i = 0; i < threads; i++)
-        printf("%ld messages, %s, %.3f s, %ld growths, sum %ld\n", told[i].messages, told[i].ending, told[i].seconds, told[i].growths, told[i].kinds);
+        printf("%ld messages, %s, %.3f s, %ld growths, sum %ld\n", results[i].messages, results[i].ending, results[i].seconds, results[i].growths, results[i].kinds);
     return 0;
 }

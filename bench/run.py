@@ -6,7 +6,7 @@
 The recordings are small, big and listing (make_recording.py). The decoders are cat, which decodes nothing; peer.rs,
 written by hand for this, where rustc is there; JuteDecode.java, ZooKeeper's own record classes, where there are javac
 and the jars of Debian's libzookeeper-java and libslf4j-java; and zkdump's check, and show, which writes to /dev/null.
-Each runs --times times (7), in turns and held to one core, after a run whose count of messages or last line is checked.
+Each runs --times times (7), in turns and on one core, after a run whose count of messages or last line is checked.
 
 It prints a table: megabytes (1,000,000 bytes) read in a CPU second, that rate divided by the peer's, CPU seconds (the
 program's own and the system's), the program's own alone, and the greatest memory. Seconds are medians, or with --least,

@@ -19,8 +19,8 @@ LONGEST = 120  # CPU seconds, after which a run is ended
 WHOLE = b". whole unanswered=0\n"
 
 # A process that this script itself started would count the script's memory as its own. So a shell starts it and ends,
-# and the orphan becomes a child of the script. The command begins once the shell has ended. The shell has 1 MB, so less
-# than that is not seen.
+# and the orphan becomes a child of the script. The command begins once the shell has ended, which otherwise might reap
+# it. The shell has 1 MB, so less than that is not seen.
 START = f"""
 in=$0 out=$1; shift; exec 3<&0
 {{ read -r begin <&3; ulimit -t {LONGEST}; exec "$@" < "$in" > "$out" 2> /dev/null 3<&-; }} &
@@ -51,16 +51,16 @@ def run(command, recording, output=os.devnull):
 
 
 def words(description):
-    """A parser of the words that both commands have."""
+    """A parser of the arguments that both commands have."""
     parser = argparse.ArgumentParser(description=description, formatter_class=argparse.RawDescriptionHelpFormatter)
     parser.add_argument("--program", type=pathlib.Path, default=os.environ.get("ZKDUMP", BUILT),
                         help="the zkdump to measure, in place of $ZKDUMP or the one that was built here")
-    parser.add_argument("--core", type=int, help="the core that all runs are held to (the last one)")
+    parser.add_argument("--core", type=int, help="the core that all runs use (the last one)")
     return parser
 
 
 def parsed(parser):
-    """The words, once the program is known to be there and this process and its runs are held to one core."""
+    """The parsed arguments; the program is there, and this process and its runs are bound to one core."""
     found = parser.parse_args()
     if not os.access(found.program, os.X_OK):
         sys.exit(f"{found.program} isn't there: ./zkdump builds it")

@@ -1,4 +1,4 @@
-# Completion of zkdump's words for bash.
+# Completion of zkdump's arguments for bash.
 _zkdump() {
     local word=${COMP_WORDS[COMP_CWORD]} before=${COMP_WORDS[COMP_CWORD - 1]} words
     # bash takes --option=value apart at the sign.

@@ -3,12 +3,12 @@
 
     docs/architecture.py [--check]
 
-What a crate or a file has is what it says of itself: the first paragraph of the `//!` comment of lib.rt or main.rt, and
-of the other src/*.rt, or the comment that a file of specs/ begins with. What a crate uses is said in crates.txt. The
-lines are written between two marks of each page. With --check nothing is written, and it fails where a page isn't
-current, or where a file says nothing of itself.
+A crate or a file is described by its own text: the first paragraph of the `//!` comment of lib.rt or main.rt, and of
+the other src/*.rt, or the comment that a file of specs/ begins with. What a crate uses is in crates.txt. The lines are
+written between two marks of each page. With --check nothing is written, and it fails where a page isn't current, or
+where a file has no such comment.
 
-The status is 0 where the pages are current or were written, 1 where something is wrong, 2 for other words.
+The status is 0 where the pages are current or were written, 1 where something is wrong, 2 for wrong arguments.
 """
 
 import pathlib
@@ -30,7 +30,7 @@ def crates():
 
 
 def head(path):
-    """What a file says of itself, in one line."""
+    """A file's own description, in one line."""
     found = re.match(HEAD[path.suffix], path.read_text())
     lines = [re.sub(r"^(//!|--) ?", "", line) for line in found[0].splitlines()] if found else []
     first = " ".join(lines[:lines.index("")] if "" in lines else lines)
@@ -43,7 +43,7 @@ def root(crate):
 
 
 def files(crate):
-    """The files of a crate that have something of their own."""
+    """The files of a crate, without its root and without Lib.antt."""
     folder = TOP / "crates" / crate
     sources = sorted(path for path in folder.glob("src/**/*.rt") if path.name not in ROOTS)
     return [*sources, *sorted(path for path in folder.glob("specs/**/*.antt") if path.stem != "Lib")]

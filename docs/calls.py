@@ -4,12 +4,12 @@
     docs/calls.py [--check]
 
 It reads the signatures in the folders src/ of what each crate's lib.rt names as public, and writes them between two
-marks of the page: what a call answers, its conditions, and the names of its clauses, by whether they speak of an
-answer, of a refusal or of both. And docs/MUST_FAIL.md names edits as `crate/edit`: each must be there. With --check it
-writes nothing and fails where the page isn't current. (docs/clauses.py looks at the clauses that pages name.)
+marks of the page: what a call returns, its conditions, and the names of its clauses, by whether they are about a
+success, a refusal or both. docs/MUST_FAIL.md names edits as `crate/edit`: each must be there. With --check it writes
+nothing and fails where the page isn't current. (docs/clauses.py checks the clauses that pages name.)
 
-The status is 0 where the page is current or was written, 1 where --check or a name finds that it isn't, 2 for other
-words.
+The status is 0 where the page is current or was written, 1 where it isn't current or a name is wrong, 2 for wrong
+arguments.
 """
 
 import pathlib
@@ -29,7 +29,7 @@ REFUSAL = re.compile(r"\b(IfErr|OnErr|IsErr|IsErrOf|Err|is_err|IfNone|OnNone|Non
 
 
 class Call:
-    """A public call: its crate, its name, what it answers, how many conditions it has, and its clauses."""
+    """A public call: its crate, its name, what it returns, how many conditions it has, and its clauses."""
 
     def __init__(self, crate, owner, text, start):
         name = re.compile(r"\w+").match(text, start)

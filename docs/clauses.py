@@ -5,7 +5,7 @@
 
 A page names clauses of a function as `call` (clause, ..) or, within brackets, as (`call`, clause, ..; ..), and calls of
 a trait or type as `Type` (call, ..). Each such word must be the name of a clause of a function of that name in
-crates/*/src, or of a call of that type. Without words it reads README.md, those of tools and crates, and docs/*.md.
+crates/*/src, or of a call of that type. Without arguments it reads README.md, those of tools and crates, and docs/*.md.
 
 It prints what is wrong and one last line. The status is 0 where nothing is.
 """
@@ -55,7 +55,7 @@ def known():
 
 
 def named(page):
-    """What a page says: names of functions or types, and words that are said of each."""
+    """What a page claims: names of functions or types, and the words that it lists for them."""
     for names, words in OUTSIDE.findall(page):
         yield re.findall(r"`([\w:]+)`", names), words.split(", ")
     for inside in INSIDE.findall(page):

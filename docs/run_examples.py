@@ -26,7 +26,7 @@ does not begin with a command fails, and so does any block of code but for those
 "```rust FILE" must be in that file, line for line, but for how far it is indented.
 
 It prints what differs, what is marked, and one last line, N passed, M failed. The status is 0 where nothing differs, 1
-where something does, 2 where the words are not understood or a page cannot be read.
+where something does, 2 for wrong arguments or where a page cannot be read.
 """
 
 import argparse

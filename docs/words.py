@@ -11,7 +11,7 @@ CHANGELOG.md, and a link between pages whose file or heading isn't there.
 A sentence ends with a full stop, a question or an exclamation mark; a table's cell, an item of a list and a heading are
 sentences of their own. Code within a sentence is one word; blocks of code are none.
 
-The status is 0 where nothing is wrong, 1 where something is, 2 for other words.
+The status is 0 where nothing is wrong, 1 where something is, 2 for wrong arguments.
 """
 
 import pathlib

@@ -3,7 +3,7 @@
  * docs/LIBRARY.md says how to link a program with it, and what each call promises. tests/library.py checks this header
  * against the library's source (crates/zk_c/src).
  *
- * The caller's duties: a pointer points to as many bytes as the call says. A handle is all zeros before its first
+ * The caller's duties: a pointer points to as much as the call says. A handle is all zeros before its first
  * zk_talk_new (`struct zk_talk talk = ZK_ZEROS;`), only these calls write it, one call at a time uses it, on any
  * thread, and it is never copied and then used twice. Everything else is refused by a status. The functions at the end
  * of this header, which are called in place of the library's own, also refuse a null pointer and a length above
@@ -224,7 +224,7 @@ static inline uint32_t zk_fault_at(const void *at, size_t count, size_t size) {
     return count > (size_t)PTRDIFF_MAX / size ? ZK_RANGE : ZK_WELL;
 }
 
-/* The same, but no elements are well with any pointer. */
+/* The same, but 0 elements are ZK_WELL with any pointer. */
 static inline uint32_t zk_fault_of(const void *at, size_t count, size_t size) {
     return count == 0 ? (uint32_t)ZK_WELL : zk_fault_at(at, count, size);
 }

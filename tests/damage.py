@@ -8,7 +8,7 @@ The program is crates/zkdump/out/zkdump where none is named. For each conversati
 
 - fronts: each front of its bytes ends as the definitions say: with the fault, where that is decided, else cut or whole,
   which counting frames decides;
-- cuts: each piece, cut in two at each place, gives the same listing;
+- cuts: each piece, cut in two at each place, has the same listing;
 - bytes: with each byte replaced by 00, 01, 7f, 80 and ff it is refused, not before that byte, or cut, or whole, and
   then the listing is built into the bytes that were fed;
 - lengths: with each length and count replaced by 7fffffff, 80000000 and fffffffe it is refused or cut, within 64 MB of

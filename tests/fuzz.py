@@ -12,9 +12,9 @@ make the mutant N again. Of each
 - what `show` ends with is what `check` says of the same bytes cut into other pieces, but for the offset of a damage,
   which moves with the heads of pieces before it;
 - the status is 0 where that line is whole, and else 1;
-- where it is undamaged, `migrate` gives its pieces in the second format, and `check` says the same of that;
-- where it is whole, `build` of the listing gives each side's bytes again, one message a piece, and `show` of that
-  gives the listing.
+- where it is undamaged, `migrate` writes its pieces in the second format, and `check` says the same of that;
+- where it is whole, `build` of the listing makes each side's bytes again, one message a piece, and `show` of that
+  prints the listing.
 
 It prints the mutants that do otherwise, counts of how the mutants end, and one last line. With --keep the mutants that
 do otherwise are written to that folder. The status is 0 where there are none.

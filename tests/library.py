@@ -126,7 +126,7 @@ def plain(text):
 
 
 def c_words(word):
-    """The words of C for one parameter of an export."""
+    """The C types of one parameter of an export."""
     slice = re.fullmatch(r"&(mut )?\[(\w+)\]", word)
     if slice:
         return [("" if slice[1] else "const ") + C_TYPES[slice[2]] + " *", "size_t"]
@@ -140,8 +140,8 @@ def joined(text):
 
 
 def exported():
-    """What the crate exports: of each call its result and the words of C for its parameters; the fields of each struct
-    that C sees; the numbers."""
+    """What the crate exports: of each call its result and the C types of its parameters; the fields of each struct that
+    C sees; the numbers."""
     calls, structs, numbers = {}, {}, {}
     for path in sorted((CRATE / "src").glob("*.rt")):
         text = plain(path.read_text())

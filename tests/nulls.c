@@ -6,9 +6,9 @@
 
 static int failures;
 
-static void wants(const char *call, uint32_t status, uint32_t wanted) {
-    if (status != wanted) {
-        printf("%s: %u, not %u\n", call, (unsigned)status, (unsigned)wanted);
+static void expect(const char *call, uint32_t status, uint32_t expected) {
+    if (status != expected) {
+        printf("%s: %u, not %u\n", call, (unsigned)status, (unsigned)expected);
         failures++;
     }
 }
@@ -23,75 +23,75 @@ int main(void) {
     struct zk_speaker speaker = ZK_ZEROS;
     struct zk_step step;
 
-    wants("zk_talk_new", zk_talk_new(NULL, 64, 64, 1, 34), ZK_NULL);
-    wants("zk_talk_step", zk_talk_step(NULL, ZK_CLIENT, &byte, 1).status, ZK_NULL);
-    wants("zk_talk_view", zk_talk_view(NULL, ZK_CLIENT).status, ZK_NULL);
-    wants("zk_talk_line", zk_talk_line(NULL, ZK_CLIENT, out, room).status, ZK_NULL);
-    wants("zk_talk_finish", zk_talk_finish(NULL).status, ZK_NULL);
-    wants("zk_talk_ending_line", zk_talk_ending_line(NULL, out, room).status, ZK_NULL);
+    expect("zk_talk_new", zk_talk_new(NULL, 64, 64, 1, 34), ZK_NULL);
+    expect("zk_talk_step", zk_talk_step(NULL, ZK_CLIENT, &byte, 1).status, ZK_NULL);
+    expect("zk_talk_view", zk_talk_view(NULL, ZK_CLIENT).status, ZK_NULL);
+    expect("zk_talk_line", zk_talk_line(NULL, ZK_CLIENT, out, room).status, ZK_NULL);
+    expect("zk_talk_finish", zk_talk_finish(NULL).status, ZK_NULL);
+    expect("zk_talk_ending_line", zk_talk_ending_line(NULL, out, room).status, ZK_NULL);
     zk_talk_free(NULL);
-    wants("zk_speaker_new", zk_speaker_new(NULL, 64, 64, 1, 34), ZK_NULL);
-    wants("zk_speaker_say", zk_speaker_say(NULL, &byte, 1).status, ZK_NULL);
-    wants("zk_speaker_frame", zk_speaker_frame(NULL, out, room).status, ZK_NULL);
+    expect("zk_speaker_new", zk_speaker_new(NULL, 64, 64, 1, 34), ZK_NULL);
+    expect("zk_speaker_say", zk_speaker_say(NULL, &byte, 1).status, ZK_NULL);
+    expect("zk_speaker_frame", zk_speaker_frame(NULL, out, room).status, ZK_NULL);
     zk_speaker_free(NULL);
 
-    wants("zk_talk_new, well", zk_talk_new(&talk, 64, 64, 1, 34), ZK_WELL);
-    wants("zk_talk_step, null", zk_talk_step(&talk, ZK_CLIENT, NULL, 1).status, ZK_NULL);
+    expect("zk_talk_new, well", zk_talk_new(&talk, 64, 64, 1, 34), ZK_WELL);
+    expect("zk_talk_step, null", zk_talk_step(&talk, ZK_CLIENT, NULL, 1).status, ZK_NULL);
     step = zk_talk_step(&talk, ZK_CLIENT, NULL, 0);
-    wants("zk_talk_step, no bytes", step.status, ZK_WELL);
-    wants("zk_talk_step, no bytes, used", (uint32_t)step.used, 0);
-    wants("zk_talk_step, no bytes, whole", step.whole, false);
-    wants("zk_talk_step, no bytes, no side", zk_talk_step(&talk, 2, NULL, 0).status, ZK_RANGE);
-    wants("zk_talk_step, too long", zk_talk_step(&talk, ZK_CLIENT, &byte, more).status, ZK_RANGE);
-    wants("zk_talk_line, null", zk_talk_line(&talk, ZK_CLIENT, NULL, 1).status, ZK_NULL);
-    wants("zk_talk_line, no room", zk_talk_line(&talk, ZK_CLIENT, NULL, 0).status, ZK_NO_MESSAGE);
-    wants("zk_talk_line, too long", zk_talk_line(&talk, ZK_CLIENT, out, more).status, ZK_RANGE);
-    wants("zk_talk_ending_line, null", zk_talk_ending_line(&talk, NULL, 1).status, ZK_NULL);
-    wants("zk_talk_ending_line, no room", zk_talk_ending_line(&talk, NULL, 0).status, ZK_ROOM);
-    wants("zk_talk_ending_line, no room, length", (uint32_t)zk_talk_ending_line(&talk, NULL, 0).length, sizeof ". whole unanswered=0" - 1);
-    wants("zk_talk_ending_line, too long", zk_talk_ending_line(&talk, out, more).status, ZK_RANGE);
-    wants("zk_talk_finish, nothing came", zk_talk_finish(&talk).kind, ZK_WHOLE);
-    wants("zk_talk_step, well", zk_talk_step(&talk, ZK_CLIENT, &byte, 1).status, ZK_WELL);
-    wants("zk_talk_finish, a byte came", zk_talk_finish(&talk).kind, ZK_CUT);
+    expect("zk_talk_step, no bytes", step.status, ZK_WELL);
+    expect("zk_talk_step, no bytes, used", (uint32_t)step.used, 0);
+    expect("zk_talk_step, no bytes, whole", step.whole, false);
+    expect("zk_talk_step, no bytes, no side", zk_talk_step(&talk, 2, NULL, 0).status, ZK_RANGE);
+    expect("zk_talk_step, too long", zk_talk_step(&talk, ZK_CLIENT, &byte, more).status, ZK_RANGE);
+    expect("zk_talk_line, null", zk_talk_line(&talk, ZK_CLIENT, NULL, 1).status, ZK_NULL);
+    expect("zk_talk_line, no room", zk_talk_line(&talk, ZK_CLIENT, NULL, 0).status, ZK_NO_MESSAGE);
+    expect("zk_talk_line, too long", zk_talk_line(&talk, ZK_CLIENT, out, more).status, ZK_RANGE);
+    expect("zk_talk_ending_line, null", zk_talk_ending_line(&talk, NULL, 1).status, ZK_NULL);
+    expect("zk_talk_ending_line, no room", zk_talk_ending_line(&talk, NULL, 0).status, ZK_ROOM);
+    expect("zk_talk_ending_line, no room, length", (uint32_t)zk_talk_ending_line(&talk, NULL, 0).length, sizeof ". whole unanswered=0" - 1);
+    expect("zk_talk_ending_line, too long", zk_talk_ending_line(&talk, out, more).status, ZK_RANGE);
+    expect("zk_talk_finish, nothing came", zk_talk_finish(&talk).kind, ZK_WHOLE);
+    expect("zk_talk_step, well", zk_talk_step(&talk, ZK_CLIENT, &byte, 1).status, ZK_WELL);
+    expect("zk_talk_finish, a byte came", zk_talk_finish(&talk).kind, ZK_CUT);
     zk_talk_free(&talk);
 
-    wants("zk_speaker_new, well", zk_speaker_new(&speaker, 64, 64, 1, 34), ZK_WELL);
-    wants("zk_speaker_say, null", zk_speaker_say(&speaker, NULL, 1).status, ZK_NULL);
-    wants("zk_speaker_say, no line", zk_speaker_say(&speaker, NULL, 0).status, ZK_LINE_WORD);
-    wants("zk_speaker_say, no line, column", zk_speaker_say(&speaker, NULL, 0).column, 1);
-    wants("zk_speaker_say, too long", zk_speaker_say(&speaker, &byte, more).status, ZK_RANGE);
-    wants("zk_speaker_frame, null", zk_speaker_frame(&speaker, NULL, 1).status, ZK_NULL);
-    wants("zk_speaker_frame, no room for no frame", zk_speaker_frame(&speaker, NULL, 0).status, ZK_WELL);
-    wants("zk_speaker_frame, no frame", (uint32_t)zk_speaker_frame(&speaker, out, room).length, 0);
-    wants("zk_speaker_frame, too long", zk_speaker_frame(&speaker, out, more).status, ZK_RANGE);
+    expect("zk_speaker_new, well", zk_speaker_new(&speaker, 64, 64, 1, 34), ZK_WELL);
+    expect("zk_speaker_say, null", zk_speaker_say(&speaker, NULL, 1).status, ZK_NULL);
+    expect("zk_speaker_say, no line", zk_speaker_say(&speaker, NULL, 0).status, ZK_LINE_WORD);
+    expect("zk_speaker_say, no line, column", zk_speaker_say(&speaker, NULL, 0).column, 1);
+    expect("zk_speaker_say, too long", zk_speaker_say(&speaker, &byte, more).status, ZK_RANGE);
+    expect("zk_speaker_frame, null", zk_speaker_frame(&speaker, NULL, 1).status, ZK_NULL);
+    expect("zk_speaker_frame, no room for no frame", zk_speaker_frame(&speaker, NULL, 0).status, ZK_WELL);
+    expect("zk_speaker_frame, no frame", (uint32_t)zk_speaker_frame(&speaker, out, room).length, 0);
+    expect("zk_speaker_frame, too long", zk_speaker_frame(&speaker, out, more).status, ZK_RANGE);
     zk_speaker_free(&speaker);
 
-    wants("zk_judge_first, null", zk_judge_first(NULL, 1).status, ZK_NULL);
-    wants("zk_judge_first, no bytes", zk_judge_first(NULL, 0).status, ZK_SHORT);
-    wants("zk_judge_request, null", zk_judge_request(34, NULL, 1).status, ZK_NULL);
-    wants("zk_judge_request, no bytes", zk_judge_request(34, NULL, 0).status, ZK_SHORT);
-    wants("zk_judge_connected, null", zk_judge_connected(NULL, 1).status, ZK_NULL);
-    wants("zk_judge_connected, no bytes", zk_judge_connected(NULL, 0).status, ZK_SHORT);
-    wants("zk_judge_event, null", zk_judge_event(NULL, 1).status, ZK_NULL);
-    wants("zk_judge_event, no bytes", zk_judge_event(NULL, 0).status, ZK_SHORT);
-    wants("zk_judge_event", zk_judge_event(&byte, more).status, ZK_RANGE);
-    wants("zk_judge_event, no byte", zk_judge_event(&byte, 0).status, ZK_SHORT);
-    wants("zk_judge_reply, null parts", zk_judge_reply(14, NULL, 1, &byte, 1).status, ZK_NULL);
-    wants("zk_judge_reply, null", zk_judge_reply(14, &part, 1, NULL, 1).status, ZK_NULL);
-    wants("zk_judge_reply, no parts", zk_judge_reply(14, NULL, 0, &byte, 1).status, ZK_SHORT);
-    wants("zk_judge_reply, no bytes", zk_judge_reply(14, &part, 1, NULL, 0).status, ZK_SHORT);
-    wants("zk_judge_reply, nothing", zk_judge_reply(14, NULL, 0, NULL, 0).status, ZK_SHORT);
-    wants("zk_judge_reply, too many parts", zk_judge_reply(14, &part, most / 4 + 1, &byte, 1).status, ZK_RANGE);
-    wants("zk_judge_reply, no byte", zk_judge_reply(14, &part, 1, &byte, 0).status, ZK_SHORT);
-    wants("zk_listing, null pieces", zk_listing(NULL, 1, &byte, 1, 64, 64, 1, 34, out, room).status, ZK_NULL);
-    wants("zk_listing, null", zk_listing(&piece, 1, NULL, 1, 64, 64, 1, 34, out, room).status, ZK_NULL);
-    wants("zk_listing, null room", zk_listing(&piece, 1, &byte, 1, 64, 64, 1, 34, NULL, 1).status, ZK_NULL);
-    wants("zk_listing, no pieces", zk_listing(NULL, 0, &byte, 1, 64, 64, 1, 34, out, room).status, ZK_RANGE);
-    wants("zk_listing, no bytes", zk_listing(&piece, 1, NULL, 0, 64, 64, 1, 34, out, room).status, ZK_RANGE);
-    wants("zk_listing, no room", zk_listing(&piece, 1, &byte, 1, 64, 64, 1, 34, NULL, 0).status, ZK_ROOM);
-    wants("zk_listing, nothing", zk_listing(NULL, 0, NULL, 0, 64, 64, 1, 34, NULL, 0).status, ZK_ROOM);
-    wants("zk_listing, too many pieces", zk_listing(&piece, most / 16 + 1, &byte, 1, 64, 64, 1, 34, out, room).status, ZK_RANGE);
-    wants("zk_listing, too small", zk_listing(&piece, 1, &byte, 1, 64, 64, 1, 34, out, room).status, ZK_ROOM);
-    wants("the room", out[0], 7);
+    expect("zk_judge_first, null", zk_judge_first(NULL, 1).status, ZK_NULL);
+    expect("zk_judge_first, no bytes", zk_judge_first(NULL, 0).status, ZK_SHORT);
+    expect("zk_judge_request, null", zk_judge_request(34, NULL, 1).status, ZK_NULL);
+    expect("zk_judge_request, no bytes", zk_judge_request(34, NULL, 0).status, ZK_SHORT);
+    expect("zk_judge_connected, null", zk_judge_connected(NULL, 1).status, ZK_NULL);
+    expect("zk_judge_connected, no bytes", zk_judge_connected(NULL, 0).status, ZK_SHORT);
+    expect("zk_judge_event, null", zk_judge_event(NULL, 1).status, ZK_NULL);
+    expect("zk_judge_event, no bytes", zk_judge_event(NULL, 0).status, ZK_SHORT);
+    expect("zk_judge_event", zk_judge_event(&byte, more).status, ZK_RANGE);
+    expect("zk_judge_event, no byte", zk_judge_event(&byte, 0).status, ZK_SHORT);
+    expect("zk_judge_reply, null parts", zk_judge_reply(14, NULL, 1, &byte, 1).status, ZK_NULL);
+    expect("zk_judge_reply, null", zk_judge_reply(14, &part, 1, NULL, 1).status, ZK_NULL);
+    expect("zk_judge_reply, no parts", zk_judge_reply(14, NULL, 0, &byte, 1).status, ZK_SHORT);
+    expect("zk_judge_reply, no bytes", zk_judge_reply(14, &part, 1, NULL, 0).status, ZK_SHORT);
+    expect("zk_judge_reply, nothing", zk_judge_reply(14, NULL, 0, NULL, 0).status, ZK_SHORT);
+    expect("zk_judge_reply, too many parts", zk_judge_reply(14, &part, most / 4 + 1, &byte, 1).status, ZK_RANGE);
+    expect("zk_judge_reply, no byte", zk_judge_reply(14, &part, 1, &byte, 0).status, ZK_SHORT);
+    expect("zk_listing, null pieces", zk_listing(NULL, 1, &byte, 1, 64, 64, 1, 34, out, room).status, ZK_NULL);
+    expect("zk_listing, null", zk_listing(&piece, 1, NULL, 1, 64, 64, 1, 34, out, room).status, ZK_NULL);
+    expect("zk_listing, null room", zk_listing(&piece, 1, &byte, 1, 64, 64, 1, 34, NULL, 1).status, ZK_NULL);
+    expect("zk_listing, no pieces", zk_listing(NULL, 0, &byte, 1, 64, 64, 1, 34, out, room).status, ZK_RANGE);
+    expect("zk_listing, no bytes", zk_listing(&piece, 1, NULL, 0, 64, 64, 1, 34, out, room).status, ZK_RANGE);
+    expect("zk_listing, no room", zk_listing(&piece, 1, &byte, 1, 64, 64, 1, 34, NULL, 0).status, ZK_ROOM);
+    expect("zk_listing, nothing", zk_listing(NULL, 0, NULL, 0, 64, 64, 1, 34, NULL, 0).status, ZK_ROOM);
+    expect("zk_listing, too many pieces", zk_listing(&piece, most / 16 + 1, &byte, 1, 64, 64, 1, 34, out, room).status, ZK_RANGE);
+    expect("zk_listing, too small", zk_listing(&piece, 1, &byte, 1, 64, 64, 1, 34, out, room).status, ZK_ROOM);
+    expect("the room", out[0], 7);
     return failures != 0;
 }

@@ -78,7 +78,7 @@ def sides(pieces):
 
 
 def stored():
-    """The recordings of the stored cases and of real clients: a name, the program's words, the recording and the
+    """The recordings of the stored cases and of real clients: a name, the program's arguments, the recording and the
     line that a plain `check` writes of it, without what --earliest adds below it."""
     for args in sorted((TOP / "crates/zkdump/cases/check").glob("*.args")):
         source, wanted = args.with_suffix(".in"), args.with_suffix(".out")

@@ -93,7 +93,7 @@ def content(path):
 
 
 def runs():
-    """What is run: a kind, a name, the words and the standard input."""
+    """What is run: a kind, a name, the arguments and the standard input."""
     for kind in ("show", "check", "build", "migrate"):
         for args in sorted((CASES / kind).glob("*.args")):
             yield kind, args.stem, args.read_text().splitlines(), content(args.with_suffix(".in"))

@@ -4,8 +4,8 @@
     release.py
 
 The number in VERSION is that of zk.h and of CHANGELOG.md. The header compiles without a warning as C11 and as C++17. The
-archive is unpacked: its program gives the listing of a recording, and examples/proxy.c, linked with each of its
-libraries, too. The libraries show the header's functions and no other name. The Debian packages are installed below a
+archive is unpacked: its program prints the listing of a recording, and examples/proxy.c, linked with each of its
+libraries, too. The libraries export the header's functions and no other name. The Debian packages are installed below a
 folder, used and removed. A second release has the same bytes. What is skipped, since a tool is missing, is reported.
 
 It prints what failed and one last line. The status is 0 where nothing did.
@@ -82,7 +82,7 @@ def skip(what, *tools):
 
 
 def lists(name, *words, **environment):
-    """Whether the program gives the listing; the recording is its standard input and its last word."""
+    """Whether the program prints the listing; the recording is its standard input and its last argument."""
     with open(RECORDING, "rb") as source:
         found = run(*words, stdin=source, env={**os.environ, **environment})
     good = (found.returncode, found.stdout) == (0, LISTING)

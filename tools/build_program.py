@@ -1,5 +1,5 @@
 #!/usr/bin/env python3
-"""Proves and builds the program zkdump, and then runs it with these words: what ./zkdump calls.
+"""Proves and builds the program zkdump, and then runs it with these arguments: what ./zkdump calls.
 
     build_program.py FOLDER [WORD ..]
 
@@ -22,7 +22,7 @@ import threading
 import time
 
 PROGRAM = "zkdump"
-CHECK_MEMORY = 4 << 30      # what a check takes at most, and of that each of its jobs
+CHECK_MEMORY = 4 << 30      # the most memory of a check, and of each of its jobs
 JOB_MEMORY = 3 << 29
 MOST_LANES = 4
 

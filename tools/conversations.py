@@ -14,7 +14,7 @@ BUILT = pathlib.Path(__file__).resolve().parent.parent / "crates" / "zkdump" / "
 
 
 def add_words(parser):
-    """Adds the words that say what is read."""
+    """Adds the arguments that say what is read."""
     parser.add_argument("inputs", metavar="FILE", nargs="*", help="listings and recordings; else a listing on standard "
                         "input. Those of recordings are made by zkdump show")
     parser.add_argument("--recording", metavar="FILE", help="the recording that the listing is of, for its times")
@@ -30,7 +30,7 @@ def add_program(parser):
 
 
 def conversations(parser, words, objects, progress, before_read=lambda: None):
-    """The conversations that these words name, each a Listing, or a Joined where `objects` says that these may come.
+    """The conversations that these arguments name, each a Listing, or a Joined where `objects` allows those.
     Before each read `before_read` is called; `progress` is updated with the number of lines."""
     if words.recording and len(words.inputs) > 1:
         parser.error("--recording goes with one listing")

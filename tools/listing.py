@@ -1,6 +1,6 @@
 """Reads the listings that `zkdump show` writes (docs/FORMATS.md, sections 9 and 11), line by line.
 
-A line becomes a Message, which has what the line begins with. A Listing gives the messages of one connection,
+A line becomes a Message, which has what the line begins with. A Listing yields the messages of one connection,
 each with its line and with the request that it answers, and what is known of the connection itself is in its
 Connection. Joined, in joined.py, gives the same of the lines that zkjson makes; conversations.py opens either.
 """

@@ -37,8 +37,8 @@ ENOUGH, MOST_KEPT = 3, 1 << 16
 EVENT, PING, AUTH, SET_WATCHES = -1, -2, -4, -8
 LANES = (PING, AUTH, SET_WATCHES)
 # By operation, how many bytes follow its path: exactly, or at least.
-BEHIND_PATH = {2: 4, 3: 1, 4: 1, 6: 0, 8: 1, 9: 0, 12: 1, 17: 4, 18: 4, 20: 0, 103: 0, 104: 0, 106: 4}
-LEAST_BEHIND_PATH = {1: 12, 5: 8, 7: 8, 15: 12, 19: 12, 21: 20}
+AFTER_PATH = {2: 4, 3: 1, 4: 1, 6: 0, 8: 1, 9: 0, 12: 1, 17: 4, 18: 4, 20: 0, 103: 0, 104: 0, 106: 4}
+LEAST_AFTER_PATH = {1: 12, 5: 8, 7: 8, 15: 12, 19: 12, 21: 20}
 # By other operation, how long the payload of its request is, and the least length of it.
 WHOLE = {11: 8, 107: 8, -11: 8}
 LEAST_WHOLE = {14: 17, 16: 28, 22: 17, 100: 20, 101: 28, 102: 12, 105: 36}
@@ -97,14 +97,14 @@ def is_request(payload, size):
         return size == WHOLE[kind]
     if kind in LEAST_WHOLE:
         return size >= LEAST_WHOLE[kind]
-    if kind not in BEHIND_PATH and kind not in LEAST_BEHIND_PATH:
+    if kind not in AFTER_PATH and kind not in LEAST_AFTER_PATH:
         return False
     if len(payload) < 13:
         return size > len(payload)
     length = int.from_bytes(payload[8:12], "big", signed=True)
     behind = size - 12 - length
     return length > 0 and payload[12:13] == b"/" and \
-        (behind == BEHIND_PATH[kind] if kind in BEHIND_PATH else behind >= LEAST_BEHIND_PATH[kind])
+        (behind == AFTER_PATH[kind] if kind in AFTER_PATH else behind >= LEAST_AFTER_PATH[kind])
 
 
 def is_reply(payload, size):

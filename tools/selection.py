@@ -47,7 +47,7 @@ def path(text):
 
 
 def add_words(parser):
-    """Adds the words that choose messages."""
+    """Adds the arguments that choose messages."""
     parser.add_argument("--path", metavar="PATH", type=path, action="append",
                         help="choose requests for this path and those below it; may be given several times")
     parser.add_argument("--session", metavar="ID", type=session, action="append",
@@ -73,7 +73,7 @@ class Selection:
         self.all = not self.by_message and not self.sessions
 
     def chosen(self, talk):
-        """What is chosen of conversations, as iterating over them gives it."""
+        """What is chosen of conversations, in the form of iterating over them."""
         found = self.of_messages(talk) if self.by_message else talk
         return self.of_sessions(found) if self.sessions else found
 

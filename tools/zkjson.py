@@ -103,7 +103,7 @@ def parts(line, at, made, asked):
                 raise ValueError("a long line")
             value, at = form.json(line, found.end())
             yield f'{comma}{{"op": "{name}"{value}{end}'
-        except ValueError:      # it is gone through step by step
+        except ValueError:      # it is parsed step by step
             yield f'{comma}{{"op": "{name}"'
             at = yield from form.pieces(line, found.end())
             yield end

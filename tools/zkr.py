@@ -340,7 +340,7 @@ class Words(argparse.ArgumentParser):
                           help="zkr2 has a time in each piece, and in its head these three:")
         self.add_number("--limit", LIMITS, help=f"the greatest payload of a frame ({USUAL_LIMIT})")
         self.add_number("--waiting", WAITINGS, help=f"how many requests may wait ({USUAL_WAITING})")
-        self.add_argument("--profile", choices=PROFILES, help="the release whose operations are spoken (3.4)")
+        self.add_argument("--profile", choices=PROFILES, help="the release whose operations are used (3.4)")
 
     def head_of(self, words):
         """The head that these arguments choose."""

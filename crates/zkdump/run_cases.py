@@ -6,22 +6,22 @@
 For each word given, the cases of the folder cases/WORD beside this file, and then the recordings of
 the folder captures/ at the top of the repository. The program is the script zkdump at the top, unless
 --program names another. It prints each case that differs and one last line. The exit status is 0 where
-none differs, 1 where one does, 2 where the words are not understood.
+none differs, 1 where one does, 2 for wrong arguments.
 
 A case NAME is the files
 
-    NAME.args    the program's words, one a line
+    NAME.args    the program's arguments, one a line
     NAME.in      its standard input         (no file: nothing)
     NAME.out     its standard output        (no file: nothing)
     NAME.err     its standard error         (no file: nothing)
     NAME.status  its exit status            (no file: 0)
 
-A recording is NAME.zkr, NAME.show is its listing, and NAME.show35, where it has one, that with --profile 3.5. For check the last line of the listing is
-expected; for show the whole of it; for build that the recording made of the listing's messages shows these
-lines again and, where the conversation is whole, that it has one piece for each message and the bytes of each
-side; for migrate that the recording that it makes shows the same listing under no options, and is itself again
-when it is migrated. The status of check and show is 0 where the listing ends in ". whole", else 1. With build, the listings of the cases of
-show are built and shown again, too.
+A recording is NAME.zkr, NAME.show is its listing, and NAME.show35, where it has one, the listing with --profile 3.5.
+check has to print the last line of the listing, and show all of it. build, given the listing, has to make a recording
+that shows the same messages; where the conversation is whole, it has one piece for each message and the bytes of each
+side. migrate has to make a recording that shows the same listing without options, and that it migrates to itself. The
+status of check and show is 0 where the listing ends in ". whole", else 1. With build, the listings of the cases of show
+are built and shown again, too.
 """
 
 import argparse
@@ -71,7 +71,7 @@ class Runner:
 
 
 def difference(wanted, found):
-    """The first of the three results that is another one, in words."""
+    """The first of the three results that differs, as a text."""
     if found is None:
         return "the program did not end in time"
     for what, want, got in zip(("standard output", "standard error", "status"), wanted, found):

@@ -116,7 +116,7 @@ class Run:
         self.watches = kept.Counted(Watch, MOST_WATCHES)
 
     def read(self, source, opener, chosen, tracing=None):
-        """Reads what is chosen of a source. `tracing` is given what happens, for a trace."""
+        """Reads what is chosen of a source. `tracing` gets the requests and events, for a trace."""
         readings = {}
 
         def reading(known):

@@ -35,7 +35,7 @@ class Slowest:
         self.most, self.heap, self.count = most, [], 0
 
     def put(self, request):
-        """Takes a request, and gives the one that is left out for it, or None."""
+        """Takes a request, and returns the one that is left out for it, or None."""
         self.count += 1
         entry = (request.ms or 0, -self.count, request)
         if len(self.heap) < self.most:

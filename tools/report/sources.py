@@ -28,7 +28,7 @@ class Source:
 
     `path` is None where nothing is recorded. Of a capture there are the ends of the connection, when it began and
     ended, and in `notes` the other words of pcap2zkr's line, each with its value, or with None. What follows a loss is
-    a part of its own: `first` is the part that the connection begins with.
+    a separate part: `first` is the part that the connection begins with.
     """
 
     def __init__(self, path, name, mark=b""):

@@ -15,7 +15,7 @@ OPTIONS = ("--headless=new", "--no-sandbox", "--disable-gpu", "--disable-dev-shm
 
 
 class Browser:
-    """A browser with a window. Its files are in a folder of its own; all is gone once it is closed."""
+    """A browser with a window. Its files are in a folder of its own, which is removed once it is closed."""
 
     def __init__(self):
         self.folder = tempfile.TemporaryDirectory()
@@ -33,7 +33,7 @@ class Browser:
         self.session = made["sessionId"]
 
     def call(self, method, path, body=None):
-        """Asks the driver, and gives what it answers."""
+        """Sends the driver a request, and returns the answer."""
         url = f"{self.base}/{self.session}{path}" if self.session else self.base
         data = None if body is None else json.dumps(body).encode()
         request = urllib.request.Request(url, data, {"Content-Type": "application/json"}, method=method)

@@ -91,7 +91,7 @@ class TroubleCase(ToolCase):
         self.stand_in.chmod(0o700)
 
     def begin(self, tool, *words, limits=(), out=None, program=None, python=()):
-        """Runs a tool under these limits; gives the port that it listens on, once it does."""
+        """Runs a tool under these limits; returns the port that it listens on, once it does."""
         words = [*words, *(["--zkdump", program or self.stand_in] if tool == "zkwatch.py" else [])]
         server = next((word for word in words if str(word).startswith("localhost:")), f"127.0.0.1:{self.echo.port}")
         words = [word for word in words if word != server]

@@ -20,7 +20,7 @@ import zkr  # noqa: E402  (found by the line above)
 
 
 class ToolCase(unittest.TestCase):
-    """A test with a temporary folder of its own, `folder`. It fails where it takes a minute."""
+    """A test with a temporary folder of its own, `folder`. It fails after a minute."""
 
     def setUp(self):
         signal.signal(signal.SIGALRM, self.took_too_long)

@@ -20,7 +20,7 @@ SECONDS = 20
 
 class BenchCase(ToolCase):
     def play(self, recording, *words):
-        """Begins to play this recording, given by its path or as pieces, and gives the address."""
+        """Begins to play this recording, given by its path or as pieces, and returns the address."""
         if isinstance(recording, list):
             path = self.folder / f"made-{len(list(self.folder.iterdir()))}.zkr"
             path.write_bytes(b"ZKR1" + b"".join(zkr.Head().piece(side, 0, data) for side, data in recording))

@@ -18,7 +18,7 @@ SECONDS = 20
 
 
 def serve(talk, host="127.0.0.1"):
-    """A server that has `talk(connection)` with each client, and then ends. Gives its socket."""
+    """A server that calls `talk(connection)` for each client, and then closes the connection. Returns its socket."""
     family = socket.AF_INET6 if ":" in host else socket.AF_INET
     listener = socket.create_server((host, 0), family=family, backlog=512)
 
@@ -39,7 +39,7 @@ def serve(talk, host="127.0.0.1"):
 
 
 def echo(connection):
-    """Echoes what it hears; at the end of that, says `end` and ends."""
+    """Echoes what it hears; at the client's end it says `end`."""
     while data := connection.recv(65536):
         connection.sendall(data)
     connection.sendall(b"end")
@@ -64,7 +64,7 @@ class RecordCase(ToolCase):
         return listener.getsockname()[1]
 
     def record(self, server, *words, listen="0"):
-        """Runs record.py before that server, and gives the port that it listens on."""
+        """Runs record.py in front of that server, and returns the port that it listens on."""
         server = server if isinstance(server, str) else f"127.0.0.1:{server}"
         self.tool = subprocess.Popen([sys.executable, TOOLS / "record.py", listen, server, self.prefix, *words],
                                      stdout=subprocess.PIPE, stderr=subprocess.PIPE, text=True)

@@ -14,7 +14,7 @@ SECONDS = 20
 
 class Zkplay(ToolCase):
     def play(self, recording, *words, address="0"):
-        """Begins to play, and gives the process and, where it listens, its address."""
+        """Begins to play, and returns the process and, where it listens, its address."""
         player = subprocess.Popen([sys.executable, TOOLS / "zkplay.py", *words, address, recording],
                                   stdout=subprocess.PIPE, stderr=subprocess.PIPE, text=True)
         self.addCleanup(player.wait)
