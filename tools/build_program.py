@@ -22,7 +22,7 @@ import threading
 import time
 
 PROGRAM = "zkdump"
-CHECK_MEMORY = 4 << 30      # the most memory of a check, and of each of its jobs
+CHECK_MEMORY = 4 << 30      # the most memory of a check, and the part of it that each of its jobs takes
 JOB_MEMORY = 3 << 29
 MOST_LANES = 4
 

@@ -33,7 +33,7 @@ class NoField(ValueError):
 
 
 def readable(value):
-    """A text as JSON, without control characters."""
+    """A text as JSON, without unprintable characters."""
     return (READABLE if value.isprintable() else ASCII)(value)
 
 

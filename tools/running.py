@@ -14,7 +14,7 @@ def allow_many_files():
 
 
 def shown(text):
-    """A text with an escape for each control character."""
+    """A text with an escape for each unprintable character."""
     return text if text.isprintable() else "".join(each if each.isprintable() else ascii(each)[1:-1] for each in text)
 
 

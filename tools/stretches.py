@@ -62,7 +62,7 @@ class Stretch:
             lane.popleft()
 
     def passes(self, side, xid):
-        """Whether a frame with this xid is certainly kept; it is then noted."""
+        """Whether a frame with this xid is certainly kept; if so, notes it."""
         if not self.anchored:
             return False
         lane = self.waiting.get(xid, self.ordinary)

@@ -1,4 +1,4 @@
-"""The tables that zkstat writes for a person, without control characters."""
+"""The tables that zkstat writes for a person, in printable characters."""
 
 import json
 import re

@@ -18,8 +18,8 @@ class Beginning:
         self.got, self.size, self.first = 0, None, b""
 
     def take(self, data, at):
-        """Takes bytes from place `at` on, to the frame's end at most, and returns the place after them. A frame whose
-        length no frame has doesn't end."""
+        """Takes bytes from place `at` on, to the frame's end at most, and returns the place after them. A frame with an
+        impossible length has no end."""
         if self.got < 4:
             part = data[at:at + 4 - self.got]
             self.first += part
@@ -76,7 +76,7 @@ class Times:
             self.damage = damage
 
     def refuse(self, n, side, lines):
-        """Raises why message `n` of the listing, which these lines follow, isn't the recording's next."""
+        """Raises a NoListing: why message `n` of the listing, which these lines follow, isn't the recording's next."""
         if side:
             raise listing.NoListing(f"line {n}: the recording has another message there")
         messages = n + sum(not line.startswith(".") for line in lines)

@@ -72,8 +72,8 @@ class Piece(NamedTuple):
 class Reader:
     """Reads a recording from a stream of bytes. `head` is its head; iterating gives its pieces one by one.
 
-    Where the recording is damaged, Damaged is raised after everything before it, the bytes of a piece that is cut short
-    included.
+    Where the recording is damaged, Damaged is raised once everything before the damage was yielded, including the bytes
+    of a piece that is cut short.
     """
 
     def __init__(self, stream):

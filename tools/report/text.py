@@ -1,4 +1,4 @@
-"""The tables of a report as text for a terminal: ASCII without control characters."""
+"""The tables of a report as text for a terminal, in printable ASCII."""
 
 import tables
 import zkr
@@ -59,5 +59,5 @@ def cell(kind, value):
 
 
 def printable(text):
-    """A text in ASCII, without control characters."""
+    """A text in printable ASCII."""
     return text if text.isascii() and text.isprintable() else ascii(text)[1:-1]
