@@ -1,5 +1,5 @@
 #!/usr/bin/env python3
-"""Proves and builds the program zkdump, and then runs it with these arguments: what ./zkdump calls.
+"""Proves and builds the program zkdump, and then runs it with these words: what ./zkdump calls.
 
     build_program.py FOLDER [WORD ..]
 
