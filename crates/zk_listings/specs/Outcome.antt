@@ -105,3 +105,7 @@ HasOneOutcome limits r = (messages others : List Message) (summary other : Summa
 -- what the one comes to the other comes to
 abbrev pub KeepsOutcome : Limits → Recording → Recording → Type 0
 KeepsOutcome limits r s = (messages : List Message) (summary : Summary) → IsOutcome limits r messages summary → IsOutcome limits s messages summary
+
+-- the recording comes to something
+abbrev pub ComesToSome : Limits → Recording → Type 0
+ComesToSome limits r = (messages : List Message) × (summary : Summary) × IsOutcome limits r messages summary

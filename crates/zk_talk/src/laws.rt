@@ -1,5 +1,6 @@
 //! What a history comes to is fixed, whatever is read of it.
-ghost use Rattle.std.specs.Prelude.{◌≡◌, ◌++◌};
+ghost use Rattle.std.specs.Prelude.{◌≡◌, ◌<◌, ◌⊎◌, ◌++◌};
+ghost use Rattle.std.specs.List.{AllByRecursion};
 ghost use Rattle.zk_talk.specs.declared.limits.Limits.{Limits};
 ghost use Rattle.zk_talk.specs.declared.message.Fault.{Fault};
 ghost use Rattle.zk_talk.specs.History.{History};
@@ -19,4 +20,6 @@ pub fn history_laws()
     ensures never_both { (limits : Limits) (h : History) (fault : Fault) → IsFaultOf limits h fault → IsGood limits h → ⊥ }
     // A fault stands whatever follows it.
     ensures decided { (limits : Limits) (h rest : History) (fault : Fault) → IsFaultOf limits h fault → IsFaultOf limits (h ++ rest) fault }
+    // A history of bytes is good or has a fault.
+    ensures decides { (limits : Limits) (h : History) → AllByRecursion (λ x. x.1 < 256) h → IsGood limits h ⊎ ((fault : Fault) × IsFaultOf limits h fault) }
 {}
