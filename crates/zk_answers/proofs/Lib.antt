@@ -20,3 +20,4 @@ pub mod Lying
 pub mod Passing
 pub mod Knowing
 mod Ends
+pub mod Deciding

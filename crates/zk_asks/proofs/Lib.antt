@@ -13,3 +13,5 @@ pub mod Openings
 pub mod Opened
 pub mod Flags
 mod Ends
+pub mod Choices
+pub mod Deciding

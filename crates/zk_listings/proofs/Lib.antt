@@ -10,3 +10,4 @@ pub mod Stopped
 pub mod Decided
 pub mod Lasting
 pub mod Tails
+pub mod Comings

@@ -105,3 +105,7 @@ HasOneOutcome limits r = (messages others : List Message) (summary other : Summa
 -- what holds of the one recording's messages and summary holds of the other's
 abbrev pub KeepsOutcome : Limits → Recording → Recording → Type 0
 KeepsOutcome limits r s = (messages : List Message) (summary : Summary) → IsOutcome limits r messages summary → IsOutcome limits s messages summary
+
+-- the recording comes to something
+abbrev pub ComesToSome : Limits → Recording → Type 0
+ComesToSome limits r = (messages : List Message) × (summary : Summary) × IsOutcome limits r messages summary

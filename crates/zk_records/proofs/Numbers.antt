@@ -10,7 +10,7 @@ use Rattle.zk_records.specs.declared.op.PartOp.TheVariants as parts
 use Rattle.zk_records.specs.declared.profile.Profile.TheVariants as profiles
 use Rattle.zk_records.specs.Codes.{op_number, HasOp, part_number}
 
-abbrev every_op : List Op
+abbrev pub every_op : List Op
 every_op =
     ops.Create ∷
     ops.Delete ∷

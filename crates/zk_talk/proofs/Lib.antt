@@ -40,3 +40,4 @@ pub mod Bodies
 pub mod Refusing
 pub mod Viewing
 pub mod Settling
+pub mod Deciding

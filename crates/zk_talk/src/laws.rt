@@ -1,13 +1,14 @@
-//! The laws of histories: a history has one conversation or one fault, whatever is read of it.
-ghost use Rattle.std.specs.Prelude.{◌≡◌, ◌++◌};
+//! The laws of histories: a history is good or has a fault, and one alone, whatever is read of it.
+ghost use Rattle.std.specs.Prelude.{◌≡◌, ◌<◌, ◌⊎◌, ◌++◌};
+ghost use Rattle.std.specs.List.{AllByRecursion};
 ghost use Rattle.zk_talk.specs.declared.limits.Limits.{Limits};
 ghost use Rattle.zk_talk.specs.declared.message.Fault.{Fault};
 ghost use Rattle.zk_talk.specs.History.{History};
 ghost use Rattle.zk_talk.specs.Good.{IsGood, Spelt, AreSpeltAlike, HasOneOrder};
 ghost use Rattle.zk_talk.specs.Fault.{IsFaultOf};
 
-/// A history has one conversation, one order of its messages and one fault at most, and never a conversation and a
-/// fault. The function does nothing.
+/// A history of bytes is good or has a fault, and never both; it has one conversation, one order of its messages and
+/// one fault at most. The function does nothing.
 pub fn history_laws()
     // It spells one conversation, with one beginning of a frame after each side's last whole frame.
     ensures conversation { (limits : Limits) (h : History) (a b : Spelt limits h) → AreSpeltAlike a b }
@@ -19,4 +20,6 @@ pub fn history_laws()
     ensures never_both { (limits : Limits) (h : History) (fault : Fault) → IsFaultOf limits h fault → IsGood limits h → ⊥ }
     // The fault stays, whatever follows it.
     ensures decided { (limits : Limits) (h rest : History) (fault : Fault) → IsFaultOf limits h fault → IsFaultOf limits (h ++ rest) fault }
+    // A history of bytes is good or has a fault.
+    ensures decides { (limits : Limits) (h : History) → AllByRecursion (λ x. x.1 < 256) h → IsGood limits h ⊎ ((fault : Fault) × IsFaultOf limits h fault) }
 {}

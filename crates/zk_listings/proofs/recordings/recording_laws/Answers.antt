@@ -2,6 +2,7 @@ use Rattle.zk_recordings.proofs.Any.{any}
 use Rattle.zk_listings.proofs.Lasting.{decided-more}
 use Rattle.zk_recordings.proofs.Once.{recorded, spells-once}
 use Rattle.zk_listings.proofs.Outcomes.{outcome-once}
+use Rattle.zk_listings.proofs.Comings.{some_outcome}
 use Rattle.zk_listings.proofs.recordings.recording_laws.Goals as goal
 
 pub returns-clause-any : goal.returns-clause-any
@@ -15,3 +16,6 @@ returns-clause-outcome c = λ limits r messages others summary other i j. outcom
 
 pub returns-clause-decided : goal.returns-clause-decided
 returns-clause-decided c = λ limits x more r s i j decided messages summary o. decided-more limits x more r s messages i j summary decided o
+
+pub returns-clause-comes : goal.returns-clause-comes
+returns-clause-comes c = some_outcome

@@ -1,3 +1,4 @@
+use Rattle.zk_talk.proofs.Deciding.{good_or_fault}
 use Rattle.zk_talk.proofs.FaultOnce.{fault_once}
 use Rattle.zk_talk.proofs.Headline.{same_good, fault_is_bad, fault_more}
 use Rattle.zk_talk.proofs.OrderOnce.{order_once}
@@ -20,3 +21,6 @@ returns-clause-never_both c = λ limits h fault is good. fault_is_bad limits h f
 
 pub returns-clause-decided : goal.returns-clause-decided
 returns-clause-decided c = λ limits h rest fault is. fault_more limits h rest fault is
+
+pub returns-clause-decides : goal.returns-clause-decides
+returns-clause-decides c = good_or_fault

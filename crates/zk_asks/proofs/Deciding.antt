@@ -1,0 +1,272 @@
+-- Every payload of a client has its form, or a fault.
+use Rattle.std.proofs.Common.{◌≡◌, ℕ, zero, suc, ◌+◌, ◌<◌, ◌≤◌, ◌⊎◌, inl, inr, List, [], ◌∷◌, ◌++◌, length, Option, Some, None, refl, sym, ap, subst, ◌∙◌, append_assoc, arith}
+use Rattle.std.specs.Prelude.{ℤ}
+use Rattle.std.specs.List.{flat_map}
+use Rattle.std.proofs.lemmas.List.{length-append}
+use Rattle.zk_jute.specs.declared.fault.Reason.{Reason}
+use Rattle.zk_jute.specs.declared.fault.Reason.TheVariants.{Trailing, UnknownOp, XidOp, BadPart}
+use Rattle.zk_jute.specs.Item.{Item, bytes_of, HaveBytes}
+use Rattle.zk_jute.specs.Layout.{IsValueOf}
+use Rattle.zk_jute.specs.Wired.{Wired}
+use Rattle.zk_jute.specs.Faults.{IsFault}
+use Rattle.zk_jute.specs.Flagged.{flag_items}
+use Rattle.zk_jute.proofs.Steps.{IsBytes}
+use Rattle.zk_jute.proofs.Layouts.{have_both, bytes_both, has_byte}
+use Rattle.zk_jute.proofs.Covers.{Covers}
+use Rattle.zk_jute.proofs.Deciding.{Starts, HasFault, layout_decided, left, whole_of, IsFlaggedWhole, flagged_decided}
+use Rattle.zk_records.specs.Records.{connect_request, request_header, multi_header, create_ask, delete_ask, watch_ask, set_data_ask, path_ask, set_acl_ask, auth_ask, set_watches_ask}
+use Rattle.zk_records.specs.declared.header.RequestHeader.{RequestHeader}
+use Rattle.zk_records.specs.declared.header.MultiHeader.{MultiHeader}
+use Rattle.zk_records.specs.declared.op.Op.{Op}
+use Rattle.zk_records.specs.declared.op.Op.TheVariants as ops
+use Rattle.zk_records.specs.declared.op.PartOp.{PartOp}
+use Rattle.zk_records.specs.declared.op.PartOp.TheVariants as parts
+use Rattle.zk_records.specs.declared.profile.Profile.{Profile}
+use Rattle.zk_records.specs.Codes.{op_number, HasOp}
+use Rattle.zk_records.proofs.Covered.{connect_request_covered, request_header_covered, multi_header_covered, create_ask_covered, delete_ask_covered, watch_ask_covered, set_data_ask_covered, path_ask_covered, set_acl_ask_covered, auth_ask_covered, set_watches_ask_covered, check_ask_covered}
+use Rattle.zk_asks.specs.Held.{Ask, Part, ClientFrame}
+use Rattle.zk_asks.specs.declared.frame.AskOf.TheVariants as ask
+use Rattle.zk_asks.specs.declared.frame.PartOf.TheVariants as part
+use Rattle.zk_asks.specs.declared.frame.ClientFrameOf.TheVariants as frame
+use Rattle.zk_asks.specs.Codes.{IsAllowed}
+use Rattle.zk_asks.specs.Parts.{part_layout, part_header, end_header, marked, op_of_part, record_of, part_items, multi_items}
+use Rattle.zk_asks.specs.Rows.{op_of_ask, body_items, body_of}
+use Rattle.zk_asks.specs.Forms.{header_items, IsAsk}
+use Rattle.zk_asks.specs.Faults.{IsFirstFault, IsMultiFault, in_mark, bad_mark, in_part, behind_part, IsBodyFault, IsAskFault, in_header, unknown_op, bad_xid, in_body, behind_body}
+use Rattle.zk_asks.specs.Frames.{frame_items, IsFirst, IsLater, IsOfProfile, IsSent, payload}
+use Rattle.zk_asks.proofs.Choices.{number_decided, allowed_decided, header_may}
+use Rattle.zk_asks.proofs.Later.{is_ask}
+
+pub flag_has : (flag : Option _) → HaveBytes (flag_items flag)
+flag_has None = tt
+flag_has (Some b) = (tt, tt)
+
+-- ---- the first payload
+
+abbrev pub FirstIs : List ℕ → Type 0
+FirstIs bytes = (f : ClientFrame) × IsFirst f × IsSent f × (payload f ≡ bytes)
+
+pub first_decided : (bytes : List ℕ) → IsBytes bytes → FirstIs bytes ⊎ HasFault IsFirstFault bytes
+first_decided bytes fits = elim (flagged_decided connect_request.layout bytes fits) [ inl w ↦ inl (found w) | inr f ↦ inr f ] where
+  found : IsFlaggedWhole connect_request.layout bytes → FirstIs bytes
+  found w =
+      let hello = connect_request_covered w.value w.is.0 in
+      let have = subst HaveBytes (sym hello.1) w.is.1 in (
+        frame.Connect hello.0 w.flag,
+        tt,
+        (tt, have_both (connect_request.items hello.0) (flag_items w.flag) have (flag_has w.flag)),
+        ap (λ (z : List Item). bytes_of (z ++ flag_items w.flag)) hello.1 ∙ sym w.whole,
+      )
+
+-- ---- bodies
+
+-- the bytes are those of a body of the operation, and then a rest
+pub record Asks (op : Op) (bytes : List ℕ) : Type 0 where
+  pub ask : Ask
+  pub is : op_of_ask ask ≡ op
+  pub rest : List ℕ
+  pub have : HaveBytes (body_items ask)
+  pub splits : bytes ≡ bytes_of (body_items ask) ++ rest
+
+held : {X : Type 0} (make : X → Ask) (w : Wired X) → Covers w → (op : Op) → ((x : X) → op_of_ask (make x) ≡ op) → ((x : X) → w.items x ≡ body_items (make x)) → (bytes : List ℕ) → IsBytes bytes → Asks op bytes ⊎ HasFault (IsFault (IsValueOf w.layout)) bytes
+held make w covers op is same bytes fits = elim (layout_decided w.layout bytes fits) [ inl s ↦ inl (found s) | inr f ↦ inr f ] where
+  found : Starts w.layout bytes → Asks op bytes
+  found s =
+      let x = covers s.items s.value.0 in
+      let items : s.items ≡ body_items (make x.0) = sym x.1 ∙ same x.0 in
+      record { ask = make x.0; is = is x.0; rest = s.rest; have = subst HaveBytes items s.value.1; splits = s.splits ∙ ap (λ (z : List Item). bytes_of z ++ s.rest) items }
+
+-- ---- the parts of a multi
+
+-- the bytes are those of parts and the end marker, and then a rest
+pub record AsksParts (bytes : List ℕ) : Type 0 where
+  pub parts : List Part
+  pub rest : List ℕ
+  pub have : HaveBytes (multi_items parts)
+  pub splits : bytes ≡ bytes_of (multi_items parts) ++ rest
+
+-- the items are those of a record of the part
+pub record IsOnePart (op : PartOp) (items : List Item) : Type 0 where
+  pub part : Part
+  pub is : op_of_part part ≡ op
+  pub same : record_of part ≡ items
+
+part_covered : (op : PartOp) (items : List Item) → IsValueOf (part_layout op) items → IsOnePart op items
+part_covered parts.Create items v = let x = create_ask_covered items v.0 in record { part = part.Create x.0; is = refl; same = x.1 }
+part_covered parts.Delete items v = let x = delete_ask_covered items v.0 in record { part = part.Delete x.0; is = refl; same = x.1 }
+part_covered parts.SetData items v = let x = set_data_ask_covered items v.0 in record { part = part.SetData x.0; is = refl; same = x.1 }
+part_covered parts.Check items v = let x = check_ask_covered items v.0 in record { part = part.Check x.0; is = refl; same = x.1 }
+
+module _ (n : ℕ) (again : (bytes : List ℕ) → length bytes < n → IsBytes bytes → AsksParts bytes ⊎ HasFault IsMultiFault bytes) (bytes : List ℕ) (short : length bytes < suc n) where
+  abbrev PartsDecided : Type 0
+  PartsDecided = AsksParts bytes ⊎ HasFault IsMultiFault bytes
+
+  module _ (s : Starts multi_header.layout bytes) (h : MultiHeader) (head : marked h ≡ s.items) where
+    have_head : HaveBytes (marked h)
+    have_head = subst HaveBytes (sym head) s.value.1
+
+    opens : bytes ≡ bytes_of (marked h) ++ s.rest
+    opens = s.splits ∙ ap (λ (z : List Item). bytes_of z ++ s.rest) (sym head)
+
+    long : 1 ≤ length (bytes_of (marked h))
+    long = has_byte multi_header.layout (marked h) multi_header.has_fields (multi_header.unfolds h)
+
+    ends : h ≡ end_header → PartsDecided
+    ends e = inl (record { parts = []; rest = s.rest; have = subst (λ (z : MultiHeader). HaveBytes (marked z)) e have_head; splits = opens ∙ ap (λ (z : MultiHeader). bytes_of (marked z) ++ s.rest) e })
+
+    module _ (op : PartOp) (is : h ≡ part_header op) where
+      opens_part : bytes ≡ bytes_of (marked (part_header op)) ++ s.rest
+      opens_part = opens ∙ ap (λ (z : MultiHeader). bytes_of (marked z) ++ s.rest) is
+
+      module _ (t : Starts (part_layout op) s.rest) where
+        opens_both : bytes ≡ bytes_of (marked (part_header op) ++ t.items) ++ t.rest
+        opens_both =
+            opens_part ∙ ap (λ (z : List ℕ). bytes_of (marked (part_header op)) ++ z) t.splits
+            ∙ sym (append_assoc (bytes_of (marked (part_header op))) (bytes_of t.items) t.rest)
+            ∙ ap (λ (z : List ℕ). z ++ t.rest) (sym (bytes_both (marked (part_header op)) t.items))
+
+        shorter : length t.rest < n
+        shorter = omega (arith, short, long, ap length opens, length-append (bytes_of (marked h)) s.rest, ap length t.splits, length-append (bytes_of t.items) t.rest)
+
+        more : AsksParts t.rest → PartsDecided
+        more m =
+            let p = part_covered op t.items t.value in
+            let own : part_items p.part ≡ marked (part_header op) ++ t.items = (λ i. marked (part_header (p.is i)) ++ p.same i) in
+            let all : multi_items (p.part ∷ m.parts) ≡ (marked (part_header op) ++ t.items) ++ multi_items m.parts =
+            append_assoc (part_items p.part) (flat_map part_items m.parts) (marked end_header) ∙ ap (λ (z : List Item). z ++ multi_items m.parts) own in
+            let have_own = have_both (marked (part_header op)) t.items (subst (λ (z : MultiHeader). HaveBytes (marked z)) is have_head) t.value.1 in
+            inl (record {
+              parts = p.part ∷ m.parts;
+              rest = m.rest;
+              have = subst HaveBytes (sym all) (have_both (marked (part_header op) ++ t.items) (multi_items m.parts) have_own m.have);
+              splits = opens_both ∙ ap (λ (z : List ℕ). bytes_of (marked (part_header op) ++ t.items) ++ z) m.splits
+                  ∙ sym (append_assoc (bytes_of (marked (part_header op) ++ t.items)) (bytes_of (multi_items m.parts)) m.rest)
+                  ∙ ap (λ (z : List ℕ). z ++ m.rest) (sym (bytes_both (marked (part_header op) ++ t.items) (multi_items m.parts)) ∙ ap bytes_of (sym all));
+            })
+
+        behind : PartsDecided
+        behind = elim (again t.rest shorter t.fits) [
+          | inl m ↦ more m
+          | inr f ↦ inr (length (bytes_of (marked (part_header op) ++ t.items)) + f.0, f.1, behind_part bytes t.rest op t.items f.0 f.1 t.value opens_both f.2)
+        ]
+
+      one_part : PartsDecided
+      one_part = elim (layout_decided (part_layout op) s.rest s.fits) [
+        | inl t ↦ behind t
+        | inr f ↦ inr (length (bytes_of (marked (part_header op))) + f.0, f.1, in_part bytes s.rest op f.0 f.1 opens_part f.2)
+      ]
+
+    headed : PartsDecided
+    headed = elim (header_may h) [
+      | inl m ↦ elim m [ inl p ↦ one_part p.0 p.1 | inr e ↦ ends e ]
+      | inr not ↦ inr (0, BadPart, bad_mark bytes s.rest h have_head opens not)
+    ]
+
+  parts_step : IsBytes bytes → PartsDecided
+  parts_step fits = elim (layout_decided multi_header.layout bytes fits) [
+    | inl s ↦ let h = multi_header_covered s.items s.value.0 in headed s h.0 h.1
+    | inr f ↦ inr (f.0, f.1, in_mark bytes f.0 f.1 f.2)
+  ]
+
+parts_decided : (n : ℕ) (bytes : List ℕ) → length bytes < n → IsBytes bytes → AsksParts bytes ⊎ HasFault IsMultiFault bytes
+parts_decided zero bytes short fits = absurd (omega (arith, short))
+parts_decided (suc n) bytes short fits = parts_step n (parts_decided n) bytes short fits
+
+multi_decided : (bytes : List ℕ) → IsBytes bytes → Asks ops.Multi bytes ⊎ HasFault IsMultiFault bytes
+multi_decided bytes fits = elim (parts_decided (suc (length bytes)) bytes (omega arith) fits) [
+  | inl m ↦ inl (record { ask = ask.Multi m.parts; is = refl; rest = m.rest; have = m.have; splits = m.splits })
+  | inr f ↦ inr f
+]
+
+nothing : (a : Ask) (op : Op) → op_of_ask a ≡ op → body_items a ≡ [] → (bytes : List ℕ) → Asks op bytes
+nothing a op is none bytes = record { ask = a; is = is; rest = bytes; have = subst HaveBytes (sym none) tt; splits = ap (λ (z : List Item). bytes_of z ++ bytes) (sym none) }
+
+body_decided : (op : Op) (bytes : List ℕ) → IsBytes bytes → Asks op bytes ⊎ HasFault (IsBodyFault op) bytes
+body_decided ops.Create bytes fits = held ask.Create create_ask create_ask_covered ops.Create (λ x. refl) (λ x. refl) bytes fits
+body_decided ops.Delete bytes fits = held ask.Delete delete_ask delete_ask_covered ops.Delete (λ x. refl) (λ x. refl) bytes fits
+body_decided ops.Exists bytes fits = held ask.Exists watch_ask watch_ask_covered ops.Exists (λ x. refl) (λ x. refl) bytes fits
+body_decided ops.GetData bytes fits = held ask.GetData watch_ask watch_ask_covered ops.GetData (λ x. refl) (λ x. refl) bytes fits
+body_decided ops.SetData bytes fits = held ask.SetData set_data_ask set_data_ask_covered ops.SetData (λ x. refl) (λ x. refl) bytes fits
+body_decided ops.GetAcl bytes fits = held ask.GetAcl path_ask path_ask_covered ops.GetAcl (λ x. refl) (λ x. refl) bytes fits
+body_decided ops.SetAcl bytes fits = held ask.SetAcl set_acl_ask set_acl_ask_covered ops.SetAcl (λ x. refl) (λ x. refl) bytes fits
+body_decided ops.GetChildren bytes fits = held ask.GetChildren watch_ask watch_ask_covered ops.GetChildren (λ x. refl) (λ x. refl) bytes fits
+body_decided ops.Sync bytes fits = held ask.Sync path_ask path_ask_covered ops.Sync (λ x. refl) (λ x. refl) bytes fits
+body_decided ops.Ping bytes fits = inl (nothing ask.Ping ops.Ping refl refl bytes)
+body_decided ops.GetChildren2 bytes fits = held ask.GetChildren2 watch_ask watch_ask_covered ops.GetChildren2 (λ x. refl) (λ x. refl) bytes fits
+body_decided ops.Multi bytes fits = multi_decided bytes fits
+body_decided ops.Create2 bytes fits = held ask.Create2 create_ask create_ask_covered ops.Create2 (λ x. refl) (λ x. refl) bytes fits
+body_decided ops.Auth bytes fits = held ask.Auth auth_ask auth_ask_covered ops.Auth (λ x. refl) (λ x. refl) bytes fits
+body_decided ops.SetWatches bytes fits = held ask.SetWatches set_watches_ask set_watches_ask_covered ops.SetWatches (λ x. refl) (λ x. refl) bytes fits
+body_decided ops.CloseSession bytes fits = inl (nothing ask.CloseSession ops.CloseSession refl refl bytes)
+
+-- ---- later payloads
+
+abbrev pub LaterIs : Profile → List ℕ → Type 0
+LaterIs profile bytes = (f : ClientFrame) × IsLater f × IsOfProfile profile f × IsSent f × (payload f ≡ bytes)
+
+module _ (profile : Profile) (bytes : List ℕ) (s : Starts request_header.layout bytes) (h : RequestHeader) (head : request_header.items h ≡ s.items) where
+  abbrev AskDecided : Type 0
+  AskDecided = LaterIs profile bytes ⊎ HasFault (IsAskFault profile) bytes
+
+  have_front : HaveBytes (header_items h.xid h.kind)
+  have_front = subst HaveBytes (sym head) s.value.1
+
+  opens_front : bytes ≡ bytes_of (header_items h.xid h.kind) ++ s.rest
+  opens_front = s.splits ∙ ap (λ (z : List Item). bytes_of z ++ s.rest) (sym head)
+
+  module _ (op : Op) (has : HasOp profile op) (is : h.kind ≡ op_number op) where
+    have_op : HaveBytes (header_items h.xid (op_number op))
+    have_op = subst (λ (z : ℤ). HaveBytes (header_items h.xid z)) is have_front
+
+    opens_op : bytes ≡ bytes_of (header_items h.xid (op_number op)) ++ s.rest
+    opens_op = opens_front ∙ ap (λ (z : ℤ). bytes_of (header_items h.xid z) ++ s.rest) is
+
+    module _ (allowed : IsAllowed h.xid op) (a : Asks op s.rest) where
+      abbrev made : ClientFrame
+      made = frame.Ask h.xid a.ask
+
+      have_made : HaveBytes (frame_items made)
+      have_made = have_both (header_items h.xid (op_number (op_of_ask a.ask))) (body_items a.ask) (subst (λ (o : Op). HaveBytes (header_items h.xid (op_number o))) (sym a.is) have_op) a.have
+
+      has_made : IsOfProfile profile made
+      has_made = subst (HasOp profile) (sym a.is) has
+
+      sent_made : IsSent made
+      sent_made = (subst (IsAllowed h.xid) (sym a.is) allowed, have_made)
+
+      opens_made : bytes ≡ bytes_of (frame_items made) ++ a.rest
+      opens_made =
+          let front = bytes_of (header_items h.xid (op_number (op_of_ask a.ask))) in
+          opens_op ∙ ap (λ (o : Op). bytes_of (header_items h.xid (op_number o)) ++ s.rest) (sym a.is)
+          ∙ ap (λ (z : List ℕ). front ++ z) a.splits
+          ∙ sym (append_assoc front (bytes_of (body_items a.ask)) a.rest)
+          ∙ ap (λ (z : List ℕ). z ++ a.rest) (sym (bytes_both (header_items h.xid (op_number (op_of_ask a.ask))) (body_items a.ask)))
+
+      finished : ((a.rest ≡ []) ⊎ (a.rest ≡ [] → ⊥)) → AskDecided
+      finished (inl none) = inl (made, tt, has_made, sent_made, sym (whole_of bytes a.rest (frame_items made) opens_made none))
+      finished (inr some) = inr (
+        length (bytes_of (frame_items made)),
+        Trailing,
+        behind_body bytes (length (bytes_of (frame_items made))) (record { whole = frame_items made; rest = a.rest; value = is_ask profile made tt has_made sent_made; splits = opens_made; some = some; at = refl }),
+      )
+
+    with_op : AskDecided
+    with_op = elim (allowed_decided h.xid op) [
+      | inl allowed ↦ elim (body_decided op s.rest s.fits) [
+        | inl a ↦ finished allowed a (left a.rest)
+        | inr f ↦ inr (8 + f.0, f.1, in_body bytes s.rest h.xid op f.0 f.1 have_op opens_op has allowed f.2)
+      ]
+      | inr not ↦ inr (4, XidOp, bad_xid bytes s.rest h.xid op have_op opens_op has not)
+    ]
+
+  with_header : AskDecided
+  with_header = elim (number_decided profile h.kind) [
+    | inl o ↦ with_op o.0 o.1 o.2
+    | inr none ↦ inr (4, UnknownOp, unknown_op bytes s.rest h.xid h.kind have_front opens_front none)
+  ]
+
+pub ask_decided : (profile : Profile) (bytes : List ℕ) → IsBytes bytes → LaterIs profile bytes ⊎ HasFault (IsAskFault profile) bytes
+ask_decided profile bytes fits = elim (layout_decided request_header.layout bytes fits) [
+  | inl s ↦ let h = request_header_covered s.items s.value.0 in with_header profile bytes s h.0 h.1
+  | inr f ↦ inr (f.0, f.1, in_header bytes f.0 f.1 f.2)
+]

@@ -1,0 +1,334 @@
+-- Every history of bytes is good or has a fault: byte after byte, by what a talk that has come so far does.
+use Rattle.std.proofs.Common.{◌≡◌, ℕ, zero, suc, ◌+◌, ◌<◌, ◌≤◌, ◌^◌, ◌⊎◌, inl, inr, List, [], ◌∷◌, ◌++◌, length, drop, Option, Some, None, refl, sym, ap, subst, ◌∙◌, append_assoc, arith}
+use Rattle.std.specs.Prelude.{◌≢◌, slice_get}
+use Rattle.std.specs.List.{AllByRecursion}
+use Rattle.std.proofs.lemmas.Bool.{cases_lt, cases_eq}
+use Rattle.std.proofs.lemmas.List.{append-nil}
+use Rattle.zk_jute.specs.declared.fault.ItemFault.{ItemFault}
+use Rattle.zk_jute.specs.declared.fault.Reason.{Reason}
+use Rattle.zk_jute.specs.declared.fault.Reason.TheVariants.{StreamEnd, LengthRange, QueueFull, Unasked, XidOrder}
+use Rattle.zk_jute.specs.Reading.{told_place}
+use Rattle.zk_jute.proofs.Steps.{IsBytes, IsBytes-drop}
+use Rattle.zk_records.specs.declared.profile.Profile.{Profile}
+use Rattle.zk_asks.specs.Held.{ClientFrame}
+use Rattle.zk_asks.specs.declared.frame.ClientFrameOf.TheVariants.{Connect, Ask}
+use Rattle.zk_asks.specs.Codes.{event_xid}
+use Rattle.zk_asks.specs.Frames.{IsFirst, IsLater, IsOfProfile, ops_of_ask}
+use Rattle.zk_asks.specs.Frames as asks
+use Rattle.zk_asks.specs.Rows.{op_of_ask}
+use Rattle.zk_asks.specs.Faults.{IsFirstFault, IsAskFault}
+use Rattle.zk_asks.proofs.Choices.{int_decided}
+use Rattle.zk_asks.proofs.Deciding.{first_decided, ask_decided, FirstIs, LaterIs}
+use Rattle.zk_answers.specs.Held.{ServerFrame}
+use Rattle.zk_answers.specs.declared.frame.ServerFrameOf.TheVariants.{Connected, Answered, Event}
+use Rattle.zk_answers.specs.Frames.{IsConnected, IsEvent}
+use Rattle.zk_answers.specs.Frames as answers
+use Rattle.zk_answers.proofs.Deciding.{connected_decided, head_decided, Heads, event_decided, reply_decided}
+use Rattle.zk_frames.specs.Framing.{IsBeginning, IsFrame, IsBadLength}
+use Rattle.zk_frames.proofs.Extending.{extended}
+use Rattle.zk_waiting.specs.declared.lane.Lane.{Lane}
+use Rattle.zk_waiting.specs.declared.lane.Lane.TheVariants as lanes
+use Rattle.zk_waiting.specs.Lane.{lane_of}
+use Rattle.zk_waiting.specs.Waiting.{Lanes, Request, queue_on, weight_of, IsPut, IsDropped}
+use Rattle.zk_talk.specs.declared.limits.Limits.{Limits}
+use Rattle.zk_talk.specs.declared.message.Side.{Side}
+use Rattle.zk_talk.specs.declared.message.Side.TheVariants.{Client, Server}
+use Rattle.zk_talk.specs.declared.message.Fault.{Fault}
+use Rattle.zk_talk.specs.declared.message.Ending.TheVariants as ending
+use Rattle.zk_talk.specs.declared.message.MessageOf.TheVariants.{Client as FromClient, Server as FromServer}
+use Rattle.zk_talk.specs.declared.stream.Advance.TheVariants.{Refused}
+use Rattle.zk_talk.specs.Held.{Message}
+use Rattle.zk_talk.specs.Payloads.{client_payload, server_payload}
+use Rattle.zk_talk.specs.History.{History, on}
+use Rattle.zk_talk.specs.Conversation.{weight}
+use Rattle.zk_talk.specs.Good.{IsGood}
+use Rattle.zk_talk.specs.Fault.{IsFaultOf, fault_of, side_limit}
+use Rattle.zk_talk.specs.Answer.{AreMessages}
+use Rattle.zk_talk.specs.Stands.{TalkState, Stands, Refuses, held_on, frames_on, size_on}
+use Rattle.zk_talk.specs.Judged.{IsInTurn, IsNextClient, IsNextServer, IsRemembered, IsForgotten, HasRoomFor}
+use Rattle.zk_talk.specs.Advance.IsStop.{too_many, out_of_range}
+use Rattle.zk_talk.proofs.Small.{small_limits}
+use Rattle.zk_talk.proofs.Start.{start_state, start}
+use Rattle.zk_talk.proofs.Talks.{grown, counted, refusing}
+use Rattle.zk_talk.proofs.Sides.{IsNextOn, TellsOn, goes_within, stopped, goes_whole, judged}
+use Rattle.zk_talk.proofs.Judging.{later_may, first_refused, ask_refused, full, too_early, connected_refused, connected_may, head_refused, event_refused, event_may, nothing_waits, wrong, reply_refused, reply_may, reply_due, due_waits, connected_due, event_due}
+use Rattle.zk_talk.proofs.Headline.{messages_more}
+
+abbrev pub AreBytes : History → Type 0
+AreBytes h = AllByRecursion (λ (x : Side × ℕ). x.1 < 256) h
+
+abbrev item_fault : ℕ → Reason → ItemFault
+item_fault place reason = record { place = told_place place; reason = reason }
+
+-- ---- the client's payloads
+
+pays_client : (f : ClientFrame) (p : List ℕ) → asks.payload f ≡ p → client_payload f ≡ p
+unfolding client_payload
+pays_client f p e = e
+
+pays_server : (s : ServerFrame) (p : List ℕ) → answers.payload s ≡ p → server_payload s ≡ p
+unfolding server_payload
+pays_server s p e = e
+
+first_waits : (f : ClientFrame) (w : Lanes) → IsFirst f → HasRoomFor f w × IsRemembered f w w
+first_waits (Connect hello flag) w first = (tt, refl)
+first_waits (Ask xid ask) w first = absurd first
+
+put : (lane : Lane) (r : Request) (w : Lanes) → (x : Lanes) × IsPut lane r w x × (x.max ≡ w.max)
+put lanes.Ping r w = (record w { ping = w.ping ++ r ∷ [] }, refl, refl)
+put lanes.Auth r w = (record w { auth = w.auth ++ r ∷ [] }, refl, refl)
+put lanes.Watches r w = (record w { watches = w.watches ++ r ∷ [] }, refl, refl)
+put lanes.Plain r w = (record w { plain = w.plain ++ r ∷ [] }, refl, refl)
+
+later_waits : (f : ClientFrame) (w : Lanes) → IsLater f → weight_of w + weight f ≤ w.max → HasRoomFor f w × (x : Lanes) × IsRemembered f w x × (x.max ≡ w.max)
+later_waits (Connect hello flag) w later room = absurd later
+later_waits (Ask xid ask) w later room = let x = put (lane_of xid) (record { xid = xid; op = op_of_ask ask; parts = ops_of_ask ask }) w in (room, x.0, (room, x.1), x.2)
+
+-- the next message of the side, and what waits then; or the fault
+abbrev NextDecided : Side → Profile → ℕ → ℕ → Lanes → List ℕ → Type 0
+NextDecided side profile asked count w p =
+    ((m : Message) × (x : Lanes) × IsNextOn side profile asked count w p m x × (x.max ≡ w.max)) ⊎ ((e : ItemFault) × TellsOn side profile asked count w p e)
+
+module _ (profile : Profile) (asked count : ℕ) (w : Lanes) (p : List ℕ) where
+  first_next : count ≡ 0 → FirstIs p → NextDecided Client profile asked count w p
+  first_next none f =
+      let k = first_waits f.0 w f.1 in
+      let next : IsNextClient profile count w p f.0 = record { turn = ((λ _. f.1), (λ some. absurd (some none))); sent = f.2; is = pays_client f.0 p f.3; room = k.0 } in
+      inl (FromClient f.0, w, (next, k.1), refl)
+
+  later_next : (count ≡ 0 → ⊥) → LaterIs profile p → NextDecided Client profile asked count w p
+  later_next some f = elim (cases_lt w.max (weight_of w + weight f.0)) [
+    | inl over ↦ inr (
+      item_fault 0 QueueFull,
+      λ limits m v waits same d.
+          let of = subst (λ (q : Profile). IsOfProfile q f.0) (sym same) f.2 in
+          (0, full count m w v d limits p f.0 (later_may count m w v d limits.profile f.0 some f.1 f.3 of) f.1 (pays_client f.0 p f.4) (omega (arith, over, waits)), refl),
+    )
+    | inr room ↦
+        let k = later_waits f.0 w f.1 room in
+        let next : IsNextClient profile count w p f.0 = record { turn = ((λ none. absurd (some none)), (λ _. (f.1, f.2))); sent = f.3; is = pays_client f.0 p f.4; room = k.0 } in
+        inl (FromClient f.0, k.1, (next, k.2), k.3)
+  ]
+
+  client_decided : IsBytes p → NextDecided Client profile asked count w p
+  client_decided fits = elim (cases_eq count 0) [
+    | inl none ↦ elim (first_decided p fits) [
+      | inl f ↦ first_next none f
+      | inr f ↦ inr (item_fault f.0 f.1, λ limits m v waits same d. (f.0, first_refused count m w v d limits p f.0 f.1 none f.2, refl))
+    ]
+    | inr some ↦ elim (ask_decided profile p fits) [
+      | inl f ↦ later_next some f
+      | inr f ↦ inr (item_fault f.0 f.1, λ limits m v waits same d. (f.0, ask_refused count m w v d limits p f.0 f.1 some (subst (λ (q : Profile). IsAskFault q p f.0 f.1) (sym same) f.2), refl))
+    ]
+  ]
+
+-- ---- the server's payloads
+
+drops : (lane : Lane) (w : Lanes) → (x : Lanes) × IsDropped lane w x × (x.max ≡ w.max)
+drops lanes.Ping w = (record w { ping = drop 1 w.ping }, refl, refl)
+drops lanes.Auth w = (record w { auth = drop 1 w.auth }, refl, refl)
+drops lanes.Watches w = (record w { watches = drop 1 w.watches }, refl, refl)
+drops lanes.Plain w = (record w { plain = drop 1 w.plain }, refl, refl)
+
+forgets : (s : ServerFrame) (w : Lanes) → (x : Lanes) × IsForgotten s w x × (x.max ≡ w.max)
+forgets (Connected hello flag) w = (w, refl, refl)
+forgets (Answered reply) w = drops (lane_of reply.xid) w
+forgets (Event zxid event) w = (w, refl, refl)
+
+module _ (profile : Profile) (asked count : ℕ) (w : Lanes) (p : List ℕ) where
+  server_next : (s : ServerFrame) → IsNextServer asked count w p s → NextDecided Server profile asked count w p
+  server_next s next = let x = forgets s w in inl (FromServer s, x.0, (next, x.1), x.2)
+
+  welcome_decided : IsBytes p → count ≡ 0 → NextDecided Server profile asked count w p
+  welcome_decided fits none = elim (cases_eq asked 0) [
+    | inl early ↦ inr (item_fault 0 Unasked, λ v d. (0, too_early asked count w v d p none early, refl))
+    | inr late ↦ elim (connected_decided p fits) [
+      | inl s ↦ server_next s.0 (record { due = due_waits w s.0 (connected_due w s.0 s.1); is = pays_server s.0 p s.3; may = λ v d. connected_may asked count w v d s.0 none late s.1 s.2 })
+      | inr f ↦ inr (item_fault f.0 f.1, λ v d. (f.0, connected_refused asked count w v d p f.0 f.1 none late f.2, refl))
+    ]
+  ]
+
+  module _ (some : count ≡ 0 → ⊥) (k : Heads p) where
+    told_event : k.header.xid ≡ event_xid → NextDecided Server profile asked count w p
+    told_event x = elim (event_decided p k x) [
+      | inl s ↦ server_next s.0 (record { due = due_waits w s.0 (event_due w s.0 s.1); is = pays_server s.0 p s.3; may = λ v d. event_may asked count w v d s.0 some s.1 s.2 })
+      | inr f ↦ inr (item_fault f.0 f.1, λ v d. (f.0, event_refused asked count w v d p f.0 f.1 k.header k.rest some k.is x f.2, refl))
+    ]
+
+    answered_by : k.header.xid ≢ event_xid → (r : Request) → slice_get (queue_on (lane_of k.header.xid) w) 0 ≡ Some r → r.xid ≡ k.header.xid → NextDecided Server profile asked count w p
+    answered_by x r oldest same = elim (reply_decided r.op r.parts p k x) [
+      | inl q ↦
+          let s = Answered q.reply in
+          let pay = pays_server s p q.is in
+          server_next s (record {
+            due = due_waits w s (reply_due w p k.header k.rest r s k.is oldest q.fits q.sent pay);
+            is = pay;
+            may = λ v d. reply_may asked count w v d p k.header k.rest r s some k.is oldest same q.fits q.sent pay;
+          })
+      | inr f ↦ inr (item_fault f.0 f.1, λ v d. (f.0, reply_refused asked count w v d p f.0 f.1 k.header k.rest r some k.is x oldest same f.2, refl))
+    ]
+
+    told_reply : k.header.xid ≢ event_xid → (o : Option Request) → slice_get (queue_on (lane_of k.header.xid) w) 0 ≡ o → NextDecided Server profile asked count w p
+    told_reply x None oldest = inr (item_fault 0 Unasked, λ v d. (0, nothing_waits asked count w v d p k.header k.rest some k.is x oldest, refl))
+    told_reply x (Some r) oldest = elim (int_decided r.xid k.header.xid) [
+      | inl same ↦ answered_by x r oldest same
+      | inr other ↦ inr (item_fault 0 (XidOrder r.xid k.header.xid), λ v d. (0, wrong asked count w v d p k.header k.rest r some k.is x oldest other, refl))
+    ]
+
+    told_later : NextDecided Server profile asked count w p
+    told_later = elim (int_decided k.header.xid event_xid) [
+      | inl x ↦ told_event x
+      | inr x ↦ told_reply x (slice_get (queue_on (lane_of k.header.xid) w) 0) refl
+    ]
+
+  server_decided : IsBytes p → NextDecided Server profile asked count w p
+  server_decided fits = elim (cases_eq count 0) [
+    | inl none ↦ welcome_decided fits none
+    | inr some ↦ elim (head_decided p fits) [
+      | inl k ↦ told_later some k
+      | inr f ↦ inr (item_fault f.0 f.1, λ v d. (f.0, head_refused asked count w v d p f.0 f.1 some f.2, refl))
+    ]
+  ]
+
+next_decided : (side : Side) (profile : Profile) (asked count : ℕ) (w : Lanes) (p : List ℕ) → IsBytes p → NextDecided side profile asked count w p
+next_decided Client = client_decided
+next_decided Server = server_decided
+
+-- ---- one byte more
+
+-- a talk has come through the history
+pub record Reached (limits : Limits) (h : History) : Type 0 where
+  pub talk : TalkState
+  pub messages : List Message
+  pub is : talk.limits ≡ limits
+  pub max : talk.waiting.max ≡ talk.limits.waiting
+  pub client : IsBytes talk.client_held
+  pub server : IsBytes talk.server_held
+  pub stands : Stands talk h messages
+
+-- the history has come to a fault, behind these messages
+abbrev pub IsStopped : Limits → History → Type 0
+IsStopped limits h = (fault : Fault) × (messages : List Message) × AreMessages limits h messages (ending.Refused fault)
+
+abbrev pub Outcome : Limits → History → Type 0
+Outcome limits h = Reached limits h ⊎ IsStopped limits h
+
+no_bytes : IsBytes []
+no_bytes i = omega arith
+
+one_byte : (b : ℕ) → b < 256 → IsBytes (b ∷ [])
+one_byte b small zero = small
+one_byte b small (suc i) = omega arith
+
+both_bytes : (xs ys : List ℕ) → IsBytes xs → IsBytes ys → IsBytes (xs ++ ys)
+both_bytes [] ys p q i = q i
+both_bytes (x ∷ xs) ys p q zero = p zero
+both_bytes (x ∷ xs) ys p q (suc i) = both_bytes xs ys (λ j. p (suc j)) q i
+
+stopped_by : (side : Side) (t : TalkState) (held : List ℕ) (f : Fault) (h : History) (M : List Message) → Refuses (refusing side t held f) h M f → IsStopped t.limits h
+stopped_by Client t held f h M x = (f, M, (x.is, x.order))
+stopped_by Server t held f h M x = (f, M, (x.is, x.order))
+
+module _ (h : History) (r : TalkState) (M : List Message) (max : r.waiting.max ≡ r.limits.waiting) (client : IsBytes r.client_held) (server : IsBytes r.server_held) (st : Stands r h M) where
+  reach : (side : Side) (held kept : List ℕ) (count size : ℕ) (x : Lanes) → x.max ≡ r.waiting.max → IsBytes held → (t : TalkState) → (o : Option _) → t ≡ counted side r kept size x o → (n : History) (N : List Message) → held ≡ [] → Stands t n N → Reached r.limits n
+  reach Client held kept count size x same bytes t o e n N none s = record {
+    talk = t;
+    messages = N;
+    is = ap (λ (z : TalkState). z.limits) e;
+    max = ap (λ (z : TalkState). z.waiting.max) e ∙ same ∙ max ∙ sym (ap (λ (z : TalkState). z.limits.waiting) e);
+    client = subst IsBytes (sym (ap (λ (z : TalkState). z.client_held) e)) no_bytes;
+    server = subst IsBytes (sym (ap (λ (z : TalkState). z.server_held) e)) server;
+    stands = s;
+  }
+  reach Server held kept count size x same bytes t o e n N none s = record {
+    talk = t;
+    messages = N;
+    is = ap (λ (z : TalkState). z.limits) e;
+    max = ap (λ (z : TalkState). z.waiting.max) e ∙ same ∙ max ∙ sym (ap (λ (z : TalkState). z.limits.waiting) e);
+    client = subst IsBytes (sym (ap (λ (z : TalkState). z.client_held) e)) client;
+    server = subst IsBytes (sym (ap (λ (z : TalkState). z.server_held) e)) no_bytes;
+    stands = s;
+  }
+
+  grows : (side : Side) (held : List ℕ) (size : ℕ) → IsBytes held → (n : History) (N : List Message) → Stands (grown side r held size) n N → Reached r.limits n
+  grows Client held size bytes n N s = record { talk = grown Client r held size; messages = N; is = refl; max = max; client = bytes; server = server; stands = s }
+  grows Server held size bytes n N s = record { talk = grown Server r held size; messages = N; is = refl; max = max; client = client; server = bytes; stands = s }
+
+  bytes_on : (side : Side) → IsBytes (held_on side r)
+  bytes_on Client = client
+  bytes_on Server = server
+
+  begins : (side : Side) → IsBeginning (side_limit r.limits side) (held_on side r)
+  begins Client = st.good.whole.client_cut.beginning
+  begins Server = st.good.whole.server_cut.beginning
+
+  sized : (side : Side) → size_on side r < 2 ^ 62
+  sized Client = omega (arith, st.client_size, st.good.client_size)
+  sized Server = omega (arith, st.server_size, st.good.server_size)
+
+  small : (side : Side) → side_limit r.limits side < 2 ^ 31
+  small Client = (small_limits r.limits).0
+  small Server = (small_limits r.limits).1
+
+  module _ (side : Side) (b : ℕ) (fits : b < 256) where
+    abbrev piece : List ℕ
+    piece = b ∷ []
+
+    abbrev now : List ℕ
+    now = held_on side r ++ piece
+
+    now_bytes : IsBytes now
+    now_bytes = both_bytes (held_on side r) piece (bytes_on side) (one_byte b fits)
+
+    ends_here : size_on side r + 1 ≡ 2 ^ 62 → Outcome r.limits (h ++ on side piece)
+    ends_here last =
+        let begin = subst (IsBeginning (side_limit r.limits side)) (sym (append-nil (held_on side r))) (begins side) in
+        let stop = stopped side r piece [] 1 StreamEnd (too_many 0 refl (omega arith) (omega (arith, last)) begin refl, omega arith) h M st in
+        inr (stopped_by side r [] (fault_of side (frames_on side r) (size_on side r + 1) 0 StreamEnd) (h ++ on side piece) M stop)
+
+    bad_length : size_on side r + 1 < 2 ^ 62 → length (held_on side r) < 4 → IsBadLength (side_limit r.limits side) now → Outcome r.limits (h ++ on side piece)
+    bad_length room few bad =
+        let stop = stopped side r piece [] 1 LengthRange (out_of_range (omega arith) (omega arith) room few bad refl, omega arith) h M st in
+        inr (stopped_by side r [] (fault_of side (frames_on side r) (size_on side r + 1) 0 LengthRange) (h ++ on side piece) M stop)
+
+    still_begins : size_on side r + 1 < 2 ^ 62 → IsBeginning (side_limit r.limits side) now → Outcome r.limits (h ++ on side piece)
+    still_begins room begin = inl (grows side now (size_on side r + 1) now_bytes (h ++ on side piece) (M ++ []) (goes_within side r piece now 1 refl (refl, begin, room) h M st))
+
+    is_whole : size_on side r + 1 < 2 ^ 62 → IsFrame (side_limit r.limits side) now → Outcome r.limits (h ++ on side piece)
+    is_whole room whole = elim (next_decided side r.limits.profile r.client_frames (frames_on side r) r.waiting (drop 4 now) (IsBytes-drop 4 now now_bytes)) [
+      | inl n ↦ inl (reach side [] [] 0 (size_on side r + 1) n.1 n.3 no_bytes (counted side r [] (size_on side r + 1) n.1 r.answered) r.answered refl (h ++ on side piece) (M ++ n.0 ∷ []) refl
+          (goes_whole side r piece now [] r.answered 1 n.0 n.1 (omega arith, omega arith, room, refl, whole) max n.2 h M st))
+      | inr e ↦
+          let stop = judged side r piece now 1 e.0 (omega arith, omega arith, room, refl, whole) max e.1 h M st in
+          inr (stopped_by side r now (fault_of side (frames_on side r) (size_on side r + 1) e.0.place e.0.reason) (h ++ on side piece) M stop)
+    ]
+
+    one_byte_more : Outcome r.limits (h ++ on side piece)
+    one_byte_more = elim (cases_lt (size_on side r + 1) (2 ^ 62)) [
+      | inl room ↦ elim (extended (side_limit r.limits side) (held_on side r) b (small side) now_bytes (begins side)) [
+        | inl begin ↦ still_begins room begin
+        | inr more ↦ elim more [ inl whole ↦ is_whole room whole | inr bad ↦ bad_length room bad.0 bad.1 ]
+      ]
+      | inr over ↦ ends_here (omega (arith, over, sized side))
+    ]
+
+step : (limits : Limits) (h : History) → Reached limits h → (x : Side × ℕ) → x.1 < 256 → Outcome limits (h ++ x ∷ [])
+step limits h r x fits = subst (λ (l : Limits). Outcome l (h ++ x ∷ [])) r.is (one_byte_more h r.talk r.messages r.max r.client r.server r.stands x.0 x.1 fits)
+
+all_decided : (limits : Limits) (rest before : History) → Reached limits before → AreBytes rest → Outcome limits (before ++ rest)
+all_decided limits [] before r bytes = inl (subst (Reached limits) (sym (append-nil before)) r)
+all_decided limits (x ∷ rest) before r bytes =
+    let same = append_assoc before (x ∷ []) rest in
+    elim (step limits before r x bytes.0) [
+      | inl k ↦ subst (Outcome limits) same (all_decided limits rest (before ++ x ∷ []) k bytes.1)
+      | inr f ↦ inr (f.0, f.1, subst (λ (z : History). AreMessages limits z f.1 (ending.Refused f.0)) same (messages_more limits (before ++ x ∷ []) rest f.1 f.0 f.2))
+    ]
+
+pub history_decided : (limits : Limits) (h : History) → AreBytes h → Outcome limits h
+history_decided limits h bytes = all_decided limits h [] (record { talk = start_state limits; messages = []; is = refl; max = refl; client = no_bytes; server = no_bytes; stands = start limits }) bytes
+
+pub good_or_fault : (limits : Limits) (h : History) → AreBytes h → IsGood limits h ⊎ ((fault : Fault) × IsFaultOf limits h fault)
+good_or_fault limits h bytes = elim (history_decided limits h bytes) [
+  | inl r ↦ inl (subst (λ (l : Limits). IsGood l h) r.is (r.stands.conversation, r.talk.client_held, r.talk.server_held, r.stands.good))
+  | inr f ↦ inr (f.0, f.2.0)
+]
