@@ -16,18 +16,28 @@ pub(crate) struct MemorySource<'a> {
 }
 
 impl<'a> MemorySource<'a> {
-    pub(crate) fn new(bytes: &'a [u8]) -> Self
+    /// Gives at most so many bytes a call, and fails at one, the first being 1.
+    fn of(bytes: &'a [u8], step: usize, fails_at: u64) -> Self
+        requires { 0 < step }
         ensures remaining { ⟦<MemorySource<'a> as Source>⟧.remaining result ≡ Some bytes.now }
         ensures count { ⟦<MemorySource<'a> as Source>⟧.read_count result ≡ 0 }
         ensures live { ⟦<MemorySource<'a> as Source>⟧.has_failed result ≡ false }
     {
         MemorySource {
             rest: bytes,
-            step: usize::MAX,
-            fails_at: 0,
+            step,
+            fails_at,
             reads: 0,
             failed: false,
         }
+    }
+
+    pub(crate) fn new(bytes: &'a [u8]) -> Self
+        ensures remaining { ⟦<MemorySource<'a> as Source>⟧.remaining result ≡ Some bytes.now }
+        ensures count { ⟦<MemorySource<'a> as Source>⟧.read_count result ≡ 0 }
+        ensures live { ⟦<MemorySource<'a> as Source>⟧.has_failed result ≡ false }
+    {
+        MemorySource::of(bytes, usize::MAX, 0)
     }
 
     /// Gives at most `step` bytes a call.
@@ -36,27 +46,15 @@ impl<'a> MemorySource<'a> {
         ensures count { ⟦<MemorySource<'a> as Source>⟧.read_count result ≡ 0 }
         ensures live { ⟦<MemorySource<'a> as Source>⟧.has_failed result ≡ false }
     {
-        MemorySource {
-            rest: bytes,
-            step,
-            fails_at: 0,
-            reads: 0,
-            failed: false,
-        }
+        MemorySource::of(bytes, step, 0)
     }
 
-    /// Fails at a call, the first being 1.
+    /// Gives a byte a call, and fails at one, the first being 1.
     pub(crate) fn failing_at(bytes: &'a [u8], call: u64) -> Self
         ensures count { ⟦<MemorySource<'a> as Source>⟧.read_count result ≡ 0 }
         ensures live { ⟦<MemorySource<'a> as Source>⟧.has_failed result ≡ false }
     {
-        MemorySource {
-            rest: bytes,
-            step: 1,
-            fails_at: call,
-            reads: 0,
-            failed: false,
-        }
+        MemorySource::of(bytes, 1, call)
     }
 }
 

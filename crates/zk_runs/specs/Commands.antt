@@ -1,5 +1,5 @@
 -- What each command has read and written when it returns.
-use Rattle.std.specs.Prelude.{◌≡◌, ◌≤◌, ◌<◌, ℕ, Bool, true, false, List, Option}
+use Rattle.std.specs.Prelude.{◌≡◌, ◌≤◌, ◌<◌, ◌⊎◌, ℕ, Bool, true, false, List, Option}
 use Rattle.zk_talk.specs.declared.limits.Limits.{Limits}
 use Rattle.zk_talk.specs.Ranges.{AreLimits}
 use Rattle.zk_runs.specs.declared.built.Built.{Built}
@@ -55,3 +55,8 @@ IsDoneBySome unread unread_now contents contents_now exit = (s : Settings) × Is
 
 abbrev pub IsFailedBySome : Option (List ℕ) → Option (List ℕ) → Option (List ℕ) → Option (List ℕ) → Type 0
 IsFailedBySome unread unread_now contents contents_now = (s : Settings) × IsInRange s × IsFailed s unread unread_now contents contents_now
+
+-- want of memory for the words, which leaves everything unread and unwritten, or some settings in range that failed
+abbrev pub HasStoppedBySome : {X Y : Type 0} → (X → Option (List ℕ)) → X → X → (Y → Option (List ℕ)) → Y → Y → Type 0
+HasStoppedBySome remaining reader reader_now contents writer writer_now =
+    ((reader_now ≡ reader) × (writer_now ≡ writer)) ⊎ IsFailedBySome (remaining reader) (remaining reader_now) (contents writer) (contents writer_now)

@@ -1,6 +1,6 @@
 //! `run_words`: the whole program, over a reader and two writers.
-ghost use Rattle.std.specs.Prelude.{◌≡◌, ◌+◌, ◌^◌, ◌<◌, ◌≤◌, ◌⊎◌, false, IfOk, IfErr, OnErr};
-ghost use Rattle.zk_runs.specs.Commands.{IsDone, IsFailed, Answers, Stops, IsDoneBySome, IsFailedBySome};
+ghost use Rattle.std.specs.Prelude.{◌≡◌, ◌+◌, ◌^◌, ◌<◌, ◌≤◌, false, IfOk, IfErr, OnErr};
+ghost use Rattle.zk_runs.specs.Commands.{IsDone, IsFailed, Answers, Stops, IsDoneBySome, HasStoppedBySome};
 ghost use Rattle.zk_runs.specs.Exits.{exit_of, exit_of_built, exit_of_migrated, refusal_of};
 
 use crate::build::build_run;
@@ -182,7 +182,7 @@ pub fn run_words<R: Source, W: Sink, F: Sink>(
     ensures refused { result ≡ 2 → (reader.new ≡ reader.old) × (writer.new ≡ writer.old) }
 
     // Nor if memory for the words is refused; every other failure comes after a front of what the command writes.
-    ensures stopped { result ≡ 3 → ((reader.new ≡ reader.old) × (writer.new ≡ writer.old)) ⊎ IsFailedBySome (R.remaining reader.old) (R.remaining reader.new) (W.contents writer.old) (W.contents writer.new) }
+    ensures stopped { result ≡ 3 → HasStoppedBySome R.remaining reader.old reader.new W.contents writer.old writer.new }
 
     // A failed read or write is never passed over, and no run reads more often than that.
     ensures alive { result < 2 → R.has_failed reader.new ≡ false }

@@ -20,19 +20,19 @@ const USUAL_WAITING: u32 = 65_536;
 /// The profile, unless an option says otherwise.
 const USUAL_PROFILE: &str = "3.4";
 
+/// An option whose value is a number.
+fn number<'a>(alloc: Global, name: &'static str) -> Arg<'a> {
+    Arg::new(alloc, name)
+        .long(name)
+        .value_parser(value_parser!(u32))
+}
+
 /// A subcommand with its options.
 fn subcommand<'a>(alloc: Global, name: &'static str) -> Result<clap::Command<'a>, AllocError> {
-    let limit = Arg::new(alloc, "limit")
-        .long("limit")
-        .value_parser(value_parser!(u32));
-    let waiting = Arg::new(alloc, "waiting")
-        .long("waiting")
-        .value_parser(value_parser!(u32));
-    let profile = Arg::new(alloc, "profile").long("profile");
     clap::Command::new(alloc, name)
-        .arg(limit)?
-        .arg(waiting)?
-        .arg(profile)
+        .arg(number(alloc, "limit"))?
+        .arg(number(alloc, "waiting"))?
+        .arg(Arg::new(alloc, "profile").long("profile"))
 }
 
 /// The subcommand `check`, which has one option of its own.
