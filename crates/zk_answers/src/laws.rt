@@ -1,4 +1,4 @@
-//! What the layer above rests on: a payload has one frame or one fault.
+//! The laws of server payloads, as contracts of functions that do nothing: a payload has one frame or one fault.
 ghost use Rattle.std.specs.Prelude.{◌≡◌, ℕ, ℤ, List};
 ghost use Rattle.zk_jute.specs.Flagged.{IsFlaggedOpeningFault};
 ghost use Rattle.zk_records.specs.Records.{connect_response};
@@ -45,7 +45,7 @@ pub fn event_laws()
     ensures unique { HaveOneFault IsEventFault }
 {}
 
-/// The laws of replies, given what the request leaves for them.
+/// The laws of replies to a request of one operation and its parts.
 pub fn reply_laws()
     // A payload begins with the reply's header, whatever the request.
     ensures head { (r : Reply) → IsSent (frame.Answered r) → (rest : List ℕ) × IsHead (payload (frame.Answered r)) (header_of r) rest }

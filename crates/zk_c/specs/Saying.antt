@@ -39,7 +39,7 @@ say_answer status length column = record { status = status; length = length; col
 abbrev pub silent : VoiceState → VoiceState
 silent v = record v { frame = [] }
 
--- why the message isn't said: memory is wanted, which it is alone for one that may come next; or the case that refuses what may not be said
+-- why the message isn't said: memory was refused, for one that may come next; or the case that refuses what may not be said
 pub record IsRefusal (s : SpeakerState) (m : Message) (e : SayFault) : Type 0 where
   pub err : (e ≡ NoMemory) ⊎ ((before : List Message) → Says s before → IsSayFault s.limits before m e)
   pub lacks : e ≡ NoMemory → (before : List Message) → Says s before → MayStand s.limits before m

@@ -2,6 +2,8 @@
 use Rattle.std.specs.Prelude.{ℕ, ℤ, List, [], ◌∷◌, ◌++◌, Option, Some, Bool, codes}
 use Rattle.std.specs.Fmt.{signed_decimal}
 use Rattle.zk_records.specs.Held.{ConnectResponse, WatcherEvent, DataBody, AclBody, CreateBody, ChildrenBody}
+use Rattle.zk_records.specs.declared.connect.ConnectResponseOf.{ConnectResponseOf}
+use Rattle.zk_records.specs.declared.event.WatcherEventOf.{WatcherEventOf}
 use Rattle.zk_records.specs.declared.stat.Stat.{Stat}
 use Rattle.zk_records.specs.declared.op.Op.{Op}
 use Rattle.zk_records.specs.declared.op.Op.TheVariants as ops
@@ -29,15 +31,21 @@ use Rattle.zk_lines.specs.Asks.{op_named}
 
 -- ---- records
 
-abbrev pub connected : Form (ConnectResponse × Option Bool)
-connected = fields (field words.Version int and field words.Timeout int and field words.Session long and field words.Passwd blob and field words.ReadOnly ro)
+abbrev pub connected_of : {B : Type 0} → Form B → Form (ConnectResponseOf B × Option Bool)
+connected_of b = fields (field words.Version int and field words.Timeout int and field words.Session long and field words.Passwd b and field words.ReadOnly ro)
     (λ (hello, read_only). (hello.protocol_version, (hello.time_out, (hello.session_id, (hello.passwd, read_only)))))
     (λ (version, (time_out, (session, (passwd, read_only)))). (record { protocol_version = version; time_out = time_out; session_id = session; passwd = passwd }, read_only))
 
+abbrev pub connected : Form (ConnectResponse × Option Bool)
+connected = connected_of blob
+
 -- the zxid and the event
-abbrev pub event : Form (ℤ × WatcherEvent)
-event = fields (field words.Zxid long and field words.Kind event_code and field words.State int and field words.Path text)
+abbrev pub event_of : {T : Type 0} → Form T → Form (ℤ × WatcherEventOf T)
+event_of t = fields (field words.Zxid long and field words.Kind event_code and field words.State int and field words.Path t)
     (λ (zxid, e). (zxid, (e.kind, (e.state, e.path)))) (λ (zxid, (kind, (state, path))). (zxid, record { kind = kind; state = state; path = path }))
+
+abbrev pub event : Form (ℤ × WatcherEvent)
+event = event_of text
 
 -- a field, and the Stat after it
 abbrev pub with_stat_at : {X : Type 0} → Word → (List ℕ → Read X) → List ℕ → Read (X × Stat)

@@ -1,6 +1,16 @@
 -- The lines of what a client sends.
 use Rattle.std.specs.Prelude.{ℕ, ℤ, List, [], ◌∷◌, Option, Bool}
 use Rattle.zk_records.specs.Held.{ConnectRequest, CreateAsk, DeleteAsk, SetDataAsk, SetAclAsk, CheckAsk, WatchAsk, PathAsk, AuthAsk, SetWatchesAsk}
+use Rattle.zk_records.specs.declared.connect.ConnectRequestOf.{ConnectRequestOf}
+use Rattle.zk_records.specs.declared.ask.CreateAskOf.{CreateAskOf}
+use Rattle.zk_records.specs.declared.ask.DeleteAskOf.{DeleteAskOf}
+use Rattle.zk_records.specs.declared.ask.SetDataAskOf.{SetDataAskOf}
+use Rattle.zk_records.specs.declared.ask.SetAclAskOf.{SetAclAskOf}
+use Rattle.zk_records.specs.declared.ask.CheckAskOf.{CheckAskOf}
+use Rattle.zk_records.specs.declared.query.WatchAskOf.{WatchAskOf}
+use Rattle.zk_records.specs.declared.query.PathAskOf.{PathAskOf}
+use Rattle.zk_records.specs.declared.session.AuthAskOf.{AuthAskOf}
+use Rattle.zk_records.specs.declared.session.SetWatchesAskOf.{SetWatchesAskOf}
 use Rattle.zk_records.specs.declared.op.Op.{Op}
 use Rattle.zk_records.specs.declared.op.Op.TheVariants as ops
 use Rattle.zk_records.specs.declared.op.PartOp.{PartOp}
@@ -21,45 +31,77 @@ use Rattle.zk_lines.specs.Records.{acl}
 use Rattle.zk_lines.specs.Named.{first_named, named}
 use Rattle.zk_lines.specs.Rows.{Row, holds, nothing, Content, remake, Written, written, bodies_of}
 
--- ---- records
+-- ---- records, owned or borrowed
 
-abbrev pub connect : Form (ConnectRequest × Option Bool)
-connect = fields (field words.Version int and field words.Zxid long and field words.Timeout int and field words.Session long and field words.Passwd blob and field words.ReadOnly ro)
+abbrev pub connect_of : {B : Type 0} → Form B → Form (ConnectRequestOf B × Option Bool)
+connect_of b = fields (field words.Version int and field words.Zxid long and field words.Timeout int and field words.Session long and field words.Passwd b and field words.ReadOnly ro)
     (λ (hello, read_only). (hello.protocol_version, (hello.last_zxid_seen, (hello.time_out, (hello.session_id, (hello.passwd, read_only))))))
     (λ (version, (zxid, (time_out, (session, (passwd, read_only))))). (record { protocol_version = version; last_zxid_seen = zxid; time_out = time_out; session_id = session; passwd = passwd }, read_only))
 
-abbrev pub create : Form CreateAsk
-create = fields (field words.Path text and field words.Blob blob and field words.Acl (list_of acl) and field words.Flags int)
+abbrev pub create_of : {T B A : Type 0} → Form T → Form B → Form A → Form (CreateAskOf T B A)
+create_of t b a = fields (field words.Path t and field words.Blob b and field words.Acl a and field words.Flags int)
     (λ a. (a.path, (a.blob, (a.acl, a.flags)))) (λ (path, (blob, (acl, flags))). record { path = path; blob = blob; acl = acl; flags = flags })
 
-abbrev pub delete : Form DeleteAsk
-delete = fields (field words.Path text and field words.Version int) (λ a. (a.path, a.version)) (λ (path, version). record { path = path; version = version })
+abbrev pub delete_of : {T : Type 0} → Form T → Form (DeleteAskOf T)
+delete_of t = fields (field words.Path t and field words.Version int) (λ a. (a.path, a.version)) (λ (path, version). record { path = path; version = version })
 
-abbrev pub watch : Form WatchAsk
-watch = fields (field words.Path text and field words.Watch bit) (λ a. (a.path, a.watch)) (λ (path, watch). record { path = path; watch = watch })
+abbrev pub watch_of : {T : Type 0} → Form T → Form (WatchAskOf T)
+watch_of t = fields (field words.Path t and field words.Watch bit) (λ a. (a.path, a.watch)) (λ (path, watch). record { path = path; watch = watch })
 
-abbrev pub set_data : Form SetDataAsk
-set_data = fields (field words.Path text and field words.Blob blob and field words.Version int)
+abbrev pub set_data_of : {T B : Type 0} → Form T → Form B → Form (SetDataAskOf T B)
+set_data_of t b = fields (field words.Path t and field words.Blob b and field words.Version int)
     (λ a. (a.path, (a.blob, a.version))) (λ (path, (blob, version)). record { path = path; blob = blob; version = version })
 
-abbrev pub path : Form PathAsk
-path = fields (field words.Path text) (λ a. a.path) (λ p. record { path = p })
+abbrev pub path_of : {T : Type 0} → Form T → Form (PathAskOf T)
+path_of t = fields (field words.Path t) (λ a. a.path) (λ p. record { path = p })
 
-abbrev pub set_acl : Form SetAclAsk
-set_acl = fields (field words.Path text and field words.Acl (list_of acl) and field words.Version int)
+abbrev pub set_acl_of : {T A : Type 0} → Form T → Form A → Form (SetAclAskOf T A)
+set_acl_of t a = fields (field words.Path t and field words.Acl a and field words.Version int)
     (λ a. (a.path, (a.acl, a.version))) (λ (path, (acl, version)). record { path = path; acl = acl; version = version })
 
-abbrev pub auth : Form AuthAsk
-auth = fields (field words.Kind int and field words.Scheme text and field words.Auth blob)
+abbrev pub auth_of : {T B : Type 0} → Form T → Form B → Form (AuthAskOf T B)
+auth_of t b = fields (field words.Kind int and field words.Scheme t and field words.Auth b)
     (λ a. (a.kind, (a.scheme, a.auth))) (λ (kind, (scheme, auth)). record { kind = kind; scheme = scheme; auth = auth })
 
-abbrev pub set_watches : Form SetWatchesAsk
-set_watches = fields (field words.Zxid long and field words.DataWatches (list_of text) and field words.ExistWatches (list_of text) and field words.ChildWatches (list_of text))
+abbrev pub set_watches_of : {L : Type 0} → Form L → Form (SetWatchesAskOf L)
+set_watches_of l = fields (field words.Zxid long and field words.DataWatches l and field words.ExistWatches l and field words.ChildWatches l)
     (λ a. (a.zxid, (a.data_watches, (a.exist_watches, a.child_watches))))
     (λ (zxid, (on_data, (on_exist, on_child))). record { zxid = zxid; data_watches = on_data; exist_watches = on_exist; child_watches = on_child })
 
+abbrev pub check_of : {T : Type 0} → Form T → Form (CheckAskOf T)
+check_of t = fields (field words.Path t and field words.Version int) (λ a. (a.path, a.version)) (λ (path, version). record { path = path; version = version })
+
+-- ---- owned records
+
+abbrev pub connect : Form (ConnectRequest × Option Bool)
+connect = connect_of blob
+
+abbrev pub create : Form CreateAsk
+create = create_of text blob (list_of acl)
+
+abbrev pub delete : Form DeleteAsk
+delete = delete_of text
+
+abbrev pub watch : Form WatchAsk
+watch = watch_of text
+
+abbrev pub set_data : Form SetDataAsk
+set_data = set_data_of text blob
+
+abbrev pub path : Form PathAsk
+path = path_of text
+
+abbrev pub set_acl : Form SetAclAsk
+set_acl = set_acl_of text (list_of acl)
+
+abbrev pub auth : Form AuthAsk
+auth = auth_of text blob
+
+abbrev pub set_watches : Form SetWatchesAsk
+set_watches = set_watches_of (list_of text)
+
 abbrev pub check : Form CheckAsk
-check = fields (field words.Path text and field words.Version int) (λ a. (a.path, a.version)) (λ (path, version). record { path = path; version = version })
+check = check_of text
 
 -- ---- parts of a multi
 

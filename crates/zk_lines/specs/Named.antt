@@ -1,13 +1,12 @@
 -- Values that begin with a name, by which the rest is spelled.
-use Rattle.std.specs.Prelude.{ℕ, List, [], ◌∷◌, ◌++◌, take, drop, Option, Some, None, bytes_eq, if◌then◌else◌}
-use Rattle.std.specs.List.{prefix_len}
+use Rattle.std.specs.Prelude.{ℕ, List, ◌++◌, take, drop, Option, bytes_eq}
+use Rattle.std.specs.List.{find, prefix_len}
 use Rattle.zk_items.specs.Form.{Form, Read, ◌>>=◌}
 use Rattle.zk_items.specs.Leaf.{in_name}
 
 -- the first of the keys that has this name
 abbrev pub first_named : {K : Type 0} → (K → List ℕ) → List K → List ℕ → Option K
-first_named name [] bytes = None
-first_named name (k ∷ ks) bytes = if bytes_eq bytes (name k) then Some k else first_named name ks bytes
+first_named name keys bytes = find (λ k. bytes_eq bytes (name k)) keys
 
 -- the longest run of letters and digits is a name
 abbrev pub named_at : {K X : Type 0} → (List ℕ → Option K) → (K → List ℕ → Read X) → List ℕ → Read X

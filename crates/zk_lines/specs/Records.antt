@@ -2,6 +2,8 @@
 use Rattle.std.specs.Prelude.{ℕ, ℤ, List, ◌++◌}
 use Rattle.std.specs.Fmt.{signed_decimal}
 use Rattle.zk_records.specs.Held.{Acl}
+use Rattle.zk_records.specs.declared.acl.IdOf.{IdOf}
+use Rattle.zk_records.specs.declared.acl.AclOf.{AclOf}
 use Rattle.zk_records.specs.declared.stat.Stat.{Stat}
 use Rattle.zk_items.specs.Form.{Form, closed, fields, ◌and◌}
 use Rattle.zk_items.specs.Leaf.{int, long, text}
@@ -9,10 +11,13 @@ use Rattle.zk_lines.specs.Words.{word_of, field}
 use Rattle.zk_lines.specs.declared.word.Word.TheVariants.{Close, Colon, Comma, Open}
 
 -- perms, scheme and ident
-abbrev pub acl : Form Acl
-acl = fields (int and field Colon text and field Colon text)
+abbrev pub acl_of : {X : Type 0} → Form X → Form (AclOf (IdOf X))
+acl_of t = fields (int and field Colon t and field Colon t)
     (λ a. (a.perms, (a.who.scheme, a.who.ident)))
     (λ (perms, (scheme, ident)). record { perms = perms; who = record { scheme = scheme; ident = ident } })
+
+abbrev pub acl : Form Acl
+acl = acl_of text
 
 -- such an entry, where its texts are spelled so
 abbrev pub entry : {X : Type 0} → (X → List ℕ) → ℤ → X → X → List ℕ

@@ -1,5 +1,5 @@
 -- Tables with a row a key: what a value holds, how that is spelled, and the value that is made of it.
-use Rattle.std.specs.Prelude.{ℕ, List, [], Option, Some}
+use Rattle.std.specs.Prelude.{ℕ, List, [], Option, Some, None}
 use Rattle.zk_items.specs.Form.{Form, Read, read_map}
 use Rattle.zk_lines.specs.Named.{Bodies}
 
@@ -10,6 +10,10 @@ pub data Row (Y : Type 0) : Type 1 where
 -- no bytes
 abbrev pub nothing : Form (Unit {0})
 nothing = record { fits = λ _. Unit {0}; spell = λ _. []; at = λ bytes. Some (tt, bytes) }
+
+-- a form by which values are written, and nothing is read
+abbrev pub only_written : {X : Type 0} → (X → Type 0) → (X → List ℕ) → Form X
+only_written fits spell = record { fits = fits; spell = spell; at = λ _. None }
 
 -- a value that holds nothing
 abbrev pub bare : {Y : Type 0} → Y → Row Y

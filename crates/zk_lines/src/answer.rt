@@ -7,9 +7,10 @@ ghost use Rattle.zk_lines.specs.Words.{word_of};
 ghost use Rattle.zk_lines.specs.declared.word.Word.TheVariants as words;
 ghost use Rattle.zk_lines.specs.Answers as answers;
 ghost use Rattle.zk_lines.specs.Lines as lines;
+ghost use Rattle.zk_lines.specs.Rows.{only_written};
 
 use crate::body::read_body;
-use crate::item::{read_field, read_fields};
+use crate::item::{Item, read_field, read_fields};
 use crate::name::op_named;
 use crate::put::{Put, put_field, put_fields};
 use crate::word::{Word, put_word, read_word, word_bytes};
@@ -21,7 +22,7 @@ use zk_items::{
     LineFault, LineReason, Reader, put_error_code, put_event_code, put_int, read_event_code,
     read_failure_code,
 };
-use zk_records::{ConnectResponse, ConnectResponseRef, Op, WatcherEvent, WatcherEventRef, op_name};
+use zk_records::{ConnectResponseOf, Op, WatcherEventOf, op_name};
 
 /// Reads the number of an error, which isn't 0.
 fn read_failure(line: &mut Reader<'_>) -> Result<Failure, LineFault>
@@ -65,9 +66,7 @@ macro_rules! outcome {
 }
 
 impl Put for Outcome {
-    ghost fits = { answers.outcome_fits };
-
-    ghost spell = { answers.outcome_spell };
+    ghost form = { only_written answers.outcome_fits answers.outcome_spell };
 
     fn put(&self, out: &mut Vec<u8>) -> Result<(), AllocError> {
         outcome!(out, self)
@@ -75,9 +74,7 @@ impl Put for Outcome {
 }
 
 impl<'a> Put for OutcomeRef<'a> {
-    ghost fits = { answers.outcome_fits };
-
-    ghost spell = { answers.outcome_spell };
+    ghost form = { only_written answers.outcome_fits answers.outcome_spell };
 
     fn put(&self, out: &mut Vec<u8>) -> Result<(), AllocError> {
         outcome!(out, self)
@@ -114,8 +111,8 @@ fn put_named<O: Put>(
     zxid: &i64,
     outcome: &O,
 ) -> Result<(), AllocError>
-    ensures spelled { OnOk result (out.new.items ≡ out.old.items ++ answers.reply_to op xid zxid.now (O.spell outcome.now)) }
-    ensures fits { OnOk result (int.fits xid × (long.fits zxid.now × O.fits outcome.now)) }
+    ensures spelled { OnOk result (out.new.items ≡ out.old.items ++ answers.reply_to op xid zxid.now (O.form.spell outcome.now)) }
+    ensures fits { OnOk result (int.fits xid × (long.fits zxid.now × O.form.fits outcome.now)) }
     ensures keeps { Keeps out.old.items out.new.items }
 {
     put_int(out, xid)?;
@@ -126,9 +123,7 @@ fn put_named<O: Put>(
 }
 
 impl Put for Reply {
-    ghost fits = { answers.reply.fits };
-
-    ghost spell = { answers.reply.spell };
+    ghost form = { answers.reply };
 
     fn put(&self, out: &mut Vec<u8>) -> Result<(), AllocError> {
         put_named(out, self.xid, self.op(), &self.zxid, &self.outcome)
@@ -136,9 +131,7 @@ impl Put for Reply {
 }
 
 impl<'a> Put for ReplyRef<'a> {
-    ghost fits = { answers.reply.fits };
-
-    ghost spell = { answers.reply.spell };
+    ghost form = { answers.reply };
 
     fn put(&self, out: &mut Vec<u8>) -> Result<(), AllocError> {
         put_named(out, self.xid, self.op(), &self.zxid, &self.outcome)
@@ -153,85 +146,55 @@ macro_rules! connected_fields {
     };
 }
 
-fn read_connected(line: &mut Reader<'_>) -> Result<(ConnectResponse, Option<bool>), LineFault>
-    ensures { Gives result line.new (answers.connected.at line.old) }
+fn read_connected<B: Item>(
+    line: &mut Reader<'_>,
+) -> Result<(ConnectResponseOf<B>, Option<bool>), LineFault>
+    ensures { Gives result line.new ((answers.connected_of B.form).at line.old) }
 {
-    let hello = connected_fields!(read_fields, line, ConnectResponse);
+    let hello = connected_fields!(read_fields, line, ConnectResponseOf);
     let read_only = read_field(line, Word::ReadOnly)?;
     Ok((hello, read_only))
 }
 
-/// `connected!(out, hello, read_only)` appends the connect response's fields in order.
-macro_rules! connected {
-    ($out:ident, $hello:ident, $read_only:ident) => {{
-        connected_fields!(put_fields, $out, $hello)?;
-        put_field($out, Word::ReadOnly, $read_only)
-    }};
-}
-
-fn put_connected(
+/// Appends the connect response's fields in order.
+fn put_connected<B: Put>(
     out: &mut Vec<u8>,
-    hello: &ConnectResponse,
+    hello: &ConnectResponseOf<B>,
     read_only: &Option<bool>,
 ) -> Result<(), AllocError>
-    ensures spelled { OnOk result (out.new.items ≡ out.old.items ++ answers.connected.spell (hello.now, read_only.now)) }
-    ensures fits { OnOk result (answers.connected.fits (hello.now, read_only.now)) }
+    ensures spelled { OnOk result (out.new.items ≡ out.old.items ++ (answers.connected_of B.form).spell (hello.now, read_only.now)) }
+    ensures fits { OnOk result ((answers.connected_of B.form).fits (hello.now, read_only.now)) }
     ensures keeps { Keeps out.old.items out.new.items }
 {
-    connected!(out, hello, read_only)
+    connected_fields!(put_fields, out, hello)?;
+    put_field(out, Word::ReadOnly, read_only)
 }
 
-fn put_connected_ref(
-    out: &mut Vec<u8>,
-    hello: &ConnectResponseRef<'_>,
-    read_only: &Option<bool>,
-) -> Result<(), AllocError>
-    ensures spelled { OnOk result (out.new.items ≡ out.old.items ++ answers.connected.spell (hello.now, read_only.now)) }
-    ensures fits { OnOk result (answers.connected.fits (hello.now, read_only.now)) }
-    ensures keeps { Keeps out.old.items out.new.items }
-{
-    connected!(out, hello, read_only)
-}
-
-fn read_event(line: &mut Reader<'_>) -> Result<(i64, WatcherEvent), LineFault>
-    ensures { Gives result line.new (answers.event.at line.old) }
+fn read_event<T: Item>(line: &mut Reader<'_>) -> Result<(i64, WatcherEventOf<T>), LineFault>
+    ensures { Gives result line.new ((answers.event_of T.form).at line.old) }
 {
     let zxid = read_field(line, Word::Zxid)?;
     read_word(line, Word::Kind)?;
     let kind = read_event_code(line)?;
     let state = read_field(line, Word::State)?;
     let path = read_field(line, Word::Path)?;
-    Ok((zxid, WatcherEvent { kind, state, path }))
+    Ok((zxid, WatcherEventOf { kind, state, path }))
 }
 
-/// `event!(out, zxid, event)` appends the zxid and an event's fields in order.
-macro_rules! event {
-    ($out:ident, $zxid:ident, $event:ident) => {{
-        put_field($out, Word::Zxid, $zxid)?;
-        put_word($out, Word::Kind)?;
-        put_event_code($out, $event.kind)?;
-        put_fields!($out, $event: State state, Path path)
-    }};
-}
-
-fn put_event(out: &mut Vec<u8>, zxid: &i64, event: &WatcherEvent) -> Result<(), AllocError>
-    ensures spelled { OnOk result (out.new.items ≡ out.old.items ++ answers.event.spell (zxid.now, event.now)) }
-    ensures fits { OnOk result (answers.event.fits (zxid.now, event.now)) }
-    ensures keeps { Keeps out.old.items out.new.items }
-{
-    event!(out, zxid, event)
-}
-
-fn put_event_ref(
+/// Appends the zxid and an event's fields in order.
+fn put_event<T: Put>(
     out: &mut Vec<u8>,
     zxid: &i64,
-    event: &WatcherEventRef<'_>,
+    event: &WatcherEventOf<T>,
 ) -> Result<(), AllocError>
-    ensures spelled { OnOk result (out.new.items ≡ out.old.items ++ answers.event.spell (zxid.now, event.now)) }
-    ensures fits { OnOk result (answers.event.fits (zxid.now, event.now)) }
+    ensures spelled { OnOk result (out.new.items ≡ out.old.items ++ (answers.event_of T.form).spell (zxid.now, event.now)) }
+    ensures fits { OnOk result ((answers.event_of T.form).fits (zxid.now, event.now)) }
     ensures keeps { Keeps out.old.items out.new.items }
 {
-    event!(out, zxid, event)
+    put_field(out, Word::Zxid, zxid)?;
+    put_word(out, Word::Kind)?;
+    put_event_code(out, event.kind)?;
+    put_fields!(out, event: State state, Path path)
 }
 
 /// Reads the server's message, after `S `.
@@ -251,13 +214,13 @@ pub fn read_server(line: &mut Reader<'_>) -> Result<ServerFrame, LineFault>
     }
 }
 
-/// `server!(out, frame, put_connected, put_event)` appends a server's line.
+/// `server!(out, frame)` appends a server's line.
 macro_rules! server {
-    ($out:ident, $frame:ident, $put_connected:ident, $put_event:ident) => {
+    ($out:ident, $frame:ident) => {
         match $frame {
             ServerFrameOf::Connected { hello, read_only } => {
                 $out.extend_from_slice(b"S connect")?;
-                $put_connected($out, hello, read_only)
+                put_connected($out, hello, read_only)
             }
             ServerFrameOf::Answered(reply) => {
                 $out.extend_from_slice(b"S ")?;
@@ -265,28 +228,24 @@ macro_rules! server {
             }
             ServerFrameOf::Event { zxid, event } => {
                 $out.extend_from_slice(b"S event")?;
-                $put_event($out, zxid, event)
+                put_event($out, zxid, event)
             }
         }
     };
 }
 
 impl Put for ServerFrame {
-    ghost fits = { lines.ServerFits };
-
-    ghost spell = { lines.server_line };
+    ghost form = { only_written lines.ServerFits lines.server_line };
 
     fn put(&self, out: &mut Vec<u8>) -> Result<(), AllocError> {
-        server!(out, self, put_connected, put_event)
+        server!(out, self)
     }
 }
 
 impl<'a> Put for ServerRef<'a> {
-    ghost fits = { lines.ServerFits };
-
-    ghost spell = { lines.server_line };
+    ghost form = { only_written lines.ServerFits lines.server_line };
 
     fn put(&self, out: &mut Vec<u8>) -> Result<(), AllocError> {
-        server!(out, self, put_connected_ref, put_event_ref)
+        server!(out, self)
     }
 }

@@ -7,7 +7,7 @@ ghost use Rattle.zk_lines.specs.Words.{word_of};
 ghost use Rattle.zk_lines.specs.declared.word.Word.TheVariants.{Blank};
 ghost use Rattle.zk_lines.specs.Asks as asks;
 ghost use Rattle.zk_lines.specs.Lines as lines;
-ghost use Rattle.zk_lines.specs.Rows.{row_at};
+ghost use Rattle.zk_lines.specs.Rows.{only_written, row_at};
 
 use crate::item::{Item, read_field, read_fields};
 use crate::list::{Left, Signs, put_series, read_series};
@@ -21,7 +21,7 @@ use zk_asks::{
 };
 use zk_items::{LineFault, LineReason, Reader, put_int};
 use zk_jute::Items;
-use zk_records::{ConnectRequest, ConnectRequestRef, Op, PartOp, op_name, part_name};
+use zk_records::{ConnectRequestOf, Op, PartOp, op_name, part_name};
 
 /// The signs between the parts of a multi and after the last.
 pub const PARTS: Signs = Signs {
@@ -63,9 +63,7 @@ fn read_part(line: &mut Reader<'_>, op: PartOp) -> Result<Part, LineFault>
 }
 
 impl Put for Part {
-    ghost fits = { asks.part_form.fits };
-
-    ghost spell = { asks.part_form.spell };
+    ghost form = { asks.part_form };
 
     fn put(&self, out: &mut Vec<u8>) -> Result<(), AllocError> {
         part_rows!(put_part_of, out, self)
@@ -73,9 +71,7 @@ impl Put for Part {
 }
 
 impl<'a> Put for PartRef<'a> {
-    ghost fits = { asks.part_form.fits };
-
-    ghost spell = { asks.part_form.spell };
+    ghost form = { asks.part_form };
 
     fn put(&self, out: &mut Vec<u8>) -> Result<(), AllocError> {
         part_rows!(put_part_of, out, self)
@@ -83,8 +79,6 @@ impl<'a> Put for PartRef<'a> {
 }
 
 impl Item for Part {
-    ghost at = { asks.part_form.at };
-
     fn read(line: &mut Reader<'_>) -> Result<Self, LineFault> {
         let fault = line.fault(LineReason::Word);
         let Some(op) = part_named(line.name()) else {
@@ -95,9 +89,7 @@ impl Item for Part {
 }
 
 impl Put for Items<Part> {
-    ghost fits = { asks.multi.fits };
-
-    ghost spell = { asks.multi.spell };
+    ghost form = { asks.multi };
 
     fn put(&self, out: &mut Vec<u8>) -> Result<(), AllocError> {
         put_word(out, Word::Parts)?;
@@ -106,8 +98,6 @@ impl Put for Items<Part> {
 }
 
 impl Item for Items<Part> {
-    ghost at = { asks.multi.at };
-
     fn read(line: &mut Reader<'_>) -> Result<Self, LineFault> {
         read_word(line, Word::Parts)?;
         read_series(line, PARTS)
@@ -125,9 +115,7 @@ impl<'a> Left for PartItems<'a> {
 }
 
 impl<'a> Put for PartList<'a> {
-    ghost fits = { asks.multi.fits };
-
-    ghost spell = { asks.multi.spell };
+    ghost form = { asks.multi };
 
     fn put(&self, out: &mut Vec<u8>) -> Result<(), AllocError> {
         put_word(out, Word::Parts)?;
@@ -157,15 +145,14 @@ macro_rules! read_ask_of {
     };
 }
 
-/// `put_ask_of!(out, ask: Create, Delete | Ping)` appends a request's name and what comes after it.
+/// `put_ask_of!(out, ask: Create, Delete | Ping)` appends what stands behind a request's name.
 macro_rules! put_ask_of {
-    ($out:ident, $ask:ident: $($held:ident),+ | $($bare:ident),+) => {{
-        $out.extend_from_slice(op_name($ask.op()).as_bytes())?;
+    ($out:ident, $ask:ident: $($held:ident),+ | $($bare:ident),+) => {
         match $ask {
             $(AskOf::$held(ask) => ask.put($out),)+
             $(AskOf::$bare => Ok(()),)+
         }
-    }};
+    };
 }
 
 /// Reads the record of a request of the operation `op`.
@@ -175,29 +162,44 @@ fn read_body(line: &mut Reader<'_>, op: Op) -> Result<Ask, LineFault>
     ask_rows!(read_ask_of, line, op)
 }
 
-impl Put for Ask {
-    ghost fits = { asks.ask_form.fits };
+/// Appends what stands behind a request's name.
+// A function of its own: behind the name's `?` each arm's proof is dear.
+fn put_body(out: &mut Vec<u8>, ask: &Ask) -> Result<(), AllocError>
+    ensures spelled { OnOk result (out.new.items ≡ out.old.items ++ (asks.ask_written ask.now).spell) }
+    ensures fits { OnOk result ((asks.ask_written ask.now).fits) }
+    ensures keeps { Keeps out.old.items out.new.items }
+{
+    ask_rows!(put_ask_of, out, ask)
+}
 
-    ghost spell = { asks.ask_form.spell };
+/// The same where it lies.
+fn put_body_ref(out: &mut Vec<u8>, ask: &AskRef<'_>) -> Result<(), AllocError>
+    ensures spelled { OnOk result (out.new.items ≡ out.old.items ++ (asks.ask_written ask.now).spell) }
+    ensures fits { OnOk result ((asks.ask_written ask.now).fits) }
+    ensures keeps { Keeps out.old.items out.new.items }
+{
+    ask_rows!(put_ask_of, out, ask)
+}
+
+impl Put for Ask {
+    ghost form = { asks.ask_form };
 
     fn put(&self, out: &mut Vec<u8>) -> Result<(), AllocError> {
-        ask_rows!(put_ask_of, out, self)
+        out.extend_from_slice(op_name(self.op()).as_bytes())?;
+        put_body(out, self)
     }
 }
 
 impl<'a> Put for AskRef<'a> {
-    ghost fits = { asks.ask_form.fits };
-
-    ghost spell = { asks.ask_form.spell };
+    ghost form = { asks.ask_form };
 
     fn put(&self, out: &mut Vec<u8>) -> Result<(), AllocError> {
-        ask_rows!(put_ask_of, out, self)
+        out.extend_from_slice(op_name(self.op()).as_bytes())?;
+        put_body_ref(out, self)
     }
 }
 
 impl Item for Ask {
-    ghost at = { asks.ask_form.at };
-
     fn read(line: &mut Reader<'_>) -> Result<Self, LineFault> {
         let fault = line.fault(LineReason::Word);
         let Some(op) = op_named(line.name()) else {
@@ -216,50 +218,34 @@ macro_rules! connect_fields {
 }
 
 /// Reads the connect request.
-fn read_connect(line: &mut Reader<'_>) -> Result<(ConnectRequest, Option<bool>), LineFault>
-    ensures { Gives result line.new (asks.connect.at line.old) }
+fn read_connect<B: Item>(
+    line: &mut Reader<'_>,
+) -> Result<(ConnectRequestOf<B>, Option<bool>), LineFault>
+    ensures { Gives result line.new ((asks.connect_of B.form).at line.old) }
 {
-    let hello = connect_fields!(read_fields, line, ConnectRequest);
+    let hello = connect_fields!(read_fields, line, ConnectRequestOf);
     let read_only = read_field(line, Word::ReadOnly)?;
     Ok((hello, read_only))
 }
 
-/// `connect!(out, hello, read_only)` appends the connect request's fields in order.
-macro_rules! connect {
-    ($out:ident, $hello:ident, $read_only:ident) => {{
-        connect_fields!(put_fields, $out, $hello)?;
-        put_field($out, Word::ReadOnly, $read_only)
-    }};
-}
-
-fn put_connect(
+/// Appends the connect request's fields in order.
+fn put_connect<B: Put>(
     out: &mut Vec<u8>,
-    hello: &ConnectRequest,
+    hello: &ConnectRequestOf<B>,
     read_only: &Option<bool>,
 ) -> Result<(), AllocError>
-    ensures spelled { OnOk result (out.new.items ≡ out.old.items ++ asks.connect.spell (hello.now, read_only.now)) }
-    ensures fits { OnOk result (asks.connect.fits (hello.now, read_only.now)) }
+    ensures spelled { OnOk result (out.new.items ≡ out.old.items ++ (asks.connect_of B.form).spell (hello.now, read_only.now)) }
+    ensures fits { OnOk result ((asks.connect_of B.form).fits (hello.now, read_only.now)) }
     ensures keeps { Keeps out.old.items out.new.items }
 {
-    connect!(out, hello, read_only)
-}
-
-fn put_connect_ref(
-    out: &mut Vec<u8>,
-    hello: &ConnectRequestRef<'_>,
-    read_only: &Option<bool>,
-) -> Result<(), AllocError>
-    ensures spelled { OnOk result (out.new.items ≡ out.old.items ++ asks.connect.spell (hello.now, read_only.now)) }
-    ensures fits { OnOk result (asks.connect.fits (hello.now, read_only.now)) }
-    ensures keeps { Keeps out.old.items out.new.items }
-{
-    connect!(out, hello, read_only)
+    connect_fields!(put_fields, out, hello)?;
+    put_field(out, Word::ReadOnly, read_only)
 }
 
 /// Appends a request's line: its xid, and what it asks.
 fn put_request<A: Put>(out: &mut Vec<u8>, xid: i32, ask: &A) -> Result<(), AllocError>
-    ensures spelled { OnOk result (out.new.items ≡ out.old.items ++ (codes "C " ++ (signed_decimal xid ++ (word_of Blank ++ A.spell ask.now)))) }
-    ensures fits { OnOk result (int.fits xid × A.fits ask.now) }
+    ensures spelled { OnOk result (out.new.items ≡ out.old.items ++ (codes "C " ++ (signed_decimal xid ++ (word_of Blank ++ A.form.spell ask.now)))) }
+    ensures fits { OnOk result (int.fits xid × A.form.fits ask.now) }
     ensures keeps { Keeps out.old.items out.new.items }
 {
     out.extend_from_slice(b"C ")?;
@@ -282,13 +268,13 @@ pub fn read_client(line: &mut Reader<'_>) -> Result<ClientFrame, LineFault>
     }
 }
 
-/// `client!(out, frame, put_connect)` appends a client's line.
+/// `client!(out, frame)` appends a client's line.
 macro_rules! client {
-    ($out:ident, $frame:ident, $put_connect:ident) => {
+    ($out:ident, $frame:ident) => {
         match $frame {
             ClientFrameOf::Connect { hello, read_only } => {
                 $out.extend_from_slice(b"C connect")?;
-                $put_connect($out, hello, read_only)
+                put_connect($out, hello, read_only)
             }
             ClientFrameOf::Ask { xid, ask } => put_request($out, *xid, ask),
         }
@@ -296,21 +282,17 @@ macro_rules! client {
 }
 
 impl Put for ClientFrame {
-    ghost fits = { lines.ClientFits };
-
-    ghost spell = { lines.client_line };
+    ghost form = { only_written lines.ClientFits lines.client_line };
 
     fn put(&self, out: &mut Vec<u8>) -> Result<(), AllocError> {
-        client!(out, self, put_connect)
+        client!(out, self)
     }
 }
 
 impl<'a> Put for ClientRef<'a> {
-    ghost fits = { lines.ClientFits };
-
-    ghost spell = { lines.client_line };
+    ghost form = { only_written lines.ClientFits lines.client_line };
 
     fn put(&self, out: &mut Vec<u8>) -> Result<(), AllocError> {
-        client!(out, self, put_connect_ref)
+        client!(out, self)
     }
 }

@@ -5,7 +5,7 @@ ghost use Rattle.zk_lines.specs.Words.{word_of};
 ghost use Rattle.zk_lines.specs.declared.word.Word.TheVariants as words;
 ghost use Rattle.zk_lines.specs.Records as records;
 ghost use Rattle.zk_lines.specs.Answers as answers;
-ghost use Rattle.zk_lines.specs.Rows.{row_at};
+ghost use Rattle.zk_lines.specs.Rows.{only_written, row_at};
 
 use crate::done::read_multi;
 use crate::item::{Item, read_field};
@@ -18,7 +18,7 @@ use zk_records::{Op, Stat};
 
 /// Reads the field after `word`, and the `Stat` after it.
 fn read_with_stat<T: Item>(line: &mut Reader<'_>, word: Word) -> Result<(T, Stat), LineFault>
-    ensures { Gives result line.new (answers.with_stat_at word T.at line.old) }
+    ensures { Gives result line.new (answers.with_stat_at word T.form.at line.old) }
 {
     let value = read_field(line, word)?;
     let stat = read_field(line, Word::Stat)?;
@@ -82,8 +82,8 @@ fn put_with_stat<T: Put>(
     value: &T,
     stat: &Stat,
 ) -> Result<(), AllocError>
-    ensures spelled { OnOk result (out.new.items ≡ out.old.items ++ ((word_of word ++ T.spell value.now) ++ (word_of words.Stat ++ records.stat.spell stat.now))) }
-    ensures fits { OnOk result (T.fits value.now × records.stat.fits stat.now) }
+    ensures spelled { OnOk result (out.new.items ≡ out.old.items ++ ((word_of word ++ T.form.spell value.now) ++ (word_of words.Stat ++ records.stat.spell stat.now))) }
+    ensures fits { OnOk result (T.form.fits value.now × records.stat.fits stat.now) }
     ensures keeps { Keeps out.old.items out.new.items }
 {
     put_field(out, word, value)?;
@@ -91,9 +91,7 @@ fn put_with_stat<T: Put>(
 }
 
 impl Put for Body {
-    ghost fits = { λ b. (answers.body_written b).fits };
-
-    ghost spell = { λ b. (answers.body_written b).spell };
+    ghost form = { only_written (λ b. (answers.body_written b).fits) (λ b. (answers.body_written b).spell) };
 
     fn put(&self, out: &mut Vec<u8>) -> Result<(), AllocError> {
         body_rows!(put_body_of, out, self)
@@ -101,9 +99,7 @@ impl Put for Body {
 }
 
 impl<'a> Put for BodyRef<'a> {
-    ghost fits = { λ b. (answers.body_written b).fits };
-
-    ghost spell = { λ b. (answers.body_written b).spell };
+    ghost form = { only_written (λ b. (answers.body_written b).fits) (λ b. (answers.body_written b).spell) };
 
     fn put(&self, out: &mut Vec<u8>) -> Result<(), AllocError> {
         body_rows!(put_body_of, out, self)

@@ -53,7 +53,8 @@ fn name_of_ref(done: &PartDoneRef<'_>) -> DoneName
     name_of_done!(done)
 }
 
-fn done_name(name: DoneName) -> &'static [u8]
+/// What a result begins with, as a line shows it.
+pub fn done_name(name: DoneName) -> &'static [u8]
     ensures { result.now ≡ answers.done_name name }
 {
     match name {
@@ -119,9 +120,7 @@ fn put_done_ref(out: &mut Vec<u8>, done: &PartDoneRef<'_>) -> Result<(), AllocEr
 }
 
 impl Put for PartDone {
-    ghost fits = { answers.done_form.fits };
-
-    ghost spell = { answers.done_form.spell };
+    ghost form = { answers.done_form };
 
     fn put(&self, out: &mut Vec<u8>) -> Result<(), AllocError> {
         out.extend_from_slice(done_name(name_of(self)))?;
@@ -130,9 +129,7 @@ impl Put for PartDone {
 }
 
 impl<'a> Put for PartDoneRef<'a> {
-    ghost fits = { answers.done_form.fits };
-
-    ghost spell = { answers.done_form.spell };
+    ghost form = { answers.done_form };
 
     fn put(&self, out: &mut Vec<u8>) -> Result<(), AllocError> {
         out.extend_from_slice(done_name(name_of_ref(self)))?;
@@ -141,8 +138,6 @@ impl<'a> Put for PartDoneRef<'a> {
 }
 
 impl Item for PartDone {
-    ghost at = { answers.done_form.at };
-
     fn read(line: &mut Reader<'_>) -> Result<Self, LineFault> {
         let fault = line.fault(LineReason::Word);
         let Some(name) = done_named(line.name()) else {
@@ -161,9 +156,7 @@ pub fn read_multi(line: &mut Reader<'_>) -> Result<Items<PartDone>, LineFault>
 }
 
 impl Put for Items<PartDone> {
-    ghost fits = { answers.multi.fits };
-
-    ghost spell = { answers.multi.spell };
+    ghost form = { answers.multi };
 
     fn put(&self, out: &mut Vec<u8>) -> Result<(), AllocError> {
         put_word(out, Word::Parts)?;
@@ -182,9 +175,7 @@ impl<'a> Left for DoneItems<'a> {
 }
 
 impl<'a> Put for DoneList<'a> {
-    ghost fits = { answers.multi.fits };
-
-    ghost spell = { answers.multi.spell };
+    ghost form = { answers.multi };
 
     fn put(&self, out: &mut Vec<u8>) -> Result<(), AllocError> {
         put_word(out, Word::Parts)?;

@@ -1,6 +1,5 @@
 //! `Item`: an item of a line, as it is read; and a field, a word and an item.
-ghost use Rattle.std.specs.Prelude.{List, ℕ};
-ghost use Rattle.zk_items.specs.Form.{Gives, Read};
+ghost use Rattle.zk_items.specs.Form.{Gives};
 ghost use Rattle.zk_lines.specs.Words.{field_at};
 
 use crate::put::Put;
@@ -10,16 +9,14 @@ use zk_jute::{Blob, Text};
 
 /// A value that is an item of a line.
 pub trait Item: Put + Sized + Drop {
-    ghost at: { List ℕ → Read Self };
-
-    /// Reads the item.
+    /// The item that is next.
     fn read(line: &mut Reader<'_>) -> Result<Self, LineFault>
-        ensures { Gives result line.new (at line.old) };
+        ensures { Gives result line.new (Self.form.at line.old) };
 }
 
 /// Reads a field: `word`, and then the value.
 pub fn read_field<T: Item>(line: &mut Reader<'_>, word: Word) -> Result<T, LineFault>
-    ensures { Gives result line.new (field_at word T.at line.old) }
+    ensures { Gives result line.new (field_at word T.form.at line.old) }
 {
     read_word(line, word)?;
     T::read(line)
@@ -36,60 +33,36 @@ macro_rules! read_fields {
 pub(crate) use read_fields;
 
 impl Item for i32 {
-    ghost use Rattle.zk_items.specs.Leaf.{int};
-
-    ghost at = { int.at };
-
     fn read(line: &mut Reader<'_>) -> Result<Self, LineFault> {
         line.int()
     }
 }
 
 impl Item for i64 {
-    ghost use Rattle.zk_items.specs.Leaf.{long};
-
-    ghost at = { long.at };
-
     fn read(line: &mut Reader<'_>) -> Result<Self, LineFault> {
         line.long()
     }
 }
 
 impl Item for bool {
-    ghost use Rattle.zk_items.specs.Leaf.{bit};
-
-    ghost at = { bit.at };
-
     fn read(line: &mut Reader<'_>) -> Result<Self, LineFault> {
         line.bit()
     }
 }
 
 impl Item for Option<bool> {
-    ghost use Rattle.zk_items.specs.Leaf.{ro};
-
-    ghost at = { ro.at };
-
     fn read(line: &mut Reader<'_>) -> Result<Self, LineFault> {
         line.read_only()
     }
 }
 
 impl Item for Text {
-    ghost use Rattle.zk_items.specs.Leaf.{text};
-
-    ghost at = { text.at };
-
     fn read(line: &mut Reader<'_>) -> Result<Self, LineFault> {
         line.text()
     }
 }
 
 impl Item for Blob {
-    ghost use Rattle.zk_items.specs.Leaf.{blob};
-
-    ghost at = { blob.at };
-
     fn read(line: &mut Reader<'_>) -> Result<Self, LineFault> {
         line.blob()
     }

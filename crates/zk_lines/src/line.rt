@@ -3,6 +3,7 @@ ghost use Rattle.std.specs.Prelude.{◌≡◌, ◌++◌, IfOk, OnErr, OnOk};
 ghost use Rattle.zk_items.specs.Form.{Answers};
 ghost use Rattle.zk_lines.specs.Lines as lines;
 ghost use Rattle.zk_lines.specs.Lines.{Fits, Reads, whole, client_at, server_at, message_at};
+ghost use Rattle.zk_lines.specs.Rows.{only_written};
 ghost use Rattle.zk_talk.specs.Held.{Message};
 
 use crate::answer::read_server;
@@ -28,9 +29,7 @@ macro_rules! message {
 }
 
 impl Put for Message {
-    ghost fits = { Fits };
-
-    ghost spell = { lines.line };
+    ghost form = { only_written Fits lines.line };
 
     fn put(&self, out: &mut Vec<u8>) -> Result<(), AllocError> {
         message!(out, self)
@@ -38,9 +37,7 @@ impl Put for Message {
 }
 
 impl<'a> Put for MessageRef<'a> {
-    ghost fits = { Fits };
-
-    ghost spell = { lines.line };
+    ghost form = { only_written Fits lines.line };
 
     fn put(&self, out: &mut Vec<u8>) -> Result<(), AllocError> {
         message!(out, self)
@@ -49,8 +46,8 @@ impl<'a> Put for MessageRef<'a> {
 
 /// Appends the message's line; appends nothing if memory is refused.
 fn put_whole<M: Put>(out: &mut Vec<u8>, message: &M) -> Result<(), AllocError>
-    ensures line { OnOk result (out.new.items ≡ out.old.items ++ M.spell message.now) }
-    ensures fits { OnOk result (M.fits message.now) }
+    ensures line { OnOk result (out.new.items ≡ out.old.items ++ M.form.spell message.now) }
+    ensures fits { OnOk result (M.form.fits message.now) }
     ensures unchanged { OnErr result (out.new.items ≡ out.old.items) }
 {
     let before = out.len();
@@ -63,8 +60,8 @@ fn put_whole<M: Put>(out: &mut Vec<u8>, message: &M) -> Result<(), AllocError>
 
 /// The message's line alone.
 fn spelled<M: Put>(alloc: Global, message: &M) -> Result<Vec<u8>, AllocError>
-    ensures line { IfOk result (λ line. line.items ≡ M.spell message.now) }
-    ensures fits { OnOk result (M.fits message.now) }
+    ensures line { IfOk result (λ line. line.items ≡ M.form.spell message.now) }
+    ensures fits { OnOk result (M.form.fits message.now) }
 {
     let mut line = Vec::with_capacity(alloc, USUAL)?;
     put_whole(&mut line, message)?;

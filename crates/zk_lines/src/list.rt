@@ -4,7 +4,7 @@ ghost use Rattle.std.specs.Iterator.{YieldsFirst};
 ghost use Rattle.std.specs.Slice.Iter.{iter_rest};
 ghost use Rattle.std.specs.List.{flat_map, AllByRecursion};
 ghost use Rattle.zk_items.specs.Form.{Gives, GivesSeen, Keeps};
-ghost use Rattle.zk_lines.specs.Series.{element_at, list_at, series_at, list_fits, list_spell, series_spell};
+ghost use Rattle.zk_lines.specs.Series.{element_at, series_at, list_of, series_spell};
 ghost use Rattle.zk_items.specs.Many.{many_at, with_first};
 
 use crate::item::Item;
@@ -26,7 +26,7 @@ pub struct Signs {
 
 #[tactic(auto, unfolding(crate::specs::Series::element_at))]
 fn element<T: Item>(line: &mut Reader<'_>, signs: Signs) -> Result<Option<T>, LineFault>
-    ensures { Gives result line.new (element_at signs.between signs.behind T.at line.old) }
+    ensures { Gives result line.new (element_at signs.between signs.behind T.form.at line.old) }
 {
     if line.passes(&[signs.behind]) {
         return Ok(None);
@@ -37,7 +37,7 @@ fn element<T: Item>(line: &mut Reader<'_>, signs: Signs) -> Result<Option<T>, Li
 
 /// Reads the items after the first.
 fn elements<T: Item>(line: &mut Reader<'_>, signs: Signs, first: T) -> Result<Vec<T>, LineFault>
-    ensures { GivesSeen (λ v. v.items) result line.new (with_first first (many_at (element_at signs.between signs.behind T.at) (length line.old) line.old)) }
+    ensures { GivesSeen (λ v. v.items) result line.new (with_first first (many_at (element_at signs.between signs.behind T.form.at) (length line.old) line.old)) }
 {
     let turns = line.left();
     let mut items = Vec::new(line.alloc());
@@ -55,7 +55,7 @@ fn elements<T: Item>(line: &mut Reader<'_>, signs: Signs, first: T) -> Result<Ve
 /// Reads items, with a sign between two and one after the last.
 #[tactic(auto, unfolding(crate::specs::Series::series_at))]
 pub fn read_series<T: Item>(line: &mut Reader<'_>, signs: Signs) -> Result<Items<T>, LineFault>
-    ensures { Gives result line.new (series_at signs.between signs.behind T.at line.old) }
+    ensures { Gives result line.new (series_at signs.between signs.behind T.form.at line.old) }
 {
     if line.passes(&[signs.behind]) {
         return Ok(Items::new(Vec::new(line.alloc())));
@@ -88,9 +88,7 @@ impl<'a, T> Model for Lent<'a, T> {
 }
 
 impl<'a, T: Put> Put for Lent<'a, T> {
-    ghost fits = { T.fits };
-
-    ghost spell = { T.spell };
+    ghost form = { T.form };
 
     fn put(&self, out: &mut Vec<u8>) -> Result<(), AllocError> {
         self.item.put(out)
@@ -121,8 +119,8 @@ impl<'a, R: Element + Stands<KnownPayload<'a>> + Put> Left for Elements<'a, R> {
 }
 
 fn put_elements<I: Left>(out: &mut Vec<u8>, items: I, sign: u8) -> Result<(), AllocError>
-    ensures spelled { OnOk result (out.new.items ≡ out.old.items ++ flat_map (λ y. sign ∷ I.One.spell y) (I.left items)) }
-    ensures fits { OnOk result (AllByRecursion I.One.fits (I.left items)) }
+    ensures spelled { OnOk result (out.new.items ≡ out.old.items ++ flat_map (λ y. sign ∷ I.One.form.spell y) (I.left items)) }
+    ensures fits { OnOk result (AllByRecursion I.One.form.fits (I.left items)) }
     ensures keeps { Keeps out.old.items out.new.items }
 {
     let mut items = items;
@@ -135,8 +133,8 @@ fn put_elements<I: Left>(out: &mut Vec<u8>, items: I, sign: u8) -> Result<(), Al
 
 /// Appends the items after the first.
 fn put_others<I: Left>(out: &mut Vec<u8>, items: I, signs: Signs) -> Result<(), AllocError>
-    ensures spelled { OnOk result (out.new.items ≡ out.old.items ++ (flat_map (λ y. signs.between ∷ I.One.spell y) (I.left items) ++ (signs.behind ∷ []))) }
-    ensures fits { OnOk result (AllByRecursion I.One.fits (I.left items)) }
+    ensures spelled { OnOk result (out.new.items ≡ out.old.items ++ (flat_map (λ y. signs.between ∷ I.One.form.spell y) (I.left items) ++ (signs.behind ∷ []))) }
+    ensures fits { OnOk result (AllByRecursion I.One.form.fits (I.left items)) }
     ensures keeps { Keeps out.old.items out.new.items }
 {
     put_elements(out, items, signs.between)?;
@@ -145,8 +143,8 @@ fn put_others<I: Left>(out: &mut Vec<u8>, items: I, signs: Signs) -> Result<(), 
 
 /// Appends the items that are left, with a sign between two and one after the last.
 pub fn put_series<I: Left>(out: &mut Vec<u8>, items: I, signs: Signs) -> Result<(), AllocError>
-    ensures spelled { OnOk result (out.new.items ≡ out.old.items ++ series_spell signs.between signs.behind I.One.spell (I.left items)) }
-    ensures fits { OnOk result (AllByRecursion I.One.fits (I.left items)) }
+    ensures spelled { OnOk result (out.new.items ≡ out.old.items ++ series_spell signs.between signs.behind I.One.form.spell (I.left items)) }
+    ensures fits { OnOk result (AllByRecursion I.One.form.fits (I.left items)) }
     ensures keeps { Keeps out.old.items out.new.items }
 {
     let mut items = items;
@@ -165,9 +163,7 @@ const COMMAS: Signs = Signs {
 };
 
 impl<T: Put> Put for List<T> {
-    ghost fits = { list_fits T.fits };
-
-    ghost spell = { list_spell T.spell };
+    ghost form = { list_of T.form };
 
     /// Appends `~`, or the items between brackets, with commas between them.
     fn put(&self, out: &mut Vec<u8>) -> Result<(), AllocError> {
@@ -182,8 +178,6 @@ impl<T: Put> Put for List<T> {
 }
 
 impl<T: Item> Item for List<T> {
-    ghost at = { list_at T.at };
-
     #[tactic(auto, unfolding(crate::specs::Series::list_at))]
     fn read(line: &mut Reader<'_>) -> Result<Self, LineFault> {
         if line.passes(b"~") {
@@ -195,9 +189,7 @@ impl<T: Item> Item for List<T> {
 }
 
 impl<'a, R: Element + Stands<KnownPayload<'a>> + Put> Put for Series<'a, R> {
-    ghost fits = { list_fits R.fits };
-
-    ghost spell = { list_spell R.spell };
+    ghost form = { list_of R.form };
 
     /// Appends `~`, or the items between brackets, with commas between them.
     fn put(&self, out: &mut Vec<u8>) -> Result<(), AllocError> {

@@ -1,6 +1,6 @@
 //! `Put`: a value of a line, as it is written, owned or borrowed; and a field, a word and a value.
-ghost use Rattle.std.specs.Prelude.{◌≡◌, ◌++◌, List, ℕ, OnOk};
-ghost use Rattle.zk_items.specs.Form.{Keeps};
+ghost use Rattle.std.specs.Prelude.{◌≡◌, ◌++◌, OnOk};
+ghost use Rattle.zk_items.specs.Form.{Form, Keeps};
 ghost use Rattle.zk_lines.specs.Words.{word_of};
 
 use crate::word::{Word, put_word};
@@ -12,23 +12,21 @@ use zk_jute::{Blob, BlobRef, Text, TextRef};
 
 /// A value that a line can show.
 pub trait Put {
-    /// What holds of every value that a program can hold.
-    ghost fits: { Self → Type 0 };
-
-    ghost spell: { Self → List ℕ };
+    /// What every value that a program holds is, and how it is spelled.
+    ghost form: { Form Self };
 
     /// Appends the value.
     fn put(&self, out: &mut Vec<u8>) -> Result<(), AllocError>
-        ensures spelled { OnOk result (out.new.items ≡ out.old.items ++ spell self.now) }
-        ensures fits { OnOk result (fits self.now) }
+        ensures spelled { OnOk result (out.new.items ≡ out.old.items ++ Self.form.spell self.now) }
+        ensures fits { OnOk result (Self.form.fits self.now) }
         ensures keeps { Keeps out.old.items out.new.items };
 }
 
 /// Appends a field: `word`, and then the value.
 #[inline(always)]
 pub fn put_field<T: Put>(out: &mut Vec<u8>, word: Word, value: &T) -> Result<(), AllocError>
-    ensures spelled { OnOk result (out.new.items ≡ out.old.items ++ (word_of word ++ T.spell value.now)) }
-    ensures fits { OnOk result (T.fits value.now) }
+    ensures spelled { OnOk result (out.new.items ≡ out.old.items ++ (word_of word ++ T.form.spell value.now)) }
+    ensures fits { OnOk result (T.form.fits value.now) }
     ensures keeps { Keeps out.old.items out.new.items }
 {
     put_word(out, word)?;
@@ -51,9 +49,7 @@ pub(crate) use put_fields;
 impl Put for i32 {
     ghost use Rattle.zk_items.specs.Leaf.{int};
 
-    ghost fits = { int.fits };
-
-    ghost spell = { int.spell };
+    ghost form = { int };
 
     fn put(&self, out: &mut Vec<u8>) -> Result<(), AllocError> {
         put_int(out, *self)
@@ -63,9 +59,7 @@ impl Put for i32 {
 impl Put for i64 {
     ghost use Rattle.zk_items.specs.Leaf.{long};
 
-    ghost fits = { long.fits };
-
-    ghost spell = { long.spell };
+    ghost form = { long };
 
     fn put(&self, out: &mut Vec<u8>) -> Result<(), AllocError> {
         put_long(out, *self)
@@ -75,9 +69,7 @@ impl Put for i64 {
 impl Put for bool {
     ghost use Rattle.zk_items.specs.Leaf.{bit};
 
-    ghost fits = { bit.fits };
-
-    ghost spell = { bit.spell };
+    ghost form = { bit };
 
     fn put(&self, out: &mut Vec<u8>) -> Result<(), AllocError> {
         put_bit(out, *self)
@@ -87,9 +79,7 @@ impl Put for bool {
 impl Put for Option<bool> {
     ghost use Rattle.zk_items.specs.Leaf.{ro};
 
-    ghost fits = { ro.fits };
-
-    ghost spell = { ro.spell };
+    ghost form = { ro };
 
     fn put(&self, out: &mut Vec<u8>) -> Result<(), AllocError> {
         put_read_only(out, *self)
@@ -99,9 +89,7 @@ impl Put for Option<bool> {
 impl Put for Text {
     ghost use Rattle.zk_items.specs.Leaf.{text};
 
-    ghost fits = { text.fits };
-
-    ghost spell = { text.spell };
+    ghost form = { text };
 
     fn put(&self, out: &mut Vec<u8>) -> Result<(), AllocError> {
         put_text(out, self)
@@ -111,9 +99,7 @@ impl Put for Text {
 impl<'a> Put for TextRef<'a> {
     ghost use Rattle.zk_items.specs.Leaf.{text};
 
-    ghost fits = { text.fits };
-
-    ghost spell = { text.spell };
+    ghost form = { text };
 
     #[inline(always)]
     fn put(&self, out: &mut Vec<u8>) -> Result<(), AllocError> {
@@ -124,9 +110,7 @@ impl<'a> Put for TextRef<'a> {
 impl Put for Blob {
     ghost use Rattle.zk_items.specs.Leaf.{blob};
 
-    ghost fits = { blob.fits };
-
-    ghost spell = { blob.spell };
+    ghost form = { blob };
 
     fn put(&self, out: &mut Vec<u8>) -> Result<(), AllocError> {
         put_blob(out, self)
@@ -136,9 +120,7 @@ impl Put for Blob {
 impl<'a> Put for BlobRef<'a> {
     ghost use Rattle.zk_items.specs.Leaf.{blob};
 
-    ghost fits = { blob.fits };
-
-    ghost spell = { blob.spell };
+    ghost form = { blob };
 
     fn put(&self, out: &mut Vec<u8>) -> Result<(), AllocError> {
         put_blob_ref(out, self)

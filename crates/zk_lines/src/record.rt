@@ -9,12 +9,12 @@ use crate::put::{Put, put_field};
 use crate::word::{Word, read_word};
 use std::alloc::AllocError;
 use zk_items::{LineFault, Reader, int_before, long_before, put_int};
-use zk_records::{Acl, AclRef, Id, Stat};
+use zk_records::{AclOf, IdOf, Stat};
 
 /// Appends an entry of an access list: its bits, and its two texts, each after a colon.
 fn put_entry<T: Put>(out: &mut Vec<u8>, perms: i32, scheme: &T, ident: &T) -> Result<(), AllocError>
-    ensures spelled { OnOk result (out.new.items ≡ out.old.items ++ records.entry T.spell perms scheme.now ident.now) }
-    ensures fits { OnOk result (int.fits perms × (T.fits scheme.now × T.fits ident.now)) }
+    ensures spelled { OnOk result (out.new.items ≡ out.old.items ++ records.entry T.form.spell perms scheme.now ident.now) }
+    ensures fits { OnOk result (int.fits perms × (T.form.fits scheme.now × T.form.fits ident.now)) }
     ensures keeps { Keeps out.old.items out.new.items }
 {
     put_int(out, perms)?;
@@ -22,51 +22,29 @@ fn put_entry<T: Put>(out: &mut Vec<u8>, perms: i32, scheme: &T, ident: &T) -> Re
     put_field(out, Word::Colon, ident)
 }
 
-impl Put for Acl {
-    ghost use Rattle.zk_lines.specs.Records.{acl};
+impl<T: Put> Put for AclOf<IdOf<T>> {
+    ghost use Rattle.zk_lines.specs.Records.{acl_of};
 
-    ghost fits = { acl.fits };
-
-    ghost spell = { acl.spell };
+    ghost form = { acl_of T.form };
 
     fn put(&self, out: &mut Vec<u8>) -> Result<(), AllocError> {
         put_entry(out, self.perms, &self.who.scheme, &self.who.ident)
     }
 }
 
-impl<'a> Put for AclRef<'a> {
-    ghost use Rattle.zk_lines.specs.Records.{acl};
-
-    ghost fits = { acl.fits };
-
-    ghost spell = { acl.spell };
-
-    fn put(&self, out: &mut Vec<u8>) -> Result<(), AllocError> {
-        put_entry(out, self.perms, &self.who.scheme, &self.who.ident)
-    }
-}
-
-impl Item for Acl {
-    ghost use Rattle.zk_lines.specs.Records.{acl};
-
-    ghost at = { acl.at };
-
+impl<T: Item> Item for AclOf<IdOf<T>> {
     fn read(line: &mut Reader<'_>) -> Result<Self, LineFault> {
         let perms = line.int()?;
         let scheme = read_field(line, Word::Colon)?;
         let ident = read_field(line, Word::Colon)?;
-        Ok(Acl {
+        Ok(AclOf {
             perms,
-            who: Id { scheme, ident },
+            who: IdOf { scheme, ident },
         })
     }
 }
 
 impl Item for Stat {
-    ghost use Rattle.zk_lines.specs.Records.{stat};
-
-    ghost at = { stat.at };
-
     fn read(line: &mut Reader<'_>) -> Result<Self, LineFault> {
         let (czxid, (mzxid, (ctime, mtime))) = times(line)?;
         let (version, (cversion, aversion)) = versions(line)?;
@@ -91,9 +69,7 @@ impl Item for Stat {
 impl Put for Stat {
     ghost use Rattle.zk_lines.specs.Records.{stat};
 
-    ghost fits = { stat.fits };
-
-    ghost spell = { stat.spell };
+    ghost form = { stat };
 
     fn put(&self, out: &mut Vec<u8>) -> Result<(), AllocError> {
         let mut room = [0; STAT_ROOM];

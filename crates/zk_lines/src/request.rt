@@ -7,13 +7,12 @@ use crate::word::Word;
 use std::alloc::AllocError;
 use zk_items::{LineFault, Reader};
 use zk_records::{
-    AuthAsk, AuthAskRef, CheckAsk, CheckAskRef, CreateAsk, CreateAskRef, DeleteAsk, DeleteAskRef,
-    PathAsk, PathAskRef, SetAclAsk, SetAclAskRef, SetDataAsk, SetDataAskRef, SetWatchesAsk,
-    SetWatchesAskRef, WatchAsk, WatchAskRef,
+    AuthAskOf, CheckAskOf, CreateAskOf, DeleteAskOf, PathAskOf, SetAclAskOf, SetDataAskOf,
+    SetWatchesAskOf, WatchAskOf,
 };
 
-/// `fields_of!(create, then, with)` is `then!(with: ..)` with the fields of `CreateAsk` and of `CreateAskRef` in order,
-/// each after its word.
+/// `fields_of!(create, then, with)` is `then!(with: ..)` with the fields of `CreateAsk` in
+/// order, each after its word.
 macro_rules! fields_of {
     (create, $then:ident, $($with:tt)+) => {
         $then!($($with)+: Path path, Blob blob, Acl acl, Flags flags)
@@ -44,254 +43,128 @@ macro_rules! fields_of {
     };
 }
 
-impl Put for CreateAsk {
-    ghost fits = { asks.create.fits };
-
-    ghost spell = { asks.create.spell };
+impl<T: Put, B: Put, A: Put> Put for CreateAskOf<T, B, A> {
+    ghost form = { asks.create_of T.form B.form A.form };
 
     fn put(&self, out: &mut Vec<u8>) -> Result<(), AllocError> {
         fields_of!(create, put_fields, out, self)
     }
 }
 
-impl<'a> Put for CreateAskRef<'a> {
-    ghost fits = { asks.create.fits };
-
-    ghost spell = { asks.create.spell };
-
-    fn put(&self, out: &mut Vec<u8>) -> Result<(), AllocError> {
-        fields_of!(create, put_fields, out, self)
-    }
-}
-
-impl Item for CreateAsk {
-    ghost at = { asks.create.at };
-
+impl<T: Item, B: Item, A: Item> Item for CreateAskOf<T, B, A> {
     fn read(line: &mut Reader<'_>) -> Result<Self, LineFault> {
-        Ok(fields_of!(create, read_fields, line, CreateAsk))
+        Ok(fields_of!(create, read_fields, line, CreateAskOf))
     }
 }
 
-impl Put for DeleteAsk {
-    ghost fits = { asks.delete.fits };
-
-    ghost spell = { asks.delete.spell };
+impl<T: Put> Put for DeleteAskOf<T> {
+    ghost form = { asks.delete_of T.form };
 
     fn put(&self, out: &mut Vec<u8>) -> Result<(), AllocError> {
         fields_of!(delete, put_fields, out, self)
     }
 }
 
-impl<'a> Put for DeleteAskRef<'a> {
-    ghost fits = { asks.delete.fits };
-
-    ghost spell = { asks.delete.spell };
-
-    fn put(&self, out: &mut Vec<u8>) -> Result<(), AllocError> {
-        fields_of!(delete, put_fields, out, self)
-    }
-}
-
-impl Item for DeleteAsk {
-    ghost at = { asks.delete.at };
-
+impl<T: Item> Item for DeleteAskOf<T> {
     fn read(line: &mut Reader<'_>) -> Result<Self, LineFault> {
-        Ok(fields_of!(delete, read_fields, line, DeleteAsk))
+        Ok(fields_of!(delete, read_fields, line, DeleteAskOf))
     }
 }
 
-impl Put for WatchAsk {
-    ghost fits = { asks.watch.fits };
-
-    ghost spell = { asks.watch.spell };
+impl<T: Put> Put for WatchAskOf<T> {
+    ghost form = { asks.watch_of T.form };
 
     fn put(&self, out: &mut Vec<u8>) -> Result<(), AllocError> {
         fields_of!(watch, put_fields, out, self)
     }
 }
 
-impl<'a> Put for WatchAskRef<'a> {
-    ghost fits = { asks.watch.fits };
-
-    ghost spell = { asks.watch.spell };
-
-    fn put(&self, out: &mut Vec<u8>) -> Result<(), AllocError> {
-        fields_of!(watch, put_fields, out, self)
-    }
-}
-
-impl Item for WatchAsk {
-    ghost at = { asks.watch.at };
-
+impl<T: Item> Item for WatchAskOf<T> {
     fn read(line: &mut Reader<'_>) -> Result<Self, LineFault> {
-        Ok(fields_of!(watch, read_fields, line, WatchAsk))
+        Ok(fields_of!(watch, read_fields, line, WatchAskOf))
     }
 }
 
-impl Put for SetDataAsk {
-    ghost fits = { asks.set_data.fits };
-
-    ghost spell = { asks.set_data.spell };
+impl<T: Put, B: Put> Put for SetDataAskOf<T, B> {
+    ghost form = { asks.set_data_of T.form B.form };
 
     fn put(&self, out: &mut Vec<u8>) -> Result<(), AllocError> {
         fields_of!(set_data, put_fields, out, self)
     }
 }
 
-impl<'a> Put for SetDataAskRef<'a> {
-    ghost fits = { asks.set_data.fits };
-
-    ghost spell = { asks.set_data.spell };
-
-    fn put(&self, out: &mut Vec<u8>) -> Result<(), AllocError> {
-        fields_of!(set_data, put_fields, out, self)
-    }
-}
-
-impl Item for SetDataAsk {
-    ghost at = { asks.set_data.at };
-
+impl<T: Item, B: Item> Item for SetDataAskOf<T, B> {
     fn read(line: &mut Reader<'_>) -> Result<Self, LineFault> {
-        Ok(fields_of!(set_data, read_fields, line, SetDataAsk))
+        Ok(fields_of!(set_data, read_fields, line, SetDataAskOf))
     }
 }
 
-impl Put for PathAsk {
-    ghost fits = { asks.path.fits };
-
-    ghost spell = { asks.path.spell };
+impl<T: Put> Put for PathAskOf<T> {
+    ghost form = { asks.path_of T.form };
 
     fn put(&self, out: &mut Vec<u8>) -> Result<(), AllocError> {
         fields_of!(path, put_fields, out, self)
     }
 }
 
-impl<'a> Put for PathAskRef<'a> {
-    ghost fits = { asks.path.fits };
-
-    ghost spell = { asks.path.spell };
-
-    fn put(&self, out: &mut Vec<u8>) -> Result<(), AllocError> {
-        fields_of!(path, put_fields, out, self)
-    }
-}
-
-impl Item for PathAsk {
-    ghost at = { asks.path.at };
-
+impl<T: Item> Item for PathAskOf<T> {
     fn read(line: &mut Reader<'_>) -> Result<Self, LineFault> {
-        Ok(fields_of!(path, read_fields, line, PathAsk))
+        Ok(fields_of!(path, read_fields, line, PathAskOf))
     }
 }
 
-impl Put for SetAclAsk {
-    ghost fits = { asks.set_acl.fits };
-
-    ghost spell = { asks.set_acl.spell };
+impl<T: Put, A: Put> Put for SetAclAskOf<T, A> {
+    ghost form = { asks.set_acl_of T.form A.form };
 
     fn put(&self, out: &mut Vec<u8>) -> Result<(), AllocError> {
         fields_of!(set_acl, put_fields, out, self)
     }
 }
 
-impl<'a> Put for SetAclAskRef<'a> {
-    ghost fits = { asks.set_acl.fits };
-
-    ghost spell = { asks.set_acl.spell };
-
-    fn put(&self, out: &mut Vec<u8>) -> Result<(), AllocError> {
-        fields_of!(set_acl, put_fields, out, self)
-    }
-}
-
-impl Item for SetAclAsk {
-    ghost at = { asks.set_acl.at };
-
+impl<T: Item, A: Item> Item for SetAclAskOf<T, A> {
     fn read(line: &mut Reader<'_>) -> Result<Self, LineFault> {
-        Ok(fields_of!(set_acl, read_fields, line, SetAclAsk))
+        Ok(fields_of!(set_acl, read_fields, line, SetAclAskOf))
     }
 }
 
-impl Put for AuthAsk {
-    ghost fits = { asks.auth.fits };
-
-    ghost spell = { asks.auth.spell };
+impl<T: Put, B: Put> Put for AuthAskOf<T, B> {
+    ghost form = { asks.auth_of T.form B.form };
 
     fn put(&self, out: &mut Vec<u8>) -> Result<(), AllocError> {
         fields_of!(auth, put_fields, out, self)
     }
 }
 
-impl<'a> Put for AuthAskRef<'a> {
-    ghost fits = { asks.auth.fits };
-
-    ghost spell = { asks.auth.spell };
-
-    fn put(&self, out: &mut Vec<u8>) -> Result<(), AllocError> {
-        fields_of!(auth, put_fields, out, self)
-    }
-}
-
-impl Item for AuthAsk {
-    ghost at = { asks.auth.at };
-
+impl<T: Item, B: Item> Item for AuthAskOf<T, B> {
     fn read(line: &mut Reader<'_>) -> Result<Self, LineFault> {
-        Ok(fields_of!(auth, read_fields, line, AuthAsk))
+        Ok(fields_of!(auth, read_fields, line, AuthAskOf))
     }
 }
 
-impl Put for SetWatchesAsk {
-    ghost fits = { asks.set_watches.fits };
-
-    ghost spell = { asks.set_watches.spell };
+impl<L: Put> Put for SetWatchesAskOf<L> {
+    ghost form = { asks.set_watches_of L.form };
 
     fn put(&self, out: &mut Vec<u8>) -> Result<(), AllocError> {
         fields_of!(set_watches, put_fields, out, self)
     }
 }
 
-impl<'a> Put for SetWatchesAskRef<'a> {
-    ghost fits = { asks.set_watches.fits };
-
-    ghost spell = { asks.set_watches.spell };
-
-    fn put(&self, out: &mut Vec<u8>) -> Result<(), AllocError> {
-        fields_of!(set_watches, put_fields, out, self)
-    }
-}
-
-impl Item for SetWatchesAsk {
-    ghost at = { asks.set_watches.at };
-
+impl<L: Item> Item for SetWatchesAskOf<L> {
     fn read(line: &mut Reader<'_>) -> Result<Self, LineFault> {
-        Ok(fields_of!(set_watches, read_fields, line, SetWatchesAsk))
+        Ok(fields_of!(set_watches, read_fields, line, SetWatchesAskOf))
     }
 }
 
-impl Put for CheckAsk {
-    ghost fits = { asks.check.fits };
-
-    ghost spell = { asks.check.spell };
+impl<T: Put> Put for CheckAskOf<T> {
+    ghost form = { asks.check_of T.form };
 
     fn put(&self, out: &mut Vec<u8>) -> Result<(), AllocError> {
         fields_of!(check, put_fields, out, self)
     }
 }
 
-impl<'a> Put for CheckAskRef<'a> {
-    ghost fits = { asks.check.fits };
-
-    ghost spell = { asks.check.spell };
-
-    fn put(&self, out: &mut Vec<u8>) -> Result<(), AllocError> {
-        fields_of!(check, put_fields, out, self)
-    }
-}
-
-impl Item for CheckAsk {
-    ghost at = { asks.check.at };
-
+impl<T: Item> Item for CheckAskOf<T> {
     fn read(line: &mut Reader<'_>) -> Result<Self, LineFault> {
-        Ok(fields_of!(check, read_fields, line, CheckAsk))
+        Ok(fields_of!(check, read_fields, line, CheckAskOf))
     }
 }

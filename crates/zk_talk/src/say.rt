@@ -193,7 +193,7 @@ pub fn say_client(
     ensures said { OnOk result (SaysClient limits asked waiting.old message.now waiting.new) }
     ensures same { OnErr result ((waiting.new ≡ waiting.old) × (out.new.items ≡ out.old.items)) }
     ensures err { IfErr result (λ e. (e ≡ NoMemory) ⊎ RefusesClient limits asked waiting.old message.now e) }
-    // Memory is wanted for what may come, within its limit, alone.
+    // Memory is needed only for what may come, within its limit.
     ensures lacks { IfErr result (λ e. e ≡ NoMemory → StandsClient limits asked waiting.old message.now) }
 {
     if is_connect(message) == asked {
@@ -280,7 +280,7 @@ pub fn say_server(
     ensures said { OnOk result (SaysServer limits asked welcomed waiting.old message.now waiting.new) }
     ensures same { OnErr result ((waiting.new ≡ waiting.old) × (out.new.items ≡ out.old.items)) }
     ensures err { IfErr result (λ e. (e ≡ NoMemory) ⊎ RefusesServer limits asked welcomed waiting.old message.now e) }
-    // Memory is wanted for what may be said alone.
+    // Memory is needed only for what may be said.
     ensures lacks { IfErr result (λ e. e ≡ NoMemory → StandsServer limits asked welcomed waiting.old message.now) }
 {
     if is_connected(message) == welcomed {

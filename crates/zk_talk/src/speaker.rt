@@ -69,9 +69,9 @@ impl Speaker {
         ensures same { OnErr result ((self.new ≡ self.old) × (out.new.items ≡ out.old.items)) }
         // Memory was refused, or the message is, by this case.
         ensures err { IfErr result (λ e. (e ≡ NoMemory) ⊎ ((before : List Message) → Says self.old before → IsSayFault self.old.limits before message.now e)) }
-        // Memory is wanted alone for a message that may come after those said, within its side's limit.
+        // Memory is needed only for a message that may come after those said, within its side's limit.
         ensures lacks { IfErr result (λ e. e ≡ NoMemory → (before : List Message) → Says self.old before → MayStand self.old.limits before message.now) }
-        // Only what may not be said is refused, but for want of memory.
+        // Only what may not be said is refused, unless memory was.
         ensures exact { IfErr result (λ e. e ≢ NoMemory → (before : List Message) → Says self.old before → MaySay self.old.limits before message.now → ⊥) }
     {
         match message {

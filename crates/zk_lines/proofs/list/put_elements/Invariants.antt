@@ -5,8 +5,8 @@ use Rattle.zk_lines.proofs.list.put_elements.Given as goal
 
 abbrev pub invariant-loop-item : goal.invariant-loop-item
 invariant-loop-item g l = record {
-  spelled : l.out.items ++ flat_map (λ y. l.sign ∷ g.I.One.Put.spell y) (g.I.Left.left l.items) ≡ l.fn.out.items ++ flat_map (λ y. l.sign ∷ g.I.One.Put.spell y) (g.I.Left.left l.fn.items);
-  fits : AllByRecursion g.I.One.Put.fits (g.I.Left.left l.items) → AllByRecursion g.I.One.Put.fits (g.I.Left.left l.fn.items);
+  spelled : l.out.items ++ flat_map (λ y. l.sign ∷ g.I.One.Put.form.spell y) (g.I.Left.left l.items) ≡ l.fn.out.items ++ flat_map (λ y. l.sign ∷ g.I.One.Put.form.spell y) (g.I.Left.left l.fn.items);
+  fits : AllByRecursion g.I.One.Put.form.fits (g.I.Left.left l.items) → AllByRecursion g.I.One.Put.form.fits (g.I.Left.left l.fn.items);
   keeps : Keeps l.fn.out.items l.out.items;
 }
 
