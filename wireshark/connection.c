@@ -91,11 +91,15 @@ static void begin(struct connection *connection, packet_info *pinfo, struct way 
     const struct tcp_analysis *tcp = (const struct tcp_analysis *)conversation_get_proto_data(
         find_or_create_conversation(pinfo), proto_tcp);
     way->begun = TRUE;
-    way->next = way->end = piece->number;
+    way->first = piece->number;
     way->since = pinfo->num;
-    /* TCP's numbers count from 0 where its preference has them so, and from the SYN's own else. */
-    way->whole = tcp && (tcp->conversation_completeness & began[piece->side]) &&
-                 (piece->number == 1 || piece->number == tcp->fwd->base_seq + 1);
+    way->whole = tcp && (tcp->conversation_completeness & began[piece->side]);
+    if (way->whole) {
+        /* TCP's numbers count from 0 where its preference has them so, and from the SYN's own else. */
+        way->first = MIN(piece->number - 1, piece->number - (tcp->fwd->base_seq + 1));
+        way->first = piece->number - way->first;
+    }
+    way->next = way->end = way->first;
     if (piece->side == ZK_CLIENT && piece->there >= 4 && g_ascii_isalpha(piece->bytes[0]) &&
         g_ascii_isalpha(piece->bytes[1]) && g_ascii_isalpha(piece->bytes[2]) && g_ascii_isalpha(piece->bytes[3])) {
         connection->words = TRUE;
@@ -106,8 +110,7 @@ static void begin(struct connection *connection, packet_info *pinfo, struct way 
     way->sure = way->whole;
     if (!way->whole) {
         way->sought = TRUE;
-        be_late(connection, pinfo, tcp && tcp->conversation_completeness & began[piece->side] ?
-                                       "lacks bytes that were not captured" : "begins before the capture");
+        be_late(connection, pinfo, "begins before the capture");
     }
 }
 
@@ -154,8 +157,10 @@ static void judge(struct connection *connection, packet_info *pinfo, const struc
         frame->verdict = VERDICT_LEFT_OUT;
         return;
     }
-    /* Who acknowledges bytes that make no frame here may answer a request that was lost, or is captured later. */
-    if ((frame->unasked || frame->disordered) && (gint32)(piece->tcp->lastackseq - other->next) > 0) {
+    /* Who acknowledges bytes that make no frame here may answer a request that was lost, or is captured later. What
+     * TCP put together tells the acknowledgement of its last segment alone. */
+    if (piece->side == ZK_SERVER && (frame->unasked || frame->disordered || frame->kind == ZK_CONNECTED) &&
+        (!other->begun || piece->tcp->is_reassembled || (gint32)(piece->tcp->lastackseq - other->next) > 0)) {
         be_late(connection, pinfo, "lacks a request that was answered");
         return;
     }
@@ -174,13 +179,17 @@ static void judge(struct connection *connection, packet_info *pinfo, const struc
     }
 }
 
+static gboolean is_first(const struct way *way, const struct piece *piece) {
+    return way->whole && piece->number == way->first;
+}
+
 /* Which message a frame is. */
 static guint32 kind_of(const struct way *way, const struct piece *piece) {
-    if (piece->side == ZK_CLIENT) {
-        return way->frames == 0 && way->whole ? ZK_CONNECT : ZK_REQUEST;
+    if (is_first(way, piece)) {
+        return piece->side == ZK_CLIENT ? ZK_CONNECT : ZK_CONNECTED;
     }
-    if (way->frames == 0 && way->whole) {
-        return ZK_CONNECTED;
+    if (piece->side == ZK_CLIENT) {
+        return ZK_REQUEST;
     }
     return piece->there >= FRAME_HEAD + 4 && int_at(piece->bytes + FRAME_HEAD) == XID_EVENT ? ZK_EVENT : ZK_REPLY;
 }
@@ -194,8 +203,8 @@ static struct frame *frame_new(struct connection *connection, packet_info *pinfo
     guint32 there = MIN(piece->there, size) - FRAME_HEAD;
     gboolean newer = FALSE;
     frame->packet = pinfo->num;
+    frame->count = connection->frames++;
     frame->kind = kind_of(way, piece);
-    way->frames++;
     if (frame->kind == ZK_REQUEST && there >= REQUEST_HEAD) {
         call_new(connection, pinfo, frame, payload, there);
         newer = op_is_newer(frame->call->op) && message_read(ZK_REQUEST, (guint32)pref_profile, NULL, payload, there,
@@ -255,7 +264,7 @@ static struct kept *look_for_frames(struct connection *connection, packet_info *
 static struct kept *look(struct connection *connection, packet_info *pinfo, const struct piece *piece, struct way *way,
                          guint32 *place, gboolean filling) {
     gboolean plausible = frame_is_plausible(piece->side, piece->bytes, piece->there, pref_limit);
-    if (!way->sure && !plausible) {
+    if (!way->sure && !plausible && !is_first(way, piece)) {
         gboolean short_of = piece->there < FRAME_HEAD + REPLY_HEAD;
         if (short_of && piece->may_wait) {
             return keep(connection, pinfo, piece, MORE, DESEGMENT_ONE_MORE_SEGMENT);

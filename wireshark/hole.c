@@ -176,7 +176,7 @@ static bool may_begin(uint32_t side, const uint8_t *at) {
     }
     int64_t zxid = long_at(at + 8);
     int32_t xid = int_at(at + 4), err = int_at(at + 16);
-    return xid >= XID_SET_WATCHES && zxid >= -1 && (err == 0 || (err < 0 && err >= -(1 << 24)));
+    return xid >= XID_SET_WATCHES && zxid >= -1 && (err == 0 || (err < 0 && err >= -256));
 }
 
 struct hole_end hole_end(uint32_t side, const uint8_t *bytes, size_t length, uint32_t limit) {

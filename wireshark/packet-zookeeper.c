@@ -335,7 +335,7 @@ int dissect_zookeeper(tvbuff_t *tvb, packet_info *pinfo, proto_tree *tree, void 
         tvbuff_t *own = tvb_new_subset_length_caplen(tvb, (int)at, captured, part);
         if (kept->what == A_FRAME && captured >= FRAME_HEAD) {
             show_frame(own, pinfo, tree, connection, kept->frame, piece.side);
-        } else {
+        } else if (kept->what != AGAIN || !tcp->is_reassembled) { /* TCP puts bytes that wait together from their first on */
             show_bytes(own, pinfo, tree, kept->what, piece.side);
         }
         col_set_fence(pinfo->cinfo, COL_INFO);

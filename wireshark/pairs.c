@@ -5,7 +5,7 @@
  */
 #include "zookeeper.h"
 
-/* A reply that was captured before its request was captured within so many packets of it. */
+/* A reply that was captured before its request was captured within so many messages of it. */
 enum { MOST_EARLY = 64 };
 
 /* Xids that a client doesn't choose are those of requests that are answered in an order of their own. */
@@ -77,7 +77,7 @@ struct call *call_new(struct connection *connection, packet_info *pinfo, struct 
     note_asked(call, payload, length);
     frame->call = call;
     struct frame *early = (struct frame *)wmem_map_lookup(connection->early, GINT_TO_POINTER(call->xid));
-    if (early && pinfo->num - early->packet <= MOST_EARLY) {
+    if (early && frame->count - early->count <= MOST_EARLY) {
         wmem_map_remove(connection->early, GINT_TO_POINTER(call->xid));
         early->call = call;
         early->unasked = FALSE;

@@ -38,7 +38,7 @@ struct call {
 
 /* A frame, as it was met on the first pass. */
 struct frame {
-    guint32 packet;
+    guint32 packet, count;   /* so many frames came before it */
     guint32 kind;            /* ZK_CONNECT and so on; 0: no message */
     gint32 xid;
     struct call *call;       /* of a request and of a reply */
@@ -65,10 +65,11 @@ struct gap {
 };
 
 struct way {
-    gboolean begun, whole;   /* whole: its first byte was captured */
+    gboolean begun, whole;   /* whole: it is known where its first byte stands, which is at `first` */
     gboolean sure, sought;   /* frames are known to begin at `next`; they have to be found first */
+    guint32 first;
     guint32 next, end;       /* behind the last frame; behind the one that begins there, where that is known */
-    guint32 frames, since;   /* since this packet frames follow one another */
+    guint32 since;           /* since this packet frames follow one another */
     struct gap rest;         /* a frame that isn't whole where its front was captured */
     wmem_list_t *gaps;
 };
@@ -84,6 +85,7 @@ struct connection {
     gboolean words;          /* the client says words of four letters */
     guint32 late;            /* since this packet the connection isn't whole in the capture; 0: it is */
     const char *why;
+    guint32 frames;
     guint64 session;
     struct judge judge;
     guint32 refused;         /* in this packet; 0: nowhere */

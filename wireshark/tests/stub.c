@@ -69,7 +69,7 @@ static const char *op_name(int64_t op) {
 
 static void coded(struct held *held, int64_t value, int event) {
     static const struct coded { int64_t value; const char *name; } errors[] = {
-        {-6, "UNIMPLEMENTED"}, {-8, "BADARGUMENTS"}, {-2, "RUNTIMEINCONSISTENCY"}, {-101, "NONODE"}, {-102, "NOAUTH"},
+        {-6, "UNIMPLEMENTED"}, {-8, "BADARGUMENTS"}, {-2, "RUNTIMEINCONSISTENCY"}, {-5, "MARSHALLINGERROR"}, {-101, "NONODE"}, {-102, "NOAUTH"},
         {-103, "BADVERSION"}, {-108, "NOCHILDRENFOREPHEMERALS"}, {-110, "NODEEXISTS"}, {-111, "NOTEMPTY"}, {-114, "INVALIDACL"},
         {-115, "AUTHFAILED"}, {-112, "SESSIONEXPIRED"}, {0, "OK"}, {1, NULL}},
       events[] = {{-1, "None"}, {1, "NodeCreated"}, {2, "NodeDeleted"}, {3, "NodeDataChanged"},
