@@ -159,7 +159,8 @@ static void judge(struct connection *connection, packet_info *pinfo, const struc
     }
     /* Who acknowledges bytes that make no frame here may answer a request that was lost, or is captured later. What
      * TCP put together tells the acknowledgement of its last segment alone. */
-    if (piece->side == ZK_SERVER && (frame->unasked || frame->disordered || frame->kind == ZK_CONNECTED) &&
+    gboolean unasked = frame->unasked || (frame->kind == ZK_CONNECTED && (!other->begun || other->next == other->first));
+    if ((unasked || frame->disordered) &&
         (!other->begun || piece->tcp->is_reassembled || (gint32)(piece->tcp->lastackseq - other->next) > 0)) {
         be_late(connection, pinfo, "lacks a request that was answered");
         return;

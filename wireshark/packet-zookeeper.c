@@ -202,10 +202,11 @@ static void show_fields(struct shown *shown) {
     if (!shown->frame->kind) {
         return;
     }
-    if (call) {
+    gboolean is_known = call && (call->is_known || call->op != OP_MULTI);
+    if (is_known) {
         asked = (struct asked){call->op, call->count, call->parts};
     }
-    shown->message = message_read(shown->frame->kind, (guint32)pref_profile, call ? &asked : NULL, payload, length,
+    shown->message = message_read(shown->frame->kind, (guint32)pref_profile, is_known ? &asked : NULL, payload, length,
                                   fields, MOST_FIELDS);
     shown->count = MIN(shown->message.count, MOST_FIELDS);
     tree_fields(shown->tvb, shown->pinfo, shown->tree, fields, shown->count);

@@ -38,33 +38,28 @@ static void wait_for_reply(struct connection *connection, struct call *call) {
     }
 }
 
-/* What a request asks: its path, and the operations of its parts. */
+/* What a request asks: its path, and of a multi the operations of its parts. */
 static void note_asked(struct call *call, const guint8 *payload, guint32 length) {
-    struct field *fields = wmem_alloc_array(NULL, struct field, MOST_FIELDS);
-    size_t count = message_read(ZK_REQUEST, ZK_PROFILE_35, NULL, payload, length, fields, MOST_FIELDS).count;
-    guint32 parts = 0;
-    count = MIN(count, MOST_FIELDS);
-    const struct field *path = field_of(fields, count, FIELD_PATH);
+    enum { FIRST = 8 }; /* a path is among the first fields */
+    struct field first[FIRST];
+    struct message message = message_read(ZK_REQUEST, ZK_PROFILE_35, NULL, payload, length, first, FIRST);
+    const struct field *path = field_of(first, MIN(message.count, FIRST), FIELD_PATH);
+    call->is_known = message.status == ZK_WELL;
     if (path && path->number >= 0) {
         call->path = (const char *)wmem_strndup(wmem_file_scope(), (const char *)payload + path->place + 4,
                                                 (gsize)path->number);
     }
-    for (int round = 0; call->op == OP_MULTI && round < 2; round++) {
-        parts = 0;
-        for (size_t k = 0; k < count; k++) {
+    if (call->op == OP_MULTI && call->is_known) {
+        struct field *fields = wmem_alloc_array(NULL, struct field, message.count);
+        message_read(ZK_REQUEST, ZK_PROFILE_35, NULL, payload, length, fields, message.count);
+        call->parts = wmem_alloc0_array(wmem_file_scope(), gint32, fields[message.count - 1].part);
+        for (size_t k = 0; k < message.count; k++) {
             if (fields[k].name == FIELD_PART_OP && fields[k].number != OP_END) {
-                if (round) {
-                    call->parts[parts] = (gint32)fields[k].number;
-                }
-                parts++;
+                call->parts[call->count++] = (gint32)fields[k].number;
             }
         }
-        if (!round) {
-            call->parts = wmem_alloc0_array(wmem_file_scope(), gint32, parts + 1);
-        }
+        wmem_free(NULL, fields);
     }
-    call->count = parts;
-    wmem_free(NULL, fields);
 }
 
 struct call *call_new(struct connection *connection, packet_info *pinfo, struct frame *frame, const guint8 *payload,

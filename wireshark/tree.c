@@ -74,14 +74,6 @@ static proto_tree *part_of(struct branches *in, tvbuff_t *tvb, packet_info *pinf
 /* The subtree of a field within its part or message. */
 static proto_tree *place_of(struct branches *in, tvbuff_t *tvb, proto_tree *tree, const struct field *field, int at) {
     int end = at + (int)field->length;
-    if (field->kind == KIND_LIST) {
-        in->element = in->stat = none;
-        in->in_element = 0;
-        in->list.tree = proto_tree_add_subtree_format(tree, tvb, at, (int)field->length, ett_list, &in->list.item,
-                                                      "%s: %" PRId64,
-                                                      proto_registrar_get_name(hf_field[field->name]), field->number);
-        return in->list.tree;
-    }
     if (field->element && in->list.tree) {
         proto_item_set_end(in->list.item, tvb, end);
         if (field->name != FIELD_PERMS && field->name != FIELD_SCHEME && field->name != FIELD_ID) {
@@ -105,22 +97,27 @@ static proto_tree *place_of(struct branches *in, tvbuff_t *tvb, proto_tree *tree
     return tree;
 }
 
-static void add_field(proto_tree *tree, tvbuff_t *tvb, const struct field *field, int at) {
+/* A text or a blob that has no bytes to show. */
+static void add_none(proto_tree *tree, tvbuff_t *tvb, const struct field *field, int at) {
     int hf = hf_field[field->name], size = (int)field->length;
-    proto_item *item = NULL;
+    proto_item *item = field->kind == KIND_TEXT
+                           ? proto_tree_add_string(tree, hf, tvb, at, size, "")
+                           : proto_tree_add_bytes_with_length(tree, hf, tvb, at, size, (const guint8 *)"", 0);
+    proto_item_set_text(item, "%s: (%s)", proto_registrar_get_name(hf),
+                        field->number < 0 ? "null" : field->number > 0 ? "hidden" : "empty");
+}
+
+static proto_item *add_field(proto_tree *tree, tvbuff_t *tvb, const struct field *field, int at) {
+    int hf = hf_field[field->name], size = (int)field->length;
     if (field->kind == KIND_TEXT || field->kind == KIND_BLOB) {
-        if (field->number >= 0 && !(is_secret(field->name) && pref_hide)) {
-            proto_tree_add_item(tree, hf, tvb, at + 4, (int)field->number, field->kind == KIND_TEXT ? ENC_UTF_8 : ENC_NA);
-            return;
+        if (field->number <= 0 || (is_secret(field->name) && pref_hide)) {
+            add_none(tree, tvb, field, at);
+            return NULL;
         }
-        item = field->kind == KIND_TEXT ? proto_tree_add_string(tree, hf, tvb, at, size, "")
-                                        : proto_tree_add_bytes_with_length(tree, hf, tvb, at, size, (const guint8 *)"", 0);
-        proto_item_append_text(item, field->number < 0 ? " (null)" : " (hidden)");
-    } else if (field->name == FIELD_CTIME || field->name == FIELD_MTIME) {
-        proto_tree_add_item(tree, hf, tvb, at, size, ENC_TIME_MSECS | ENC_BIG_ENDIAN);
-    } else {
-        proto_tree_add_item(tree, hf, tvb, at, size, ENC_BIG_ENDIAN);
+        return proto_tree_add_item(tree, hf, tvb, at + 4, (int)field->number, field->kind == KIND_TEXT ? ENC_UTF_8 : ENC_NA);
     }
+    gboolean is_time = field->name == FIELD_CTIME || field->name == FIELD_MTIME;
+    return proto_tree_add_item(tree, hf, tvb, at, size, (is_time ? ENC_TIME_MSECS : 0) | ENC_BIG_ENDIAN);
 }
 
 void tree_fields(tvbuff_t *tvb, packet_info *pinfo, proto_tree *tree, const struct field *fields, size_t count) {
@@ -128,6 +125,11 @@ void tree_fields(tvbuff_t *tvb, packet_info *pinfo, proto_tree *tree, const stru
     for (const struct field *field = fields; field < fields + count; field++) {
         int at = FRAME_HEAD + (int)field->place;
         proto_tree *part = part_of(&in, tvb, pinfo, tree, field, at);
-        add_field(place_of(&in, tvb, part, field, at), tvb, field, at);
+        proto_item *item = add_field(place_of(&in, tvb, part, field, at), tvb, field, at);
+        if (field->kind == KIND_LIST) {
+            in.list = (struct branch){proto_item_add_subtree(item, ett_list), item};
+            in.element = in.stat = none;
+            in.in_element = 0;
+        }
     }
 }

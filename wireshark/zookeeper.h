@@ -31,6 +31,7 @@ struct call {
     const char *path;
     guint32 count;           /* of parts */
     gint32 *parts;
+    gboolean is_known;       /* all of it was read */
     gboolean left_out, passed;
     struct call *same;       /* the next that waits with this xid */
     struct call *before, *behind;
