@@ -20,7 +20,7 @@ from build_library import LIBRARY  # noqa: E402
 
 NOBODY = 65534
 PROFILES = {"3.4": "ZooKeeper 3.4", "3.5": "ZooKeeper 3.5 (create2)"}
-FLAGS = ("-std=gnu11", "-fPIC", "-shared", "-Wall", "-Wextra", "-Werror", f"-I{TOP / 'include'}", f"-I{SOURCES}")
+FLAGS = ("-std=gnu11", "-fPIC", "-shared", "-fvisibility=hidden", "-Wall", "-Wextra", "-Werror", f"-I{TOP / 'include'}", f"-I{SOURCES}")
 SANITIZED = ("-O1", "-g", "-fsanitize=address,undefined", "-fno-sanitize=alignment")
 # What no run may say.
 BAD = ("AddressSanitizer", "runtime error", "Dissector bug", "Fatal", "ASSERT")

@@ -235,7 +235,7 @@ class Tests:
 
     def test_the_page_lists_the_fields(self):
         """wireshark/README.md has just the fields that tshark has."""
-        page = re.findall(r"^\| `(zookeeper\.[\w.]+)` \| (\w+) \| (.*?) \|", (SOURCES / "README.md").read_text(), re.M)
+        page = re.findall(r"^\| `(zookeeper\.[\w.]+)` \| (FT_\w+) \| (.*?) \|", (SOURCES / "README.md").read_text(), re.M)
         fields = [line.split("\t") for line in self.plugin.tshark("-G", "fields").splitlines()]
         found = {words[2]: (words[3], words[1]) for words in fields if words[0] == "F" and words[2].startswith("zookeeper.")}
         page = {name: (kind, text) for name, kind, text in page}
@@ -266,16 +266,17 @@ SAME = {"xid": ("xid", plain), "path": ("path", plain), "zxid": ("zxid", hexadec
         "version": ("version", plain), "flags": ("flags", plain), "watch": ("watch", lambda value: str(int(value))),
         "timeout": ("timeout", plain), "kind": ("event.kind", plain), "state": ("event.state", plain),
         "session": ("session", hexadecimal), "scheme": ("scheme", plain)}
+OTHERWISE = {("C", "connect", "version"): "protocol_version", ("S", "connect", "version"): "protocol_version",
+             ("C", "connect", "zxid"): "last_zxid", ("C", "setWatches", "zxid"): "relative_zxid",
+             ("C", "auth", "kind"): "auth.type"}
 STAT = {"czxid": hexadecimal, "mzxid": hexadecimal, "version": plain, "cversion": plain, "aversion": plain,
         "numChildren": plain, "dataLength": plain, "pzxid": hexadecimal, "ephemeralOwner": hexadecimal}
 
 
 def differences(wanted, found):
     """The fields of a message that aren't those of its object."""
-    connects = wanted["op"] == "connect"
     for name, (field, spelled) in SAME.items():
-        if connects and name in ("version", "zxid") or name == "kind" and wanted["op"] == "auth":
-            continue
+        field = OTHERWISE.get((wanted["side"], wanted["op"], name), field)
         if wanted.get(name) is None or name == "path" and not wanted[name].isprintable():
             continue
         if spelled(wanted[name]) not in found[field]:
