@@ -16,7 +16,8 @@ LIBDIR = "lib/x86_64-linux-gnu"
 TOOLS = ("dpkg-deb", "objdump")
 # Which files below /usr a package has, by the first row that fits; and its fields.
 FILES = (("libzk1", f"{LIBDIR}/libzk.so.*"), ("libzk-dev", f"{LIBDIR}/*"), ("libzk-dev", "include/*"),
-         ("libzk-dev", "share/man/man3/*"), ("libzk-dev", f"{OWN}/examples/*"), ("zkdump", "*"))
+         ("libzk-dev", "share/man/man3/*"), ("libzk-dev", f"{OWN}/examples/*"),
+         ("libzk-dev", f"{OWN}/wireshark/*"), ("zkdump", "*"))
 FIELDS = {
     "zkdump": """Section: net
 Depends: {libc}
@@ -36,7 +37,8 @@ Depends: libzk1 (= {version})
 Suggests: zkdump
 Description: proved codec of ZooKeeper's client protocol, for development
  It reads, judges and makes conversations on ZooKeeper's client port. This
- package has the header, the static library and examples.
+ package has the header, the static library, examples, and the source of a
+ plugin for Wireshark.
 """,
 }
 COPYRIGHT = """Format: https://www.debian.org/doc/packaging-manuals/copyright-format/1.0/
@@ -47,6 +49,12 @@ Copyright: the authors of zkdump
 License: Apache-2.0
  On Debian systems the text of this license is in
  /usr/share/common-licenses/Apache-2.0.
+
+Files: wireshark/*
+Copyright: the authors of zkdump
+License: GPL-2.0-or-later
+ On Debian systems the text of this license is in
+ /usr/share/common-licenses/GPL-2.
 """
 # The tools' compiled files are removed with them.
 REMOVAL = f"""#!/bin/sh

@@ -69,7 +69,7 @@ def layout(libdir="lib"):
         files[f"bin/{name}"] = Link(f"../{OWN}/tools/{script.name}")
         files[f"share/man/man1/{name}.1"] = Link("zkdump.1")
     files.update((f"{OWN}/{name}", TOP / name) for name in ("README.md", "CHANGELOG.md", "SECURITY.md", "LICENSE"))
-    for folder, pattern in (("docs", "*.md"), ("tools", "*"), ("examples", "*")):
+    for folder, pattern in (("docs", "*.md"), ("tools", "*"), ("examples", "*"), ("wireshark", "*")):
         files.update((f"{OWN}/{path.relative_to(TOP)}", path) for path in folder_files(folder, pattern))
     return dict(sorted(files.items()))
 

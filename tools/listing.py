@@ -2,7 +2,7 @@
 
 A line becomes a Message, which has what the line begins with. A Listing yields the messages of one connection,
 each with its line and with the request that it answers, and what is known of the connection itself is in its
-Connection. Joined, in joined.py, gives the same of the lines that zkjson makes; conversations.py opens either.
+Connection. Joined, in joined.py, gives the same of the lines that zkjson makes; inputs.py opens either.
 """
 
 import codecs

@@ -1,4 +1,4 @@
-#!/usr/bin/env python3
+#!/usr/bin/env -S sh -c '[ -d /dev/stdin ] && exec <&-; exec python3 "$0" "$@"'
 """Makes recordings of the ZooKeeper connections in a capture of tcpdump or Wireshark.
 
     pcap2zkr.py [--port N] [--late] CAPTURE PREFIX
@@ -217,12 +217,12 @@ def complain(text):
 
 def main():
     words, head = words_of()
-    if not sys.stdout or words.capture == "-" and not sys.stdin:
-        complain(f"standard {'input' if sys.stdout else 'output'} is closed")
+    if not sys.stdout:
+        complain("standard output is closed")
         return 3
     capture = Capture(words, head)
     try:
-        with sys.stdin.buffer if words.capture == "-" else open(words.capture, "rb") as stream:
+        with zkr.standard_input() if words.capture == "-" else open(words.capture, "rb") as stream:
             capture.read(stream)
     except EOFError:
         complain(f"{words.capture}: the capture ends within a packet")

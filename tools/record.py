@@ -1,4 +1,4 @@
-#!/usr/bin/env python3
+#!/usr/bin/env -S sh -c '[ -d /dev/stdin ] && exec <&-; exec python3 "$0" "$@"'
 """Records the connections of ZooKeeper clients, one file each, as a proxy in front of a server.
 
     record.py [HOST:]PORT SERVER:PORT PREFIX
@@ -19,7 +19,6 @@ import time
 
 import addresses
 import proxy
-import teller
 import zkr
 
 
@@ -97,7 +96,7 @@ def words_of():
 
 def main():
     words, head = words_of()
-    teller.open_closed_streams()
+    zkr.hold_standard_streams()
     zkr.allow_many_files()
     try:
         zkr.Series(words.prefix, head, words.times).next().remove()

@@ -38,7 +38,7 @@ def tell(line):
 def standard_input():
     """The bytes of standard input."""
     if sys.stdin is None:
-        raise OSError(errno.EBADF, "standard input is closed")
+        raise OSError(errno.EBADF, "standard input is closed, or a folder")
     return sys.stdin.buffer
 
 

@@ -8,15 +8,6 @@ import time
 MOST_HELD = 1 << 20
 
 
-def open_closed_streams():
-    """Opens the null device as each standard stream that is closed, so that no socket or file gets its number."""
-    for number in range(3):
-        try:
-            os.fstat(number)
-        except OSError:
-            os.open(os.devnull, os.O_RDWR)
-
-
 class Teller(threading.Thread):
     """Writes lines to the file of this number, each after `head`, in a thread of its own. It holds MOST_HELD bytes that
     nobody reads; what comes after them is lost, and so is what can't be written, for which `failed(error)` is

@@ -1,4 +1,4 @@
-#!/usr/bin/env python3
+#!/usr/bin/env -S sh -c '[ -d /dev/stdin ] && exec <&-; exec python3 "$0" "$@"'
 """Makes JSON of listings and recordings: one object a line, for jq and for programs.
 
     zkjson.py [--recording REC.zkr [--times FILE]] [CHOICE ..] [FILE ..]
@@ -19,8 +19,8 @@ import json
 import re
 import sys
 
-import conversations
 import forms
+import inputs
 import listing
 import selection
 import zkr
@@ -134,12 +134,12 @@ def write(line, made, asked):
 
 def main():
     parser = zkr.Words(__doc__)
-    conversations.add_words(parser)
+    inputs.add_words(parser)
     selection.add_words(parser)
     words = parser.parse_args()
     sys.stdout.reconfigure(encoding="utf-8")
     chosen, progress = selection.Selection(words), zkr.Progress("zkjson", may=not sys.stdout.isatty())
-    for talk in conversations.conversations(parser, words, False, progress, before_read=sys.stdout.flush):
+    for talk in inputs.conversations(parser, words, False, progress, before_read=sys.stdout.flush):
         head = talk.connection.json = f'{{"connection": {forms.readable(talk.name)}'
         with talk.complaints():
             for line, made, asked in chosen.chosen(talk):

@@ -1,4 +1,4 @@
-#!/usr/bin/env python3
+#!/usr/bin/env -S sh -c '[ -d /dev/stdin ] && exec <&-; exec python3 "$0" "$@"'
 """Plays the server of a recording to a client: a test bench without a ZooKeeper.
 
     zkplay.py [OPTIONS] [HOST:]PORT RECORDING

@@ -16,7 +16,8 @@ import re
 import struct
 from typing import NamedTuple, Optional
 
-from running import Progress, allow_many_files, complain, read_no_more, standard_input, tell, tool  # noqa: F401
+from running import (Progress, allow_many_files, complain, hold_standard_streams, read_no_more,  # noqa: F401
+                     standard_input, tell, tool)
 
 CLIENT, SERVER = b"C", b"S"
 LARGEST_PIECE = 16_777_220

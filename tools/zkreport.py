@@ -1,4 +1,4 @@
-#!/usr/bin/env python3
+#!/usr/bin/env -S sh -c '[ -d /dev/stdin ] && exec <&-; exec python3 "$0" "$@"'
 """Reports what happened on many connections, as a page for a browser, as text, or as a trace.
 
     zkreport.py [-o REPORT.html] [--text] [--trace TRACE.json] [--against OTHER] [--port N] [CHOICE ..] INPUT ..
@@ -21,7 +21,7 @@ import os
 import sys
 import tempfile
 
-import conversations
+import program
 import selection
 import zkr
 from report import against, gather, messages, page, sources, summary, text, trace
@@ -105,7 +105,7 @@ def words_of():
     parser.add_argument("--trace", metavar="FILE", help="the trace to write")
     parser.add_argument("--against", metavar="OTHER", action="append", help="a file of the run to compare with")
     parser.add_number("--port", range(1, 65536), default=2181, help="the server's port in captures (2181)")
-    conversations.add_program(parser)
+    program.add_program(parser)
     selection.add_words(parser)
     words = parser.parse_args()
     if not (words.output or words.text or words.trace):

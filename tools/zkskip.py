@@ -1,4 +1,4 @@
-#!/usr/bin/env python3
+#!/usr/bin/env -S sh -c '[ -d /dev/stdin ] && exec <&-; exec python3 "$0" "$@"'
 """Leaves out of a recording the requests that a release lacks, with their replies, so that zkdump reads on.
 
     zkskip.py [--profile 3.4|3.5] REC.zkr PLAIN.zkr

@@ -1,4 +1,4 @@
-#!/usr/bin/env python3
+#!/usr/bin/env -S sh -c '[ -d /dev/stdin ] && exec <&-; exec python3 "$0" "$@"'
 """Counts conversations: requests, replies, errors and latencies of each operation and each connection, events, the
 slowest requests, and those without a reply.
 
@@ -17,7 +17,7 @@ import itertools
 import json
 import sys
 
-import conversations
+import inputs
 import listing
 import selection
 import tables
@@ -157,13 +157,13 @@ def request(made):
 
 def main():
     parser = zkr.Words(__doc__)
-    conversations.add_words(parser)
+    inputs.add_words(parser)
     selection.add_words(parser)
     parser.add_argument("--json", action="store_true", help="write one object of JSON, with every unanswered request")
     words = parser.parse_args()
     sys.stdout.reconfigure(errors="backslashreplace")
     found = Statistics(selection.Selection(words))
-    for talk in conversations.conversations(parser, words, True, zkr.Progress("zkstat")):
+    for talk in inputs.conversations(parser, words, True, zkr.Progress("zkstat")):
         with talk.complaints():
             found.read(talk)
     if words.json:

@@ -1,4 +1,4 @@
-#!/usr/bin/env python3
+#!/usr/bin/env -S sh -c '[ -d /dev/stdin ] && exec <&-; exec python3 "$0" "$@"'
 """A proxy that shows what the ZooKeeper connections through it say, while they say it.
 
     zkwatch.py [--zkdump PATH] [--profile 3.4|3.5] [--limit N] [--once] [HOST:]PORT SERVER:PORT
@@ -23,7 +23,6 @@ import time
 import addresses
 import program
 import proxy
-import teller
 import zkr
 from proxy import READ, WRITE
 
@@ -212,5 +211,4 @@ def main():
 
 
 if __name__ == "__main__":
-    teller.open_closed_streams()
     sys.exit(zkr.tool(main))

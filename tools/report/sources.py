@@ -10,7 +10,7 @@ import subprocess
 import sys
 import tempfile
 
-import conversations
+import inputs
 import listing
 import zkr
 
@@ -54,7 +54,7 @@ class Opener:
             return
         with open(source.path, "rb") as stream:
             try:
-                talk = conversations.conversation(self.parser, self.words, source.path, stream, True, self.progress,
+                talk = inputs.conversation(self.parser, self.words, source.path, stream, True, self.progress,
                                                   lambda: None)
             except zkr.Damaged as damage:
                 raise ValueError(f"{source.path}: {damage}") from None

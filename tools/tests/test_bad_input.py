@@ -24,13 +24,13 @@ class BadInput(ToolCase):
 
     def test_closed_streams(self):
         for tool in READERS:
-            self.assert_told(f"TOOLS/{tool} <&-", 3, f"{tool}: standard input is closed\n")
+            self.assert_told(f"TOOLS/{tool} <&-", 3, f"{tool}: standard input is closed, or a folder\n")
             self.assert_told(f"TOOLS/{tool} {LISTING} >&-", 3, f"{tool}: standard output is closed\n")
             self.assert_told(f"TOOLS/{tool} {LISTING} 2>&- > {self.folder}/out", 0, "")
             self.assert_told(f"TOOLS/{tool} nothing 2>&- > {self.folder}/out", 3, "")
             self.assertEqual((self.folder / "out").read_bytes(), b"")
             self.assert_told(f"TOOLS/{tool} {LISTING} <&- > {self.folder}/out", 0, "")
-        self.assert_told("TOOLS/zkskip.py <&-", 3, "zkskip.py: standard input is closed\n")
+        self.assert_told("TOOLS/zkskip.py <&-", 3, "zkskip.py: standard input is closed, or a folder\n")
         whole = self.shell(f"TOOLS/zkskip.py < {RECORDING}").stdout
         self.assertEqual(self.shell(f"TOOLS/zkskip.py < {RECORDING} 2>&-").stdout, whole)
         self.assert_told(f"TOOLS/zkskip.py < {RECORDING} >&-", 3, "zkskip.py: standard output is closed\n")
@@ -49,6 +49,37 @@ class BadInput(ToolCase):
                              f"{tool}: {self.folder}: Is a directory\n")
             self.assert_told(f"TOOLS/{tool} --recording {RECORDING} --times {self.folder} {LISTING}", 3,
                              f"{tool}: {self.folder}: Is a directory\n")
+
+    def test_a_folder_as_standard_input(self):
+        """Of each tool as a user runs it, and of one that is installed, which is a link to it."""
+        installed = self.folder / "zk stat"
+        installed.symlink_to(TOOLS / "zkstat.py")
+        commands = [path for path in sorted(TOOLS.glob("*.py")) if os.access(path, os.X_OK)] + [installed]
+        reads = {"zkstat.py": (), "zkjson.py": (), "zkskip.py": (), "zk stat": (), "pcap2zkr.py": ("-", "r")}
+        for path in commands:
+            done = self.run_command(path, *reads.get(path.name, ()), stdin="/")
+            with self.subTest(tool=path.name):
+                told = done.stderr.decode()
+                self.assertEqual((done.returncode, told.count("\n")), (3 if path.name in reads else 2, 1), told)
+                if path.name in reads:
+                    self.assertTrue(told.endswith(": standard input is closed, or a folder\n"), told)
+                else:
+                    self.assertNotIn("standard input", told)
+        whole = self.run_command(TOOLS / "zkstat.py", LISTING, stdin="/")
+        self.assertEqual((whole.returncode, whole.stderr), (0, b""))
+        self.assertEqual(self.run_command(installed, stdin=LISTING).stdout,
+                         self.run_raw("zkstat.py", stdin=LISTING.read_bytes()).stdout)
+        name = "no $HOME \"file' *"
+        self.assertEqual(self.run_command(installed, name, stdin=LISTING).stderr.decode(),
+                         f"zk stat: {name}: No such file or directory\n")
+
+    def run_command(self, path, *words, stdin):
+        """Runs a tool as a user does: by its name."""
+        number = os.open(stdin, os.O_RDONLY)
+        try:
+            return subprocess.run([path, *words], stdin=number, capture_output=True, timeout=60, check=False)
+        finally:
+            os.close(number)
 
     def test_names_that_a_terminal_obeys(self):
         name = b"no\x1b[2J\n"

@@ -106,7 +106,7 @@ class Forms(PcapCase):
     def test_standard_streams_that_are_closed_or_gone(self):
         capture = self.folder / "capture"
         capture.write_bytes(capture_of(wire.conversation(pieces(SMALL[0].read_bytes()))))
-        for words, closed, told in (("- PREFIX", "<&-", "standard input is closed"),
+        for words, closed, told in (("- PREFIX", "<&-", "-: standard input is closed, or a folder"),
                                     ("CAPTURE PREFIX", ">&-", "standard output is closed"),
                                     ("CAPTURE PREFIX", ">/dev/full", "standard output: No space left on device")):
             with self.subTest(closed=closed):

@@ -106,6 +106,12 @@ class Wrapper(WrapperCase):
         self.assertEqual(sorted(path.name for path in self.program.parent.iterdir()), ["took", "zkdump"])
         self.assertEqual(self.zkdump("check"), (7, "ran check\ninput", "", []))
 
+    def test_a_folder_as_standard_input(self):
+        done = subprocess.run([f"{self.top}/zkdump check < /"], shell=True, capture_output=True, text=True,
+                              env=self.environment(), check=False)
+        self.assertEqual(done.stdout, "ran check\n", done.stderr)
+        self.assertIn("zkdump: low took ", done.stderr)
+
     def test_it_tells_how_long_it_took_the_last_time(self):
         self.assertRegex(self.zkdump()[2], r"(?m)^zkdump: all of it took \d+ s\.$")
         self.newer(self.top / "crates" / "low" / "src" / "lib.rt")

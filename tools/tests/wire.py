@@ -1,61 +1,21 @@
 """Captures made of recordings: what tcpdump would have captured of a connection, for the tests of pcap2zkr.py."""
 
 import struct
-from typing import NamedTuple
 
 from support import zkr
+from zkr2pcap import ACK, FIN, PUSH, RST, SYN, Sent, tcp  # noqa: F401
+import zkr2pcap
 
-FIN, SYN, RST, PUSH, ACK = 1, 2, 4, 8, 16
 BEGUN = 1_700_000_000_000
 
 
-class Sent(NamedTuple):
-    """A segment: its side, where its bytes begin (before the wrap, from the first number on), what it acknowledges."""
-    milliseconds: float
-    side: bytes
-    number: int
-    acknowledged: int
-    flags: int
-    data: bytes
-
-
-def conversation(recording_pieces, most=1448, numbers=(1000, 2000), close=True):
-    """The segments of a connection with these pieces, none of more than `most` bytes of data. `numbers` are the
-    sequence numbers before the client's and the server's first byte."""
-    first = {zkr.CLIENT: numbers[0], zkr.SERVER: numbers[1]}
-    said = {zkr.CLIENT: 1, zkr.SERVER: 1}
-    other = {zkr.CLIENT: zkr.SERVER, zkr.SERVER: zkr.CLIENT}
-    now = float(BEGUN)
-    yield Sent(now, zkr.CLIENT, first[zkr.CLIENT], 0, SYN, b"")
-    yield Sent(now + 1, zkr.SERVER, first[zkr.SERVER], first[zkr.CLIENT] + 1, SYN | ACK, b"")
-    yield Sent(now + 2, zkr.CLIENT, first[zkr.CLIENT] + 1, first[zkr.SERVER] + 1, ACK, b"")
-    now += 2
-
-    def send(side, flags, data=b""):
-        nonlocal now
-        now += 1
-        sent = Sent(now, side, first[side] + said[side], first[other[side]] + said[other[side]], flags | ACK, data)
-        said[side] += len(data) + (flags & FIN)
-        return sent
-    for piece in recording_pieces:
-        for at in range(0, len(piece.data), most):
-            yield send(piece.side, PUSH, piece.data[at:at + most])
-    if close:
-        yield send(zkr.CLIENT, FIN)
-        yield send(zkr.SERVER, FIN)
-        yield send(zkr.CLIENT, 0)
-
-
-def tcp(sent, client, server):
-    """The bytes of a TCP segment between these two ports."""
-    ports = (client, server) if sent.side == zkr.CLIENT else (server, client)
-    return struct.pack(">HHIIHHHH", *ports, sent.number % 2**32, sent.acknowledged % 2**32, 5 << 12 | sent.flags,
-                       65535, 0, 0) + sent.data
+def conversation(*words, **more):
+    """The segments of a connection with these pieces, a millisecond apart, from BEGUN on."""
+    return zkr2pcap.conversation(*words, begun=float(BEGUN), **more)
 
 
 def ipv4(side, segment, client=b"\x0a\0\0\7", server=b"\x0a\0\0\x09"):
-    ends = client + server if side == zkr.CLIENT else server + client
-    return struct.pack(">BBHHHBBH", 0x45, 0, 20 + len(segment), 0, 0x4000, 64, 6, 0) + ends + segment
+    return zkr2pcap.ipv4(side, segment, client, server)
 
 
 def ipv6(side, segment, client=bytes(15) + b"\7", server=bytes(15) + b"\x09"):

@@ -1,16 +1,14 @@
 """Opens what a tool is to read: listings, recordings, and lines that zkjson has made, with the times of messages."""
 
 import itertools
-import pathlib
 import shutil
 import subprocess
 
 import joined
 import listing
+import program
 import zkr
 from times import times_of
-
-BUILT = pathlib.Path(__file__).resolve().parent.parent / "crates" / "zkdump" / "out" / "zkdump"
 
 
 def add_words(parser):
@@ -20,13 +18,7 @@ def add_words(parser):
     parser.add_argument("--recording", metavar="FILE", help="the recording that the listing is of, for its times")
     parser.add_argument("--times", metavar="FILE", help="the times of its pieces (RECORDING.times)")
     parser.add_argument("--profile", choices=zkr.PROFILES, help="the release that zkdump judges recordings by (3.4)")
-    add_program(parser)
-
-
-def add_program(parser):
-    """Adds the word that names the program."""
-    parser.add_argument("--zkdump", metavar="PATH", default=str(BUILT) if BUILT.exists() else "zkdump",
-                        help="the program (that of this repository, where it is built)")
+    program.add_program(parser)
 
 
 def conversations(parser, words, objects, progress, before_read=lambda: None):

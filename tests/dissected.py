@@ -1,0 +1,146 @@
+"""What tests/wireshark.py works with: the plugin, built and put into a home of its own, tshark as it runs there, and
+captures."""
+
+import collections
+import os
+import pathlib
+import random
+import shutil
+import subprocess
+import sys
+import xml.etree.ElementTree
+
+TOP = pathlib.Path(__file__).resolve().parent.parent
+SOURCES = TOP / "wireshark"
+sys.path += [str(TOP / "packaging"), str(TOP / "tools" / "tests"), str(TOP / "tools")]
+import make_library  # noqa: E402
+import wire  # noqa: E402
+import zkr  # noqa: E402
+from build_library import LIBRARY  # noqa: E402
+
+NOBODY = 65534
+PROFILES = {"3.4": "ZooKeeper 3.4", "3.5": "ZooKeeper 3.5 (create2)"}
+FLAGS = ("-std=gnu11", "-fPIC", "-shared", "-fvisibility=hidden", "-Wall", "-Wextra", "-Werror", f"-I{TOP / 'include'}", f"-I{SOURCES}")
+SANITIZED = ("-O1", "-g", "-fsanitize=address,undefined", "-fno-sanitize=alignment")
+# What no run may say.
+BAD = ("AddressSanitizer", "runtime error", "Dissector bug", "Fatal", "ASSERT")
+
+
+def missing():
+    """What the tests need and isn't here."""
+    found = [tool for tool in ("tshark", "cc", "pkg-config") if not shutil.which(tool)]
+    if not found and subprocess.run(["pkg-config", "--exists", "wireshark"], check=False).returncode != 0:
+        found = ["libwireshark-dev"]
+    return found
+
+
+def words_of_pkg(*words):
+    return subprocess.run(["pkg-config", *words, "wireshark"], capture_output=True, text=True, check=True).stdout.split()
+
+
+class Plugin:
+    """The plugin in a home of its own below a folder, with the proved library where that is built, else with a stub."""
+
+    def __init__(self, folder, stub, sanitized=False):
+        self.home = pathlib.Path(folder, "sanitized" if sanitized else "home")
+        release = ".".join(words_of_pkg("--modversion")[0].split(".")[:2])
+        plugins = self.home / ".local/lib/wireshark/plugins" / release / "epan"
+        plugins.mkdir(parents=True)
+        library = [SOURCES / "tests" / "stub.c"] if stub else [make_library.make(folder)[0], "-Wl,--exclude-libs,ALL"]
+        subprocess.run(["cc", *FLAGS, *(SANITIZED if sanitized else ("-O2", "-Wl,-z,defs")), *words_of_pkg("--cflags"),
+                        "-o", plugins / "zookeeper.so", *sorted(SOURCES.glob("*.c")), *library,
+                        *words_of_pkg("--libs")], check=True)
+        # Wireshark loads no plugin out of the home of root.
+        self.user = {"user": NOBODY, "group": NOBODY, "extra_groups": []} if os.geteuid() == 0 else {}
+        self.environment = {"PATH": os.environ["PATH"], "HOME": str(self.home), "LC_ALL": "C.UTF-8",
+                            "WIRESHARK_ABORT_ON_DISSECTOR_BUG": "1"}
+        if sanitized:
+            preloaded = [subprocess.run(["cc", f"-print-file-name={name}"], capture_output=True, text=True,
+                                        check=True).stdout.strip() for name in ("libasan.so", "libubsan.so")]
+            self.environment.update(LD_PRELOAD=" ".join(preloaded), ASAN_OPTIONS="detect_leaks=0:detect_odr_violation=0")
+        for path in (pathlib.Path(folder), *pathlib.Path(folder).rglob("*")):
+            path.chmod(0o755 if path.is_dir() or path.suffix == ".so" else 0o644)
+        self.capture = pathlib.Path(folder, "capture.pcap")
+        self.said = ""
+
+    def tshark(self, *words, profile="3.5", hide=False):
+        """What tshark writes with these words; its status and what it says on standard error are kept."""
+        options = [] if words[0] == "-G" else ["-o", f"zookeeper.profile:{PROFILES[profile]}", "-o",
+                                               f"zookeeper.hide_secrets:{str(hide).upper()}"]
+        done = subprocess.run(["tshark", *options, *map(str, words)], env=self.environment, capture_output=True, cwd="/",
+                              check=False, **self.user)
+        self.status, self.said = done.returncode, done.stderr.decode(errors="replace")
+        return done.stdout.decode(errors="replace")
+
+    def trouble(self, out=""):
+        """What is wrong with the last run, or nothing."""
+        found = [word for word in BAD if word in self.said or word in out]
+        if self.status not in (0, 2) or found:
+            return f"status {self.status}, {found}: {self.said[-300:]}"
+        return ""
+
+    def read(self, capture, *words, **more):
+        """What tshark writes of this capture, given as bytes."""
+        self.capture.write_bytes(capture)
+        self.capture.chmod(0o644)
+        return self.tshark("-r", self.capture, *words, **more)
+
+    def frames(self, capture, *words, **more):
+        """The messages of a capture, each a dict of its fields: of each name the values that it has, and under
+        "packet" the number of its packet."""
+        text = self.read(capture, *words, "-Y", "zookeeper.side", "-T", "pdml", "-J", "frame zookeeper", **more)
+        if not text:
+            return []
+        found = []
+        for packet in xml.etree.ElementTree.fromstring(text).iter("packet"):
+            number = int(packet.find("proto[@name='geninfo']/field[@name='num']").get("show"))
+            for message in packet.findall("proto[@name='zookeeper']"):
+                fields = collections.defaultdict(list)
+                fields["packet"] = number
+                for field in message.iter("field"):
+                    name = field.get("name", "")
+                    if name.startswith("zookeeper."):
+                        # A text's value, since what is shown of it escapes some bytes.
+                        fields[name.partition(".")[2]].append(field.get("show"))
+                found.append(fields)
+        return found
+
+
+def pieces_of(path):
+    with open(path, "rb") as file:
+        return list(zkr.Reader(file))
+
+
+def packed(sent, **more):
+    return [(each.milliseconds, wire.packet(each, **more)) for each in sent]
+
+
+def capture_of(pieces, **more):
+    """The capture of a connection with these pieces."""
+    return wire.pcap(packed(wire.conversation(pieces), **more))
+
+
+def joined(connections):
+    """The capture of these connections, each a list of segments, side by side."""
+    packets = [packet for at, sent in enumerate(connections) for packet in packed(sent, client=40_000 + at)]
+    return wire.pcap(sorted(packets, key=lambda packet: packet[0]))
+
+
+def lossy(sent, chance, share):
+    """These segments without some that have data."""
+    return [each for each in sent if not each.data or chance.random() >= share]
+
+
+def mutated(sent, seed):
+    """These segments with some bytes changed, cut or lost."""
+    chance = random.Random(seed)
+    share, found = chance.choice((0.0005, 0.002, 0.02)), []
+    for each in lossy(sent, chance, chance.choice((0, 0, 0.05))):
+        data = bytearray(each.data)
+        for at in range(len(data)):
+            if chance.random() < share:
+                data[at] = chance.choice((0, 1, 0x7F, 0x80, 0xFF, chance.randrange(256)))
+        if data and chance.random() < share:
+            del data[chance.randrange(len(data)):]
+        found.append(each._replace(data=bytes(data)))
+    return found

@@ -1,0 +1,373 @@
+/* connection.c
+ * What is kept of a connection, and where its frames stand: found out on the first pass over the packets, looked up on
+ * every later one.
+ *
+ * A side's bytes have TCP's numbers, and a frame begins where the last one ended. So a loss is a number that is too
+ * great, and what was captured again one that is too small, whatever TCP's own analysis says of it.
+ *
+ * SPDX-License-Identifier: GPL-2.0-or-later
+ */
+#include "zookeeper.h"
+
+#include <epan/conversation.h>
+
+#include "hole.h"
+#include "names.h"
+
+/* Of TCP's conversation_completeness, whose numbers packet-tcp.c keeps to itself: the SYN and its answer were captured. */
+static const guint8 began[] = {[ZK_CLIENT] = 0x01, [ZK_SERVER] = 0x02};
+
+/* Longer lines are not kept. */
+enum { LONGEST_LINE = 1 << 16 };
+
+static guint hash_of_kept(gconstpointer of) {
+    const struct kept *kept = (const struct kept *)of;
+    return kept->packet * 2654435761u ^ kept->number;
+}
+
+static gboolean equal_kept(gconstpointer one, gconstpointer other) {
+    const struct kept *a = (const struct kept *)one, *b = (const struct kept *)other;
+    return a->packet == b->packet && a->number == b->number;
+}
+
+static gboolean forget(wmem_allocator_t *allocator _U_, wmem_cb_event_t event _U_, void *connection) {
+    judge_end(&((struct connection *)connection)->judge);
+    return FALSE;
+}
+
+struct connection *connection_of(packet_info *pinfo) {
+    conversation_t *conversation = find_or_create_conversation(pinfo);
+    struct connection *connection =
+        (struct connection *)conversation_get_proto_data(conversation, proto_zookeeper);
+    if (connection) {
+        return connection;
+    }
+    connection = wmem_new0(wmem_file_scope(), struct connection);
+    gboolean to_server = pinfo->match_uint == pinfo->destport ||
+                         (pinfo->match_uint != pinfo->srcport && pinfo->destport < pinfo->srcport);
+    copy_address_wmem(wmem_file_scope(), &connection->server, to_server ? &pinfo->dst : &pinfo->src);
+    connection->port = to_server ? pinfo->destport : pinfo->srcport;
+    connection->waiting = wmem_map_new(wmem_file_scope(), g_direct_hash, g_direct_equal);
+    connection->early = wmem_map_new(wmem_file_scope(), g_direct_hash, g_direct_equal);
+    connection->kept = wmem_map_new(wmem_file_scope(), hash_of_kept, equal_kept);
+    for (int side = 0; side < 2; side++) {
+        connection->way[side].gaps = wmem_list_new(wmem_file_scope());
+    }
+    if (pref_strict) {
+        judge_begin(&connection->judge, pref_limit, (guint32)pref_profile);
+        wmem_register_callback(wmem_file_scope(), forget, connection);
+    }
+    conversation_add_proto_data(conversation, proto_zookeeper, connection);
+    return connection;
+}
+
+guint32 side_of(const struct connection *connection, const packet_info *pinfo) {
+    return pinfo->destport == connection->port && addresses_equal(&pinfo->dst, &connection->server) ? ZK_CLIENT
+                                                                                                 : ZK_SERVER;
+}
+
+/* From here on the connection isn't whole in the capture, and is judged no more. */
+static void be_late(struct connection *connection, packet_info *pinfo, const char *why) {
+    if (!connection->late) {
+        connection->late = pinfo->num;
+        connection->why = why;
+    }
+    judge_end(&connection->judge);
+}
+
+/* Whether these are a connect message, whole. */
+static gboolean is_connect(const struct piece *piece) {
+    if (piece->there < FRAME_HEAD + 4) {
+        return FALSE;
+    }
+    gint32 length = int_at(piece->bytes);
+    return length >= 4 && (guint32)length <= piece->there - FRAME_HEAD && int_at(piece->bytes + FRAME_HEAD) == 0 &&
+           message_read(piece->side == ZK_CLIENT ? ZK_CONNECT : ZK_CONNECTED, 0, NULL, piece->bytes + FRAME_HEAD,
+                        (size_t)length, NULL, 0).status == ZK_WELL;
+}
+
+/* A side's first bytes. */
+static void begin(struct connection *connection, packet_info *pinfo, struct way *way, const struct piece *piece) {
+    const struct tcp_analysis *tcp = (const struct tcp_analysis *)conversation_get_proto_data(
+        find_or_create_conversation(pinfo), proto_tcp);
+    way->begun = TRUE;
+    way->first = piece->number;
+    way->since = pinfo->num;
+    way->whole = tcp && (tcp->conversation_completeness & began[piece->side]);
+    if (way->whole) {
+        /* TCP's numbers count from 0 where its preference has them so, and from the SYN's own else. */
+        way->first = MIN(piece->number - 1, piece->number - (tcp->fwd->base_seq + 1));
+        way->first = piece->number - way->first;
+    }
+    way->next = way->end = way->first;
+    if (piece->side == ZK_CLIENT && piece->there >= 4 && g_ascii_isalpha(piece->bytes[0]) &&
+        g_ascii_isalpha(piece->bytes[1]) && g_ascii_isalpha(piece->bytes[2]) && g_ascii_isalpha(piece->bytes[3])) {
+        connection->words = TRUE;
+        judge_end(&connection->judge);
+        return;
+    }
+    way->whole |= is_connect(piece);
+    way->sure = way->whole;
+    if (!way->whole) {
+        way->sought = TRUE;
+        be_late(connection, pinfo, "begins before the capture");
+    }
+}
+
+static struct gap *gap_at(const struct way *way, guint32 number) {
+    for (wmem_list_frame_t *at = wmem_list_head(way->gaps); at; at = wmem_list_frame_next(at)) {
+        struct gap *gap = (struct gap *)wmem_list_frame_data(at);
+        if ((gint32)(number - gap->from) >= 0 && (gint32)(number - gap->to) < 0) {
+            return gap;
+        }
+    }
+    return NULL;
+}
+
+/* The way goes on at this number, and not where its last frame ended. */
+static void leap(struct connection *connection, packet_info *pinfo, struct way *way, guint32 number) {
+    struct gap *gap = wmem_new(wmem_file_scope(), struct gap);
+    gap->from = way->next;
+    gap->to = number;
+    wmem_list_prepend(way->gaps, gap);
+    /* Where just one frame isn't whole, the next one begins behind it. */
+    way->sought |= way->end == way->next || way->end != number;
+    way->next = way->end = number;
+    be_late(connection, pinfo, "lacks bytes that were not captured");
+}
+
+static void seek(struct way *way) {
+    way->sought = TRUE;
+    way->sure = FALSE;
+}
+
+/* Gives the frame to the judge, and keeps its line. */
+static void judge(struct connection *connection, packet_info *pinfo, const struct piece *piece, struct frame *frame,
+                  guint32 size, gboolean newer) {
+    const struct way *other = connection->way + (piece->side == ZK_CLIENT ? ZK_SERVER : ZK_CLIENT);
+    struct judge *judge = &connection->judge;
+    frame->verdict = VERDICT_NONE;
+    if (!judge->judges) {
+        return;
+    }
+    if (newer && frame->call) {
+        frame->call->left_out = TRUE;
+    }
+    if (frame->call && frame->call->left_out) {
+        frame->verdict = VERDICT_LEFT_OUT;
+        return;
+    }
+    /* Who acknowledges bytes that make no frame here may answer a request that was lost, or is captured later. What
+     * TCP put together tells the acknowledgement of its last segment alone. */
+    gboolean unasked = frame->unasked || (frame->kind == ZK_CONNECTED && (!other->begun || other->next == other->first));
+    if ((unasked || frame->disordered) &&
+        (!other->begun || piece->tcp->is_reassembled || (gint32)(piece->tcp->lastackseq - other->next) > 0)) {
+        be_late(connection, pinfo, "lacks a request that was answered");
+        return;
+    }
+    frame->verdict = judge_take(judge, piece->side, piece->bytes, size, &frame->fault);
+    if (frame->verdict == VERDICT_REFUSED) {
+        connection->refused = pinfo->num;
+    } else if (frame->verdict == VERDICT_WELL) {
+        gsize length = judge_line_length(judge, piece->side);
+        if (length > 0 && length <= LONGEST_LINE) {
+            char *line = (char *)wmem_alloc(wmem_file_scope(), length + 1);
+            if (judge_line(judge, piece->side, line, length)) {
+                line[length] = 0;
+                frame->line = line;
+            }
+        }
+    }
+}
+
+static gboolean is_first(const struct way *way, const struct piece *piece) {
+    return way->whole && piece->number == way->first;
+}
+
+/* Which message a frame is. */
+static guint32 kind_of(const struct way *way, const struct piece *piece) {
+    if (is_first(way, piece)) {
+        return piece->side == ZK_CLIENT ? ZK_CONNECT : ZK_CONNECTED;
+    }
+    if (piece->side == ZK_CLIENT) {
+        return ZK_REQUEST;
+    }
+    return piece->there >= FRAME_HEAD + 4 && int_at(piece->bytes + FRAME_HEAD) == XID_EVENT ? ZK_EVENT : ZK_REPLY;
+}
+
+/* A frame of this size, of which perhaps the front alone is there. */
+static struct frame *frame_new(struct connection *connection, packet_info *pinfo, const struct piece *piece,
+                               guint32 size) {
+    struct way *way = connection->way + piece->side;
+    struct frame *frame = wmem_new0(wmem_file_scope(), struct frame);
+    const guint8 *payload = piece->bytes + FRAME_HEAD;
+    guint32 there = MIN(piece->there, size) - FRAME_HEAD;
+    gboolean newer = FALSE;
+    frame->packet = pinfo->num;
+    frame->count = connection->frames++;
+    frame->kind = kind_of(way, piece);
+    if (frame->kind == ZK_REQUEST && there >= REQUEST_HEAD) {
+        call_new(connection, pinfo, frame, payload, there);
+        newer = op_is_newer(frame->call->op) && message_read(ZK_REQUEST, (guint32)pref_profile, NULL, payload, there,
+                                                             NULL, 0).status == ZK_UNKNOWN_OP;
+    } else if (frame->kind == ZK_REPLY && there >= 4) {
+        frame->xid = int_at(payload);
+        call_answer(connection, pinfo, frame);
+        if (frame->call) {
+            struct way *client = connection->way + ZK_CLIENT;
+            way->sure = TRUE;
+            client->sure |= !client->sought && frame->call->asked >= client->since;
+        }
+    } else if (frame->kind == ZK_CONNECT && there >= 24) {
+        connection->session = (guint64)long_at(payload + 16);
+    } else if (frame->kind == ZK_CONNECTED && there >= 16) {
+        connection->session = (guint64)long_at(payload + 8);
+    }
+    frame->session = connection->session;
+    if (piece->there < size) {
+        be_late(connection, pinfo, "has a frame that was not captured whole");
+    }
+    judge(connection, pinfo, piece, frame, size, newer);
+    return frame;
+}
+
+static struct kept *keep(struct connection *connection, packet_info *pinfo, const struct piece *piece, enum what what,
+                         guint32 size) {
+    struct kept *kept = wmem_new0(wmem_file_scope(), struct kept);
+    kept->packet = pinfo->num;
+    kept->number = piece->number;
+    kept->what = what;
+    kept->size = size;
+    wmem_map_insert(connection->kept, kept, kept);
+    return kept;
+}
+
+/* Looks for frames; NULL where one begins here. */
+static struct kept *look_for_frames(struct connection *connection, packet_info *pinfo, const struct piece *piece,
+                                    struct way *way, guint32 *place) {
+    struct hole_end end = hole_end(piece->side, piece->bytes, piece->there, pref_limit);
+    if (end.found) {
+        way->sought = FALSE;
+        way->since = pinfo->num;
+        if (end.place == 0) {
+            return NULL;
+        }
+    } else if (end.place == 0 && piece->may_wait) {
+        return keep(connection, pinfo, piece, MORE, DESEGMENT_ONE_MORE_SEGMENT);
+    } else if (!piece->may_wait) {
+        end.place = piece->size;
+    }
+    *place = piece->number + (guint32)end.place;
+    return keep(connection, pinfo, piece, NO_FRAME, (guint32)end.place);
+}
+
+/* What stands where a frame may begin; `place` is where the next one does. */
+static struct kept *look(struct connection *connection, packet_info *pinfo, const struct piece *piece, struct way *way,
+                         guint32 *place, gboolean filling) {
+    gboolean plausible = frame_is_plausible(piece->side, piece->bytes, piece->there, pref_limit);
+    if (!way->sure && !plausible && !is_first(way, piece)) {
+        gboolean short_of = piece->there < FRAME_HEAD + REPLY_HEAD;
+        if (short_of && piece->may_wait) {
+            return keep(connection, pinfo, piece, MORE, DESEGMENT_ONE_MORE_SEGMENT);
+        }
+        seek(way);
+        struct kept *kept = look_for_frames(connection, pinfo, piece, way, place);
+        if (kept) {
+            return kept;
+        }
+    }
+    if (piece->there < FRAME_HEAD) {
+        if (piece->may_wait) {
+            return keep(connection, pinfo, piece, MORE, DESEGMENT_ONE_MORE_SEGMENT);
+        }
+        be_late(connection, pinfo, "has a frame that was not captured whole");
+        seek(way);
+        *place = piece->number + piece->size;
+        return keep(connection, pinfo, piece, NO_FRAME, piece->size);
+    }
+    guint32 length = (guint32)int_at(piece->bytes), size = FRAME_HEAD + length;
+    if (length > pref_limit) {
+        struct kept *kept = keep(connection, pinfo, piece, A_FRAME, FRAME_HEAD);
+        kept->frame = wmem_new0(wmem_file_scope(), struct frame);
+        kept->frame->packet = pinfo->num;
+        kept->frame->session = connection->session;
+        judge(connection, pinfo, piece, kept->frame, FRAME_HEAD, FALSE);
+        seek(way);
+        *place = piece->number + FRAME_HEAD;
+        return kept;
+    }
+    if (size > piece->size) {
+        if (piece->may_wait) {
+            if (!filling) {
+                way->end = piece->number + size;
+            }
+            return keep(connection, pinfo, piece, MORE, size - piece->size);
+        }
+        way->rest.from = piece->number;
+        way->rest.to = piece->number + size;
+    }
+    struct kept *kept = keep(connection, pinfo, piece, A_FRAME, MIN(size, piece->size));
+    kept->frame = frame_new(connection, pinfo, piece, size);
+    *place = piece->number + size;
+    return kept;
+}
+
+/* What was captured before, or stands in a gap. */
+static struct kept *look_back(struct connection *connection, packet_info *pinfo, struct piece *piece, struct way *way) {
+    guint32 known = way->next - piece->number;
+    struct gap *gap = gap_at(way, piece->number);
+    if (!gap) {
+        for (wmem_list_frame_t *at = wmem_list_head(way->gaps); at; at = wmem_list_frame_next(at)) {
+            gint32 before = (gint32)(((struct gap *)wmem_list_frame_data(at))->from - piece->number);
+            if (before > 0 && (guint32)before < known) {
+                known = (guint32)before;
+            }
+        }
+        gboolean rest = (gint32)(piece->number - way->rest.from) > 0 && (gint32)(piece->number - way->rest.to) < 0;
+        return keep(connection, pinfo, piece, rest ? REST : AGAIN, MIN(known, piece->size));
+    }
+    if (gap->from != piece->number) {
+        /* The frames of a gap are found from its beginning on; bytes further on wait in vain. */
+        return keep(connection, pinfo, piece, NO_FRAME, MIN(gap->to - piece->number, piece->size));
+    }
+    struct kept *kept = look(connection, pinfo, piece, way, &gap->from, TRUE);
+    if ((gint32)(gap->from - gap->to) >= 0) {
+        wmem_list_remove(way->gaps, gap);
+    }
+    return kept;
+}
+
+const struct kept *kept_of(struct connection *connection, packet_info *pinfo, const struct piece *given) {
+    struct piece piece = *given;
+    struct way *way = connection->way + piece.side;
+    if (PINFO_FD_VISITED(pinfo)) {
+        struct kept wanted = {pinfo->num, piece.number, A_FRAME, 0, NULL};
+        return (const struct kept *)wmem_map_lookup(connection->kept, &wanted);
+    }
+    if (!way->begun && !connection->words) {
+        begin(connection, pinfo, way, &piece);
+    }
+    if (connection->words) {
+        return keep(connection, pinfo, &piece, WORDS, piece.size);
+    }
+    gint32 ahead = (gint32)(piece.number - way->next);
+    if (ahead < 0) {
+        return look_back(connection, pinfo, &piece, way);
+    }
+    if (ahead > 0) {
+        leap(connection, pinfo, way, piece.number);
+    }
+    if (way->sought) {
+        seek(way);
+        struct kept *kept = look_for_frames(connection, pinfo, &piece, way, &way->next);
+        if (kept) {
+            way->end = way->next;
+            return kept;
+        }
+    }
+    struct kept *kept = look(connection, pinfo, &piece, way, &way->next, FALSE);
+    if (kept->what != MORE) {
+        way->end = way->next;
+    }
+    return kept;
+}

@@ -1,0 +1,28 @@
+/* hole.h
+ * Where the frames of one side begin again behind bytes that were not captured. It knows nothing of Wireshark.
+ *
+ * The rule is that of tools/resync.py, in whose words it is written down, and tests/wireshark.py holds the two against
+ * each other.
+ *
+ * SPDX-License-Identifier: GPL-2.0-or-later
+ */
+#ifndef ZOOKEEPER_HOLE_H
+#define ZOOKEEPER_HOLE_H
+
+#include <stdbool.h>
+#include <stddef.h>
+#include <stdint.h>
+
+/* Where frames begin again, if they were found; else from where on bytes may still be needed, with more behind them. */
+struct hole_end {
+    bool found;
+    size_t place;
+};
+
+/* Looks for frames in these bytes of a side (ZK_CLIENT, ZK_SERVER), whose payloads have at most `limit` bytes. */
+struct hole_end hole_end(uint32_t side, const uint8_t *bytes, size_t length, uint32_t limit);
+
+/* Whether a frame of this side, of which so many bytes are there, may be one: its length, and the first of its payload. */
+bool frame_is_plausible(uint32_t side, const uint8_t *frame, size_t there, uint32_t limit);
+
+#endif

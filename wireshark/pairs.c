@@ -1,0 +1,134 @@
+/* pairs.c
+ * Requests and their replies: by xid, the oldest first, as a server answers them.
+ *
+ * SPDX-License-Identifier: GPL-2.0-or-later
+ */
+#include "zookeeper.h"
+
+/* A reply that was captured before its request was captured within so many messages of it. */
+enum { MOST_EARLY = 64 };
+
+/* Xids that a client doesn't choose are those of requests that are answered in an order of their own. */
+static gboolean is_own(gint32 xid) {
+    return xid != XID_PING && xid != XID_AUTH && xid != XID_SET_WATCHES;
+}
+
+static struct queue *queue_of(struct connection *connection, gint32 xid) {
+    return (struct queue *)wmem_map_lookup(connection->waiting, GINT_TO_POINTER(xid));
+}
+
+static void unlink_call(struct connection *connection, struct call *call) {
+    *(call->before ? &call->before->behind : &connection->oldest) = call->behind;
+    *(call->behind ? &call->behind->before : &connection->newest) = call->before;
+    call->before = call->behind = NULL;
+}
+
+static void wait_for_reply(struct connection *connection, struct call *call) {
+    struct queue *queue = queue_of(connection, call->xid);
+    if (!queue) {
+        queue = wmem_new0(wmem_file_scope(), struct queue);
+        wmem_map_insert(connection->waiting, GINT_TO_POINTER(call->xid), queue);
+    }
+    *(queue->last ? &queue->last->same : &queue->first) = call;
+    queue->last = call;
+    if (is_own(call->xid)) {
+        call->before = connection->newest;
+        *(call->before ? &call->before->behind : &connection->oldest) = call;
+        connection->newest = call;
+    }
+}
+
+/* What a request asks: its path, and of a multi the operations of its parts. */
+static void note_asked(struct call *call, const guint8 *payload, guint32 length) {
+    enum { FIRST = 8 }; /* a path is among the first fields */
+    struct field first[FIRST];
+    struct message message = message_read(ZK_REQUEST, ZK_PROFILE_35, NULL, payload, length, first, FIRST);
+    const struct field *path = field_of(first, MIN(message.count, FIRST), FIELD_PATH);
+    call->is_known = message.status == ZK_WELL;
+    if (path && path->number >= 0) {
+        call->path = (const char *)wmem_strndup(wmem_file_scope(), (const char *)payload + path->place + 4,
+                                                (gsize)path->number);
+    }
+    if (call->op == OP_MULTI && call->is_known) {
+        struct field *fields = wmem_alloc_array(NULL, struct field, message.count);
+        message_read(ZK_REQUEST, ZK_PROFILE_35, NULL, payload, length, fields, message.count);
+        call->parts = wmem_alloc0_array(wmem_file_scope(), gint32, fields[message.count - 1].part);
+        for (size_t k = 0; k < message.count; k++) {
+            if (fields[k].name == FIELD_PART_OP && fields[k].number != OP_END) {
+                call->parts[call->count++] = (gint32)fields[k].number;
+            }
+        }
+        wmem_free(NULL, fields);
+    }
+}
+
+struct call *call_new(struct connection *connection, packet_info *pinfo, struct frame *frame, const guint8 *payload,
+                      guint32 length) {
+    struct call *call = wmem_new0(wmem_file_scope(), struct call);
+    call->xid = int_at(payload);
+    call->op = int_at(payload + 4);
+    call->asked = pinfo->num;
+    call->when = pinfo->abs_ts;
+    note_asked(call, payload, length);
+    frame->call = call;
+    struct frame *early = (struct frame *)wmem_map_lookup(connection->early, GINT_TO_POINTER(call->xid));
+    if (early && frame->count - early->count <= MOST_EARLY) {
+        wmem_map_remove(connection->early, GINT_TO_POINTER(call->xid));
+        early->call = call;
+        early->unasked = FALSE;
+        call->answered = early->packet;
+    } else {
+        wait_for_reply(connection, call);
+    }
+    return call;
+}
+
+/* The waiting request that a reply with this xid answers. */
+static struct call *take(struct connection *connection, gint32 xid) {
+    struct queue *queue = queue_of(connection, xid);
+    if (!queue || !queue->first) {
+        return NULL;
+    }
+    struct call *call = queue->first;
+    if (xid == XID_PING && connection->late) {
+        call = queue->last; /* where a ping was lost, those behind it keep their replies */
+        queue->first = NULL;
+    } else {
+        queue->first = call->same;
+    }
+    if (!queue->first) {
+        queue->last = NULL;
+    }
+    return call;
+}
+
+void call_answer(struct connection *connection, packet_info *pinfo, struct frame *frame) {
+    struct call *call = take(connection, frame->xid);
+    if (!call) {
+        frame->unasked = TRUE;
+        if (is_own(frame->xid)) {
+            wmem_map_insert(connection->early, GINT_TO_POINTER(frame->xid), frame);
+        }
+        return;
+    }
+    frame->call = call;
+    call->answered = pinfo->num;
+    if (!is_own(call->xid)) {
+        return;
+    }
+    if (call->passed) {
+        frame->disordered = TRUE;
+        frame->expected = connection->oldest ? connection->oldest->xid : call->xid;
+        return;
+    }
+    while (connection->oldest != call) {
+        struct call *passed = connection->oldest;
+        if (!frame->disordered) {
+            frame->disordered = TRUE;
+            frame->expected = passed->xid;
+        }
+        passed->passed = TRUE;
+        unlink_call(connection, passed);
+    }
+    unlink_call(connection, call);
+}

@@ -1,0 +1,37 @@
+/* verdict.h
+ * The strict verdict over a connection: that of the proved library, told frame by frame.
+ *
+ * SPDX-License-Identifier: GPL-2.0-or-later
+ */
+#ifndef ZOOKEEPER_VERDICT_H
+#define ZOOKEEPER_VERDICT_H
+
+#include "zk.h"
+
+/* So many requests may wait. More are rare, and a talk takes 52 bytes for each, at once. */
+enum { VERDICT_WAITING = 1024 };
+
+enum verdict { VERDICT_WELL, VERDICT_REFUSED, VERDICT_NONE, VERDICT_LEFT_OUT };
+
+/* Reads the conversation of a connection; all zeros at first. */
+struct judge {
+    struct zk_talk talk;
+    bool judges;
+};
+
+/* Begins, if there is memory. */
+void judge_begin(struct judge *judge, uint32_t limit, uint32_t profile);
+
+/* Takes a frame, which is the next of its side, in the order of the conversation. VERDICT_WELL, VERDICT_REFUSED with the
+ * fault, or VERDICT_NONE where it doesn't judge, or can't for want of memory or of room for what waits. It judges no more
+ * then, but for the first. */
+enum verdict judge_take(struct judge *judge, uint32_t side, const uint8_t *frame, size_t length, struct zk_fault *fault);
+
+/* The length of the line of the frame that it has just taken; and the line, into so many bytes. */
+size_t judge_line_length(struct judge *judge, uint32_t side);
+bool judge_line(struct judge *judge, uint32_t side, char *out, size_t length);
+
+/* Judges no more, and gives its memory back. */
+void judge_end(struct judge *judge);
+
+#endif

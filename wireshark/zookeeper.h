@@ -1,0 +1,161 @@
+/* zookeeper.h
+ * What the parts of the plugin share: what is kept of a connection and of each frame, the fields, the preferences.
+ *
+ * SPDX-License-Identifier: GPL-2.0-or-later
+ */
+#ifndef ZOOKEEPER_H
+#define ZOOKEEPER_H
+
+#include <epan/packet.h>
+#include <epan/expert.h>
+#include <epan/dissectors/packet-tcp.h>
+#include <ws_version.h>
+
+#include "message.h"
+#include "verdict.h"
+
+/* What the boolean types of callbacks and preferences are: glib's up to 4.2, C's from 4.4 on. */
+#if WIRESHARK_VERSION_MAJOR > 4 || (WIRESHARK_VERSION_MAJOR == 4 && WIRESHARK_VERSION_MINOR >= 3)
+typedef bool flag;
+#else
+typedef gboolean flag;
+#endif
+
+/* ---- Connections (connection.c) */
+
+/* A request, and what is known of its reply. */
+struct call {
+    gint32 xid, op;
+    guint32 asked, answered; /* packets; 0: none */
+    nstime_t when;
+    const char *path;
+    guint32 count;           /* of parts */
+    gint32 *parts;
+    gboolean is_known;       /* all of it was read */
+    gboolean left_out, passed;
+    struct call *same;       /* the next that waits with this xid */
+    struct call *before, *behind;
+};
+
+/* A frame, as it was met on the first pass. */
+struct frame {
+    guint32 packet, count;   /* so many frames came before it */
+    guint32 kind;            /* ZK_CONNECT and so on; 0: no message */
+    gint32 xid;
+    struct call *call;       /* of a request and of a reply */
+    enum verdict verdict;
+    struct zk_fault fault;
+    const char *line;
+    guint64 session;
+    gboolean unasked, disordered;
+    gint32 expected;
+};
+
+/* What stands at a byte of a side in a packet, as it was found on the first pass. */
+enum what { A_FRAME, NO_FRAME, AGAIN, REST, WORDS, MORE };
+struct kept {
+    guint32 packet, number;  /* the number is TCP's */
+    enum what what;
+    guint32 size;            /* so many bytes; of MORE how many are lacking */
+    struct frame *frame;
+};
+
+/* Bytes of a side that weren't captured when those behind them were. */
+struct gap {
+    guint32 from, to;
+};
+
+struct way {
+    gboolean begun, whole;   /* whole: it is known where its first byte stands, which is at `first` */
+    gboolean sure, sought;   /* frames are known to begin at `next`; they have to be found first */
+    guint32 first;
+    guint32 next, end;       /* behind the last frame; behind the one that begins there, where that is known */
+    guint32 since;           /* since this packet frames follow one another */
+    struct gap rest;         /* a frame that isn't whole where its front was captured */
+    wmem_list_t *gaps;
+};
+
+struct queue {
+    struct call *first, *last;
+};
+
+struct connection {
+    address server;
+    guint32 port;
+    struct way way[2];
+    gboolean words;          /* the client says words of four letters */
+    guint32 late;            /* since this packet the connection isn't whole in the capture; 0: it is */
+    const char *why;
+    guint32 frames;
+    guint64 session;
+    struct judge judge;
+    guint32 refused;         /* in this packet; 0: nowhere */
+    wmem_map_t *waiting;     /* by xid, a queue */
+    struct call *oldest, *newest; /* of those with xids of their own */
+    wmem_map_t *early;       /* by xid, a reply that was captured before its request */
+    wmem_map_t *kept;
+};
+
+struct connection *connection_of(packet_info *pinfo);
+guint32 side_of(const struct connection *connection, const packet_info *pinfo);
+
+/* A piece of a side's bytes, as TCP gives it. */
+struct piece {
+    const struct tcpinfo *tcp;
+    guint32 side;
+    guint32 number;
+    const guint8 *bytes;
+    guint32 there, size;     /* so many were captured, of so many */
+    gboolean may_wait;       /* for more behind them */
+};
+
+/* What stands at the beginning of these bytes: on the first pass found out, later looked up; NULL: it isn't known. */
+const struct kept *kept_of(struct connection *connection, packet_info *pinfo, const struct piece *piece);
+
+/* ---- Pairs (pairs.c) */
+
+struct call *call_new(struct connection *connection, packet_info *pinfo, struct frame *frame, const guint8 *payload,
+                      guint32 length);
+void call_answer(struct connection *connection, packet_info *pinfo, struct frame *frame);
+
+/* ---- Fields (tree.c, register.c) */
+
+enum { MOST_FIELDS = 4096 };
+
+extern int proto_zookeeper, proto_tcp, tap_zookeeper;
+extern dissector_handle_t zookeeper_handle;
+extern int hf_field[FIELD_NAMES];
+extern int hf_length, hf_side, hf_kind, hf_frame, hf_unread, hf_no_frame, hf_words;
+extern int hf_response_in, hf_response_to, hf_response_time, hf_expected_xid;
+extern int hf_verdict, hf_reason, hf_place, hf_line;
+extern gint ett_message, ett_list, ett_stat, ett_part, ett_acl;
+extern expert_field ei_refused, ei_unread, ei_newer, ei_order, ei_unasked, ei_error, ei_no_frame, ei_again, ei_cut, ei_many;
+
+/* Adds these fields of a payload that begins behind the first FRAME_HEAD bytes. */
+void tree_fields(tvbuff_t *tvb, packet_info *pinfo, proto_tree *tree, const struct field *fields, size_t count);
+
+/* The first field of this name outside of parts, or NULL. */
+const struct field *field_of(const struct field *fields, size_t count, enum name name);
+
+/* ---- Preferences (register.c) */
+
+extern flag pref_desegment, pref_strict, pref_hide;
+extern guint pref_limit;
+extern gint pref_profile;
+
+/* ---- Dissection (packet-zookeeper.c) and statistics (statistics.c) */
+
+int dissect_zookeeper(tvbuff_t *tvb, packet_info *pinfo, proto_tree *tree, void *data);
+flag dissect_heuristic(tvbuff_t *tvb, packet_info *pinfo, proto_tree *tree, void *data);
+
+/* What a frame tells the statistics. */
+struct told {
+    guint32 kind;
+    gint32 op, err, event;
+    const struct call *call; /* of a reply */
+};
+
+void statistics_register(void);
+void statistics_handoff(void);
+
+#endif
