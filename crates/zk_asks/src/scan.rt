@@ -73,7 +73,7 @@ pub fn scan_first(payload: &[u8]) -> Result<(), ItemFault>
 /// What a later payload of a client asks: decides as `read_ask` does, takes no memory, and never answers `NoMemory`.
 pub fn scan_ask<'a>(profile: Profile, payload: &'a [u8]) -> Result<Scan<'a>, ItemFault>
     requires { length payload.now < 2 ^ 32 }
-    ensures found { IfOk result (λ s. IsOfProfile profile (frame.Ask s.xid s.ask) × IsSent (frame.Ask s.xid s.ask) × (payload.now ≡ frames.payload (frame.Ask s.xid s.ask))) }
+    ensures found { IfOk result (λ s. let f = frame.Ask s.xid s.ask in IsOfProfile profile f × IsSent f × (payload.now ≡ frames.payload f)) }
     ensures only { (f : ClientFrame) → IsLater f → IsOfProfile profile f → IsSent f → payload.now ≡ frames.payload f → IsOk result }
     ensures fault { IfErr result (IsSurelyTold (IsAskFault profile payload.now)) }
 {
