@@ -119,15 +119,6 @@ fn event_seen(payload: &[u8]) -> Result<ServerRef<'_>, ItemFault> {
     borrow_event_under(&head, payload)
 }
 
-/// The frame by the call of this name; a reply is one to `form`.
-fn read(alloc: Global, call: &str, form: &Form, payload: &[u8]) -> Result<ServerFrame, ItemFault> {
-    match call {
-        "connected" => read_connected(alloc, payload),
-        "event" => event(alloc, payload),
-        _ => reply(alloc, form, payload),
-    }
-}
-
 /// Why the payload is refused when it is scanned; `None` if it isn't.
 fn scanned(call: &str, form: &Form, payload: &[u8]) -> Option<ItemFault> {
     match call {
@@ -137,35 +128,52 @@ fn scanned(call: &str, form: &Form, payload: &[u8]) -> Option<ItemFault> {
     }
 }
 
-/// The payload of `frame`, if it has `size` bytes and no fewer.
-fn written(alloc: Global, frame: &ServerFrame, size: usize) -> Result<Vec<u8>, Fail> {
+/// The frame is written as this payload, and needs all its bytes.
+fn is_written(alloc: Global, frame: &ServerFrame, payload: &[u8]) -> Result<(), Fail> {
     let Some(most) = frame.size_within(i32::MAX as u32) else {
-        return Err("no size")?;
+        return Err("no size".into());
     };
-    if most as usize != size || frame.size_within(most.saturating_sub(1)).is_some() {
-        return Err("another size")?;
+    if most as usize != payload.len() || frame.size_within(most.saturating_sub(1)).is_some() {
+        return Err("another size".into());
     }
     if let ServerFrame::Answered(reply) = frame {
         if reply.xid == -1 {
-            return Err("the xid of events")?;
+            return Err("the xid of events".into());
         }
     }
     let mut out = Vec::new(alloc);
     write_server(frame, &mut out)?;
-    Ok(out)
+    if out.as_slice() != payload {
+        return Err("written otherwise".into());
+    }
+    Ok(())
 }
 
-/// The value of the payload, which is written again, or what is wrong with it, in words.
-fn told(alloc: Global, call: &str, form: &Form, payload: &[u8]) -> Result<String, Fail> {
-    let frame = match read(alloc, call, form, payload) {
-        Ok(frame) => frame,
-        Err(fault) => return Ok(fault_told(alloc, &fault)?),
-    };
-    let out = written(alloc, &frame, payload.len())?;
-    if out.as_slice() != payload {
-        return Err("written otherwise")?;
-    }
+/// The frame in words, once it is written again as its payload.
+fn frame_told(alloc: Global, frame: &ServerFrame, payload: &[u8]) -> Result<String, Fail> {
+    is_written(alloc, frame, payload)?;
     Ok(format!(in alloc; "{frame:?}")?)
+}
+
+/// The frame that was read of the payload, or what is wrong with it, in words.
+fn answer_told(
+    alloc: Global,
+    answer: Result<ServerFrame, ItemFault>,
+    payload: &[u8],
+) -> Result<String, Fail> {
+    match answer {
+        Ok(frame) => frame_told(alloc, &frame, payload),
+        Err(fault) => Ok(fault_told(alloc, &fault)?),
+    }
+}
+
+/// What the call of this name reads of the payload, in words; a reply is one to `form`.
+fn told(alloc: Global, call: &str, form: &Form, payload: &[u8]) -> Result<String, Fail> {
+    match call {
+        "connected" => answer_told(alloc, read_connected(alloc, payload), payload),
+        "event" => answer_told(alloc, event(alloc, payload), payload),
+        _ => answer_told(alloc, reply(alloc, form, payload), payload),
+    }
 }
 
 /// The payload is what the row says; borrowed, scanned and by `front_reply` it is judged alike.
@@ -195,18 +203,29 @@ fn judged(
     Ok(())
 }
 
+/// A row's call, its request, its payload, and what is told of it.
+fn parts(row: &str) -> Option<(&str, &str, &str, &str)> {
+    let (asked, want) = row.split_once(" = ")?;
+    let (call, rest) = asked.split_once(' ')?;
+    let (request, digits) = rest.split_once(' ')?;
+    Some((call, request, digits, want))
+}
+
+/// A row is told as it is wanted.
+fn row_judged(rt: &impl Abort, alloc: Global, row: &str) -> Result<(), Fail> {
+    let (call, request, digits, want) = parts(row).ok_or("no row")?;
+    let form = match request {
+        "-" => form(alloc, "fffffffe0000000b")?,
+        _ => form(alloc, request)?,
+    };
+    let payload = hex(alloc, digits)?;
+    judged(rt, alloc, (call, &form), &payload, want)
+}
+
 #[test]
 fn payloads(rt: HostRuntime) -> Result<(), Fail> {
     for row in PAYLOADS.lines() {
-        let (asked, want) = row.split_once(" = ").ok_or("no row")?;
-        let (call, rest) = asked.split_once(' ').ok_or("no call")?;
-        let (request, digits) = rest.split_once(' ').ok_or("no request")?;
-        let form = match request {
-            "-" => form(rt.alloc(), "fffffffe0000000b")?,
-            _ => form(rt.alloc(), request)?,
-        };
-        let payload = hex(rt.alloc(), digits)?;
-        judged(&rt, rt.alloc(), (call, &form), &payload, want)?;
+        row_judged(&rt, rt.alloc(), row)?;
     }
     Ok(())
 }

@@ -20,19 +20,31 @@ const TWO: Payload = Payload {
     bytes: b"\0\0\0\x02\0\0\0\x02/a\xff\xff\xff\xff",
 };
 
-/// A text and data at one place.
+/// A text where it lies.
 #[test]
-fn borrowed(rt: HostRuntime) -> Result<(), Fail> {
+fn text(rt: HostRuntime) -> Result<(), Fail> {
     let (text, end) = TextRef::read_in(&TWO, 4)?;
     let TextRef::Full(text) = text else {
-        return Err("null")?;
+        return Err("null".into());
     };
     assert_eq!(rt; (text.as_str(), end), ("/a", 10));
+    Ok(())
+}
+
+/// Data at the same place.
+#[test]
+fn data_at_a_place(rt: HostRuntime) -> Result<(), Fail> {
     let (blob, end) = BlobRef::read_in(&TWO, 4)?;
     let BlobRef::Full(blob) = blob else {
-        return Err("null")?;
+        return Err("null".into());
     };
     assert_eq!(rt; (blob.as_slice(), end), (b"/a".as_slice(), 10));
+    Ok(())
+}
+
+/// Where the text ends.
+#[test]
+fn ends(rt: HostRuntime) -> Result<(), Fail> {
     assert_eq!(rt; scan::<TextRef>(TWO.bytes, 4)?, 10);
     assert_eq!(rt; end_of::<TextRef>(TWO.bytes, 4), Some(10));
     assert_eq!(rt; end_of::<TextRef>(&TWO.bytes[..9], 4), None);

@@ -19,17 +19,26 @@ pub(crate) fn fault_told(alloc: Global, fault: &ItemFault) -> Result<String, All
     format!(in alloc; "{} at {}", reason_name(&fault.reason), fault.place)
 }
 
-/// The bytes of `value`, if they are `size` and no fewer.
-fn spelled<T: Spell>(alloc: Global, value: &T, size: usize) -> Result<Vec<u8>, Fail> {
-    let mut out = Vec::new(alloc);
+/// The value is written as these bytes, and needs them all.
+fn is_written<T: Spell>(alloc: Global, value: &T, bytes: &[u8]) -> Result<(), Fail> {
     let Some(most) = value.size_within(i32::MAX as u32) else {
-        return Err("no size")?;
+        return Err("no size".into());
     };
-    if most as usize != size || value.size_within(most.saturating_sub(1)).is_some() {
-        return Err("another size")?;
+    if most as usize != bytes.len() || value.size_within(most.saturating_sub(1)).is_some() {
+        return Err("another size".into());
     }
+    let mut out = Vec::new(alloc);
     value.write(&mut out)?;
-    Ok(out)
+    if out.as_slice() != bytes {
+        return Err("written otherwise".into());
+    }
+    Ok(())
+}
+
+/// The value in words, once it is written again as its bytes.
+fn again<T: Spell + Debug>(alloc: Global, value: &T, bytes: &[u8]) -> Result<String, Fail> {
+    is_written(alloc, value, bytes)?;
+    Ok(format!(in alloc; "{value:?}")?)
 }
 
 /// The value of the bytes, which is written again as they are, or what is wrong with them, in words.
@@ -37,15 +46,10 @@ fn told<'a, T: Wire + Stands<Kept<'a>> + Debug>(
     alloc: Global,
     bytes: &'a [u8],
 ) -> Result<String, Fail> {
-    let (value, end) = match T::read(alloc, bytes, 0) {
-        Ok(read) => read,
-        Err(fault) => return Ok(fault_told(alloc, &fault)?),
-    };
-    let written = spelled(alloc, &value, end)?;
-    if written.as_slice() != bytes {
-        return Err("written otherwise")?;
+    match T::read(alloc, bytes, 0) {
+        Ok((value, _end)) => again(alloc, &value, bytes),
+        Err(fault) => Ok(fault_told(alloc, &fault)?),
     }
-    Ok(format!(in alloc; "{value:?}")?)
 }
 
 /// The same for a value of the type whose name is `name`.
@@ -57,36 +61,57 @@ fn value_told(alloc: Global, name: &str, bytes: &[u8]) -> Result<String, Fail> {
         "Text" => told::<Text>(alloc, bytes),
         "Blob" => told::<Blob>(alloc, bytes),
         "List" => told::<List<Text>>(alloc, bytes),
+        _ => record_told(alloc, name, bytes),
+    }
+}
+
+/// The same of a record within others, or of a header.
+fn record_told(alloc: Global, name: &str, bytes: &[u8]) -> Result<String, Fail> {
+    match name {
+        "Id" => told::<Id>(alloc, bytes),
+        "Acl" => told::<Acl>(alloc, bytes),
+        "Stat" => told::<Stat>(alloc, bytes),
+        "RequestHeader" => told::<RequestHeader>(alloc, bytes),
+        "ReplyHeader" => told::<ReplyHeader>(alloc, bytes),
+        "MultiHeader" => told::<MultiHeader>(alloc, bytes),
+        _ => answer_told(alloc, name, bytes),
+    }
+}
+
+/// The same of a record that a server sends.
+fn answer_told(alloc: Global, name: &str, bytes: &[u8]) -> Result<String, Fail> {
+    match name {
         "CreateBody" => told::<CreateBody>(alloc, bytes),
         "DataBody" => told::<DataBody>(alloc, bytes),
         "AclBody" => told::<AclBody>(alloc, bytes),
         "ChildrenBody" => told::<ChildrenBody>(alloc, bytes),
         "WatcherEvent" => told::<WatcherEvent>(alloc, bytes),
-        "Stat" => told::<Stat>(alloc, bytes),
         "ConnectResponse" => told::<ConnectResponse>(alloc, bytes),
-        "ReplyHeader" => told::<ReplyHeader>(alloc, bytes),
-        "MultiHeader" => told::<MultiHeader>(alloc, bytes),
         _ => ask_told(alloc, name, bytes),
     }
 }
 
-/// The same for a record of requests.
+/// The same of a record that a client sends.
 fn ask_told(alloc: Global, name: &str, bytes: &[u8]) -> Result<String, Fail> {
     match name {
-        "Id" => told::<Id>(alloc, bytes),
-        "Acl" => told::<Acl>(alloc, bytes),
         "ConnectRequest" => told::<ConnectRequest>(alloc, bytes),
-        "RequestHeader" => told::<RequestHeader>(alloc, bytes),
+        "WatchAsk" => told::<WatchAsk>(alloc, bytes),
+        "PathAsk" => told::<PathAsk>(alloc, bytes),
+        "AuthAsk" => told::<AuthAsk>(alloc, bytes),
+        "SetWatchesAsk" => told::<SetWatchesAsk>(alloc, bytes),
+        _ => change_told(alloc, name, bytes),
+    }
+}
+
+/// The same of a request that changes a node, or of a check.
+fn change_told(alloc: Global, name: &str, bytes: &[u8]) -> Result<String, Fail> {
+    match name {
         "CreateAsk" => told::<CreateAsk>(alloc, bytes),
         "DeleteAsk" => told::<DeleteAsk>(alloc, bytes),
         "SetDataAsk" => told::<SetDataAsk>(alloc, bytes),
         "SetAclAsk" => told::<SetAclAsk>(alloc, bytes),
         "CheckAsk" => told::<CheckAsk>(alloc, bytes),
-        "WatchAsk" => told::<WatchAsk>(alloc, bytes),
-        "PathAsk" => told::<PathAsk>(alloc, bytes),
-        "AuthAsk" => told::<AuthAsk>(alloc, bytes),
-        "SetWatchesAsk" => told::<SetWatchesAsk>(alloc, bytes),
-        _ => Err("no such type")?,
+        _ => Err("no such type".into()),
     }
 }
 
@@ -95,15 +120,10 @@ fn flagged_told<'a, T: Wire + Stands<Kept<'a>> + Debug>(
     alloc: Global,
     bytes: &'a [u8],
 ) -> Result<String, Fail> {
-    let (value, flag) = match read_flagged::<T>(alloc, bytes) {
-        Ok(read) => read,
-        Err(fault) => return Ok(fault_told(alloc, &fault)?),
-    };
-    let written = spelled(alloc, &(&value, &flag), bytes.len())?;
-    if written.as_slice() != bytes {
-        return Err("written otherwise")?;
+    match read_flagged::<T>(alloc, bytes) {
+        Ok(read) => again(alloc, &read, bytes),
+        Err(fault) => Ok(fault_told(alloc, &fault)?),
     }
-    Ok(format!(in alloc; "({value:?}, {flag:?})")?)
 }
 
 /// A row's name, its bytes, and what is expected of them.

@@ -37,10 +37,12 @@ pub(crate) fn body_ref<'a, F: Asked, const KNOWN: bool>(
     ensures within { IfOk result (λ x. x.1 ≤ length src.now.bytes.now) }
 {
     macro_rules! body {
-        ($read:ty, $value:pat => $body:expr) => {{
-            let ($value, end) = read_ref::<_, $read>(src, place)?;
-            Ok(($body, end))
-        }};
+        ($read:ty, $value:pat => $body:expr) => {
+            match read_ref::<_, $read>(src, place) {
+                Ok(($value, end)) => Ok(($body, end)),
+                Err(fault) => Err(fault),
+            }
+        };
     }
     match form.op() {
         Op::Create => body!(TextRef, path => BodyOf::Create { path }),
@@ -58,10 +60,10 @@ pub(crate) fn body_ref<'a, F: Asked, const KNOWN: bool>(
         Op::GetChildren2 => {
             body!(ChildrenBodyRef, ChildrenBodyOf { names, stat } => BodyOf::GetChildren2 { names, stat })
         }
-        Op::Multi => {
-            let (dones, end) = results_ref(&Payload { bytes: src.bytes }, place, form)?;
-            Ok((BodyOf::Multi(dones), end))
-        }
+        Op::Multi => match results_ref(&Payload { bytes: src.bytes }, place, form) {
+            Ok((dones, end)) => Ok((BodyOf::Multi(dones), end)),
+            Err(fault) => Err(fault),
+        },
         Op::Create2 => {
             body!(CreateBodyRef, CreateBodyOf { path, stat } => BodyOf::Create2 { path, stat })
         }

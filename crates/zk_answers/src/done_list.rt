@@ -139,15 +139,15 @@ fn result_ref<'a, const KNOWN: bool>(
     ensures within { IfOk result (λ x. x.1 ≤ length src.now.bytes.now) }
 {
     match op {
-        PartOp::Create => {
-            let (path, end) = read_ref::<_, TextRef>(src, place)?;
-            Ok((PartDoneOf::Created(path), end))
-        }
+        PartOp::Create => match read_ref::<_, TextRef>(src, place) {
+            Ok((path, end)) => Ok((PartDoneOf::Created(path), end)),
+            Err(fault) => Err(fault),
+        },
         PartOp::Delete => Ok((PartDoneOf::Deleted, place)),
-        PartOp::SetData => {
-            let (stat, end) = read_ref::<_, Stat>(src, place)?;
-            Ok((PartDoneOf::DataSet(stat), end))
-        }
+        PartOp::SetData => match read_ref::<_, Stat>(src, place) {
+            Ok((stat, end)) => Ok((PartDoneOf::DataSet(stat), end)),
+            Err(fault) => Err(fault),
+        },
         PartOp::Check => Ok((PartDoneOf::Checked, place)),
     }
 }

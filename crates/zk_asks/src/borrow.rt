@@ -34,10 +34,12 @@ pub(crate) fn body_ref<'a, const KNOWN: bool>(
     ensures within { IfOk result (λ x. x.1 ≤ length src.now.bytes.now) }
 {
     macro_rules! read {
-        ($record:ty, $ask:path) => {{
-            let (body, end) = read_ref::<_, $record>(src, place)?;
-            Ok(($ask(body), end))
-        }};
+        ($record:ty, $ask:path) => {
+            match read_ref::<_, $record>(src, place) {
+                Ok((body, end)) => Ok(($ask(body), end)),
+                Err(fault) => Err(fault),
+            }
+        };
     }
     match op {
         Op::Create => read!(CreateAskRef, AskOf::Create),
@@ -51,10 +53,10 @@ pub(crate) fn body_ref<'a, const KNOWN: bool>(
         Op::Sync => read!(PathAskRef, AskOf::Sync),
         Op::Ping => Ok((AskOf::Ping, place)),
         Op::GetChildren2 => read!(WatchAskRef, AskOf::GetChildren2),
-        Op::Multi => {
-            let (parts, end) = multi_ref(src, place)?;
-            Ok((AskOf::Multi(parts), end))
-        }
+        Op::Multi => match multi_ref(src, place) {
+            Ok((parts, end)) => Ok((AskOf::Multi(parts), end)),
+            Err(fault) => Err(fault),
+        },
         Op::Create2 => read!(CreateAskRef, AskOf::Create2),
         Op::Auth => read!(AuthAskRef, AskOf::Auth),
         Op::SetWatches => read!(SetWatchesAskRef, AskOf::SetWatches),

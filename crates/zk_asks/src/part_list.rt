@@ -139,10 +139,12 @@ fn record_ref<'a, const KNOWN: bool>(
     ensures within { IfOk result (λ x. x.1 ≤ length src.now.bytes.now) }
 {
     macro_rules! read {
-        ($record:ty, $part:path) => {{
-            let (body, end) = read_ref::<_, $record>(src, place)?;
-            Ok(($part(body), end))
-        }};
+        ($record:ty, $part:path) => {
+            match read_ref::<_, $record>(src, place) {
+                Ok((body, end)) => Ok(($part(body), end)),
+                Err(fault) => Err(fault),
+            }
+        };
     }
     match op {
         PartOp::Create => read!(CreateAskRef, PartOf::Create),

@@ -74,7 +74,7 @@ pub fn scan_first(payload: &[u8]) -> Result<(), ItemFault>
 /// A later payload of a client: decides as `read_ask` does, allocates nothing, and never returns `NoMemory`.
 pub fn scan_ask<'a>(profile: Profile, payload: &'a [u8]) -> Result<Scan<'a>, ItemFault>
     requires { length payload.now < 2 ^ 32 }
-    ensures found { IfOk result (λ s. IsOfProfile profile (frame.Ask s.xid s.ask) × IsSent (frame.Ask s.xid s.ask) × (payload.now ≡ frames.payload (frame.Ask s.xid s.ask))) }
+    ensures found { IfOk result (λ s. let f = frame.Ask s.xid s.ask in IsOfProfile profile f × IsSent f × (payload.now ≡ frames.payload f)) }
     ensures only { (f : ClientFrame) → IsLater f → IsOfProfile profile f → IsSent f → payload.now ≡ frames.payload f → IsOk result }
     ensures fault { IfErr result (IsSurelyTold (IsAskFault profile payload.now)) }
 {

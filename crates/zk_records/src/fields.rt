@@ -13,10 +13,12 @@ macro_rules! fields {
 
 /// `decode!(src, place => R { a, b, c })` is the body of `decode` for the record `R`.
 macro_rules! decode {
-    ($src:ident, $place:ident => $record:ident { $($field:ident),+ }) => {{
-        let (fields!(let $($field),+), place) = Stands::decode($src, $place)?;
-        Ok(($record { $($field),+ }, place))
-    }};
+    ($src:ident, $place:ident => $record:ident { $($field:ident),+ }) => {
+        match Stands::decode($src, $place) {
+            Ok((fields!(let $($field),+), place)) => Ok(($record { $($field),+ }, place)),
+            Err(fault) => Err(fault),
+        }
+    };
 }
 
 /// `own!(self, alloc => R { a, b, c })` is the body of `own` for the record `R`.
