@@ -16,38 +16,29 @@ use zk_talk::{
 };
 
 fn talk(alloc: Global, limits: Limits) -> Result<Talk, AllocError> {
-    match Talk::new(alloc, limits) {
-        Ok(talk) => Ok(talk),
-        Err(_) => Talk::new(alloc, limits),
-    }
+    Talk::new(alloc, limits).or_else(|_| Talk::new(alloc, limits))
 }
 
 fn speaker(alloc: Global, limits: Limits) -> Result<Speaker, AllocError> {
-    match Speaker::new(alloc, limits) {
-        Ok(speaker) => Ok(speaker),
-        Err(_) => Speaker::new(alloc, limits),
-    }
+    Speaker::new(alloc, limits).or_else(|_| Speaker::new(alloc, limits))
 }
 
 fn taken(talk: &mut Talk, side: Side, piece: &[u8]) -> Result<Taken, Fault> {
-    match talk.take(side, piece) {
-        Err(fault) if fault.reason == Reason::NoMemory => talk.take(side, piece),
-        answer => answer,
-    }
+    talk.take(side, piece).or_else(|fault| match fault.reason {
+        Reason::NoMemory => talk.take(side, piece),
+        _ => Err(fault),
+    })
 }
 
 fn said(speaker: &mut Speaker, message: &Message, out: &mut Vec<u8>) -> Result<(), SayFault> {
-    match speaker.say(message, out) {
-        Err(SayFault::NoMemory) => speaker.say(message, out),
-        answer => answer,
-    }
+    speaker.say(message, out).or_else(|fault| match fault {
+        SayFault::NoMemory => speaker.say(message, out),
+        _ => Err(fault),
+    })
 }
 
 fn line(alloc: Global, message: &Message) -> Result<Vec<u8>, AllocError> {
-    match line_of(alloc, message) {
-        Ok(line) => Ok(line),
-        Err(_) => line_of(alloc, message),
-    }
+    line_of(alloc, message).or_else(|_| line_of(alloc, message))
 }
 
 fn line_seen(alloc: Global, message: &MessageRef<'_>) -> Result<Vec<u8>, AllocError> {
@@ -65,31 +56,24 @@ fn copied(alloc: Global, message: &MessageRef<'_>) -> Result<Message, AllocError
 }
 
 fn message(alloc: Global, line: &[u8]) -> Result<Message, LineFault> {
-    match read_line(alloc, line) {
-        Err(fault) if fault.reason == LineReason::NoMemory => read_line(alloc, line),
-        answer => answer,
-    }
+    read_line(alloc, line).or_else(|fault| match fault.reason {
+        LineReason::NoMemory => read_line(alloc, line),
+        _ => Err(fault),
+    })
 }
 
 fn last_line(alloc: Global, ending: &Ending) -> Result<Vec<u8>, AllocError> {
-    match ending_line(alloc, ending) {
-        Ok(line) => Ok(line),
-        Err(_) => ending_line(alloc, ending),
-    }
+    ending_line(alloc, ending).or_else(|_| ending_line(alloc, ending))
 }
 
 fn all(alloc: Global, limits: Limits, pieces: &[(Side, &[u8])]) -> Result<Ended, AllocError> {
-    match read_all(alloc, limits, pieces) {
-        Ok(ended) => Ok(ended),
-        Err(_) => read_all(alloc, limits, pieces),
-    }
+    read_all(alloc, limits, pieces).or_else(|_| read_all(alloc, limits, pieces))
 }
 
 fn append(lines: &mut Vec<u8>, bytes: &[u8]) -> Result<(), AllocError> {
-    match lines.extend_from_slice(bytes) {
-        Ok(()) => Ok(()),
-        Err(_) => lines.extend_from_slice(bytes),
-    }
+    lines
+        .extend_from_slice(bytes)
+        .or_else(|_| lines.extend_from_slice(bytes))
 }
 
 /// The line of a copy of the message.
