@@ -45,6 +45,17 @@ class Say(ctypes.Structure):
     _fields_ = [("status", ctypes.c_uint32), ("length", ctypes.c_size_t), ("column", ctypes.c_uint32)]
 
 
+class Field(ctypes.Structure):
+    _fields_ = [("place", ctypes.c_uint32), ("length", ctypes.c_uint32), ("number", ctypes.c_int64),
+                ("name", ctypes.c_uint16), ("kind", ctypes.c_uint8), ("null", ctypes.c_uint8)]
+
+
+class Read(ctypes.Structure):
+    _fields_ = [("status", ctypes.c_uint32), ("place", ctypes.c_uint32), ("count", ctypes.c_uint32),
+                ("kind", ctypes.c_uint32), ("xid", ctypes.c_int32), ("operation", ctypes.c_int32), ("err", ctypes.c_int32),
+                ("zxid", ctypes.c_int64)]
+
+
 class Refused(Exception):
     """A status, and the fault where there is one."""
 
@@ -55,6 +66,7 @@ class Library:
     def __init__(self, path):
         calls = ctypes.CDLL(path)
         handle, number, size = ctypes.POINTER(Handle), ctypes.c_uint32, ctypes.c_size_t
+        payload, room = (ctypes.c_char_p, size), (ctypes.POINTER(Field), size)
         for name, result, words in (
             ("zk_talk_new", number, (handle, number, number, number, number)),
             ("zk_talk_step", Step, (handle, number, ctypes.c_char_p, size)),
@@ -70,6 +82,11 @@ class Library:
             ("zk_judge_connected", Payload, (ctypes.c_char_p, size)),
             ("zk_judge_reply", Payload, (ctypes.c_int32, ctypes.POINTER(ctypes.c_int32), size, ctypes.c_char_p, size)),
             ("zk_judge_event", Payload, (ctypes.c_char_p, size)),
+            ("zk_read_first", Read, (*payload, *room)),
+            ("zk_read_request", Read, (number, *payload, *room)),
+            ("zk_read_connected", Read, (*payload, *room)),
+            ("zk_read_reply", Read, (ctypes.c_int32, ctypes.POINTER(ctypes.c_int32), size, *payload, *room)),
+            ("zk_read_event", Read, (*payload, *room)),
             ("zk_listing", Line, (ctypes.POINTER(Piece), size, ctypes.c_char_p, size, number, number, number, number,
                                   ctypes.c_char_p, size)),
         ):
