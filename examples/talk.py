@@ -29,6 +29,12 @@ class Step(ctypes.Structure):
     _fields_ = [("used", ctypes.c_size_t), ("status", ctypes.c_uint32), ("whole", ctypes.c_bool), ("fault", Fault)]
 
 
+class Message(ctypes.Structure):
+    _fields_ = [("status", ctypes.c_uint32), ("kind", ctypes.c_uint32), ("xid", ctypes.c_int32),
+                ("operation", ctypes.c_int32), ("size", ctypes.c_uint32), ("err", ctypes.c_int32),
+                ("zxid", ctypes.c_int64), ("frame", ctypes.c_uint64)]
+
+
 class Line(ctypes.Structure):
     _fields_ = [("status", ctypes.c_uint32), ("length", ctypes.c_size_t)]
 
@@ -70,7 +76,10 @@ class Library:
         for name, result, words in (
             ("zk_talk_new", number, (handle, number, number, number, number)),
             ("zk_talk_step", Step, (handle, number, ctypes.c_char_p, size)),
+            ("zk_talk_view", Message, (handle, number)),
             ("zk_talk_line", Line, (handle, number, ctypes.c_char_p, size)),
+            ("zk_talk_payload", Line, (handle, number, ctypes.c_char_p, size)),
+            ("zk_talk_fields", Read, (handle, number, *room)),
             ("zk_talk_ending_line", Line, (handle, ctypes.c_char_p, size)),
             ("zk_talk_free", None, (handle,)),
             ("zk_speaker_new", number, (handle, number, number, number, number)),

@@ -119,14 +119,18 @@ struct zk_ending {
 /* Kinds of a message. */
 enum { ZK_CONNECT = 1, ZK_REQUEST = 2, ZK_CONNECTED = 3, ZK_REPLY = 4, ZK_EVENT = 5 };
 
-/* What message a frame is. operation is that of a request, or of the request that a reply answers. The frame's bytes,
- * its length included, are the last `size` that were used of its side. */
+/* What message a frame is. operation is that of a request, or of the request that a reply answers; err and zxid are those
+ * of a reply or an event, else 0; frame is the number of the side's frame, from 0. The frame's bytes, its length
+ * included, are the last `size` that were used of its side. */
 struct zk_message {
     uint32_t status;
     uint32_t kind;
     int32_t xid;
     int32_t operation;
     uint32_t size;
+    int32_t err;
+    int64_t zxid;
+    uint64_t frame;
 };
 
 /* A text's length; it is written where there is room for all of it (ZK_WELL, else ZK_ROOM). */
@@ -247,6 +251,12 @@ struct zk_message zk_talk_view(struct zk_talk *talk, uint32_t side);
 
 /* Writes that message's line (docs/FORMATS.md, section 9), without line feed. */
 struct zk_line zk_talk_line(struct zk_talk *talk, uint32_t side, uint8_t *out, size_t room);
+
+/* Writes that message's payload, which is its frame without the length, in whatever pieces it came. */
+struct zk_line zk_talk_payload(struct zk_talk *talk, uint32_t side, uint8_t *out, size_t room);
+
+/* Writes the fields of that message, as zk_read_request and its like; their places are those in the payload. */
+struct zk_read zk_talk_fields(struct zk_talk *talk, uint32_t side, struct zk_field *out, size_t room);
 
 /* How the conversation ends if nothing more comes. */
 struct zk_ending zk_talk_finish(struct zk_talk *talk);
@@ -514,6 +524,18 @@ static inline struct zk_line zk_safe_talk_line(struct zk_talk *talk, uint32_t si
     return answer.status != ZK_WELL ? answer : zk_talk_line(talk, side, (uint8_t *)zk_into(out), room);
 }
 
+static inline struct zk_line zk_safe_talk_payload(struct zk_talk *talk, uint32_t side, uint8_t *out, size_t room) {
+    struct zk_line answer = ZK_ZEROS;
+    answer.status = zk_first_of(zk_fault_at(talk, 1, sizeof *talk), zk_fault_of(out, room, sizeof *out));
+    return answer.status != ZK_WELL ? answer : zk_talk_payload(talk, side, (uint8_t *)zk_into(out), room);
+}
+
+static inline struct zk_read zk_safe_talk_fields(struct zk_talk *talk, uint32_t side, struct zk_field *out, size_t room) {
+    struct zk_read answer = ZK_ZEROS;
+    answer.status = zk_first_of(zk_fault_at(talk, 1, sizeof *talk), zk_fault_of(out, room, sizeof *out));
+    return answer.status != ZK_WELL ? answer : zk_talk_fields(talk, side, (struct zk_field *)zk_into(out), room);
+}
+
 static inline struct zk_ending zk_safe_talk_finish(struct zk_talk *talk) {
     struct zk_ending answer = ZK_ZEROS;
     answer.status = zk_fault_at(talk, 1, sizeof *talk);
@@ -625,6 +647,8 @@ static inline struct zk_line zk_safe_listing(const struct zk_piece *pieces, size
 #define zk_talk_step zk_safe_talk_step
 #define zk_talk_view zk_safe_talk_view
 #define zk_talk_line zk_safe_talk_line
+#define zk_talk_payload zk_safe_talk_payload
+#define zk_talk_fields zk_safe_talk_fields
 #define zk_talk_finish zk_safe_talk_finish
 #define zk_talk_ending_line zk_safe_talk_ending_line
 #define zk_talk_free zk_safe_talk_free

@@ -7,9 +7,9 @@ Each call that crates/zk_c/src exports stands in include/zk.h with as many words
 fields, and each number by the same name. The examples (docs/LIBRARY.md) in C, Rust and Python are compiled where there
 is a compiler, and give the listing of each recording in captures/; the one in C gives up its memory, where the compiler
 has what looks for that; the one in Python says the lines of whole listings again, and judges kazoo's requests where kazoo
-is installed. Payloads of docs/EXAMPLES.md are judged, and the fields of payloads are compared with a second reading of
-docs/FORMATS.md (tests/fields.py). Null pointers and lengths that no bytes have are refused (tests/nulls.c). What is
-skipped is told.
+is installed. Payloads of docs/EXAMPLES.md are judged, and the fields of payloads, and of the messages of recordings, are
+compared with a second reading of docs/FORMATS.md (tests/fields.py, tests/messages.py). Null pointers and lengths that no
+bytes have are refused (tests/nulls.c). What is skipped is told.
 
 Where no other is named, the library is proved and built here, over the libraries below it that `rt ci` left; where it
 left none, `rt lib` proves these too. It prints what failed and one last line. The status is 0 where nothing did.
@@ -27,6 +27,7 @@ import sys
 import tempfile
 
 import fields
+import messages
 
 TOP = pathlib.Path(__file__).resolve().parent.parent
 sys.path.append(str(TOP / "packaging"))
@@ -277,9 +278,10 @@ def judge_payloads(shared):
 
 
 def compare_fields(shared):
-    """Whether the fields of payloads are told as tests/fields.py has them."""
+    """Whether the fields of payloads, and of the messages of recordings, are told as the two tests of them have them."""
     talk, names = importlib.import_module("talk"), {name.lower(): number for name, number in field_names().items()}
     yield from fields.compare(talk, talk.Library(shared), names, exported()[2])
+    yield from messages.compare(talk, talk.Library(shared), names, sorted((TOP / "captures").glob("*.zkr")))
 
 
 def list_whole(shared):

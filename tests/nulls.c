@@ -30,6 +30,8 @@ int main(void) {
     wants("zk_talk_step", zk_talk_step(NULL, ZK_CLIENT, &byte, 1).status, ZK_NULL);
     wants("zk_talk_view", zk_talk_view(NULL, ZK_CLIENT).status, ZK_NULL);
     wants("zk_talk_line", zk_talk_line(NULL, ZK_CLIENT, out, room).status, ZK_NULL);
+    wants("zk_talk_payload", zk_talk_payload(NULL, ZK_CLIENT, out, room).status, ZK_NULL);
+    wants("zk_talk_fields", zk_talk_fields(NULL, ZK_CLIENT, &field, 1).status, ZK_NULL);
     wants("zk_talk_finish", zk_talk_finish(NULL).status, ZK_NULL);
     wants("zk_talk_ending_line", zk_talk_ending_line(NULL, out, room).status, ZK_NULL);
     zk_talk_free(NULL);
@@ -49,6 +51,12 @@ int main(void) {
     wants("zk_talk_line, null", zk_talk_line(&talk, ZK_CLIENT, NULL, 1).status, ZK_NULL);
     wants("zk_talk_line, no room", zk_talk_line(&talk, ZK_CLIENT, NULL, 0).status, ZK_NO_MESSAGE);
     wants("zk_talk_line, too long", zk_talk_line(&talk, ZK_CLIENT, out, more).status, ZK_RANGE);
+    wants("zk_talk_payload, null", zk_talk_payload(&talk, ZK_CLIENT, NULL, 1).status, ZK_NULL);
+    wants("zk_talk_payload, no room", zk_talk_payload(&talk, ZK_CLIENT, NULL, 0).status, ZK_NO_MESSAGE);
+    wants("zk_talk_payload, too long", zk_talk_payload(&talk, ZK_CLIENT, out, more).status, ZK_RANGE);
+    wants("zk_talk_fields, null", zk_talk_fields(&talk, ZK_CLIENT, NULL, 1).status, ZK_NULL);
+    wants("zk_talk_fields, no room", zk_talk_fields(&talk, ZK_CLIENT, NULL, 0).status, ZK_NO_MESSAGE);
+    wants("zk_talk_fields, too much room", zk_talk_fields(&talk, ZK_CLIENT, &field, most / sizeof field + 1).status, ZK_RANGE);
     wants("zk_talk_ending_line, null", zk_talk_ending_line(&talk, NULL, 1).status, ZK_NULL);
     wants("zk_talk_ending_line, no room", zk_talk_ending_line(&talk, NULL, 0).status, ZK_ROOM);
     wants("zk_talk_ending_line, no room, length", (uint32_t)zk_talk_ending_line(&talk, NULL, 0).length, sizeof ". whole unanswered=0" - 1);

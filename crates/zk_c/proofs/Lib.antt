@@ -1,5 +1,6 @@
 mod Cutting
 mod Handles
+mod Keeping
 mod Opening
 mod Parts
 mod Reading
