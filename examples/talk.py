@@ -29,6 +29,12 @@ class Step(ctypes.Structure):
     _fields_ = [("used", ctypes.c_size_t), ("status", ctypes.c_uint32), ("whole", ctypes.c_bool), ("fault", Fault)]
 
 
+class Message(ctypes.Structure):
+    _fields_ = [("status", ctypes.c_uint32), ("kind", ctypes.c_uint32), ("xid", ctypes.c_int32),
+                ("operation", ctypes.c_int32), ("size", ctypes.c_uint32), ("err", ctypes.c_int32),
+                ("zxid", ctypes.c_int64), ("frame", ctypes.c_uint64)]
+
+
 class Line(ctypes.Structure):
     _fields_ = [("status", ctypes.c_uint32), ("length", ctypes.c_size_t)]
 
@@ -45,6 +51,17 @@ class Say(ctypes.Structure):
     _fields_ = [("status", ctypes.c_uint32), ("length", ctypes.c_size_t), ("column", ctypes.c_uint32)]
 
 
+class Field(ctypes.Structure):
+    _fields_ = [("place", ctypes.c_uint32), ("length", ctypes.c_uint32), ("number", ctypes.c_int64),
+                ("name", ctypes.c_uint16), ("kind", ctypes.c_uint8), ("null", ctypes.c_uint8)]
+
+
+class Read(ctypes.Structure):
+    _fields_ = [("status", ctypes.c_uint32), ("place", ctypes.c_uint32), ("count", ctypes.c_uint32),
+                ("kind", ctypes.c_uint32), ("xid", ctypes.c_int32), ("operation", ctypes.c_int32), ("err", ctypes.c_int32),
+                ("zxid", ctypes.c_int64)]
+
+
 class Refused(Exception):
     """A status, and the fault where there is one."""
 
@@ -55,10 +72,14 @@ class Library:
     def __init__(self, path):
         calls = ctypes.CDLL(path)
         handle, number, size = ctypes.POINTER(Handle), ctypes.c_uint32, ctypes.c_size_t
+        payload, room = (ctypes.c_char_p, size), (ctypes.POINTER(Field), size)
         for name, result, words in (
             ("zk_talk_new", number, (handle, number, number, number, number)),
             ("zk_talk_step", Step, (handle, number, ctypes.c_char_p, size)),
+            ("zk_talk_view", Message, (handle, number)),
             ("zk_talk_line", Line, (handle, number, ctypes.c_char_p, size)),
+            ("zk_talk_payload", Line, (handle, number, ctypes.c_char_p, size)),
+            ("zk_talk_fields", Read, (handle, number, *room)),
             ("zk_talk_ending_line", Line, (handle, ctypes.c_char_p, size)),
             ("zk_talk_free", None, (handle,)),
             ("zk_speaker_new", number, (handle, number, number, number, number)),
@@ -70,6 +91,11 @@ class Library:
             ("zk_judge_connected", Payload, (ctypes.c_char_p, size)),
             ("zk_judge_reply", Payload, (ctypes.c_int32, ctypes.POINTER(ctypes.c_int32), size, ctypes.c_char_p, size)),
             ("zk_judge_event", Payload, (ctypes.c_char_p, size)),
+            ("zk_read_first", Read, (*payload, *room)),
+            ("zk_read_request", Read, (number, *payload, *room)),
+            ("zk_read_connected", Read, (*payload, *room)),
+            ("zk_read_reply", Read, (ctypes.c_int32, ctypes.POINTER(ctypes.c_int32), size, *payload, *room)),
+            ("zk_read_event", Read, (*payload, *room)),
             ("zk_listing", Line, (ctypes.POINTER(Piece), size, ctypes.c_char_p, size, number, number, number, number,
                                   ctypes.c_char_p, size)),
         ):

@@ -119,14 +119,18 @@ struct zk_ending {
 /* Kinds of a message. */
 enum { ZK_CONNECT = 1, ZK_REQUEST = 2, ZK_CONNECTED = 3, ZK_REPLY = 4, ZK_EVENT = 5 };
 
-/* What message a frame is. operation is that of a request, or of the request that a reply answers. The frame's bytes,
- * its length included, are the last `size` that were used of its side. */
+/* What message a frame is. operation is that of a request, or of the request that a reply answers; err and zxid are those
+ * of a reply or an event, else 0; frame is the number of the side's frame, from 0. The frame's bytes, its length
+ * included, are the last `size` that were used of its side. */
 struct zk_message {
     uint32_t status;
     uint32_t kind;
     int32_t xid;
     int32_t operation;
     uint32_t size;
+    int32_t err;
+    int64_t zxid;
+    uint64_t frame;
 };
 
 /* A text's length; it is written where there is room for all of it (ZK_WELL, else ZK_ROOM). */
@@ -148,6 +152,86 @@ struct zk_payload {
     uint32_t place;
 };
 
+/* Kinds of a field. */
+enum {
+    ZK_KIND_INT = 1,
+    ZK_KIND_LONG = 2,
+    ZK_KIND_BOOL = 3,
+    ZK_KIND_TEXT = 4,
+    ZK_KIND_BLOB = 5,
+    ZK_KIND_LIST = 6, /* a list's count; its elements' fields follow */
+    ZK_KIND_PART = 7  /* the header of a part of a multi, or of a result; the fields of its record follow */
+};
+
+/* Names of a field (docs/FORMATS.md, sections 3 and 4; data, type, id and children are jute's). The elements of a list
+ * have the list's name, except that each field of an access right has its own; the header of a part has none. */
+enum {
+    ZK_NAME_NONE = 0,
+    ZK_NAME_PATH = 1,
+    ZK_NAME_DATA = 2,
+    ZK_NAME_ACL = 3,
+    ZK_NAME_FLAGS = 4,
+    ZK_NAME_VERSION = 5,
+    ZK_NAME_WATCH = 6,
+    ZK_NAME_PERMS = 7,
+    ZK_NAME_SCHEME = 8,
+    ZK_NAME_ID = 9,
+    ZK_NAME_TYPE = 10,
+    ZK_NAME_STATE = 11,
+    ZK_NAME_AUTH = 12,
+    ZK_NAME_CZXID = 13,
+    ZK_NAME_MZXID = 14,
+    ZK_NAME_CTIME = 15,
+    ZK_NAME_MTIME = 16,
+    ZK_NAME_CVERSION = 17,
+    ZK_NAME_AVERSION = 18,
+    ZK_NAME_EPHEMERAL_OWNER = 19,
+    ZK_NAME_DATA_LENGTH = 20,
+    ZK_NAME_NUM_CHILDREN = 21,
+    ZK_NAME_PZXID = 22,
+    ZK_NAME_CHILDREN = 23,
+    ZK_NAME_ZXID = 24,
+    ZK_NAME_DATA_WATCHES = 25,
+    ZK_NAME_EXIST_WATCHES = 26,
+    ZK_NAME_CHILD_WATCHES = 27,
+    ZK_NAME_PROTOCOL_VERSION = 28,
+    ZK_NAME_LAST_ZXID_SEEN = 29,
+    ZK_NAME_TIME_OUT = 30,
+    ZK_NAME_SESSION_ID = 31,
+    ZK_NAME_PASSWD = 32,
+    ZK_NAME_READ_ONLY = 33,
+    ZK_NAME_ERR = 34
+};
+
+/* A field of a message: an item of its payload. Its content is the `length` bytes of the payload from `place` on: for a
+ * text or a blob those after its length, for all else the whole item. `number` is that of an int, a long or a boolean
+ * (1: true), a list's count, or the operation in a part's header (-1: a result that is an error). `null` is 1 for a text,
+ * a blob or a list that is null, whose `number` is 0; else 0. */
+struct zk_field {
+    uint32_t place;
+    uint32_t length;
+    int64_t number;
+    uint16_t name;
+    uint8_t kind;
+    uint8_t null;
+};
+
+/* The message of a payload, and how many fields it has. The fields are written as far as there is room; the status is
+ * ZK_WELL, or ZK_ROOM if `count` is more than that. kind is one of ZK_CONNECT to ZK_EVENT; xid, operation (that of a
+ * request, or of the request that a reply answers), err and zxid (of a reply or an event) are 0 if the message has none.
+ * If the payload is no message's, the status is the reason, `place` the place of the fault, and kind 0; the fields are
+ * those of the items that end before it; xid, operation, err and zxid are those of the header, as far as it is there. */
+struct zk_read {
+    uint32_t status;
+    uint32_t place;
+    uint32_t count;
+    uint32_t kind;
+    int32_t xid;
+    int32_t operation;
+    int32_t err;
+    int64_t zxid;
+};
+
 /* A number of bytes of a side, for zk_listing. */
 struct zk_piece {
     uint32_t side;
@@ -166,6 +250,12 @@ struct zk_message zk_talk_view(struct zk_talk *talk, uint32_t side);
 
 /* Writes that message's line (docs/FORMATS.md, section 9), without line feed. */
 struct zk_line zk_talk_line(struct zk_talk *talk, uint32_t side, uint8_t *out, size_t room);
+
+/* Writes that message's payload, which is its frame without the length, in whatever pieces it came. */
+struct zk_line zk_talk_payload(struct zk_talk *talk, uint32_t side, uint8_t *out, size_t room);
+
+/* Writes the fields of that message, as zk_read_request and its like; their places are those in the payload. */
+struct zk_read zk_talk_fields(struct zk_talk *talk, uint32_t side, struct zk_field *out, size_t room);
 
 /* How the conversation ends if nothing more comes. */
 struct zk_ending zk_talk_finish(struct zk_talk *talk);
@@ -204,11 +294,174 @@ struct zk_payload zk_judge_reply(int32_t operation, const int32_t *parts, size_t
 /* Whether the payload is that of an event. ZK_MISFIT if the xid isn't -1: a reply's. */
 struct zk_payload zk_judge_event(const uint8_t *bytes, size_t length);
 
+/* Writes the fields of a connect request's payload into `out`, which has room for `room` fields and doesn't overlap it.
+ * It never allocates. ZK_RANGE if the payload has 4 GiB or more. */
+struct zk_read zk_read_first(const uint8_t *payload, size_t length, struct zk_field *out, size_t room);
+
+/* The same for a request of this profile; ZK_RANGE if it is no profile. */
+struct zk_read zk_read_request(uint32_t profile, const uint8_t *payload, size_t length, struct zk_field *out, size_t room);
+
+/* The same for the answer to a connect request. */
+struct zk_read zk_read_connected(const uint8_t *payload, size_t length, struct zk_field *out, size_t room);
+
+/* The same for a reply; operation and parts, ZK_RANGE and ZK_MISFIT as for zk_judge_reply. */
+struct zk_read zk_read_reply(int32_t operation, const int32_t *parts, size_t count, const uint8_t *payload, size_t length, struct zk_field *out, size_t room);
+
+/* The same for an event; ZK_MISFIT as for zk_judge_event. */
+struct zk_read zk_read_event(const uint8_t *payload, size_t length, struct zk_field *out, size_t room);
+
 /* Writes the listing of a whole conversation: the line of each message and of the ending, each with a line feed. The
  * pieces are in the order in which they came, and bytes are those of all, one after the other; the numbers are those of
  * zk_talk_new. ZK_RANGE if one is out of range, or the pieces aren't just the bytes; ZK_ROOM with the length that is
  * needed, and out as it was. It allocates all messages and the text. */
 struct zk_line zk_listing(const struct zk_piece *pieces, size_t count, const uint8_t *bytes, size_t length, uint32_t client, uint32_t server, uint32_t waiting, uint32_t profile, uint8_t *out, size_t room);
+
+/* ---- Names of numbers; "" where a number has none */
+
+/* Of an operation, or of a part of a multi. */
+static inline const char *zk_operation_name(int32_t number) {
+    switch (number) {
+    case -11: return "closeSession";
+    case 1: return "create";
+    case 2: return "delete";
+    case 3: return "exists";
+    case 4: return "getData";
+    case 5: return "setData";
+    case 6: return "getACL";
+    case 7: return "setACL";
+    case 8: return "getChildren";
+    case 9: return "sync";
+    case 11: return "ping";
+    case 12: return "getChildren2";
+    case 13: return "check";
+    case 14: return "multi";
+    case 15: return "create2";
+    case 100: return "auth";
+    case 101: return "setWatches";
+    default: return "";
+    }
+}
+
+/* Of a reply's err. */
+static inline const char *zk_error_name(int32_t number) {
+    switch (number) {
+    case 0: return "OK";
+    case -1: return "SYSTEMERROR";
+    case -2: return "RUNTIMEINCONSISTENCY";
+    case -3: return "DATAINCONSISTENCY";
+    case -4: return "CONNECTIONLOSS";
+    case -5: return "MARSHALLINGERROR";
+    case -6: return "UNIMPLEMENTED";
+    case -7: return "OPERATIONTIMEOUT";
+    case -8: return "BADARGUMENTS";
+    case -100: return "APIERROR";
+    case -101: return "NONODE";
+    case -102: return "NOAUTH";
+    case -103: return "BADVERSION";
+    case -108: return "NOCHILDRENFOREPHEMERALS";
+    case -110: return "NODEEXISTS";
+    case -111: return "NOTEMPTY";
+    case -112: return "SESSIONEXPIRED";
+    case -113: return "INVALIDCALLBACK";
+    case -114: return "INVALIDACL";
+    case -115: return "AUTHFAILED";
+    case -118: return "SESSIONMOVED";
+    case -119: return "NOTREADONLY";
+    default: return "";
+    }
+}
+
+/* Of an event's type. */
+static inline const char *zk_event_name(int64_t number) {
+    switch (number) {
+    case -1: return "None";
+    case 1: return "NodeCreated";
+    case 2: return "NodeDeleted";
+    case 3: return "NodeDataChanged";
+    case 4: return "NodeChildrenChanged";
+    default: return "";
+    }
+}
+
+/* Of a field's name. */
+static inline const char *zk_field_name(uint16_t number) {
+    switch (number) {
+    case ZK_NAME_PATH: return "path";
+    case ZK_NAME_DATA: return "data";
+    case ZK_NAME_ACL: return "acl";
+    case ZK_NAME_FLAGS: return "flags";
+    case ZK_NAME_VERSION: return "version";
+    case ZK_NAME_WATCH: return "watch";
+    case ZK_NAME_PERMS: return "perms";
+    case ZK_NAME_SCHEME: return "scheme";
+    case ZK_NAME_ID: return "id";
+    case ZK_NAME_TYPE: return "type";
+    case ZK_NAME_STATE: return "state";
+    case ZK_NAME_AUTH: return "auth";
+    case ZK_NAME_CZXID: return "czxid";
+    case ZK_NAME_MZXID: return "mzxid";
+    case ZK_NAME_CTIME: return "ctime";
+    case ZK_NAME_MTIME: return "mtime";
+    case ZK_NAME_CVERSION: return "cversion";
+    case ZK_NAME_AVERSION: return "aversion";
+    case ZK_NAME_EPHEMERAL_OWNER: return "ephemeral_owner";
+    case ZK_NAME_DATA_LENGTH: return "data_length";
+    case ZK_NAME_NUM_CHILDREN: return "num_children";
+    case ZK_NAME_PZXID: return "pzxid";
+    case ZK_NAME_CHILDREN: return "children";
+    case ZK_NAME_ZXID: return "zxid";
+    case ZK_NAME_DATA_WATCHES: return "data_watches";
+    case ZK_NAME_EXIST_WATCHES: return "exist_watches";
+    case ZK_NAME_CHILD_WATCHES: return "child_watches";
+    case ZK_NAME_PROTOCOL_VERSION: return "protocol_version";
+    case ZK_NAME_LAST_ZXID_SEEN: return "last_zxid_seen";
+    case ZK_NAME_TIME_OUT: return "time_out";
+    case ZK_NAME_SESSION_ID: return "session_id";
+    case ZK_NAME_PASSWD: return "passwd";
+    case ZK_NAME_READ_ONLY: return "read_only";
+    case ZK_NAME_ERR: return "err";
+    default: return "";
+    }
+}
+
+/* Of a status: that of its number above, without its beginning. */
+static inline const char *zk_status_name(uint32_t number) {
+    switch (number) {
+    case ZK_WELL: return "WELL";
+    case ZK_SHORT: return "SHORT";
+    case ZK_BAD_BOOL: return "BAD_BOOL";
+    case ZK_BAD_LENGTH: return "BAD_LENGTH";
+    case ZK_BAD_TEXT: return "BAD_TEXT";
+    case ZK_NO_MEMORY: return "NO_MEMORY";
+    case ZK_TRAILING: return "TRAILING";
+    case ZK_UNKNOWN_OP: return "UNKNOWN_OP";
+    case ZK_XID_OP: return "XID_OP";
+    case ZK_BAD_PART: return "BAD_PART";
+    case ZK_EVENT_ERR: return "EVENT_ERR";
+    case ZK_LENGTH_RANGE: return "LENGTH_RANGE";
+    case ZK_QUEUE_FULL: return "QUEUE_FULL";
+    case ZK_UNASKED: return "UNASKED";
+    case ZK_XID_ORDER: return "XID_ORDER";
+    case ZK_STREAM_END: return "STREAM_END";
+    case ZK_EMPTY: return "EMPTY";
+    case ZK_IN_USE: return "IN_USE";
+    case ZK_RANGE: return "RANGE";
+    case ZK_ROOM: return "ROOM";
+    case ZK_NO_MESSAGE: return "NO_MESSAGE";
+    case ZK_NULL: return "NULL";
+    case ZK_NOT_FIRST: return "NOT_FIRST";
+    case ZK_MISFIT: return "MISFIT";
+    case ZK_TOO_LONG: return "TOO_LONG";
+    case ZK_LINE_WORD: return "LINE_WORD";
+    case ZK_LINE_NUMBER: return "LINE_NUMBER";
+    case ZK_LINE_TEXT: return "LINE_TEXT";
+    case ZK_LINE_BLOB: return "LINE_BLOB";
+    case ZK_LINE_NAME: return "LINE_NAME";
+    case ZK_LINE_REST: return "LINE_REST";
+    case ZK_LINE_ENDING: return "LINE_ENDING";
+    default: return "";
+    }
+}
 
 /* ---- Null pointers, and lengths of more than PTRDIFF_MAX bytes
  *
@@ -235,9 +488,9 @@ static inline const void *zk_from(const void *at) {
     return at != NULL ? at : &none;
 }
 
-/* A pointer to write to, which isn't null. */
-static inline uint8_t *zk_into(uint8_t *at) {
-    static uint8_t none;
+/* A pointer to write to, which isn't null, aligned likewise. */
+static inline void *zk_into(void *at) {
+    static uint64_t none;
     return at != NULL ? at : &none;
 }
 
@@ -266,7 +519,19 @@ static inline struct zk_message zk_safe_talk_view(struct zk_talk *talk, uint32_t
 static inline struct zk_line zk_safe_talk_line(struct zk_talk *talk, uint32_t side, uint8_t *out, size_t room) {
     struct zk_line answer = ZK_ZEROS;
     answer.status = zk_first_of(zk_fault_at(talk, 1, sizeof *talk), zk_fault_of(out, room, sizeof *out));
-    return answer.status != ZK_WELL ? answer : zk_talk_line(talk, side, zk_into(out), room);
+    return answer.status != ZK_WELL ? answer : zk_talk_line(talk, side, (uint8_t *)zk_into(out), room);
+}
+
+static inline struct zk_line zk_safe_talk_payload(struct zk_talk *talk, uint32_t side, uint8_t *out, size_t room) {
+    struct zk_line answer = ZK_ZEROS;
+    answer.status = zk_first_of(zk_fault_at(talk, 1, sizeof *talk), zk_fault_of(out, room, sizeof *out));
+    return answer.status != ZK_WELL ? answer : zk_talk_payload(talk, side, (uint8_t *)zk_into(out), room);
+}
+
+static inline struct zk_read zk_safe_talk_fields(struct zk_talk *talk, uint32_t side, struct zk_field *out, size_t room) {
+    struct zk_read answer = ZK_ZEROS;
+    answer.status = zk_first_of(zk_fault_at(talk, 1, sizeof *talk), zk_fault_of(out, room, sizeof *out));
+    return answer.status != ZK_WELL ? answer : zk_talk_fields(talk, side, (struct zk_field *)zk_into(out), room);
 }
 
 static inline struct zk_ending zk_safe_talk_finish(struct zk_talk *talk) {
@@ -278,7 +543,7 @@ static inline struct zk_ending zk_safe_talk_finish(struct zk_talk *talk) {
 static inline struct zk_line zk_safe_talk_ending_line(struct zk_talk *talk, uint8_t *out, size_t room) {
     struct zk_line answer = ZK_ZEROS;
     answer.status = zk_first_of(zk_fault_at(talk, 1, sizeof *talk), zk_fault_of(out, room, sizeof *out));
-    return answer.status != ZK_WELL ? answer : zk_talk_ending_line(talk, zk_into(out), room);
+    return answer.status != ZK_WELL ? answer : zk_talk_ending_line(talk, (uint8_t *)zk_into(out), room);
 }
 
 static inline void zk_safe_talk_free(struct zk_talk *talk) {
@@ -301,7 +566,7 @@ static inline struct zk_say zk_safe_speaker_say(struct zk_speaker *speaker, cons
 static inline struct zk_line zk_safe_speaker_frame(struct zk_speaker *speaker, uint8_t *out, size_t room) {
     struct zk_line answer = ZK_ZEROS;
     answer.status = zk_first_of(zk_fault_at(speaker, 1, sizeof *speaker), zk_fault_of(out, room, sizeof *out));
-    return answer.status != ZK_WELL ? answer : zk_speaker_frame(speaker, zk_into(out), room);
+    return answer.status != ZK_WELL ? answer : zk_speaker_frame(speaker, (uint8_t *)zk_into(out), room);
 }
 
 static inline void zk_safe_speaker_free(struct zk_speaker *speaker) {
@@ -340,16 +605,48 @@ static inline struct zk_payload zk_safe_judge_event(const uint8_t *bytes, size_t
     return answer.status != ZK_WELL ? answer : zk_judge_event((const uint8_t *)zk_from(bytes), length);
 }
 
+static inline struct zk_read zk_safe_read_first(const uint8_t *payload, size_t length, struct zk_field *out, size_t room) {
+    struct zk_read answer = ZK_ZEROS;
+    answer.status = zk_first_of(zk_fault_of(payload, length, sizeof *payload), zk_fault_of(out, room, sizeof *out));
+    return answer.status != ZK_WELL ? answer : zk_read_first((const uint8_t *)zk_from(payload), length, (struct zk_field *)zk_into(out), room);
+}
+
+static inline struct zk_read zk_safe_read_request(uint32_t profile, const uint8_t *payload, size_t length, struct zk_field *out, size_t room) {
+    struct zk_read answer = ZK_ZEROS;
+    answer.status = zk_first_of(zk_fault_of(payload, length, sizeof *payload), zk_fault_of(out, room, sizeof *out));
+    return answer.status != ZK_WELL ? answer : zk_read_request(profile, (const uint8_t *)zk_from(payload), length, (struct zk_field *)zk_into(out), room);
+}
+
+static inline struct zk_read zk_safe_read_connected(const uint8_t *payload, size_t length, struct zk_field *out, size_t room) {
+    struct zk_read answer = ZK_ZEROS;
+    answer.status = zk_first_of(zk_fault_of(payload, length, sizeof *payload), zk_fault_of(out, room, sizeof *out));
+    return answer.status != ZK_WELL ? answer : zk_read_connected((const uint8_t *)zk_from(payload), length, (struct zk_field *)zk_into(out), room);
+}
+
+static inline struct zk_read zk_safe_read_reply(int32_t operation, const int32_t *parts, size_t count, const uint8_t *payload, size_t length, struct zk_field *out, size_t room) {
+    struct zk_read answer = ZK_ZEROS;
+    answer.status = zk_first_of(zk_fault_of(parts, count, sizeof *parts), zk_first_of(zk_fault_of(payload, length, sizeof *payload), zk_fault_of(out, room, sizeof *out)));
+    return answer.status != ZK_WELL ? answer : zk_read_reply(operation, (const int32_t *)zk_from(parts), count, (const uint8_t *)zk_from(payload), length, (struct zk_field *)zk_into(out), room);
+}
+
+static inline struct zk_read zk_safe_read_event(const uint8_t *payload, size_t length, struct zk_field *out, size_t room) {
+    struct zk_read answer = ZK_ZEROS;
+    answer.status = zk_first_of(zk_fault_of(payload, length, sizeof *payload), zk_fault_of(out, room, sizeof *out));
+    return answer.status != ZK_WELL ? answer : zk_read_event((const uint8_t *)zk_from(payload), length, (struct zk_field *)zk_into(out), room);
+}
+
 static inline struct zk_line zk_safe_listing(const struct zk_piece *pieces, size_t count, const uint8_t *bytes, size_t length, uint32_t client, uint32_t server, uint32_t waiting, uint32_t profile, uint8_t *out, size_t room) {
     struct zk_line answer = ZK_ZEROS;
     answer.status = zk_first_of(zk_fault_of(pieces, count, sizeof *pieces), zk_first_of(zk_fault_of(bytes, length, sizeof *bytes), zk_fault_of(out, room, sizeof *out)));
-    return answer.status != ZK_WELL ? answer : zk_listing((const struct zk_piece *)zk_from(pieces), count, (const uint8_t *)zk_from(bytes), length, client, server, waiting, profile, zk_into(out), room);
+    return answer.status != ZK_WELL ? answer : zk_listing((const struct zk_piece *)zk_from(pieces), count, (const uint8_t *)zk_from(bytes), length, client, server, waiting, profile, (uint8_t *)zk_into(out), room);
 }
 
 #define zk_talk_new zk_safe_talk_new
 #define zk_talk_step zk_safe_talk_step
 #define zk_talk_view zk_safe_talk_view
 #define zk_talk_line zk_safe_talk_line
+#define zk_talk_payload zk_safe_talk_payload
+#define zk_talk_fields zk_safe_talk_fields
 #define zk_talk_finish zk_safe_talk_finish
 #define zk_talk_ending_line zk_safe_talk_ending_line
 #define zk_talk_free zk_safe_talk_free
@@ -362,6 +659,11 @@ static inline struct zk_line zk_safe_listing(const struct zk_piece *pieces, size
 #define zk_judge_connected zk_safe_judge_connected
 #define zk_judge_reply zk_safe_judge_reply
 #define zk_judge_event zk_safe_judge_event
+#define zk_read_first zk_safe_read_first
+#define zk_read_request zk_safe_read_request
+#define zk_read_connected zk_safe_read_connected
+#define zk_read_reply zk_safe_read_reply
+#define zk_read_event zk_safe_read_event
 #define zk_listing zk_safe_listing
 
 #ifdef __cplusplus

@@ -8,7 +8,9 @@ same fields, and each number by the same name. The examples (docs/LIBRARY.md) in
 there is a compiler, and print the listing of each recording in captures/. The one in C frees its memory, which the
 address sanitizer checks where the compiler has it. The one in Python says the lines of whole listings again, and judges
 kazoo's requests where kazoo is installed. Single payloads are judged. Lines are refused by their reasons and columns.
-Null pointers and lengths above PTRDIFF_MAX are refused (tests/nulls.c). What is skipped is reported.
+The fields of payloads, and of recordings' messages, are compared with a second reading of docs/FORMATS.md
+(tests/fields.py, tests/messages.py). Null pointers and lengths above PTRDIFF_MAX are refused (tests/nulls.c). What is
+skipped is reported.
 
 Where no other is named, the library is proved and built here, over the libraries below it that `rt ci` left; where it
 left none, `rt lib` proves these too. It prints what failed and one last line. The status is 0 where nothing did.
@@ -25,6 +27,9 @@ import subprocess
 import sys
 import tempfile
 
+import fields
+import messages
+
 TOP = pathlib.Path(__file__).resolve().parent.parent
 sys.path.append(str(TOP / "packaging"))
 import make_library  # noqa: E402
@@ -32,12 +37,15 @@ from build_library import CRATE, built  # noqa: E402
 
 HEADER = TOP / "include" / "zk.h"
 EXAMPLES = TOP / "examples"
-C_TYPES = {"u8": "uint8_t", "u32": "uint32_t", "i32": "int32_t", "u64": "uint64_t", "usize": "size_t", "bool": "bool",
+C_TYPES = {"u8": "uint8_t", "u16": "uint16_t", "u32": "uint32_t", "u64": "uint64_t", "i32": "int32_t", "i64": "int64_t",
+           "usize": "size_t", "bool": "bool",
            "*mut u8": "void *", "TalkBox": "void *", "TalkHandle": "struct zk_talk", "VoiceBox": "void *",
            "SpeakerHandle": "struct zk_speaker", "SayAnswer": "struct zk_say", "FaultNumbers": "struct zk_fault",
            "StepAnswer": "struct zk_step", "EndingAnswer": "struct zk_ending", "MessageAnswer": "struct zk_message",
-           "LineAnswer": "struct zk_line", "Piece": "struct zk_piece", "PayloadAnswer": "struct zk_payload"}
+           "LineAnswer": "struct zk_line", "Piece": "struct zk_piece", "PayloadAnswer": "struct zk_payload",
+           "Field": "struct zk_field", "ReadAnswer": "struct zk_read"}
 INSIDE = {"TalkBox", "VoiceBox"}
+FIELDS, RECORDS = (TOP / "crates" / name / "src" for name in ("zk_fields", "zk_records"))
 
 # Payloads, as in the tables PAYLOADS of crates/codec_tests/src (asks.rt, answers.rt): the call, of a reply with the
 # numbers of the operation and of its parts, the payload, the status and the place.
@@ -143,7 +151,7 @@ def exported():
     """What the crate exports: of each call its result and the C types of its parameters; the fields of each struct that
     C sees; the numbers."""
     calls, structs, numbers = {}, {}, {}
-    for path in sorted((CRATE / "src").glob("*.rt")):
+    for path in [*sorted((CRATE / "src").glob("*.rt")), FIELDS / "field.rt"]:
         text = plain(path.read_text())
         for name, words, result in re.findall(r'extern "C" fn (\w+)\((.*?)\)(?: -> (\w+))?\s', text, flags=re.S):
             types = [word.split(":", 1)[1].strip() for word in words.split(",") if ":" in word]
@@ -161,6 +169,27 @@ def exported():
     return calls, structs, numbers
 
 
+def field_names():
+    """The number of each name of a field."""
+    text = (FIELDS / "name.rt").read_text()
+    return {name: int(n) for name, n in re.findall(r"const (\w+): u16 = (\d+);", text)}
+
+
+def crate_names(numbers):
+    """What the header's functions for names should tell, by those of zk_records: of each a name by its number."""
+    text = plain((RECORDS / "names.rt").read_text() + (RECORDS / "op.rt").read_text())
+    body = {name: found for name, found in re.findall(r"^pub fn (\w+)(.*?)^\}", text, flags=re.M | re.S)}
+    operations = {}
+    for kind in ("op", "part"):
+        names = dict(re.findall(r'Op::(\w+) => "(\w+)"', body[f"{kind}_name"]))
+        operations.update((int(n), names[op]) for op, n in re.findall(r"Op::(\w+) => (-?\d+)", body[f"{kind}_number"]))
+    coded = {kind: {int(n): name for n, name in re.findall(r'(-?\d+) => Some\("(\w+)"\)', body[f"{call}_name"])}
+             for kind, call in (("error", "code"), ("event", "event"))}
+    named = {number: name.lower() for name, number in field_names().items() if name != "NONE"}
+    statuses = {number: name for name, number in numbers.items()}
+    return {"operation": operations, **coded, "field": named, "status": {**statuses, 70: "NULL"}}
+
+
 def declared():
     """The same of the header."""
     text = plain(HEADER.read_text())
@@ -175,6 +204,14 @@ def declared():
     return calls, structs, numbers
 
 
+def header_names(numbers):
+    """What the header's functions for names tell."""
+    number = {f"ZK_{name}": n for name, n in numbers.items()}
+    functions = re.findall(r"const char \*zk_(\w+)_name\((.*?)^\}", HEADER.read_text(), flags=re.M | re.S)
+    return {kind: {number[of] if of in number else int(of): name
+                   for of, name in re.findall(r'case (\S+): return "(\w+)";', body)} for kind, body in functions}
+
+
 def compare_header():
     """A line for each difference between the crate and its header."""
     (calls, structs, numbers), (c_calls, c_structs, c_numbers) = exported(), declared()
@@ -182,6 +219,11 @@ def compare_header():
         for name in sorted({*ours, *theirs}):
             yield (name, ours.get(name) == theirs.get(name),
                    f"{kind} {name}: the crate has {ours.get(name)}, the header {theirs.get(name)}")
+    ours, theirs = crate_names(numbers), header_names(c_numbers)
+    for kind in sorted({*ours, *theirs}):
+        yield (kind, ours.get(kind) == theirs.get(kind),
+               f"names of {kind}: {ours.get(kind)}, the header {theirs.get(kind)}")
+    numbers.update((f"NAME_{name}", number) for name, number in field_names().items())
     for name, number in sorted(numbers.items()):
         yield (name, c_numbers.get(name) == number,
                f"number {name}: the crate has {number}, the header {c_numbers.get(name)}")
@@ -192,16 +234,18 @@ def made(folder, library):
     or None where it can't be made."""
     c = next(filter(shutil.which, filter(None, (os.environ.get("CC"), "cc"))), None)
     c = None if make_library.missing() else c
-    proxy, nulls, listing = (os.path.join(folder, name) for name in ("proxy", "nulls", "listing"))
+    proxy, nulls, shown, listing = (os.path.join(folder, name) for name in ("proxy", "nulls", "fields", "listing"))
     if c:
         archive, shared = make_library.make(folder, library)
         warned = [c, "-O2", "-Wall", "-Wextra", "-Werror", f"-I{HEADER.parent}"]
-        for program, source in ((proxy, EXAMPLES / "proxy.c"), (nulls, TOP / "tests" / "nulls.c")):
+        for program, source in ((proxy, EXAMPLES / "proxy.c"), (nulls, TOP / "tests" / "nulls.c"),
+                                (shown, EXAMPLES / "fields.c")):
             words = [*warned, "-o", program, source, archive]
             if subprocess.run([*words, "-fsanitize=address"], stderr=subprocess.DEVNULL).returncode != 0:
                 print(f"skipped: {source.name} is not looked at for memory that isn't given up")
                 subprocess.run(words, check=True)
     yield "null pointers", [nulls] if c else None
+    yield "fields", [shown] if c else None
     yield "C", [proxy] if c else None
     rust = c and shutil.which("rustc")
     if rust:
@@ -242,6 +286,17 @@ def run_examples(name, words):
         yield "kazoo", found.returncode == 0, f"{name} --kazoo: {found.stderr.decode()[-300:]}"
 
 
+def run_fields(words):
+    """Whether the example shows the fields of a payload, and those in front of a fault."""
+    for digits, status, wanted in (
+        ("0000000100000003000000022f6101", 0, 'request exists xid=1\n12+2 path "/a"\n14+1 watch 1\n'),
+        ("0000000100000003000000022f6102", 1, 'fault exists xid=1 BAD_BOOL at 14\n12+2 path "/a"\n'),
+    ):
+        found = subprocess.run([*words, "request", "34", digits], capture_output=True, text=True)
+        good = (found.returncode, found.stdout) == (status, wanted)
+        yield digits, good, f"fields {digits}: status {found.returncode}, {found.stdout}"
+
+
 def judge_payloads(shared):
     """Whether each payload of the table is judged as it says."""
     sys.path.append(str(EXAMPLES))
@@ -270,6 +325,13 @@ def refuse_lines(shared):
         found = [(answer.status, answer.column) for answer in answers]
         yield (refused.decode(), found == wanted,
                f"zk_speaker_say {refused.decode()}: statuses and columns {found}, not {wanted}")
+
+
+def compare_fields(shared):
+    """Whether the fields of payloads, and of the messages of recordings, are those of the two tests."""
+    talk, names = importlib.import_module("talk"), {name.lower(): number for name, number in field_names().items()}
+    yield from fields.compare(talk, talk.Library(shared), names, exported()[2])
+    yield from messages.compare(talk, talk.Library(shared), names, sorted((TOP / "captures").glob("*.zkr")))
 
 
 def list_whole(shared):
@@ -305,11 +367,15 @@ def main():
                 found = subprocess.run(words, capture_output=True, text=True)
                 results.append((name, found.returncode == 0, f"{name}: status {found.returncode}, {found.stdout}"))
                 continue
+            if name == "fields":
+                results += run_fields(words)
+                continue
             results += run_examples(name, words)
             if name == "Python":
                 results += judge_payloads(words[-1])
                 results += refuse_lines(words[-1])
                 results += list_whole(words[-1])
+                results += compare_fields(words[-1])
     failures = [told for _, good, told in results if not good]
     print("\n".join(failures[:50]), end="\n" if failures else "")
     print(f"{len(results) - len(failures)} passed, {len(failures)} failed")

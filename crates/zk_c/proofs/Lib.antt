@@ -1,7 +1,9 @@
 mod Cutting
 mod Handles
+mod Keeping
 mod Opening
 mod Parts
+mod Reading
 mod Texts
 mod Values
 mod Walks

@@ -1,9 +1,9 @@
 -- What calls return, in numbers.
-use Rattle.std.specs.Prelude.{ℕ, pos, negsuc, false, Result, Ok, Err}
+use Rattle.std.specs.Prelude.{ℕ, ◌-◌, pos, negsuc, false, Result, Ok, Err}
 use Rattle.zk_records.specs.Codes.{op_number}
 use Rattle.zk_asks.specs.Rows.{op_of_ask}
 use Rattle.zk_asks.specs.declared.frame.ClientFrameOf.TheVariants.{Connect, Ask}
-use Rattle.zk_answers.specs.Frames.{op_of_reply}
+use Rattle.zk_answers.specs.Frames.{op_of_reply, err_of}
 use Rattle.zk_answers.specs.declared.frame.ServerFrameOf.TheVariants.{Connected, Answered, Event}
 use Rattle.zk_talk.specs.Held.{Message}
 use Rattle.zk_talk.specs.declared.message.MessageOf.TheVariants.{Client as FromClient, Server as FromServer}
@@ -41,15 +41,15 @@ ending_answer (Cut side frame got) = record { status = 0; kind = 2; unanswered =
 ending_answer (Refused f) = record { status = 0; kind = 3; unanswered = 0; side = 0; got = 0; frame = 0; fault = fault_numbers f }
 
 abbrev pub no_message : ℕ → MessageAnswer
-no_message status = record { status = status; kind = 0; xid = pos 0; operation = pos 0; size = 0 }
+no_message status = record { status = status; kind = 0; xid = pos 0; operation = pos 0; size = 0; err = pos 0; zxid = pos 0; frame = 0 }
 
--- a message whose frame has `size` bytes; the operation of a reply is its request's
-abbrev pub message_answer : ℕ → Message → MessageAnswer
-message_answer size (FromClient (Connect hello read_only)) = record { status = 0; kind = 1; xid = pos 0; operation = pos 0; size = size }
-message_answer size (FromClient (Ask xid ask)) = record { status = 0; kind = 2; xid = xid; operation = op_number (op_of_ask ask); size = size }
-message_answer size (FromServer (Connected hello read_only)) = record { status = 0; kind = 3; xid = pos 0; operation = pos 0; size = size }
-message_answer size (FromServer (Answered reply)) = record { status = 0; kind = 4; xid = reply.xid; operation = op_number (op_of_reply reply); size = size }
-message_answer size (FromServer (Event zxid event)) = record { status = 0; kind = 5; xid = negsuc 0; operation = pos 0; size = size }
+-- a message whose frame has `size` bytes, and is the last of `frames`; the operation of a reply is its request's
+abbrev pub message_answer : ℕ → ℕ → Message → MessageAnswer
+message_answer size frames (FromClient (Connect hello read_only)) = record { status = 0; kind = 1; xid = pos 0; operation = pos 0; size = size; err = pos 0; zxid = pos 0; frame = frames - 1 }
+message_answer size frames (FromClient (Ask xid ask)) = record { status = 0; kind = 2; xid = xid; operation = op_number (op_of_ask ask); size = size; err = pos 0; zxid = pos 0; frame = frames - 1 }
+message_answer size frames (FromServer (Connected hello read_only)) = record { status = 0; kind = 3; xid = pos 0; operation = pos 0; size = size; err = pos 0; zxid = pos 0; frame = frames - 1 }
+message_answer size frames (FromServer (Answered reply)) = record { status = 0; kind = 4; xid = reply.xid; operation = op_number (op_of_reply reply); size = size; err = err_of reply.outcome; zxid = reply.zxid; frame = frames - 1 }
+message_answer size frames (FromServer (Event zxid event)) = record { status = 0; kind = 5; xid = negsuc 0; operation = pos 0; size = size; err = pos 0; zxid = zxid; frame = frames - 1 }
 
 abbrev pub no_line : ℕ → LineAnswer
 no_line status = record { status = status; length = 0 }

@@ -10,7 +10,7 @@ use Rattle.zk_talk.specs.declared.limits.Limits.{Limits}
 use Rattle.zk_talk.specs.Held.{Message}
 use Rattle.zk_talk.specs.History.{History}
 use Rattle.zk_talk.specs.Ending.{IsEnding}
-use Rattle.zk_talk.specs.Stands.{TalkState, Stands, Refuses, held_on, kept_on}
+use Rattle.zk_talk.specs.Stands.{TalkState, Stands, Refuses, held_on, kept_on, frames_on}
 use Rattle.zk_talk.specs.Taking.{StepsOn, IsRefused, given_up}
 use Rattle.zk_talk.specs.Viewed.{Shows, Leaves, other_side}
 use Rattle.zk_c.specs.declared.answer.StepAnswer.{StepAnswer}
@@ -21,6 +21,14 @@ use Rattle.zk_talk.specs.Ranges.{AreLimits}
 use Rattle.zk_c.specs.Answer.{step_answer, ending_answer, no_message, message_answer, no_line}
 use Rattle.zk_c.specs.declared.answer.MessageAnswer.{MessageAnswer}
 use Rattle.zk_c.specs.declared.answer.LineAnswer.{LineAnswer}
+use Rattle.zk_asks.specs.Held.{ClientFrame}
+use Rattle.zk_asks.specs.Frames as asks
+use Rattle.zk_answers.specs.Held.{ServerFrame}
+use Rattle.zk_answers.specs.Frames as answers
+use Rattle.zk_talk.specs.declared.message.MessageOf.TheVariants.{Client as FromClient, Server as FromServer}
+use Rattle.zk_fields.specs.declared.field.Field.{Field}
+use Rattle.zk_c.specs.declared.read_answer.ReadAnswer.{ReadAnswer}
+use Rattle.zk_c.specs.Read.{no_read, TellsClient, TellsServer}
 use Rattle.zk_lines.specs.Lines.{line}
 use Rattle.zk_lines.specs.Endings.{ending_text}
 
@@ -79,7 +87,7 @@ size_held side talk = length (held_on side talk) + length (kept_on side talk)
 -- the answer is the message of the frame that the side keeps, which is one
 pub record IsView (talk : TalkState) (side : Side) (answer : MessageAnswer) : Type 0 where
   pub none : kept_on side talk ≡ [] → answer ≡ no_message 69
-  pub some : (m : Message) → Shows talk side m → answer ≡ message_answer (size_held side talk) m
+  pub some : (m : Message) → Shows talk side m → answer ≡ message_answer (size_held side talk) (frames_on side talk) m
   pub there : (kept_on side talk ≡ [] → ⊥) → (m : Message) × Shows talk side m
 
 -- the text is at the front of the room; or it doesn't fit, or memory is refused, and the room is as it was
@@ -98,3 +106,15 @@ pub record IsEndingLine (talk : TalkState) (before after : List ℕ) (answer : L
   pub ending : Ending
   pub is : IsFinish talk ending
   pub text : TellsText (ending_text ending) before after answer
+
+-- the answer is the fields of the message whose frame the side keeps
+pub record IsFields (talk : TalkState) (side : Side) (before after : List Field) (answer : ReadAnswer) : Type 0 where
+  pub none : kept_on side talk ≡ [] → (answer ≡ no_read 69) × (after ≡ before)
+  pub client : (f : ClientFrame) → Shows talk side (FromClient f) → TellsClient f before after answer
+  pub server : (s : ServerFrame) → Shows talk side (FromServer s) → TellsServer s before after answer
+
+-- the text is the payload of the message whose frame the side keeps
+pub record IsPayload (talk : TalkState) (side : Side) (before after : List ℕ) (answer : LineAnswer) : Type 0 where
+  pub none : kept_on side talk ≡ [] → (answer ≡ no_line 69) × (after ≡ before)
+  pub client : (f : ClientFrame) → Shows talk side (FromClient f) → TellsText (asks.payload f) before after answer
+  pub server : (s : ServerFrame) → Shows talk side (FromServer s) → TellsText (answers.payload s) before after answer

@@ -4,6 +4,7 @@ pub mod Answer
 pub mod Handle
 pub mod Asked
 pub mod Judged
+pub mod Read
 pub mod Cut
 pub mod Listing
 pub mod Voice

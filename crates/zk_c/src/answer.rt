@@ -5,6 +5,7 @@ ghost use Rattle.zk_c.specs.Numbers.{expected_of, got_of};
 ghost use Rattle.zk_c.specs.Answer.{no_fault, fault_numbers, no_step, step_answer, no_ending, ending_answer, no_message, message_answer, no_line};
 
 use crate::number::{ROOM, WELL, reason_number, side_number};
+use crate::read_answer::err_of;
 use zk_answers::ServerFrameOf;
 use zk_asks::ClientFrameOf;
 use zk_jute::Reason;
@@ -79,6 +80,12 @@ pub struct MessageAnswer {
     pub operation: i32,
     /// The number of bytes of the frame, its length included: the last that were used of its side.
     pub size: u32,
+    /// That of a reply.
+    pub err: i32,
+    /// That of a reply or an event.
+    pub zxid: i64,
+    /// The number of the side's frame, from 0.
+    pub frame: u64,
 }
 
 /// What a call returns that writes text.
@@ -235,21 +242,27 @@ impl MessageAnswer {
             xid: 0,
             operation: 0,
             size: 0,
+            err: 0,
+            zxid: 0,
+            frame: 0,
         }
     }
 
-    /// The message in numbers, with the size of its frame.
-    pub fn of(message: &MessageRef<'_>, size: u32) -> MessageAnswer
-        ensures { result ≡ message_answer size message.now }
+    /// The message in numbers, with the size of its frame and the frame's number.
+    pub fn of(message: &MessageRef<'_>, size: u32, frames: u64) -> MessageAnswer
+        ensures { result ≡ message_answer size frames message.now }
     {
-        let (kind, xid, operation) = match message {
-            MessageOf::Client(ClientFrameOf::Connect { .. }) => (1, 0, 0),
-            MessageOf::Client(ClientFrameOf::Ask { xid, ask }) => (2, *xid, op_number(ask.op())),
-            MessageOf::Server(ServerFrameOf::Connected { .. }) => (3, 0, 0),
-            MessageOf::Server(ServerFrameOf::Answered(reply)) => {
-                (4, reply.xid, op_number(reply.op()))
+        let (kind, xid, operation, err, zxid) = match message {
+            MessageOf::Client(ClientFrameOf::Connect { .. }) => (1, 0, 0, 0, 0),
+            MessageOf::Client(ClientFrameOf::Ask { xid, ask }) => {
+                (2, *xid, op_number(ask.op()), 0, 0)
             }
-            MessageOf::Server(ServerFrameOf::Event { .. }) => (5, -1, 0),
+            MessageOf::Server(ServerFrameOf::Connected { .. }) => (3, 0, 0, 0, 0),
+            MessageOf::Server(ServerFrameOf::Answered(reply)) => {
+                let err = err_of(&reply.outcome);
+                (4, reply.xid, op_number(reply.op()), err, reply.zxid)
+            }
+            MessageOf::Server(ServerFrameOf::Event { zxid, .. }) => (5, -1, 0, 0, *zxid),
         };
         MessageAnswer {
             status: WELL,
@@ -257,6 +270,9 @@ impl MessageAnswer {
             xid,
             operation,
             size,
+            err,
+            zxid,
+            frame: frames.saturating_sub(1),
         }
     }
 }

@@ -1,14 +1,16 @@
 //! `Conversation`: a talk, and a buffer for the lines of its messages.
 ghost use Rattle.std.specs.Prelude.{◌≡◌, [], IfOk};
 ghost use Rattle.zk_talk.specs.Stands.{Stands};
-ghost use Rattle.zk_c.specs.Handle.{IsStep, IsFinish, IsView, IsLine, IsEndingLine};
+ghost use Rattle.zk_c.specs.Handle.{IsStep, IsFinish, IsView, IsLine, IsEndingLine, IsFields, IsPayload};
 
 use crate::answer::{LineAnswer, MessageAnswer};
 use crate::number::{NO_MEMORY, NO_MESSAGE};
+use crate::read_answer::{ReadAnswer, read_client, read_server};
 use std::alloc::{AllocError, Global};
 use std::marker::Model;
+use zk_fields::Field;
 use zk_lines::{ending_line, put_line_ref};
-use zk_talk::{Ending, Fault, Limits, Side, Stepped, Talk};
+use zk_talk::{Ending, Fault, Limits, MessageOf, Side, Stepped, Talk};
 
 /// A talk, and a buffer for a line.
 #[derive(Drop)]
@@ -60,7 +62,9 @@ impl Conversation {
         ensures { IsView self.now side result }
     {
         match self.talk.view(side) {
-            Some(message) => MessageAnswer::of(&message, self.talk.held(side)),
+            Some(message) => {
+                MessageAnswer::of(&message, self.talk.held(side), self.talk.frames(side))
+            }
             None => MessageAnswer::none(NO_MESSAGE),
         }
     }
@@ -78,6 +82,28 @@ impl Conversation {
             return LineAnswer::none(NO_MEMORY);
         };
         LineAnswer::put(&self.line, out)
+    }
+
+    /// Writes the fields of the side's kept frame, as far as there is room.
+    pub fn fields(&self, side: Side, room: &mut [Field]) -> ReadAnswer
+        ensures { IsFields self.now side room.old room.new result }
+    {
+        let _held = self.talk.held(side);
+        match self.talk.view(side) {
+            None => ReadAnswer::none(NO_MESSAGE),
+            Some(MessageOf::Client(frame)) => read_client(&frame, room),
+            Some(MessageOf::Server(frame)) => read_server(&frame, room),
+        }
+    }
+
+    /// Writes the payload of the side's kept frame, if there is room for it.
+    pub fn payload(&self, side: Side, out: &mut [u8]) -> LineAnswer
+        ensures { IsPayload self.now side out.old out.new result }
+    {
+        match self.talk.payload(side) {
+            None => LineAnswer::none(NO_MESSAGE),
+            Some(payload) => LineAnswer::put(payload, out),
+        }
     }
 
     /// Writes the line of the ending, if there is room for it.

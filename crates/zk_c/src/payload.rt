@@ -95,7 +95,7 @@ pub extern "C" fn zk_judge_connected(bytes: &[u8]) -> PayloadAnswer
 }
 
 /// Whether the payload begins with the header of an event.
-fn is_of_event(bytes: &[u8]) -> bool
+pub fn is_of_event(bytes: &[u8]) -> bool
     ensures { IsTrue result ↔ HasHead IsOfEvent bytes.now }
 {
     match reply_head(bytes) {
@@ -105,7 +105,7 @@ fn is_of_event(bytes: &[u8]) -> bool
 }
 
 /// Whether the payload begins with the header of a reply.
-fn is_of_reply(bytes: &[u8]) -> bool
+pub fn is_of_reply(bytes: &[u8]) -> bool
     ensures { IsTrue result ↔ HasHead IsOfReply bytes.now }
 {
     match reply_head(bytes) {

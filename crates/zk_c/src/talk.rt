@@ -6,15 +6,18 @@ ghost use Rattle.zk_records.specs.declared.profile.Profile.{Profile};
 ghost use Rattle.zk_talk.specs.Stands.{TalkState};
 ghost use Rattle.zk_c.specs.Numbers.{side_of};
 ghost use Rattle.zk_c.specs.Answer.{no_step, no_ending, no_message, no_line};
-ghost use Rattle.zk_c.specs.Handle.{AreNumbers, IsNew, TellsStep, TellsEnding, IsView, IsLine, IsEndingLine, AreNoLimits};
+ghost use Rattle.zk_c.specs.Handle.{AreNumbers, IsNew, TellsStep, TellsEnding, IsView, IsLine, IsEndingLine, IsFields, IsPayload, AreNoLimits};
+ghost use Rattle.zk_c.specs.Read.{no_read};
 
 use crate::answer::{EndingAnswer, LineAnswer, MessageAnswer, StepAnswer};
 use crate::conversation::Conversation;
 use crate::loose::Loose;
 use crate::number::{EMPTY, IN_USE, NO_MEMORY, RANGE, WELL, side_of};
+use crate::read_answer::ReadAnswer;
 use crate::talk_box::TalkBox;
 use std::alloc::Global;
 use std::mem::replace;
+use zk_fields::Field;
 use zk_records::Profile;
 use zk_talk::Limits;
 
@@ -188,6 +191,62 @@ pub extern "C" fn zk_talk_line(
         return LineAnswer::none(EMPTY);
     };
     let answer = talk.line(side, out);
+    handle.put(talk);
+    answer
+}
+
+/// Writes the fields of the message whose frame the side keeps, as far as there is room.
+#[unsafe(no_mangle)]
+pub extern "C" fn zk_talk_fields(
+    alloc: Global,
+    handle: &mut TalkHandle,
+    side: u32,
+    room: &mut [Field],
+) -> ReadAnswer
+    // A number that is no side's is refused.
+    ensures range { side_of side ≡ None → (result ≡ no_read 67) × (room.new ≡ room.old) }
+    // With no talk there is no message.
+    ensures empty { handle.old.held.value ≡ None → IsSome (side_of side) → (result ≡ no_read 65) × (room.new ≡ room.old) }
+    // The fields are those of the talk's message.
+    ensures fields { (s : Side) (t : TalkState) → side_of side ≡ Some s → handle.old.held.value ≡ Some t → IsFields t s room.old room.new result }
+    // The talk stays as it is.
+    ensures same { handle.new.held.value ≡ handle.old.held.value }
+{
+    let Some(side) = side_of(side) else {
+        return ReadAnswer::none(RANGE);
+    };
+    let Some(talk) = handle.take(alloc) else {
+        return ReadAnswer::none(EMPTY);
+    };
+    let answer = talk.fields(side, room);
+    handle.put(talk);
+    answer
+}
+
+/// Writes the payload of the message whose frame the side keeps, if there is room for it.
+#[unsafe(no_mangle)]
+pub extern "C" fn zk_talk_payload(
+    alloc: Global,
+    handle: &mut TalkHandle,
+    side: u32,
+    out: &mut [u8],
+) -> LineAnswer
+    // A number that is no side's is refused.
+    ensures range { side_of side ≡ None → (result ≡ no_line 67) × (out.new ≡ out.old) }
+    // With no talk there is no payload.
+    ensures empty { handle.old.held.value ≡ None → IsSome (side_of side) → (result ≡ no_line 65) × (out.new ≡ out.old) }
+    // The payload is that of the talk's message.
+    ensures payload { (s : Side) (t : TalkState) → side_of side ≡ Some s → handle.old.held.value ≡ Some t → IsPayload t s out.old out.new result }
+    // The talk stays as it is.
+    ensures same { handle.new.held.value ≡ handle.old.held.value }
+{
+    let Some(side) = side_of(side) else {
+        return LineAnswer::none(RANGE);
+    };
+    let Some(talk) = handle.take(alloc) else {
+        return LineAnswer::none(EMPTY);
+    };
+    let answer = talk.payload(side, out);
     handle.put(talk);
     answer
 }

@@ -2,6 +2,7 @@
 ghost use Rattle.std.specs.Prelude.{false, true, ◌≡◌, ◌≢◌, ◌≤◌, ◌+◌, List, [], ◌∷◌, length, take, Some, None, Err, IsOk, IfOk, IfErr, OnErr, IfSome, IfNone, MatchOption};
 ghost use Rattle.std.specs.Option.{option_to_list};
 ghost use Rattle.zk_jute.specs.declared.fault.Reason.TheVariants.{NoMemory};
+ghost use Rattle.zk_frames.specs.Framing.{frame};
 ghost use Rattle.zk_talk.specs.declared.message.Fault.{Fault};
 ghost use Rattle.zk_talk.specs.Held.{Message};
 ghost use Rattle.zk_talk.specs.declared.message.Ending.TheVariants.{Refused};
@@ -9,7 +10,7 @@ ghost use Rattle.zk_talk.specs.History.{History};
 ghost use Rattle.zk_talk.specs.Conversation.{load};
 ghost use Rattle.zk_talk.specs.Fault.{side_limit, rest_on};
 ghost use Rattle.zk_talk.specs.Ending.{IsEnding};
-ghost use Rattle.zk_talk.specs.Stands.{held_on, kept_on, Stands, Refuses, WhereItStands};
+ghost use Rattle.zk_talk.specs.Stands.{held_on, kept_on, frames_on, Stands, Refuses, WhereItStands};
 ghost use Rattle.zk_talk.specs.Refused.{TellsRefusedBody};
 ghost use Rattle.zk_records.specs.declared.op.Op.TheVariants as ops;
 ghost use Rattle.zk_answers.specs.declared.layout.Layout.TheVariants as layouts;
@@ -395,6 +396,26 @@ impl Talk {
                 let payload = self.server.kept_payload()?;
                 Some(MessageOf::Server(shown_server(self.server.count(), self.answered, payload)))
             }
+        }
+    }
+
+    /// The payload of the frame that the side keeps; `None` if none is kept.
+    pub fn payload(&self, side: Side) -> Option<&[u8]>
+        ensures { MatchOption result (kept_on side self.now ≡ []) (λ p. kept_on side self.now ≡ frame p.now) }
+    {
+        match side {
+            Side::Client => self.client.kept_payload(),
+            Side::Server => self.server.kept_payload(),
+        }
+    }
+
+    /// The number of the side's frames that were whole, a kept one too.
+    pub fn frames(&self, side: Side) -> u64
+        ensures { result ≡ frames_on side self.now }
+    {
+        match side {
+            Side::Client => self.client.count(),
+            Side::Server => self.server.count(),
         }
     }
 

@@ -1,0 +1,79 @@
+-- The frame that a side keeps is sent, and its payload is shorter than what is held.
+use Rattle.std.proofs.Common.{◌≡◌, ℕ, ◌≤◌, ◌++◌, List, length, [], refl, ap, sym, subst, ◌∙◌, arith}
+use Rattle.std.specs.Prelude.{pos}
+use Rattle.std.proofs.lemmas.List.{length-append}
+use Rattle.zk_asks.specs.Held.{ClientFrame}
+use Rattle.zk_asks.specs.Frames as asks
+use Rattle.zk_answers.specs.Held.{ServerFrame}
+use Rattle.zk_answers.specs.Frames as answers
+use Rattle.zk_frames.specs.Framing.{frame, int_bytes}
+use Rattle.zk_frames.proofs.Ints.{length-int_bytes}
+use Rattle.zk_talk.specs.declared.message.Side.{Side}
+use Rattle.zk_talk.specs.declared.message.Side.TheVariants.{Client, Server}
+use Rattle.zk_talk.specs.declared.message.MessageOf.TheVariants.{Client as FromClient, Server as FromServer}
+use Rattle.zk_talk.specs.Stands.{TalkState, kept_on}
+use Rattle.zk_talk.specs.Payloads.{client_payload, server_payload}
+use Rattle.zk_talk.specs.Viewed.{Shows}
+use Rattle.zk_talk.proofs.Viewing.{client_bytes, server_bytes}
+use Rattle.zk_c.specs.declared.answer.LineAnswer.{LineAnswer}
+use Rattle.zk_c.specs.Answer.{no_line}
+use Rattle.zk_c.specs.Handle.{TellsText, IsPayload}
+
+framed : (payload kept : List ℕ) → kept ≡ frame payload → length payload ≤ length kept
+unfolding frame
+framed payload kept e =
+    let whole : kept ≡ int_bytes (pos (length payload)) ++ payload = e in
+    let long : length kept ≡ length (int_bytes (pos (length payload)) ++ payload) = ap length whole in
+    omega (arith, long, length-append (int_bytes (pos (length payload))) payload)
+
+pub client_sent : (t : TalkState) (side : Side) (f : ClientFrame) → Shows t side (FromClient f) → asks.IsSent f × (length (asks.payload f) ≤ length (kept_on side t))
+unfolding client_payload
+client_sent t Client f shows = (shows.sent, framed (asks.payload f) t.client_kept shows.is)
+client_sent t Server f shows = absurd shows
+
+pub server_sent : (t : TalkState) (side : Side) (s : ServerFrame) → Shows t side (FromServer s) → answers.IsSent s × (length (answers.payload s) ≤ length (kept_on side t))
+unfolding server_payload
+server_sent t Client s shows = absurd shows
+server_sent t Server s shows = (shows.sent, framed (answers.payload s) t.server_kept shows.is)
+
+framed_some : (p kept : List ℕ) → kept ≡ frame p → kept ≡ [] → ⊥
+unfolding frame
+framed_some p kept e none =
+    let whole : kept ≡ int_bytes (pos (length p)) ++ p = e in
+    let long : length kept ≡ length (int_bytes (pos (length p)) ++ p) = ap length whole in
+    let empty : length kept ≡ 0 = ap length none in
+    omega (arith, long, empty, length-append (int_bytes (pos (length p))) p, length-int_bytes (pos (length p)))
+
+-- the text of what the kept frame carries is that of its message's payload
+pub payload_of : (t : TalkState) (side : Side) (p before after : List ℕ) (answer : LineAnswer) → kept_on side t ≡ frame p → TellsText p before after answer → IsPayload t side before after answer
+payload_of t Client p before after answer is text = record {
+  none = λ none. absurd (framed_some p t.client_kept is none);
+  client = λ f shows. subst (λ (q : List ℕ). TellsText q before after answer) (client_bytes p f (sym is ∙ shows.is)) text;
+  server = λ s shows. absurd shows;
+}
+payload_of t Server p before after answer is text = record {
+  none = λ none. absurd (framed_some p t.server_kept is none);
+  client = λ f shows. absurd shows;
+  server = λ s shows. subst (λ (q : List ℕ). TellsText q before after answer) (server_bytes p s (sym is ∙ shows.is)) text;
+}
+
+client_some : (t : TalkState) (f : ClientFrame) → Shows t Client (FromClient f) → t.client_kept ≡ [] → ⊥
+unfolding client_payload
+client_some t f shows none = framed_some (asks.payload f) t.client_kept shows.is none
+
+server_some : (t : TalkState) (s : ServerFrame) → Shows t Server (FromServer s) → t.server_kept ≡ [] → ⊥
+unfolding server_payload
+server_some t s shows none = framed_some (answers.payload s) t.server_kept shows.is none
+
+-- where no frame is kept there is no payload
+pub no_payload : (t : TalkState) (side : Side) (room : List ℕ) (answer : LineAnswer) → kept_on side t ≡ [] → answer ≡ no_line 69 → IsPayload t side room room answer
+no_payload t Client room answer none told = record {
+  none = λ e. (told, refl);
+  client = λ f shows. absurd (client_some t f shows none);
+  server = λ s shows. absurd shows;
+}
+no_payload t Server room answer none told = record {
+  none = λ e. (told, refl);
+  client = λ f shows. absurd shows;
+  server = λ s shows. absurd (server_some t s shows none);
+}

@@ -1,0 +1,149 @@
+-- What is told of a message whose fields are written.
+use Rattle.std.specs.Prelude.{◌≡◌, ◌≢◌, ◌⊎◌, ◌<◌, ◌^◌, ℕ, ℤ, pos, negsuc, List, [], length, Option, Some, None, Ok, Err, nat_le, if◌then◌else◌}
+use Rattle.zk_jute.specs.declared.fault.Reason.{Reason}
+use Rattle.zk_jute.specs.declared.fault.Reason.TheVariants.{NoMemory}
+use Rattle.zk_jute.specs.declared.fault.ItemFault.{ItemFault}
+use Rattle.zk_jute.specs.Reading.{Read, int_at, long_at}
+use Rattle.zk_jute.specs.Told.{IsTold}
+use Rattle.zk_records.specs.declared.op.Op.{Op}
+use Rattle.zk_records.specs.declared.profile.Profile.{Profile}
+use Rattle.zk_records.specs.Codes.{op_number, HasOp, IsNoOp}
+use Rattle.zk_asks.specs.Rows.{op_of_ask}
+use Rattle.zk_asks.specs.Held.{ClientFrame}
+use Rattle.zk_asks.specs.declared.frame.ClientFrameOf.TheVariants.{Connect, Ask}
+use Rattle.zk_answers.specs.Held.{ServerFrame}
+use Rattle.zk_answers.specs.Frames.{op_of_reply, err_of}
+use Rattle.zk_answers.specs.declared.frame.ServerFrameOf.TheVariants.{Connected, Answered, Event}
+use Rattle.zk_fields.specs.declared.field.Field.{Field}
+use Rattle.zk_fields.specs.declared.opened.Opened.{Opened}
+use Rattle.zk_fields.specs.declared.opened.Opened.TheVariants as opened
+use Rattle.zk_fields.specs.Frames.{AreWritten, client_fields, server_fields}
+use Rattle.zk_fields.specs.Walks.{opened_fields}
+use Rattle.zk_c.specs.declared.read_answer.ReadAnswer.{ReadAnswer}
+use Rattle.zk_c.specs.Numbers.{reason_number}
+use Rattle.zk_records.specs.declared.op.PartOp.{PartOp}
+use Rattle.zk_asks.specs.Faults.{IsFirstFault, IsAskFault}
+use Rattle.zk_answers.specs.Faults.{IsConnectedFault, IsReplyFault, IsEventFault}
+use Rattle.zk_c.specs.Asked.{WhereAsked}
+use Rattle.zk_c.specs.Judged.{IsConnect, IsRequest, IsWelcome, IsReply, IsNotice, HasNoHead, IsOfEvent}
+
+abbrev pub no_read : ℕ → ReadAnswer
+no_read status = record { status = status; place = 0; count = 0; kind = 0; xid = pos 0; operation = pos 0; err = pos 0; zxid = pos 0 }
+
+-- nothing is read, and the room is as it was
+abbrev pub TellsNone : ℕ → List Field → List Field → ReadAnswer → Type 0
+TellsNone status before after answer = (answer ≡ no_read status) × (after ≡ before)
+
+-- each place in the payload is a number of 32 bits
+abbrev pub HasPlaces : List ℕ → Type 0
+HasPlaces payload = length payload < 2 ^ 32
+
+-- ---- a message
+
+-- 68 where there are more fields than the room has place for
+abbrev pub room_status : ℕ → ℕ → ℕ
+room_status room count = if nat_le count room then 0 else 68
+
+-- the header's numbers, and how many fields there are
+abbrev pub client_read : ℕ → ℕ → ClientFrame → ReadAnswer
+client_read room count (Connect hello flag) = record { status = room_status room count; place = 0; count = count; kind = 1; xid = pos 0; operation = pos 0; err = pos 0; zxid = pos 0 }
+client_read room count (Ask xid a) = record { status = room_status room count; place = 0; count = count; kind = 2; xid = xid; operation = op_number (op_of_ask a); err = pos 0; zxid = pos 0 }
+
+abbrev pub server_read : ℕ → ℕ → ServerFrame → ReadAnswer
+server_read room count (Connected hello flag) = record { status = room_status room count; place = 0; count = count; kind = 3; xid = pos 0; operation = pos 0; err = pos 0; zxid = pos 0 }
+server_read room count (Answered r) = record { status = room_status room count; place = 0; count = count; kind = 4; xid = r.xid; operation = op_number (op_of_reply r); err = err_of r.outcome; zxid = r.zxid }
+server_read room count (Event zxid event) = record { status = room_status room count; place = 0; count = count; kind = 5; xid = negsuc 0; operation = pos 0; err = pos 0; zxid = zxid }
+
+-- the frame's fields stand in the room, as far as it goes, and the answer counts them all
+pub record TellsClient (f : ClientFrame) (before after : List Field) (answer : ReadAnswer) : Type 0 where
+  pub written : AreWritten (client_fields f) before after answer.count
+  pub told : answer ≡ client_read (length before) answer.count f
+
+pub record TellsServer (s : ServerFrame) (before after : List Field) (answer : ReadAnswer) : Type 0 where
+  pub written : AreWritten (server_fields s) before after answer.count
+  pub told : answer ≡ server_read (length before) answer.count s
+
+-- ---- no message: the numbers of its header, as far as they stand there, and the fault
+
+abbrev pub number_of : Read ℤ → ℤ
+number_of (Ok x) = x.0
+number_of (Err f) = pos 0
+
+abbrev pub int_there : List ℕ → ℕ → ℤ
+int_there payload place = number_of (int_at payload place)
+
+abbrev pub long_there : List ℕ → ℕ → ℤ
+long_there payload place = number_of (long_at payload place)
+
+abbrev pub ask_head : List ℕ → ReadAnswer
+ask_head payload = record { status = 0; place = 0; count = 0; kind = 0; xid = int_there payload 0; operation = int_there payload 4; err = pos 0; zxid = pos 0 }
+
+abbrev pub answer_head : List ℕ → ReadAnswer
+answer_head payload = record { status = 0; place = 0; count = 0; kind = 0; xid = int_there payload 0; operation = pos 0; err = int_there payload 12; zxid = long_there payload 4 }
+
+-- by what it would be; a request of no operation has a header too
+abbrev pub head_of : Option Opened → List ℕ → ReadAnswer
+head_of None payload = ask_head payload
+head_of (Some opened.First) payload = no_read 0
+head_of (Some (opened.Ask op)) payload = ask_head payload
+head_of (Some opened.Connected) payload = no_read 0
+head_of (Some (opened.Reply op)) payload = answer_head payload
+head_of (Some opened.Event) payload = answer_head payload
+
+abbrev pub refused_read : ReadAnswer → ItemFault → ℕ → ReadAnswer
+refused_read head fault count = record head { status = reason_number fault.reason; place = fault.place; count = count }
+
+-- the fields of the items that end before the place, where it is known what the payload would be
+abbrev pub fields_before : Option Opened → List ℕ → ℕ → List Field
+fields_before None payload place = []
+fields_before (Some o) payload place = opened_fields o payload place
+
+-- these stand in the room, as far as it goes, and the answer counts them, and tells the header's numbers and the fault
+pub record TellsRefused (o : Option Opened) (payload : List ℕ) (fault : ItemFault) (before after : List Field) (answer : ReadAnswer) : Type 0 where
+  pub written : AreWritten (fields_before o payload fault.place) before after answer.count
+  pub told : answer ≡ refused_read (head_of o payload) fault answer.count
+
+-- the answer tells a fault of this kind, and never want of memory, of a payload that would be this
+pub record IsReadFault (Is : ℕ → Reason → Type 0) (IsOpened : Option Opened → Type 0) (payload : List ℕ) (before after : List Field) (answer : ReadAnswer) : Type 0 where
+  pub fault : ItemFault
+  pub is : IsTold Is fault
+  pub ample : fault.reason ≢ NoMemory
+  pub opened : Option Opened
+  pub is_opened : IsOpened opened
+  pub tells : TellsRefused opened payload fault before after answer
+
+-- it would be this
+abbrev pub Just : Opened → Option Opened → Type 0
+Just o other = other ≡ Some o
+
+-- it would be a request of the operation that its header tells, if the profile has one of that number
+abbrev pub IsAskOf : Profile → List ℕ → Option Opened → Type 0
+IsAskOf profile payload None = IsNoOp profile (int_there payload 4)
+IsAskOf profile payload (Some o) = (op : Op) × (o ≡ opened.Ask op) × HasOp profile op × (int_there payload 4 ≡ op_number op)
+
+-- ---- a payload is that of a message, whose fields are told; or its first fault is
+
+abbrev pub ConnectOrFault : List ℕ → List Field → List Field → ReadAnswer → Type 0
+ConnectOrFault payload before after answer = ((f : ClientFrame) × IsConnect payload f) ⊎ IsReadFault (IsFirstFault payload) (Just opened.First) payload before after answer
+
+abbrev pub ReadsRequest : Profile → List ℕ → List Field → List Field → ReadAnswer → Type 0
+ReadsRequest profile payload before after answer = (f : ClientFrame) → IsRequest profile payload f → TellsClient f before after answer
+
+abbrev pub RequestOrFault : Profile → List ℕ → List Field → List Field → ReadAnswer → Type 0
+RequestOrFault profile payload before after answer = ((f : ClientFrame) × IsRequest profile payload f) ⊎ IsReadFault (IsAskFault profile payload) (IsAskOf profile payload) payload before after answer
+
+abbrev pub WelcomeOrFault : List ℕ → List Field → List Field → ReadAnswer → Type 0
+WelcomeOrFault payload before after answer = ((s : ServerFrame) × IsWelcome payload s) ⊎ IsReadFault (IsConnectedFault payload) (Just opened.Connected) payload before after answer
+
+abbrev pub ReadsReply : Op → List PartOp → List ℕ → List Field → List Field → ReadAnswer → Type 0
+ReadsReply op parts payload before after answer = (s : ServerFrame) → IsReply op parts payload s → TellsServer s before after answer
+
+abbrev pub ReplyOrFault : Op → List PartOp → List ℕ → List Field → List Field → ReadAnswer → Type 0
+ReplyOrFault op parts payload before after answer = ((s : ServerFrame) × IsReply op parts payload s) ⊎ IsReadFault (IsReplyFault op parts payload) (Just (opened.Reply op)) payload before after answer
+
+abbrev pub NoticeOrFault : List ℕ → List Field → List Field → ReadAnswer → Type 0
+NoticeOrFault payload before after answer = ((s : ServerFrame) × IsNotice payload s) ⊎ IsReadFault (IsEventFault payload) (Just opened.Event) payload before after answer
+
+-- so it is of a payload whose places are numbers, and whose header, where it has one, isn't an event's
+abbrev pub WhereReply : ℤ → List ℤ → List ℕ → (Op → List PartOp → Type 0) → Type 0
+WhereReply operation parts payload Holds = WhereAsked operation parts (λ op ops. HasPlaces payload → HasNoHead IsOfEvent payload → Holds op ops)

@@ -1,0 +1,163 @@
+//! The fields of single payloads, with no handle.
+ghost use Rattle.std.specs.Prelude.{◌≡◌, ◌≤◌, ◌^◌, length};
+ghost use Rattle.zk_records.specs.declared.profile.Profile.{Profile};
+ghost use Rattle.zk_records.specs.Codes.{profile_number};
+ghost use Rattle.zk_asks.specs.Held.{ClientFrame};
+ghost use Rattle.zk_answers.specs.Held.{ServerFrame};
+ghost use Rattle.zk_c.specs.Asked.{parts_of, AreNoneAsked, WhereAsked};
+ghost use Rattle.zk_c.specs.Judged.{IsConnect, IsWelcome, IsNotice, HasHead, HasNoHead, IsOfEvent, IsOfReply};
+ghost use Rattle.zk_c.specs.Read.{HasPlaces, TellsNone, TellsClient, TellsServer, IsAskOf, ConnectOrFault, ReadsRequest, RequestOrFault, WelcomeOrFault, ReadsReply, ReplyOrFault, WhereReply, NoticeOrFault};
+
+use crate::asked::Numbered;
+use crate::number::{MISFIT, RANGE};
+use crate::payload::{is_of_event, is_of_reply};
+use crate::read_answer::{ReadAnswer, int_there, read_client, read_fault, read_server};
+use zk_answers::{borrow_connected, borrow_event, borrow_reply};
+use zk_asks::{borrow_ask, borrow_first};
+use zk_fields::{Field, Opened};
+use zk_records::{Profile, op_of};
+
+/// Writes the fields of a connect request, as far as there is room.
+#[unsafe(no_mangle)]
+pub extern "C" fn zk_read_first(payload: &[u8], room: &mut [Field]) -> ReadAnswer
+    // A length of 4 GiB or more is refused.
+    ensures range { 2 ^ 32 ≤ length payload.now → TellsNone 67 room.old room.new result }
+    // What is a connect request's is read: its fields stand in the room.
+    ensures only { (f : ClientFrame) → HasPlaces payload.now → IsConnect payload.now f → TellsClient f room.old room.new result }
+    // It is one's, or the first case that applies is told.
+    ensures found { HasPlaces payload.now → ConnectOrFault payload.now room.old room.new result }
+{
+    if payload.len() > u32::MAX as usize {
+        return ReadAnswer::none(RANGE);
+    }
+    match borrow_first(payload) {
+        Ok(frame) => read_client(&frame, room),
+        Err(fault) => read_fault(Some(Opened::First), payload, fault, room),
+    }
+}
+
+/// A request of the operation that the payload's header tells, if the profile has one of that number.
+fn ask_of(profile: Profile, payload: &[u8]) -> Option<Opened>
+    ensures { IsAskOf profile payload.now result }
+{
+    let number = int_there(payload, 4);
+    match op_of(profile, number) {
+        Some(op) => Some(Opened::Ask(op)),
+        None => None,
+    }
+}
+
+/// The fields of a request of the profile.
+fn request_in(profile: Profile, payload: &[u8], room: &mut [Field]) -> ReadAnswer
+    ensures only { HasPlaces payload.now → ReadsRequest profile payload.now room.old room.new result }
+    ensures found { HasPlaces payload.now → RequestOrFault profile payload.now room.old room.new result }
+{
+    match borrow_ask(profile, payload) {
+        Ok(frame) => read_client(&frame, room),
+        Err(fault) => read_fault(ask_of(profile, payload), payload, fault, room),
+    }
+}
+
+/// Writes the fields of a request of a profile, 34 or 35, as far as there is room.
+#[unsafe(no_mangle)]
+pub extern "C" fn zk_read_request(profile: u32, payload: &[u8], room: &mut [Field]) -> ReadAnswer
+    // A number that is no profile's is refused, and a length of 4 GiB or more.
+    ensures range { ((p : Profile) → profile ≡ profile_number p → 2 ^ 32 ≤ length payload.now) → TellsNone 67 room.old room.new result }
+    // What is a request's is read: its fields stand in the room.
+    ensures only { (p : Profile) → profile ≡ profile_number p → HasPlaces payload.now → ReadsRequest p payload.now room.old room.new result }
+    // It is one's, or the first case that applies is told.
+    ensures found { (p : Profile) → profile ≡ profile_number p → HasPlaces payload.now → RequestOrFault p payload.now room.old room.new result }
+{
+    let Some(profile) = Profile::of_number(profile) else {
+        return ReadAnswer::none(RANGE);
+    };
+    if payload.len() > u32::MAX as usize {
+        return ReadAnswer::none(RANGE);
+    }
+    request_in(profile, payload, room)
+}
+
+/// Writes the fields of the answer to a connect request, as far as there is room.
+#[unsafe(no_mangle)]
+pub extern "C" fn zk_read_connected(payload: &[u8], room: &mut [Field]) -> ReadAnswer
+    // A length of 4 GiB or more is refused.
+    ensures range { 2 ^ 32 ≤ length payload.now → TellsNone 67 room.old room.new result }
+    // What is such an answer's is read: its fields stand in the room.
+    ensures only { (s : ServerFrame) → HasPlaces payload.now → IsWelcome payload.now s → TellsServer s room.old room.new result }
+    // It is one's, or the first case that applies is told.
+    ensures found { HasPlaces payload.now → WelcomeOrFault payload.now room.old room.new result }
+{
+    if payload.len() > u32::MAX as usize {
+        return ReadAnswer::none(RANGE);
+    }
+    match borrow_connected(payload) {
+        Ok(frame) => read_server(&frame, room),
+        Err(fault) => read_fault(Some(Opened::Connected), payload, fault, room),
+    }
+}
+
+/// The fields of a reply to what was asked.
+fn reply_in(asked: &Numbered<'_>, payload: &[u8], room: &mut [Field]) -> ReadAnswer
+    requires { HasNoHead IsOfEvent payload.now }
+    ensures only { HasPlaces payload.now → ReadsReply asked.now.op (parts_of asked.now.numbers.now) payload.now room.old room.new result }
+    ensures found { HasPlaces payload.now → ReplyOrFault asked.now.op (parts_of asked.now.numbers.now) payload.now room.old room.new result }
+{
+    match borrow_reply(asked, payload) {
+        Ok(frame) => read_server(&frame, room),
+        Err(fault) => read_fault(Some(Opened::Reply(asked.op)), payload, fault, room),
+    }
+}
+
+/// Writes the fields of a reply to a request of this operation with parts of these, as far as there is room.
+#[unsafe(no_mangle)]
+pub extern "C" fn zk_read_reply(
+    operation: i32,
+    parts: &[i32],
+    payload: &[u8],
+    room: &mut [Field],
+) -> ReadAnswer
+    // Numbers that are none's, or parts of another operation than multi, are refused, and a length of 4 GiB or more.
+    ensures range { AreNoneAsked operation parts.now → TellsNone 67 room.old room.new result }
+    ensures long { 2 ^ 32 ≤ length payload.now → TellsNone 67 room.old room.new result }
+    // A header with the xid of events is another message's.
+    ensures event { WhereAsked operation parts.now (λ op ops. HasPlaces payload.now → HasHead IsOfEvent payload.now → TellsNone 82 room.old room.new result) }
+    // What is a reply to what was asked is read: its fields stand in the room.
+    ensures only { WhereReply operation parts.now payload.now (λ op ops. ReadsReply op ops payload.now room.old room.new result) }
+    // It is one, or the first case that applies is told.
+    ensures found { WhereReply operation parts.now payload.now (λ op ops. ReplyOrFault op ops payload.now room.old room.new result) }
+{
+    let Some(asked) = Numbered::of(operation, parts) else {
+        return ReadAnswer::none(RANGE);
+    };
+    if payload.len() > u32::MAX as usize {
+        return ReadAnswer::none(RANGE);
+    }
+    if is_of_event(payload) {
+        return ReadAnswer::none(MISFIT);
+    }
+    reply_in(&asked, payload, room)
+}
+
+/// Writes the fields of an event, as far as there is room.
+#[unsafe(no_mangle)]
+pub extern "C" fn zk_read_event(payload: &[u8], room: &mut [Field]) -> ReadAnswer
+    // A length of 4 GiB or more is refused.
+    ensures range { 2 ^ 32 ≤ length payload.now → TellsNone 67 room.old room.new result }
+    // A header with another xid than that of events is another message's.
+    ensures reply { HasPlaces payload.now → HasHead IsOfReply payload.now → TellsNone 82 room.old room.new result }
+    // What is an event's is read: its fields stand in the room.
+    ensures only { (s : ServerFrame) → HasPlaces payload.now → IsNotice payload.now s → TellsServer s room.old room.new result }
+    // It is one's, or the first case that applies is told.
+    ensures found { HasPlaces payload.now → HasNoHead IsOfReply payload.now → NoticeOrFault payload.now room.old room.new result }
+{
+    if payload.len() > u32::MAX as usize {
+        return ReadAnswer::none(RANGE);
+    }
+    if is_of_reply(payload) {
+        return ReadAnswer::none(MISFIT);
+    }
+    match borrow_event(payload) {
+        Ok(frame) => read_server(&frame, room),
+        Err(fault) => read_fault(Some(Opened::Event), payload, fault, room),
+    }
+}

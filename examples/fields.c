@@ -1,0 +1,85 @@
+/* The fields of a payload, as a dissector shows them.
+ *
+ *     fields first|connected|event HEX
+ *     fields request PROFILE HEX
+ *     fields reply OPERATION HEX
+ *
+ * A line for the message, or for what is wrong and where, and then a line a field. Of a payload that is no message's the
+ * fields in front of the fault are shown. The status is 0 for a message's payload, else 1, and 2 for other words. */
+#include "zk.h"
+
+#include <inttypes.h>
+#include <stdio.h>
+#include <stdlib.h>
+#include <string.h>
+
+static const char *const messages[] = {"fault", "connect request", "request", "connect response", "reply", "event"};
+
+/* The payload of hexadecimal digits; its length, or SIZE_MAX. */
+static size_t payload_of(const char *digits, uint8_t *payload) {
+    size_t length = strlen(digits) / 2;
+    for (size_t i = 0; i < length; i++) {
+        unsigned byte;
+        if (sscanf(digits + 2 * i, "%2x", &byte) != 1) return SIZE_MAX;
+        payload[i] = (uint8_t)byte;
+    }
+    return length;
+}
+
+static void put_field(const uint8_t *payload, const struct zk_field *field) {
+    printf("%" PRIu32 "+%" PRIu32 " %s", field->place, field->length, zk_field_name(field->name));
+    if (field->null) {
+        puts(" null");
+        return;
+    }
+    switch (field->kind) {
+    case ZK_KIND_TEXT: /* not ended by a zero byte */
+        printf(" \"%.*s\"\n", (int)field->length, (const char *)payload + field->place);
+        break;
+    case ZK_KIND_BLOB:
+        fputs(" #", stdout);
+        for (uint32_t i = 0; i < field->length; i++) printf("%02x", payload[field->place + i]);
+        putchar('\n');
+        break;
+    default: /* a number, a list's count, a part's operation */
+        printf(" %" PRId64 "\n", field->number);
+    }
+}
+
+static struct zk_read read_fields(char **words, const uint8_t *payload, size_t length, struct zk_field *out, size_t room) {
+    const int32_t none = 0;
+    switch (words[1][0]) {
+    case 'f': return zk_read_first(payload, length, out, room);
+    case 'c': return zk_read_connected(payload, length, out, room);
+    case 'e': return zk_read_event(payload, length, out, room);
+    case 'r': break;
+    default: exit(2);
+    }
+    if (strcmp(words[1], "request") == 0) return zk_read_request((uint32_t)atoi(words[2]), payload, length, out, room);
+    return zk_read_reply(atoi(words[2]), &none, 0, payload, length, out, room);
+}
+
+int main(int count, char **words) {
+    if (count < 3) return 2;
+    uint8_t *payload = malloc(strlen(words[count - 1]) + 1);
+    if (payload == NULL) return 2;
+    size_t length = payload_of(words[count - 1], payload), room = 8;
+    struct zk_field *fields = malloc(room * sizeof *fields);
+    if (fields == NULL || length == SIZE_MAX) return 2;
+    struct zk_read read = read_fields(words, payload, length, fields, room);
+    if (read.count > room) { /* the room is too small: the answer says how large it has to be */
+        room = read.count;
+        free(fields);
+        fields = malloc(room * sizeof *fields);
+        if (fields == NULL) return 2;
+        read = read_fields(words, payload, length, fields, room);
+    }
+    printf("%s %s xid=%" PRId32, messages[read.kind], zk_operation_name(read.operation), read.xid);
+    if (read.kind == ZK_REPLY) printf(" zxid=%" PRId64 " err=%" PRId32 " %s", read.zxid, read.err, zk_error_name(read.err));
+    if (read.kind == 0) printf(" %s at %" PRIu32, zk_status_name(read.status), read.place);
+    putchar('\n');
+    for (uint32_t i = 0; i < read.count; i++) put_field(payload, &fields[i]);
+    free(fields);
+    free(payload);
+    return read.kind == 0;
+}

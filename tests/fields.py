@@ -1,0 +1,381 @@
+"""Holds the fields that the library for C tells against tables of payloads and against a second reading of the formats.
+
+tests/library.py calls it. The rows of the table were derived from docs/FORMATS.md and docs/EXAMPLES.md. Then each row's
+payload is truncated at each byte and each byte is changed, and the answer is compared with that of a reader which stands
+here, written from the tables of docs/FORMATS.md: the fields in front of a fault, and no byte outside of the room is
+written.
+"""
+
+import ctypes
+
+KINDS = dict(zip(("int", "long", "bool", "text", "blob", "list", "part"), range(1, 8)))
+STAT = ("czxid:long mzxid:long ctime:long mtime:long version:int cversion:int aversion:int ephemeral_owner:long "
+        "data_length:int num_children:int pzxid:long")
+RIGHTS = "acl:[perms:int scheme:text id:text]"
+CREATE, DELETE = f"path:text data:blob {RIGHTS} flags:int", "path:text version:int"
+SET_DATA, WATCH = "path:text data:blob version:int", "path:text watch:bool"
+ASKS = {1: CREATE, 2: DELETE, 3: WATCH, 4: WATCH, 5: SET_DATA, 6: "path:text", 7: f"path:text {RIGHTS} version:int",
+        8: WATCH, 9: "path:text", 11: "", 12: WATCH, 14: "parts", 15: CREATE, 100: "type:int scheme:text auth:blob",
+        101: "zxid:long data_watches:[text] exist_watches:[text] child_watches:[text]", -11: ""}
+BODIES = {1: "path:text", 2: "", 3: STAT, 4: f"data:blob {STAT}", 5: STAT, 6: f"{RIGHTS} {STAT}", 7: STAT,
+          8: "children:[text]", 9: "path:text", 11: "", 12: f"children:[text] {STAT}", 14: "results",
+          15: f"path:text {STAT}", 100: "", 101: "", -11: ""}
+PARTS = {1: CREATE, 2: DELETE, 5: SET_DATA, 13: DELETE}
+RESULTS = {1: "path:text", 2: "", 5: STAT, 13: "", -1: "err:int"}
+
+# A row: the call and its numbers, the payload, what message it is or what is wrong, and its fields, a line a field:
+# where its content lies and how long it is, its name, its kind, and its number where it has one.
+HELLO = "00000000 0000000000000000 00007530 0000000000000000 00000010 00000000000000000000000000000000"
+PLAIN_STAT = ("0000000000000004 0000000000000005 00000000000003e8 00000000000003e9 00000006 00000007 00000008 "
+              "0000000000000009 00000003 0000000b 000000000000000c")
+MULTI = ("00000001 0000000e 00000002 00 ffffffff 00000002 2f61 ffffffff 0000000d 00 ffffffff 00000002 2f62 00000003 "
+         "ffffffff 01 ffffffff")
+RESULTS_OF_FOUR = ("00000001 0000000000000006 00000000 00000001 00 00000000 00000002 2f61 00000002 00 00000000 "
+                   "0000000d 00 00000000 ffffffff 00 ffffff99 ffffff99 ffffffff 01 ffffffff")
+TABLE = (
+    ("request 34", "00000001 00000003 00000002 2f61 01", "REQUEST xid 1 operation 3", """
+        12+2 path text
+        14+1 watch bool 1"""),
+    ("request 34", "00000001 00000001 00000002 2f61 ffffffff 00000001 0000001f 00000005 776f726c64 00000006 616e796f6e65"
+     "00000003",
+     "REQUEST xid 1 operation 1", """
+        12+2 path text
+        18+0 data blob null
+        18+4 acl list 1
+        22+4 perms int 31
+        30+5 scheme text
+        39+6 id text
+        45+4 flags int 3"""),
+    ("request 34", "00000002 00000005 00000002 2f61 00000000 ffffffff", "REQUEST xid 2 operation 5", """
+        12+2 path text
+        18+0 data blob
+        18+4 version int -1"""),
+    ("request 34", "00000007 00000007 ffffffff ffffffff 00000002", "REQUEST xid 7 operation 7", """
+        12+0 path text null
+        12+4 acl list null
+        16+4 version int 2"""),
+    ("request 34", "fffffff8 00000065 0000000000000005 00000001 00000002 2f61 00000000 ffffffff",
+     "REQUEST xid -8 operation 101", """
+        8+8 zxid long 5
+        16+4 data_watches list 1
+        24+2 data_watches text
+        26+4 exist_watches list 0
+        30+4 child_watches list null"""),
+    ("request 34", "fffffffc 00000064 00000000 00000006 646967657374 00000003 613a62",
+     "REQUEST xid -4 operation 100", """
+        8+4 type int 0
+        16+6 scheme text
+        26+3 auth blob"""),
+    ("request 34", "fffffffe 0000000b", "REQUEST xid -2 operation 11", ""),
+    ("request 34", MULTI, "REQUEST xid 1 operation 14", """
+        8+9 - part 2
+        21+2 path text
+        23+4 version int -1
+        27+9 - part 13
+        40+2 path text
+        42+4 version int 3"""),
+    ("request 35", "00000001 0000000f 00000002 2f61 ffffffff ffffffff 00000000", "REQUEST xid 1 operation 15", """
+        12+2 path text
+        18+0 data blob null
+        18+4 acl list null
+        22+4 flags int 0"""),
+    ("first", HELLO, "CONNECT", """
+        0+4 protocol_version int 0
+        4+8 last_zxid_seen long 0
+        12+4 time_out int 30000
+        16+8 session_id long 0
+        28+16 passwd blob"""),
+    ("first", HELLO + "01", "CONNECT", """
+        0+4 protocol_version int 0
+        4+8 last_zxid_seen long 0
+        12+4 time_out int 30000
+        16+8 session_id long 0
+        28+16 passwd blob
+        44+1 read_only bool 1"""),
+    ("connected", "00000000 00007530 0100000000000001 00000002 0001 00", "CONNECTED", """
+        0+4 protocol_version int 0
+        4+4 time_out int 30000
+        8+8 session_id long 72057594037927937
+        20+2 passwd blob
+        22+1 read_only bool 0"""),
+    ("reply 3", "00000001 0000000000000005 ffffff9b", "REPLY xid 1 operation 3 zxid 5 err -101", ""),
+    ("reply 4", "00000001 0000000000000005 00000000 00000003 616263" + PLAIN_STAT, "REPLY xid 1 operation 4 zxid 5", """
+        20+3 data blob
+        23+8 czxid long 4
+        31+8 mzxid long 5
+        39+8 ctime long 1000
+        47+8 mtime long 1001
+        55+4 version int 6
+        59+4 cversion int 7
+        63+4 aversion int 8
+        67+8 ephemeral_owner long 9
+        75+4 data_length int 3
+        79+4 num_children int 11
+        83+8 pzxid long 12"""),
+    ("reply 8", "00000001 0000000000000005 00000000 00000003 00000001 61 ffffffff 00000000",
+     "REPLY xid 1 operation 8 zxid 5", """
+        16+4 children list 3
+        24+1 children text
+        29+0 children text null
+        33+0 children text"""),
+    ("reply 14 1 2 13 5", RESULTS_OF_FOUR, "REPLY xid 1 operation 14 zxid 6", """
+        16+9 - part 1
+        29+2 path text
+        31+9 - part 2
+        40+9 - part 13
+        49+9 - part -1
+        58+4 err int -103"""),
+    ("event", "ffffffff fffffffffffffffe 00000000 00000003 00000004 00000002 2f61", "EVENT xid -1 zxid -2", """
+        16+4 type int 3
+        20+4 state int 4
+        28+2 path text"""),
+    # what is wrong, and the fields in front of it
+    ("request 34", "00000001 00000003 00000002 2f61 02", "BAD_BOOL 14 xid 1 operation 3", """
+        12+2 path text"""),
+    ("request 34", "00000009 00000003 00000002 2f61 01 00", "TRAILING 15 xid 9 operation 3", """
+        12+2 path text
+        14+1 watch bool 1"""),
+    ("request 34", "00000009 00000003 00000002 2fc3 00", "BAD_TEXT 13 xid 9 operation 3", ""),
+    ("request 34", "0000000a 00000066 0000", "UNKNOWN_OP 4 xid 10 operation 102", ""),
+    ("request 34", "00000001 0000000f 00000002 2f61", "UNKNOWN_OP 4 xid 1 operation 15", ""),
+    ("request 34", "ffffffff 00000003 00000002 2f61 01", "XID_OP 4 xid -1 operation 3", ""),
+    ("request 34", "00000009 0000", "SHORT 4 xid 9", ""),
+    ("request 34", "0000", "SHORT 0", ""),
+    ("request 34", "00000001 00000001 00000002 2f61 ffffffff 00000002 0000001f 00000005 776f726c64 00000006 616e796f6e65"
+     "0000", "SHORT 45 xid 1 operation 1", """
+        12+2 path text
+        18+0 data blob null
+        18+4 acl list 2
+        22+4 perms int 31
+        30+5 scheme text
+        39+6 id text"""),
+    ("request 34", MULTI.replace("0000000d 00 ffffffff", "0000000e 00 ffffffff"), "BAD_PART 27 xid 1 operation 14", """
+        8+9 - part 2
+        21+2 path text
+        23+4 version int -1"""),
+    ("first", HELLO + "0100", "TRAILING 45", """
+        0+4 protocol_version int 0
+        4+8 last_zxid_seen long 0
+        12+4 time_out int 30000
+        16+8 session_id long 0
+        28+16 passwd blob
+        44+1 read_only bool 1"""),
+    ("reply 14 1 2 13 2", RESULTS_OF_FOUR.replace("ffffff99 ffffff99", "ffffff99 ffffff9b"),
+     "BAD_PART 49 xid 1 zxid 6", """
+        16+9 - part 1
+        29+2 path text
+        31+9 - part 2
+        40+9 - part 13"""),
+    ("reply 4", "00000001 0000000000000005 00000000 00000003 6162", "SHORT 16 xid 1 zxid 5", ""),
+    ("reply 3", "00000001 0000000000000005 ffffff9b 00", "TRAILING 16 xid 1 zxid 5 err -101", ""),
+    ("reply 3", "ffffffff ffffffffffffffff 00000000", "MISFIT 0", ""),
+    ("reply 10", "00000001 0000000000000005 00000000", "RANGE 0", ""),
+    ("event", "ffffffff ffffffffffffffff 00000001 00000003", "EVENT_ERR 12 xid -1 zxid -1 err 1", ""),
+    ("event", "ffffffff ffffffffffffffff 00000000 00000003 0000", "SHORT 20 xid -1 zxid -1", """
+        16+4 type int 3"""),
+)
+
+
+class Stop(Exception):
+    """The next item isn't there."""
+
+
+class Reader:
+    """The fields of a payload up to a place, by the tables above."""
+
+    def __init__(self, payload, names):
+        self.payload, self.names, self.place, self.fields = payload, names, 0, []
+
+    def number(self, size):
+        if len(self.payload) - self.place < size:
+            raise Stop
+        self.place += size
+        return int.from_bytes(self.payload[self.place - size:self.place], "big", signed=True)
+
+    def put(self, place, length, name, kind, number=0, null=0):
+        self.fields.append((place, length, number, self.names[name], KINDS[kind], null))
+
+    def item(self, name, kind):
+        place = self.place
+        if kind == "bool":
+            number = self.number(1)
+            if number not in (0, 1):
+                raise Stop
+            self.put(place, 1, name, kind, number)
+        elif kind in ("int", "long"):
+            number = self.number(4 if kind == "int" else 8)
+            self.put(place, self.place - place, name, kind, number)
+        else:
+            length = self.number(4)
+            if length < -1 or len(self.payload) - self.place < length:
+                raise Stop
+            content = self.payload[self.place:self.place + max(length, 0)]
+            if kind == "text":
+                self.decode(content)
+            self.put(self.place, len(content), name, kind, 0, int(length == -1))
+            self.place += len(content)
+
+    @staticmethod
+    def decode(content):
+        try:
+            content.decode()
+        except UnicodeDecodeError:
+            raise Stop from None
+
+    def columns(self, words, name=None):
+        """Fields as the tables have them: `name:kind`, or `name:[..]` for a list."""
+        for column in split(words):
+            field, _, kind = column.partition(":") if name is None or ":" in column else (name, "", column)
+            if not kind.startswith("["):
+                self.item(field, kind)
+                continue
+            place, count = self.place, self.number(4)
+            if count < -1:
+                raise Stop
+            self.put(place, 4, field, "list", max(count, 0), int(count == -1))
+            for _ in range(count):
+                self.columns(kind[1:-1], field)
+
+    def heads(self, table):
+        while True:
+            place, kind, done = self.place, self.number(4), self.number(1)
+            self.number(4)
+            if done or kind not in table:
+                raise Stop
+            self.put(place, 9, "none", "part", kind)
+            self.columns(table[kind])
+
+    def read(self, start, words):
+        self.place = start
+        try:
+            if words in ("parts", "results"):
+                self.heads(PARTS if words == "parts" else RESULTS)
+            else:
+                self.columns(words)
+        except Stop:
+            pass
+        return self.fields
+
+
+def split(words):
+    """The columns of a row; a list's own stay together."""
+    depth, column = 0, ""
+    for letter in words + " ":
+        depth += (letter == "[") - (letter == "]")
+        if letter == " " and depth == 0:
+            if column:
+                yield column
+            column = ""
+        else:
+            column += letter
+
+
+def words_of(kind, operation, err=0):
+    """Where a message's fields begin, and the columns that it has."""
+    hello = "protocol_version:int {}time_out:int session_id:long passwd:blob read_only:bool"
+    if kind in ("first", "connected"):
+        return 0, hello.format("last_zxid_seen:long " if kind == "first" else "")
+    if kind == "event":
+        return 16, "type:int state:int path:text" if err == 0 else ""
+    if kind == "request":
+        return 8, ASKS.get(operation, "")
+    return 16, BODIES.get(operation, "") if err == 0 else ""
+
+
+def wanted(payload, place, kind, operation, names):
+    """The fields in front of a place, by the reader here."""
+    err = int.from_bytes(payload[12:16], "big", signed=True) if kind in ("reply", "event") else 0
+    start, words = words_of(kind, operation, err)
+    return Reader(payload[:place], names).read(start, words) if start <= place else []
+
+
+class Caller:
+    """Calls of the library with a room of so many fields, and fields behind it that no call may write."""
+
+    GUARD = (7, 7, 7, 7, 7, 7)
+
+    def __init__(self, talk, library, names):
+        self.talk, self.library, self.names = talk, library, names
+
+    def room(self, size):
+        return (self.talk.Field * (size + 2))(*[self.GUARD] * (size + 2))
+
+    def fields(self, room, size):
+        found = [(f.place, f.length, f.number, f.name, f.kind, f.null) for f in room]
+        if found[size:] != [self.GUARD] * 2:
+            raise AssertionError("a field behind the room was written")
+        return [field for field in found if field != self.GUARD]
+
+    def read(self, call, payload, size):
+        kind, *numbers = call.split()
+        numbers, room = list(map(int, numbers)), self.room(size)
+        before = numbers if kind == "request" else []
+        if kind == "reply":
+            parts = numbers[1:]
+            before = [numbers[0], (ctypes.c_int32 * (len(parts) + 1))(*parts), len(parts)]
+        answer = getattr(self.library, f"zk_read_{kind}")(*before, payload, len(payload), room, size)
+        return answer, self.fields(room, size)
+
+
+def told(answer, statuses, kinds):
+    """An answer as the table has it."""
+    words = f"{statuses[answer.status]} {answer.place}"
+    if answer.kind:
+        words = kinds[answer.kind]
+    for word in ("xid", "operation", "zxid", "err"):
+        if getattr(answer, word) != 0:
+            words += f" {word} {getattr(answer, word)}"
+    return words
+
+
+def written(field, names):
+    """A field as the table has it."""
+    place, length, number, name, kind, null = field
+    kind = next(word for word, of in KINDS.items() if of == kind)
+    words = f"{place}+{length} {'-' if name == 0 else names[name]} {kind}"
+    return words + (" null" if null else "" if kind in ("text", "blob") else f" {number}")
+
+
+def compare_table(caller, statuses, kinds):
+    """Whether each row is told as it stands there, in a room that fits and in each smaller one."""
+    words = {number: name for name, number in caller.names.items()}
+    for call, digits, message, rows in TABLE:
+        payload, rows = bytes.fromhex(digits), [row.strip() for row in rows.splitlines() if row.strip()]
+        answer, found = caller.read(call, payload, 30)
+        found = [written(field, words) for field in found]
+        good = (told(answer, statuses, kinds), answer.count, found) == (message, len(rows), rows)
+        yield digits, good, f"zk_read_{call} {digits}: {told(answer, statuses, kinds)}, {answer.count}, {found}"
+        for size in range(len(rows)):
+            answer, found = caller.read(call, payload, size)
+            found = [written(field, words) for field in found]
+            status = statuses[answer.status] == "ROOM" if answer.kind else answer.status != 0
+            good = status and (answer.count, found) == (len(rows), rows[:size])
+            yield digits, good, f"zk_read_{call} {digits}, a room of {size}"
+
+
+def compare_damaged(caller):
+    """Whether each row's payload, truncated or with a byte changed, has the fields that stand in front of its fault."""
+    for call, digits, _, _ in TABLE:
+        payload, kind = bytes.fromhex(digits), call.split()[0]
+        damaged = [payload[:length] for length in range(len(payload))]
+        for place in range(len(payload)):
+            for byte in (payload[place] ^ 1, payload[place] ^ 128, 255):
+                damaged.append(payload[:place] + bytes([byte]) + payload[place + 1:])
+        for payload in damaged:
+            answer, found = caller.read(call, payload, 40)
+            place = len(payload) if answer.kind else answer.place
+            operation = int((call.split() + [0])[1])
+            if kind == "request":
+                operation = int.from_bytes(payload[4:8], "big", signed=True)
+            fields = wanted(payload, place, kind, operation, caller.names)
+            good = (answer.count, found) == (len(fields), fields)
+            answered = f"{answer.status} at {answer.place}, {found}"
+            yield digits, good, f"zk_read_{call} {payload.hex()}: {answered}, not {fields}"
+
+
+def compare(talk, library, names, numbers):
+    """Whether each answer is as it should be. `names` are the numbers of fields' names, `numbers` those of statuses."""
+    kinds = dict(enumerate(("", "CONNECT", "REQUEST", "CONNECTED", "REPLY", "EVENT")))
+    caller = Caller(talk, library, {"none": 0, **names})
+    yield from compare_table(caller, {number: name for name, number in numbers.items()}, kinds)
+    yield from compare_damaged(caller)
