@@ -14,11 +14,11 @@
 #include "hole.h"
 #include "names.h"
 
-/* Of TCP's conversation_completeness, whose numbers packet-tcp.c keeps to itself: the SYN and its answer were captured. */
+/* Of TCP's conversation_completeness, whose numbers packet-tcp.c keeps to itself: a SYN of the client, and its answer. */
 static const guint8 began[] = {[ZK_CLIENT] = 0x01, [ZK_SERVER] = 0x02};
 
-/* Longer lines are not kept. */
-enum { LONGEST_LINE = 1 << 16 };
+/* Longer lines are not kept, nor more gaps of a side; bytes in which no frame is found wait for others up to here. */
+enum { LONGEST_LINE = 1 << 16, MOST_GAPS = 256, MOST_BEFORE = 1 << 16 };
 
 static guint hash_of_kept(gconstpointer of) {
     const struct kept *kept = (const struct kept *)of;
@@ -130,6 +130,9 @@ static void leap(struct connection *connection, packet_info *pinfo, struct way *
     gap->from = way->next;
     gap->to = number;
     wmem_list_prepend(way->gaps, gap);
+    if (wmem_list_count(way->gaps) > MOST_GAPS) {
+        wmem_list_remove_frame(way->gaps, wmem_list_tail(way->gaps));
+    }
     /* Where just one frame isn't whole, the next one begins behind it. */
     way->sought |= way->end == way->next || way->end != number;
     way->next = way->end = number;
@@ -159,8 +162,8 @@ static void judge(struct connection *connection, packet_info *pinfo, const struc
     }
     /* Who acknowledges bytes that make no frame here may answer a request that was lost, or is captured later. What
      * TCP put together tells the acknowledgement of its last segment alone. */
-    gboolean unasked = frame->unasked || (frame->kind == ZK_CONNECTED && (!other->begun || other->next == other->first));
-    if ((unasked || frame->disordered) &&
+    gboolean is_first = frame->kind == ZK_CONNECTED && (!other->begun || other->next == other->first);
+    if ((is_first || frame->unasked || frame->disordered) &&
         (!other->begun || piece->tcp->is_reassembled || (gint32)(piece->tcp->lastackseq - other->next) > 0)) {
         be_late(connection, pinfo, "lacks a request that was answered");
         return;
@@ -246,15 +249,16 @@ static struct kept *keep(struct connection *connection, packet_info *pinfo, cons
 static struct kept *look_for_frames(struct connection *connection, packet_info *pinfo, const struct piece *piece,
                                     struct way *way, guint32 *place) {
     struct hole_end end = hole_end(piece->side, piece->bytes, piece->there, pref_limit);
+    gboolean may_wait = piece->may_wait && piece->before < MOST_BEFORE;
     if (end.found) {
         way->sought = FALSE;
         way->since = pinfo->num;
         if (end.place == 0) {
             return NULL;
         }
-    } else if (end.place == 0 && piece->may_wait) {
+    } else if (end.place == 0 && may_wait) {
         return keep(connection, pinfo, piece, MORE, DESEGMENT_ONE_MORE_SEGMENT);
-    } else if (!piece->may_wait) {
+    } else if (!may_wait) {
         end.place = piece->size;
     }
     *place = piece->number + (guint32)end.place;

@@ -138,7 +138,8 @@ static void show_verdict(const struct shown *shown) {
     if (status == ZK_UNKNOWN_OP && op_is_newer(shown->op)) {
         expert_add_info_format(pinfo, verdict, &ei_newer, "%s is of a later release: its request is not read",
                                op_text(pinfo, shown->op));
-    } else if (frame->verdict == VERDICT_NONE && (status == ZK_SHORT ? shown->there == shown->size : status != ZK_WELL)) {
+    } else if (frame->verdict == VERDICT_NONE && status != ZK_WELL &&
+               (status != ZK_SHORT || shown->there == shown->size)) {
         expert_add_info(pinfo, show_fault(shown, status, shown->message.place), &ei_unread);
     }
 }
@@ -174,7 +175,8 @@ static void show_pair(const struct shown *shown) {
     }
     if (frame->disordered) {
         generated(proto_tree_add_int(tree, hf_expected_xid, tvb, 0, 0, frame->expected));
-        expert_add_info_format(pinfo, shown->item, &ei_order, "The oldest request that waits has xid %d", frame->expected);
+        expert_add_info_format(pinfo, shown->item, &ei_order, "The oldest request that waits has xid %d",
+                               frame->expected);
     }
     if (frame->unasked) {
         expert_add_info(pinfo, shown->item, &ei_unasked);
@@ -273,7 +275,8 @@ static void show_bytes(tvbuff_t *tvb, packet_info *pinfo, proto_tree *top, enum 
     col_append_sep_str(pinfo->cinfo, COL_INFO, " | ", "");
     if (what == WORDS) {
         proto_tree_add_item(tree, hf_words, tvb, 0, size, ENC_UTF_8);
-        col_append_fstr(pinfo->cinfo, COL_INFO, "four letters: %s", tvb_format_text(pinfo->pool, tvb, 0, MIN(40, size)));
+        col_append_fstr(pinfo->cinfo, COL_INFO, "four letters: %s",
+                        tvb_format_text(pinfo->pool, tvb, 0, MIN(40, size)));
         return;
     }
     proto_tree_add_item(tree, hf_no_frame, tvb, 0, size, ENC_NA);
@@ -309,7 +312,7 @@ int dissect_zookeeper(tvbuff_t *tvb, packet_info *pinfo, proto_tree *tree, void 
     }
     struct connection *connection = connection_of(pinfo);
     guint32 there = tvb_captured_length(tvb), size = tvb_reported_length(tvb), at = 0;
-    struct piece piece = {tcp, side_of(connection, pinfo), 0, NULL, 0, 0, FALSE};
+    struct piece piece = {tcp, side_of(connection, pinfo), 0, NULL, 0, 0, 0, FALSE};
     if (!p_get_proto_data(pinfo->pool, pinfo, proto_zookeeper, 0)) {
         p_add_proto_data(pinfo->pool, pinfo, proto_zookeeper, 0, connection);
         col_set_str(pinfo->cinfo, COL_PROTOCOL, "ZooKeeper");
@@ -318,6 +321,7 @@ int dissect_zookeeper(tvbuff_t *tvb, packet_info *pinfo, proto_tree *tree, void 
     while (at < there) {
         piece.number = tcp->seq + at;
         piece.bytes = tvb_get_ptr(tvb, (int)at, (int)(there - at));
+        piece.before = at;
         piece.there = there - at;
         piece.size = size - at;
         piece.may_wait = pref_desegment && pinfo->can_desegment && there == size;
@@ -336,7 +340,8 @@ int dissect_zookeeper(tvbuff_t *tvb, packet_info *pinfo, proto_tree *tree, void 
         tvbuff_t *own = tvb_new_subset_length_caplen(tvb, (int)at, captured, part);
         if (kept->what == A_FRAME && captured >= FRAME_HEAD) {
             show_frame(own, pinfo, tree, connection, kept->frame, piece.side);
-        } else if (kept->what != AGAIN || !tcp->is_reassembled) { /* TCP puts bytes that wait together from their first on */
+        } else if (kept->what != AGAIN || !tcp->is_reassembled) {
+            /* What waits is put together from its first byte on, however much of it was used. */
             show_bytes(own, pinfo, tree, kept->what, piece.side);
         }
         col_set_fence(pinfo->cinfo, COL_INFO);
@@ -352,7 +357,8 @@ flag dissect_heuristic(tvbuff_t *tvb, packet_info *pinfo, proto_tree *tree, void
         there > FRAME_HEAD + 64) {
         return FALSE;
     }
-    if (message_read(ZK_CONNECT, 0, NULL, tvb_get_ptr(tvb, FRAME_HEAD, -1), there - FRAME_HEAD, NULL, 0).status != ZK_WELL) {
+    if (message_read(ZK_CONNECT, 0, NULL, tvb_get_ptr(tvb, FRAME_HEAD, -1), there - FRAME_HEAD, NULL, 0).status !=
+        ZK_WELL) {
         return FALSE;
     }
     conversation_set_dissector(find_or_create_conversation(pinfo), zookeeper_handle);

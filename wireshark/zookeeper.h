@@ -105,6 +105,7 @@ struct piece {
     guint32 side;
     guint32 number;
     const guint8 *bytes;
+    guint32 before;          /* so many of what TCP has given stand before it */
     guint32 there, size;     /* so many were captured, of so many */
     gboolean may_wait;       /* for more behind them */
 };
