@@ -1,8 +1,12 @@
 """What tests/wireshark.py wants to see: the fields of zkjson's objects, the plugin's sources as functions, and captures."""
 
+import collections
+import contextlib
 import ctypes
+import io
 import pathlib
 import re
+import runpy
 import subprocess
 
 from dissected import SOURCES, TOP, packed, pieces_of, wire, zkr
@@ -45,6 +49,36 @@ def differences(wanted, found):
             yield "blob", blob, found["data"]
     if "names" in wanted and wanted["names"] and found["children"] != [str(len(wanted["names"]))]:
         yield "names", len(wanted["names"]), found["children"]
+
+
+def cases():
+    """The stored cases whose recordings are whole, by what is set: the greatest payload and the profile. Of each its
+    name, its pieces, and what is told of its refusal, if it is refused. Words of four letters, and operations of later
+    releases, are not refused by the plugin; it takes no --waiting, and no limits of a ZKR2 head."""
+    found = collections.defaultdict(list)
+    stored = runpy.run_path(str(TOP / "tests" / "program.py"))["stored"]  # the tools have a module of this name, too
+    for name, words, recording, ending in stored():
+        options = dict(zip(words[1::2], words[2::2]))
+        if ending.startswith(b". recording") or "--waiting" in options or recording.startswith(b"ZKR2"):
+            continue
+        pieces = []
+        with contextlib.suppress(zkr.Damaged):  # behind the refusal
+            pieces.extend(zkr.Reader(io.BytesIO(recording)))
+        client = b"".join(piece.data for piece in pieces if piece.side == zkr.CLIENT)
+        refused = re.search(r" refused (.*)", ending.decode())
+        if re.match(rb"[A-Za-z]{4}", client) or refused and "UnknownOp" in refused[1] and later(pieces, refused[1]):
+            refused = None
+        settings = int(options.get("--limit", zkr.USUAL_LIMIT)), options.get("--profile", "3.4")
+        found[settings].append((name, pieces, {refused[1]} if refused else set()))
+    return found.items()
+
+
+def later(pieces, ending):
+    """Whether the operation of the refused request is one of a later release."""
+    number, cutter = int(re.search(r"frame=(\d+)", ending)[1]), zkr.Cutter()
+    frames = [frame for piece in pieces for frame in cutter.take(piece) if frame.side == zkr.CLIENT]
+    op = int.from_bytes(frames[number].payload[4:8], "big", signed=True)
+    return 15 <= op <= 22 or 102 <= op <= 107
 
 
 def shared(folder, name):

@@ -92,6 +92,20 @@ class Tests:
                 good = told == [listing[-1].partition(" refused ")[2]]
             yield good, f"{path.stem} under {profile}: {told}, and the listing {listing[-1]}"
 
+    def test_stored_cases(self):
+        """Every stored case of the program, whose recording is whole, is refused where its last line says so."""
+        for settings, cases in wanted.cases():
+            limit, profile = settings
+            capture = joined(list(wire.conversation(pieces)) for _, pieces, _ in cases)
+            told = collections.defaultdict(set)
+            for line in self.plugin.read(capture, "-o", f"zookeeper.limit:{limit}", "-Y", "zookeeper.refused", "-T",
+                                         "fields", "-e", "tcp.srcport", "-e", "tcp.dstport", "-e",
+                                         "_ws.expert.message", profile=profile).splitlines():
+                *ports, text = line.split("\t")
+                told[max(map(int, ports)) - 40_000].update(re.findall(r"Refused: (side=[^,]*)", text))
+            for at, (name, _, ending) in enumerate(cases):
+                yield told[at] == ending, f"{name}: {told[at]}, not {ending}"
+
     def test_fields(self):
         """The fields of each message are those of zkjson's object."""
         for path, profile, _ in listings():
@@ -113,9 +127,10 @@ class Tests:
                 names, frames = line.split("\t")
                 for side, frame in zip(names.split(","), frames.split(",")):
                     said[b"CS"[int(side):int(side) + 1]] += bytes.fromhex(frame)
+            whole = collections.defaultdict(bytes)
             for piece in pieces_of(path):
-                said[piece.side] = said[piece.side].removeprefix(piece.data)
-            yield not any(said.values()), f"{path.stem}: other bytes"
+                whole[piece.side] += piece.data
+            yield said == whole, f"{path.stem}: other bytes"
 
     def looked_over(self, capture, name, *words):
         """That nothing is refused, and each pair has one xid."""

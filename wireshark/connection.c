@@ -18,7 +18,7 @@
 static const guint8 began[] = {[ZK_CLIENT] = 0x01, [ZK_SERVER] = 0x02};
 
 /* Longer lines are not kept, nor more gaps of a side; bytes in which no frame is found wait for others up to here. */
-enum { LONGEST_LINE = 1 << 16, MOST_GAPS = 256, MOST_BEFORE = 1 << 16 };
+enum { LONGEST_LINE = 1 << 16, MOST_GAPS = 256, MOST_BEFORE = 1 << 10 };
 
 static guint hash_of_kept(gconstpointer of) {
     const struct kept *kept = (const struct kept *)of;
@@ -66,13 +66,18 @@ guint32 side_of(const struct connection *connection, const packet_info *pinfo) {
                                                                                                  : ZK_SERVER;
 }
 
-/* From here on the connection isn't whole in the capture, and is judged no more. */
-static void be_late(struct connection *connection, packet_info *pinfo, const char *why) {
-    if (!connection->late) {
-        connection->late = pinfo->num;
+static void judge_no_more(struct connection *connection, packet_info *pinfo, const char *why) {
+    if (!connection->unjudged) {
+        connection->unjudged = pinfo->num;
         connection->why = why;
     }
     judge_end(&connection->judge);
+}
+
+/* From here on the connection isn't whole in the capture. */
+static void be_late(struct connection *connection, packet_info *pinfo, const char *why) {
+    connection->late = TRUE;
+    judge_no_more(connection, pinfo, why);
 }
 
 /* Whether these are a connect message, whole. */
@@ -144,6 +149,13 @@ static void seek(struct way *way) {
     way->sure = FALSE;
 }
 
+/* Whether who says this may have read more of the other side than is known here: it acknowledges bytes that make no
+ * frame, and not the middle of the next one alone. What TCP put together tells the acknowledgement of its last segment. */
+static gboolean may_know_more(const struct way *other, const struct tcpinfo *tcp) {
+    guint32 acknowledged = tcp->lastackseq - other->next;
+    return !other->begun || tcp->is_reassembled || ((gint32)acknowledged > 0 && acknowledged >= other->end - other->next);
+}
+
 /* Gives the frame to the judge, and keeps its line. */
 static void judge(struct connection *connection, packet_info *pinfo, const struct piece *piece, struct frame *frame,
                   guint32 size, gboolean newer) {
@@ -160,11 +172,8 @@ static void judge(struct connection *connection, packet_info *pinfo, const struc
         frame->verdict = VERDICT_LEFT_OUT;
         return;
     }
-    /* Who acknowledges bytes that make no frame here may answer a request that was lost, or is captured later. What
-     * TCP put together tells the acknowledgement of its last segment alone. */
-    gboolean is_first = frame->kind == ZK_CONNECTED && (!other->begun || other->next == other->first);
-    if ((is_first || frame->unasked || frame->disordered) &&
-        (!other->begun || piece->tcp->is_reassembled || (gint32)(piece->tcp->lastackseq - other->next) > 0)) {
+    gboolean is_welcome = frame->kind == ZK_CONNECTED && (!other->begun || other->next == other->first);
+    if ((is_welcome || frame->unasked || frame->disordered) && may_know_more(other, piece->tcp)) {
         be_late(connection, pinfo, "lacks a request that was answered");
         return;
     }
@@ -180,6 +189,8 @@ static void judge(struct connection *connection, packet_info *pinfo, const struc
                 frame->line = line;
             }
         }
+    } else {
+        judge_no_more(connection, pinfo, "has more requests that wait than are judged");
     }
 }
 

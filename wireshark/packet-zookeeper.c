@@ -123,16 +123,19 @@ static void show_verdict(const struct shown *shown) {
     generated(verdict);
     if (frame->verdict == VERDICT_REFUSED) {
         proto_item *item = show_fault(shown, fault->reason, fault->place);
+        const char *xids = fault->reason != ZK_XID_ORDER ? "" : wmem_strdup_printf(
+            pinfo->pool, " expected=%d got=%d", fault->expected, fault->got);
         expert_add_info_format(pinfo, item, &ei_refused, "Refused: side=%s frame=%" PRIu64 " offset=%" PRIu64
-                               " place=%u reason=%s", side_names[fault->side].strptr, fault->frame, fault->offset,
-                               fault->place, val_to_str_const(fault->reason, reason_names, "?"));
+                               " place=%u reason=%s%s", side_names[fault->side].strptr, fault->frame, fault->offset,
+                               fault->place, val_to_str_const(fault->reason, reason_names, "?"), xids);
         return;
     }
     if (frame->verdict == VERDICT_NONE && pref_strict) {
         if (connection->refused && connection->refused < pinfo->num) {
             proto_item_append_text(verdict, ": refused in packet %u", connection->refused);
-        } else if (connection->late && connection->late <= pinfo->num) {
-            proto_item_append_text(verdict, ": since packet %u the connection %s", connection->late, connection->why);
+        } else if (connection->unjudged && connection->unjudged <= pinfo->num) {
+            proto_item_append_text(verdict, ": since packet %u the connection %s", connection->unjudged,
+                                   connection->why);
         }
     }
     if (status == ZK_UNKNOWN_OP && op_is_newer(shown->op)) {

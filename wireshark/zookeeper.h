@@ -84,7 +84,8 @@ struct connection {
     guint32 port;
     struct way way[2];
     gboolean words;          /* the client says words of four letters */
-    guint32 late;            /* since this packet the connection isn't whole in the capture; 0: it is */
+    gboolean late;           /* the connection isn't whole in the capture */
+    guint32 unjudged;        /* since this packet it is judged no more; 0: it is */
     const char *why;
     guint32 frames;
     guint64 session;
