@@ -232,6 +232,9 @@ class Tests:
                 yield found == (numbers[status], place), f"{call} {digits}: {found}, not {status} at {place}"
 
     def test_golden(self):
+        if self.plugin.release != "4.0":
+            print(f"left out: the stored files are what Wireshark 4.0 shows, and this is {self.plugin.release}")
+            return
         for name, capture, words in wanted.golden():
             stored = SOURCES / "tests" / "golden" / f"{name}.txt"
             lines = self.plugin.read(capture, *words, profile="3.4", hide=True).splitlines()

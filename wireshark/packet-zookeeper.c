@@ -65,6 +65,18 @@ static const char *line_of(const struct shown *shown) {
     return wmem_strdup_printf(shown->pinfo->pool, "%.*s(hidden)%s", before, line, behind ? behind : "");
 }
 
+/* What is kept of a packet while it is dissected. */
+enum { KEY_BEGUN, KEY_WORDS };
+
+/* Divides the words of a packet's messages, in the packet list. */
+static void begin_words(packet_info *pinfo) {
+    if (p_get_proto_data(pinfo->pool, pinfo, proto_zookeeper, KEY_WORDS)) {
+        col_append_str(pinfo->cinfo, COL_INFO, " | ");
+    } else {
+        p_add_proto_data(pinfo->pool, pinfo, proto_zookeeper, KEY_WORDS, pinfo);
+    }
+}
+
 /* The words of the packet list. */
 static void show_info(const struct shown *shown, const char *path) {
     column_info *cinfo = shown->pinfo->cinfo;
@@ -72,7 +84,7 @@ static void show_info(const struct shown *shown, const char *path) {
     const struct field *xid = shown_field(shown, FIELD_XID), *err = shown_field(shown, FIELD_ERR),
                        *session = shown_field(shown, FIELD_SESSION), *event = shown_field(shown, FIELD_EVENT_KIND);
     guint64 number = session ? (guint64)session->number : 0;
-    col_append_sep_str(cinfo, COL_INFO, " | ", "");
+    begin_words(pinfo);
     switch (shown->frame->kind) {
     case ZK_CONNECT:
         col_append_str(cinfo, COL_INFO, "connect");
@@ -275,7 +287,7 @@ static void show_bytes(tvbuff_t *tvb, packet_info *pinfo, proto_tree *top, enum 
     proto_tree *tree = proto_item_add_subtree(item, ett_message);
     int size = (int)tvb_captured_length(tvb);
     generated(proto_tree_add_uint(tree, hf_side, tvb, 0, 0, side));
-    col_append_sep_str(pinfo->cinfo, COL_INFO, " | ", "");
+    begin_words(pinfo);
     if (what == WORDS) {
         proto_tree_add_item(tree, hf_words, tvb, 0, size, ENC_UTF_8);
         col_append_fstr(pinfo->cinfo, COL_INFO, "four letters: %s",
@@ -316,8 +328,8 @@ int dissect_zookeeper(tvbuff_t *tvb, packet_info *pinfo, proto_tree *tree, void 
     struct connection *connection = connection_of(pinfo);
     guint32 there = tvb_captured_length(tvb), size = tvb_reported_length(tvb), at = 0;
     struct piece piece = {tcp, side_of(connection, pinfo), 0, NULL, 0, 0, 0, FALSE};
-    if (!p_get_proto_data(pinfo->pool, pinfo, proto_zookeeper, 0)) {
-        p_add_proto_data(pinfo->pool, pinfo, proto_zookeeper, 0, connection);
+    if (!p_get_proto_data(pinfo->pool, pinfo, proto_zookeeper, KEY_BEGUN)) {
+        p_add_proto_data(pinfo->pool, pinfo, proto_zookeeper, KEY_BEGUN, connection);
         col_set_str(pinfo->cinfo, COL_PROTOCOL, "ZooKeeper");
         col_clear(pinfo->cinfo, COL_INFO);
     }
