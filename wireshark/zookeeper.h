@@ -114,6 +114,20 @@ struct piece {
 /* What stands at the beginning of these bytes: on the first pass found out, later looked up; NULL: it isn't known. */
 const struct kept *kept_of(struct connection *connection, packet_info *pinfo, const struct piece *piece);
 
+/* ---- Frames (frames.c) */
+
+/* From here on the connection isn't whole in the capture, for this reason, and is judged no more. */
+void be_late(struct connection *connection, packet_info *pinfo, const char *why);
+
+/* Whether a side's first byte stands here. */
+gboolean is_first(const struct way *way, const struct piece *piece);
+
+/* A frame of this size that begins here, of which perhaps the front alone is there. */
+struct frame *frame_new(struct connection *connection, packet_info *pinfo, const struct piece *piece, guint32 size);
+
+/* What begins here has a length that no payload has. */
+struct frame *frame_without_payload(struct connection *connection, packet_info *pinfo, const struct piece *piece);
+
 /* ---- Pairs (pairs.c) */
 
 struct call *call_new(struct connection *connection, packet_info *pinfo, struct frame *frame, const guint8 *payload,
