@@ -22,6 +22,7 @@ NOBODY = 65534
 PROFILES = {"3.4": "ZooKeeper 3.4", "3.5": "ZooKeeper 3.5 (create2)"}
 FLAGS = ("-std=gnu11", "-fPIC", "-shared", "-fvisibility=hidden", "-Wall", "-Wextra", "-Werror", f"-I{TOP / 'include'}", f"-I{SOURCES}")
 SANITIZED = ("-O1", "-g", "-fsanitize=address,undefined", "-fno-sanitize=alignment")
+BOOLEANS = ("zookeeper.watch", "zookeeper.read_only", "zookeeper.part.done")
 # What no run may say.
 BAD = ("AddressSanitizer", "runtime error", "Dissector bug", "Fatal", "ASSERT")
 
@@ -43,8 +44,8 @@ class Plugin:
 
     def __init__(self, folder, stub, sanitized=False):
         self.home = pathlib.Path(folder, "sanitized" if sanitized else "home")
-        release = ".".join(words_of_pkg("--modversion")[0].split(".")[:2])
-        plugins = self.home / ".local/lib/wireshark/plugins" / release / "epan"
+        self.release = ".".join(words_of_pkg("--modversion")[0].split(".")[:2])
+        plugins = self.home / ".local/lib/wireshark/plugins" / self.release / "epan"
         plugins.mkdir(parents=True)
         library = [SOURCES / "tests" / "stub.c"] if stub else [make_library.make(folder)[0], "-Wl,--exclude-libs,ALL"]
         subprocess.run(["cc", *FLAGS, *(SANITIZED if sanitized else ("-O2", "-Wl,-z,defs")), *words_of_pkg("--cflags"),
@@ -100,8 +101,10 @@ class Plugin:
                 for field in message.iter("field"):
                     name = field.get("name", "")
                     if name.startswith("zookeeper."):
-                        # A text's value, since what is shown of it escapes some bytes.
-                        fields[name.partition(".")[2]].append(field.get("show"))
+                        shown = field.get("show")
+                        if name in BOOLEANS:  # of which 4.0 shows the number, and 4.4 the word
+                            shown = {"True": "1", "False": "0"}.get(shown, shown)
+                        fields[name.partition(".")[2]].append(shown)
                 found.append(fields)
         return found
 

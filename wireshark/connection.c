@@ -12,13 +12,12 @@
 #include <epan/conversation.h>
 
 #include "hole.h"
-#include "names.h"
 
-/* Of TCP's conversation_completeness, whose numbers packet-tcp.c keeps to itself: the SYN and its answer were captured. */
+/* Of TCP's conversation_completeness, whose numbers packet-tcp.c keeps to itself: a SYN of the client, and its answer. */
 static const guint8 began[] = {[ZK_CLIENT] = 0x01, [ZK_SERVER] = 0x02};
 
-/* Longer lines are not kept. */
-enum { LONGEST_LINE = 1 << 16 };
+/* No more gaps of a side are kept; and bytes in which no frame is found wait for others up to here. */
+enum { MOST_GAPS = 256, MOST_BEFORE = 1 << 10 };
 
 static guint hash_of_kept(gconstpointer of) {
     const struct kept *kept = (const struct kept *)of;
@@ -30,7 +29,7 @@ static gboolean equal_kept(gconstpointer one, gconstpointer other) {
     return a->packet == b->packet && a->number == b->number;
 }
 
-static gboolean forget(wmem_allocator_t *allocator _U_, wmem_cb_event_t event _U_, void *connection) {
+static flag forget(wmem_allocator_t *allocator _U_, wmem_cb_event_t event _U_, void *connection) {
     judge_end(&((struct connection *)connection)->judge);
     return FALSE;
 }
@@ -64,15 +63,6 @@ struct connection *connection_of(packet_info *pinfo) {
 guint32 side_of(const struct connection *connection, const packet_info *pinfo) {
     return pinfo->destport == connection->port && addresses_equal(&pinfo->dst, &connection->server) ? ZK_CLIENT
                                                                                                  : ZK_SERVER;
-}
-
-/* From here on the connection isn't whole in the capture, and is judged no more. */
-static void be_late(struct connection *connection, packet_info *pinfo, const char *why) {
-    if (!connection->late) {
-        connection->late = pinfo->num;
-        connection->why = why;
-    }
-    judge_end(&connection->judge);
 }
 
 /* Whether these are a connect message, whole. */
@@ -130,6 +120,9 @@ static void leap(struct connection *connection, packet_info *pinfo, struct way *
     gap->from = way->next;
     gap->to = number;
     wmem_list_prepend(way->gaps, gap);
+    if (wmem_list_count(way->gaps) > MOST_GAPS) {
+        wmem_list_remove_frame(way->gaps, wmem_list_tail(way->gaps));
+    }
     /* Where just one frame isn't whole, the next one begins behind it. */
     way->sought |= way->end == way->next || way->end != number;
     way->next = way->end = number;
@@ -139,96 +132,6 @@ static void leap(struct connection *connection, packet_info *pinfo, struct way *
 static void seek(struct way *way) {
     way->sought = TRUE;
     way->sure = FALSE;
-}
-
-/* Gives the frame to the judge, and keeps its line. */
-static void judge(struct connection *connection, packet_info *pinfo, const struct piece *piece, struct frame *frame,
-                  guint32 size, gboolean newer) {
-    const struct way *other = connection->way + (piece->side == ZK_CLIENT ? ZK_SERVER : ZK_CLIENT);
-    struct judge *judge = &connection->judge;
-    frame->verdict = VERDICT_NONE;
-    if (!judge->judges) {
-        return;
-    }
-    if (newer && frame->call) {
-        frame->call->left_out = TRUE;
-    }
-    if (frame->call && frame->call->left_out) {
-        frame->verdict = VERDICT_LEFT_OUT;
-        return;
-    }
-    /* Who acknowledges bytes that make no frame here may answer a request that was lost, or is captured later. What
-     * TCP put together tells the acknowledgement of its last segment alone. */
-    gboolean unasked = frame->unasked || (frame->kind == ZK_CONNECTED && (!other->begun || other->next == other->first));
-    if ((unasked || frame->disordered) &&
-        (!other->begun || piece->tcp->is_reassembled || (gint32)(piece->tcp->lastackseq - other->next) > 0)) {
-        be_late(connection, pinfo, "lacks a request that was answered");
-        return;
-    }
-    frame->verdict = judge_take(judge, piece->side, piece->bytes, size, &frame->fault);
-    if (frame->verdict == VERDICT_REFUSED) {
-        connection->refused = pinfo->num;
-    } else if (frame->verdict == VERDICT_WELL) {
-        gsize length = judge_line_length(judge, piece->side);
-        if (length > 0 && length <= LONGEST_LINE) {
-            char *line = (char *)wmem_alloc(wmem_file_scope(), length + 1);
-            if (judge_line(judge, piece->side, line, length)) {
-                line[length] = 0;
-                frame->line = line;
-            }
-        }
-    }
-}
-
-static gboolean is_first(const struct way *way, const struct piece *piece) {
-    return way->whole && piece->number == way->first;
-}
-
-/* Which message a frame is. */
-static guint32 kind_of(const struct way *way, const struct piece *piece) {
-    if (is_first(way, piece)) {
-        return piece->side == ZK_CLIENT ? ZK_CONNECT : ZK_CONNECTED;
-    }
-    if (piece->side == ZK_CLIENT) {
-        return ZK_REQUEST;
-    }
-    return piece->there >= FRAME_HEAD + 4 && int_at(piece->bytes + FRAME_HEAD) == XID_EVENT ? ZK_EVENT : ZK_REPLY;
-}
-
-/* A frame of this size, of which perhaps the front alone is there. */
-static struct frame *frame_new(struct connection *connection, packet_info *pinfo, const struct piece *piece,
-                               guint32 size) {
-    struct way *way = connection->way + piece->side;
-    struct frame *frame = wmem_new0(wmem_file_scope(), struct frame);
-    const guint8 *payload = piece->bytes + FRAME_HEAD;
-    guint32 there = MIN(piece->there, size) - FRAME_HEAD;
-    gboolean newer = FALSE;
-    frame->packet = pinfo->num;
-    frame->count = connection->frames++;
-    frame->kind = kind_of(way, piece);
-    if (frame->kind == ZK_REQUEST && there >= REQUEST_HEAD) {
-        call_new(connection, pinfo, frame, payload, there);
-        newer = op_is_newer(frame->call->op) && message_read(ZK_REQUEST, (guint32)pref_profile, NULL, payload, there,
-                                                             NULL, 0).status == ZK_UNKNOWN_OP;
-    } else if (frame->kind == ZK_REPLY && there >= 4) {
-        frame->xid = int_at(payload);
-        call_answer(connection, pinfo, frame);
-        if (frame->call) {
-            struct way *client = connection->way + ZK_CLIENT;
-            way->sure = TRUE;
-            client->sure |= !client->sought && frame->call->asked >= client->since;
-        }
-    } else if (frame->kind == ZK_CONNECT && there >= 24) {
-        connection->session = (guint64)long_at(payload + 16);
-    } else if (frame->kind == ZK_CONNECTED && there >= 16) {
-        connection->session = (guint64)long_at(payload + 8);
-    }
-    frame->session = connection->session;
-    if (piece->there < size) {
-        be_late(connection, pinfo, "has a frame that was not captured whole");
-    }
-    judge(connection, pinfo, piece, frame, size, newer);
-    return frame;
 }
 
 static struct kept *keep(struct connection *connection, packet_info *pinfo, const struct piece *piece, enum what what,
@@ -246,22 +149,24 @@ static struct kept *keep(struct connection *connection, packet_info *pinfo, cons
 static struct kept *look_for_frames(struct connection *connection, packet_info *pinfo, const struct piece *piece,
                                     struct way *way, guint32 *place) {
     struct hole_end end = hole_end(piece->side, piece->bytes, piece->there, pref_limit);
+    gboolean may_wait = piece->may_wait && piece->before < MOST_BEFORE;
     if (end.found) {
         way->sought = FALSE;
         way->since = pinfo->num;
         if (end.place == 0) {
             return NULL;
         }
-    } else if (end.place == 0 && piece->may_wait) {
+    } else if (end.place == 0 && may_wait) {
         return keep(connection, pinfo, piece, MORE, DESEGMENT_ONE_MORE_SEGMENT);
-    } else if (!piece->may_wait) {
+    } else if (!may_wait) {
         end.place = piece->size;
     }
     *place = piece->number + (guint32)end.place;
     return keep(connection, pinfo, piece, NO_FRAME, (guint32)end.place);
 }
 
-/* What stands where a frame may begin; `place` is where the next one does. */
+/* What stands where a frame may begin; `place` is where the next one does. `filling`: the bytes stand in a gap, and tell
+ * nothing of those behind it. */
 static struct kept *look(struct connection *connection, packet_info *pinfo, const struct piece *piece, struct way *way,
                          guint32 *place, gboolean filling) {
     gboolean plausible = frame_is_plausible(piece->side, piece->bytes, piece->there, pref_limit);
@@ -269,6 +174,10 @@ static struct kept *look(struct connection *connection, packet_info *pinfo, cons
         gboolean short_of = piece->there < FRAME_HEAD + REPLY_HEAD;
         if (short_of && piece->may_wait) {
             return keep(connection, pinfo, piece, MORE, DESEGMENT_ONE_MORE_SEGMENT);
+        }
+        if (filling) {
+            *place = piece->number + piece->size;
+            return keep(connection, pinfo, piece, NO_FRAME, piece->size);
         }
         seek(way);
         struct kept *kept = look_for_frames(connection, pinfo, piece, way, place);
@@ -281,19 +190,20 @@ static struct kept *look(struct connection *connection, packet_info *pinfo, cons
             return keep(connection, pinfo, piece, MORE, DESEGMENT_ONE_MORE_SEGMENT);
         }
         be_late(connection, pinfo, "has a frame that was not captured whole");
-        seek(way);
+        if (!filling) {
+            seek(way);
+        }
         *place = piece->number + piece->size;
         return keep(connection, pinfo, piece, NO_FRAME, piece->size);
     }
     guint32 length = (guint32)int_at(piece->bytes), size = FRAME_HEAD + length;
     if (length > pref_limit) {
         struct kept *kept = keep(connection, pinfo, piece, A_FRAME, FRAME_HEAD);
-        kept->frame = wmem_new0(wmem_file_scope(), struct frame);
-        kept->frame->packet = pinfo->num;
-        kept->frame->session = connection->session;
-        judge(connection, pinfo, piece, kept->frame, FRAME_HEAD, FALSE);
-        seek(way);
-        *place = piece->number + FRAME_HEAD;
+        kept->frame = frame_without_payload(connection, pinfo, piece);
+        if (!filling) {
+            seek(way);
+        }
+        *place = piece->number + (filling ? piece->size : FRAME_HEAD);
         return kept;
     }
     if (size > piece->size) {
@@ -303,8 +213,10 @@ static struct kept *look(struct connection *connection, packet_info *pinfo, cons
             }
             return keep(connection, pinfo, piece, MORE, size - piece->size);
         }
-        way->rest.from = piece->number;
-        way->rest.to = piece->number + size;
+        if (!filling) {
+            way->rest.from = piece->number;
+            way->rest.to = piece->number + size;
+        }
     }
     struct kept *kept = keep(connection, pinfo, piece, A_FRAME, MIN(size, piece->size));
     kept->frame = frame_new(connection, pinfo, piece, size);
@@ -329,6 +241,13 @@ static struct kept *look_back(struct connection *connection, packet_info *pinfo,
     if (gap->from != piece->number) {
         /* The frames of a gap are found from its beginning on; bytes further on wait in vain. */
         return keep(connection, pinfo, piece, NO_FRAME, MIN(gap->to - piece->number, piece->size));
+    }
+    guint32 most = gap->to - piece->number;
+    if (piece->size >= most) {
+        /* What follows was captured before, so a frame that goes on there isn't put together any more. */
+        piece->may_wait = FALSE;
+        piece->size = most;
+        piece->there = MIN(piece->there, most);
     }
     struct kept *kept = look(connection, pinfo, piece, way, &gap->from, TRUE);
     if ((gint32)(gap->from - gap->to) >= 0) {

@@ -65,6 +65,18 @@ static const char *line_of(const struct shown *shown) {
     return wmem_strdup_printf(shown->pinfo->pool, "%.*s(hidden)%s", before, line, behind ? behind : "");
 }
 
+/* What is kept of a packet while it is dissected. */
+enum { KEY_BEGUN, KEY_WORDS };
+
+/* Divides the words of a packet's messages, in the packet list. */
+static void begin_words(packet_info *pinfo) {
+    if (p_get_proto_data(pinfo->pool, pinfo, proto_zookeeper, KEY_WORDS)) {
+        col_append_str(pinfo->cinfo, COL_INFO, " | ");
+    } else {
+        p_add_proto_data(pinfo->pool, pinfo, proto_zookeeper, KEY_WORDS, pinfo);
+    }
+}
+
 /* The words of the packet list. */
 static void show_info(const struct shown *shown, const char *path) {
     column_info *cinfo = shown->pinfo->cinfo;
@@ -72,7 +84,7 @@ static void show_info(const struct shown *shown, const char *path) {
     const struct field *xid = shown_field(shown, FIELD_XID), *err = shown_field(shown, FIELD_ERR),
                        *session = shown_field(shown, FIELD_SESSION), *event = shown_field(shown, FIELD_EVENT_KIND);
     guint64 number = session ? (guint64)session->number : 0;
-    col_append_sep_str(cinfo, COL_INFO, " | ", "");
+    begin_words(pinfo);
     switch (shown->frame->kind) {
     case ZK_CONNECT:
         col_append_str(cinfo, COL_INFO, "connect");
@@ -123,22 +135,26 @@ static void show_verdict(const struct shown *shown) {
     generated(verdict);
     if (frame->verdict == VERDICT_REFUSED) {
         proto_item *item = show_fault(shown, fault->reason, fault->place);
+        const char *xids = fault->reason != ZK_XID_ORDER ? "" : wmem_strdup_printf(
+            pinfo->pool, " expected=%d got=%d", fault->expected, fault->got);
         expert_add_info_format(pinfo, item, &ei_refused, "Refused: side=%s frame=%" PRIu64 " offset=%" PRIu64
-                               " place=%u reason=%s", side_names[fault->side].strptr, fault->frame, fault->offset,
-                               fault->place, val_to_str_const(fault->reason, reason_names, "?"));
+                               " place=%u reason=%s%s", side_names[fault->side].strptr, fault->frame, fault->offset,
+                               fault->place, val_to_str_const(fault->reason, reason_names, "?"), xids);
         return;
     }
     if (frame->verdict == VERDICT_NONE && pref_strict) {
         if (connection->refused && connection->refused < pinfo->num) {
             proto_item_append_text(verdict, ": refused in packet %u", connection->refused);
-        } else if (connection->late && connection->late <= pinfo->num) {
-            proto_item_append_text(verdict, ": since packet %u the connection %s", connection->late, connection->why);
+        } else if (connection->unjudged && connection->unjudged <= pinfo->num) {
+            proto_item_append_text(verdict, ": since packet %u the connection %s", connection->unjudged,
+                                   connection->why);
         }
     }
     if (status == ZK_UNKNOWN_OP && op_is_newer(shown->op)) {
         expert_add_info_format(pinfo, verdict, &ei_newer, "%s is of a later release: its request is not read",
                                op_text(pinfo, shown->op));
-    } else if (frame->verdict == VERDICT_NONE && (status == ZK_SHORT ? shown->there == shown->size : status != ZK_WELL)) {
+    } else if (frame->verdict == VERDICT_NONE && status != ZK_WELL &&
+               (status != ZK_SHORT || shown->there == shown->size)) {
         expert_add_info(pinfo, show_fault(shown, status, shown->message.place), &ei_unread);
     }
 }
@@ -174,7 +190,8 @@ static void show_pair(const struct shown *shown) {
     }
     if (frame->disordered) {
         generated(proto_tree_add_int(tree, hf_expected_xid, tvb, 0, 0, frame->expected));
-        expert_add_info_format(pinfo, shown->item, &ei_order, "The oldest request that waits has xid %d", frame->expected);
+        expert_add_info_format(pinfo, shown->item, &ei_order, "The oldest request that waits has xid %d",
+                               frame->expected);
     }
     if (frame->unasked) {
         expert_add_info(pinfo, shown->item, &ei_unasked);
@@ -270,10 +287,11 @@ static void show_bytes(tvbuff_t *tvb, packet_info *pinfo, proto_tree *top, enum 
     proto_tree *tree = proto_item_add_subtree(item, ett_message);
     int size = (int)tvb_captured_length(tvb);
     generated(proto_tree_add_uint(tree, hf_side, tvb, 0, 0, side));
-    col_append_sep_str(pinfo->cinfo, COL_INFO, " | ", "");
+    begin_words(pinfo);
     if (what == WORDS) {
         proto_tree_add_item(tree, hf_words, tvb, 0, size, ENC_UTF_8);
-        col_append_fstr(pinfo->cinfo, COL_INFO, "four letters: %s", tvb_format_text(pinfo->pool, tvb, 0, MIN(40, size)));
+        col_append_fstr(pinfo->cinfo, COL_INFO, "four letters: %s",
+                        tvb_format_text(pinfo->pool, tvb, 0, MIN(40, size)));
         return;
     }
     proto_tree_add_item(tree, hf_no_frame, tvb, 0, size, ENC_NA);
@@ -309,15 +327,16 @@ int dissect_zookeeper(tvbuff_t *tvb, packet_info *pinfo, proto_tree *tree, void 
     }
     struct connection *connection = connection_of(pinfo);
     guint32 there = tvb_captured_length(tvb), size = tvb_reported_length(tvb), at = 0;
-    struct piece piece = {tcp, side_of(connection, pinfo), 0, NULL, 0, 0, FALSE};
-    if (!p_get_proto_data(pinfo->pool, pinfo, proto_zookeeper, 0)) {
-        p_add_proto_data(pinfo->pool, pinfo, proto_zookeeper, 0, connection);
+    struct piece piece = {tcp, side_of(connection, pinfo), 0, NULL, 0, 0, 0, FALSE};
+    if (!p_get_proto_data(pinfo->pool, pinfo, proto_zookeeper, KEY_BEGUN)) {
+        p_add_proto_data(pinfo->pool, pinfo, proto_zookeeper, KEY_BEGUN, connection);
         col_set_str(pinfo->cinfo, COL_PROTOCOL, "ZooKeeper");
         col_clear(pinfo->cinfo, COL_INFO);
     }
     while (at < there) {
         piece.number = tcp->seq + at;
         piece.bytes = tvb_get_ptr(tvb, (int)at, (int)(there - at));
+        piece.before = at;
         piece.there = there - at;
         piece.size = size - at;
         piece.may_wait = pref_desegment && pinfo->can_desegment && there == size;
@@ -336,7 +355,8 @@ int dissect_zookeeper(tvbuff_t *tvb, packet_info *pinfo, proto_tree *tree, void 
         tvbuff_t *own = tvb_new_subset_length_caplen(tvb, (int)at, captured, part);
         if (kept->what == A_FRAME && captured >= FRAME_HEAD) {
             show_frame(own, pinfo, tree, connection, kept->frame, piece.side);
-        } else if (kept->what != AGAIN || !tcp->is_reassembled) { /* TCP puts bytes that wait together from their first on */
+        } else if (kept->what != AGAIN || !tcp->is_reassembled) {
+            /* What waits is put together from its first byte on, however much of it was used. */
             show_bytes(own, pinfo, tree, kept->what, piece.side);
         }
         col_set_fence(pinfo->cinfo, COL_INFO);
@@ -352,7 +372,8 @@ flag dissect_heuristic(tvbuff_t *tvb, packet_info *pinfo, proto_tree *tree, void
         there > FRAME_HEAD + 64) {
         return FALSE;
     }
-    if (message_read(ZK_CONNECT, 0, NULL, tvb_get_ptr(tvb, FRAME_HEAD, -1), there - FRAME_HEAD, NULL, 0).status != ZK_WELL) {
+    if (message_read(ZK_CONNECT, 0, NULL, tvb_get_ptr(tvb, FRAME_HEAD, -1), there - FRAME_HEAD, NULL, 0).status !=
+        ZK_WELL) {
         return FALSE;
     }
     conversation_set_dissector(find_or_create_conversation(pinfo), zookeeper_handle);

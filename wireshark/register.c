@@ -160,6 +160,14 @@ WS_DLL_PUBLIC_DEF const int plugin_want_major = WIRESHARK_VERSION_MAJOR;
 WS_DLL_PUBLIC_DEF const int plugin_want_minor = WIRESHARK_VERSION_MINOR;
 WS_DLL_PUBLIC void plugin_register(void);
 
+#if WIRESHARK_VERSION_MAJOR > 4 || WIRESHARK_VERSION_MINOR >= 2
+WS_DLL_PUBLIC uint32_t plugin_describe(void);
+
+uint32_t plugin_describe(void) {
+    return 1; /* WS_PLUGIN_DESC_DISSECTOR of a header that not every package has */
+}
+#endif
+
 void plugin_register(void) {
     static proto_plugin plugin;
     plugin.register_protoinfo = proto_register_zookeeper;

@@ -45,8 +45,8 @@ static void count(stats_tree *tree, int pivot, gint32 number, const value_string
     stats_tree_tick_pivot(tree, pivot, name ? name : wmem_strdup_printf(pinfo->pool, "%d", number));
 }
 
-static tap_packet_status counts_packet(stats_tree *tree, packet_info *pinfo, epan_dissect_t *dissect _U_, const void *of,
-                                       tap_flags_t flags _U_) {
+static tap_packet_status counts_packet(stats_tree *tree, packet_info *pinfo, epan_dissect_t *dissect _U_,
+                                       const void *of, tap_flags_t flags _U_) {
     const struct told *told = (const struct told *)of;
     tick_stat_node(tree, all, 0, TRUE);
     if (told->kind == ZK_REQUEST) {

@@ -84,7 +84,8 @@ struct connection {
     guint32 port;
     struct way way[2];
     gboolean words;          /* the client says words of four letters */
-    guint32 late;            /* since this packet the connection isn't whole in the capture; 0: it is */
+    gboolean late;           /* the connection isn't whole in the capture */
+    guint32 unjudged;        /* since this packet it is judged no more; 0: it is */
     const char *why;
     guint32 frames;
     guint64 session;
@@ -105,12 +106,27 @@ struct piece {
     guint32 side;
     guint32 number;
     const guint8 *bytes;
+    guint32 before;          /* so many of what TCP has given stand before it */
     guint32 there, size;     /* so many were captured, of so many */
     gboolean may_wait;       /* for more behind them */
 };
 
 /* What stands at the beginning of these bytes: on the first pass found out, later looked up; NULL: it isn't known. */
 const struct kept *kept_of(struct connection *connection, packet_info *pinfo, const struct piece *piece);
+
+/* ---- Frames (frames.c) */
+
+/* From here on the connection isn't whole in the capture, for this reason, and is judged no more. */
+void be_late(struct connection *connection, packet_info *pinfo, const char *why);
+
+/* Whether a side's first byte stands here. */
+gboolean is_first(const struct way *way, const struct piece *piece);
+
+/* A frame of this size that begins here, of which perhaps the front alone is there. */
+struct frame *frame_new(struct connection *connection, packet_info *pinfo, const struct piece *piece, guint32 size);
+
+/* What begins here has a length that no payload has. */
+struct frame *frame_without_payload(struct connection *connection, packet_info *pinfo, const struct piece *piece);
 
 /* ---- Pairs (pairs.c) */
 

@@ -1,0 +1,144 @@
+"""What tests/wireshark.py wants to see: the fields of zkjson's objects, the plugin's sources as functions, and captures."""
+
+import collections
+import contextlib
+import ctypes
+import io
+import pathlib
+import re
+import runpy
+import subprocess
+
+from dissected import SOURCES, TOP, packed, pieces_of, wire, zkr
+
+
+def hexadecimal(value):
+    return f"0x{int(value, 16):016x}"
+
+
+# By name of zkjson's, the plugin's field, and how it spells the value; and what stands for some of these elsewhere.
+SAME = {"xid": ("xid", str), "path": ("path", str), "zxid": ("zxid", hexadecimal), "err": ("err", str),
+        "version": ("version", str), "flags": ("flags", str), "watch": ("watch", lambda value: str(int(value))),
+        "timeout": ("timeout", str), "kind": ("event.kind", str), "state": ("event.state", str),
+        "session": ("session", hexadecimal), "scheme": ("scheme", str)}
+OTHERWISE = {("C", "connect", "version"): "protocol_version", ("S", "connect", "version"): "protocol_version",
+             ("C", "connect", "zxid"): "last_zxid", ("C", "setWatches", "zxid"): "relative_zxid",
+             ("C", "auth", "kind"): "auth.type"}
+STAT = {"czxid": hexadecimal, "mzxid": hexadecimal, "version": str, "cversion": str, "aversion": str,
+        "numChildren": str, "dataLength": str, "pzxid": hexadecimal, "ephemeralOwner": hexadecimal}
+
+
+def differences(wanted, found):
+    """The fields of a message that aren't those of its object."""
+    for name, (field, spelled) in SAME.items():
+        field = OTHERWISE.get((wanted["side"], wanted["op"], name), field)
+        if wanted.get(name) is None or name == "path" and not wanted[name].isprintable():
+            continue
+        if spelled(wanted[name]) not in found[field]:
+            yield name, wanted[name], found[field]
+    for name, spelled in STAT.items():
+        field = "stat." + re.sub(r"(?=[A-Z])", "_", name).lower()
+        if "stat" in wanted and found[field] != [spelled(wanted["stat"][name])]:
+            yield name, wanted["stat"][name], found[field]
+    if "parts" in wanted and len(found["part.op"]) != len(wanted["parts"]) + 1:
+        yield "parts", len(wanted["parts"]), found["part.op"]
+    if wanted.get("blob") is not None and not found["part.op"]:
+        blob = wanted["blob"]
+        data = bytes.fromhex(blob["hex"]) if isinstance(blob, dict) else blob.encode()
+        if bytes.fromhex(found["data"][0].replace(":", "")) != data:
+            yield "blob", blob, found["data"]
+    if "names" in wanted and wanted["names"] and found["children"] != [str(len(wanted["names"]))]:
+        yield "names", len(wanted["names"]), found["children"]
+
+
+def cases():
+    """The stored cases whose recordings are whole, by what is set: the greatest payload and the profile. Of each its
+    name, its pieces, and what is told of its refusal, if it is refused. Words of four letters, and operations of later
+    releases, are not refused by the plugin; it takes no --waiting, and no limits of a ZKR2 head."""
+    found = collections.defaultdict(list)
+    stored = runpy.run_path(str(TOP / "tests" / "program.py"))["stored"]  # the tools have a module of this name, too
+    for name, words, recording, ending in stored():
+        options = dict(zip(words[1::2], words[2::2]))
+        if ending.startswith(b". recording") or "--waiting" in options or recording.startswith(b"ZKR2"):
+            continue
+        pieces = []
+        with contextlib.suppress(zkr.Damaged):  # behind the refusal
+            pieces.extend(zkr.Reader(io.BytesIO(recording)))
+        client = b"".join(piece.data for piece in pieces if piece.side == zkr.CLIENT)
+        refused = re.search(r" refused (.*)", ending.decode())
+        if re.match(rb"[A-Za-z]{4}", client) or refused and "UnknownOp" in refused[1] and later(pieces, refused[1]):
+            refused = None
+        settings = int(options.get("--limit", zkr.USUAL_LIMIT)), options.get("--profile", "3.4")
+        found[settings].append((name, pieces, {refused[1]} if refused else set()))
+    return found.items()
+
+
+def later(pieces, ending):
+    """Whether the operation of the refused request is one of a later release."""
+    number, cutter = int(re.search(r"frame=(\d+)", ending)[1]), zkr.Cutter()
+    frames = [frame for piece in pieces for frame in cutter.take(piece) if frame.side == zkr.CLIENT]
+    op = int.from_bytes(frames[number].payload[4:8], "big", signed=True)
+    return 15 <= op <= 22 or 102 <= op <= 107
+
+
+def shared(folder, name):
+    """A source of the plugin as a shared library."""
+    path = pathlib.Path(folder, f"{name}.so")
+    subprocess.run(["cc", "-std=c11", "-shared", "-fPIC", "-O2", "-Wall", "-Wextra", "-Wpedantic", "-Werror",
+                    f"-I{TOP / 'include'}", "-o", path, SOURCES / f"{name}.c"], check=True)
+    return ctypes.CDLL(str(path))
+
+
+def hole_of(folder):
+    """hole_end, as a function of a side and bytes."""
+    class End(ctypes.Structure):
+        _fields_ = [("found", ctypes.c_bool), ("place", ctypes.c_size_t)]
+    call = shared(folder, "hole").hole_end
+    call.restype, call.argtypes = End, [ctypes.c_uint32, ctypes.c_char_p, ctypes.c_size_t, ctypes.c_uint32]
+
+    def hole(side, data):
+        end = call(b"CS".index(side), data, len(data), zkr.USUAL_LIMIT)
+        return end.found, end.place
+    return hole
+
+
+def fields_of(folder):
+    """message_read, as a function of a call of tests/library.py and a payload."""
+    class Asked(ctypes.Structure):
+        _fields_ = [("op", ctypes.c_int32), ("count", ctypes.c_uint32), ("parts", ctypes.POINTER(ctypes.c_int32))]
+
+    class Message(ctypes.Structure):
+        _fields_ = [("status", ctypes.c_uint32), ("place", ctypes.c_uint32), ("count", ctypes.c_size_t)]
+    call = shared(folder, "fields").message_read
+    call.restype = Message
+    call.argtypes = [ctypes.c_uint32, ctypes.c_uint32, ctypes.POINTER(Asked), ctypes.c_char_p, ctypes.c_size_t,
+                     ctypes.c_void_p, ctypes.c_size_t]
+    kinds = {"first": 1, "request": 2, "connected": 3, "reply": 4, "event": 5}
+
+    def read(words, payload):
+        kind, *asked = words.split()
+        op, *parts = map(int, asked or ["0"])
+        answers = Asked(op, len(parts), (ctypes.c_int32 * (len(parts) + 1))(*parts))
+        message = call(kinds[kind], 34, ctypes.byref(answers) if asked else None, payload, len(payload), None, 0)
+        return message.status, message.place
+    return read
+
+
+def golden():
+    """Captures of which it is stored what is shown of them: a name, the capture, and tshark's words."""
+    def of(name, *more):
+        return list(wire.conversation(pieces_of(TOP / "captures" / f"{name}.zkr"), *more))
+
+    def capture(sent):
+        return wire.pcap(packed(sent))
+    columns = ("-o", 'gui.column.format:"No","%m","Info","%i"', "-Y")
+    tree = ("-O", "zookeeper", "-V", "-Y")
+    basic, again = of("kazoo_basic"), of("kazoo_auth", 1448, (700_000, 800_000))
+    yield "multi", capture(of("kazoo_multi")), (*tree, "zookeeper.part.op && frame.number < 20")
+    yield "access_lists", capture(of("kazoo_auth")), (*tree, "zookeeper.side && frame.number < 12")
+    yield "watches", capture(of("kazoo_watches")), (*columns, "zookeeper.side")
+    yield "refused", capture(of("refused_c_path_not_utf8")), (*tree, "zookeeper.side")
+    yield "newer", capture(of("kazoo_create2_and_others")), (*columns, "zookeeper.side")
+    yield "four_letters", capture(of("refused_kazoo_four_letter_word")), (*tree, "zookeeper.side")
+    yield "hole", capture(basic[:20] + basic[23:30] + basic[31:]), (*columns, "zookeeper.side && frame.number < 40")
+    yield "used_again", capture(basic[:8] + again), (*tree, "zookeeper.kind == 3 or zookeeper.kind == 1")

@@ -1,0 +1,127 @@
+/* frames.c
+ * What is found out of each frame on the first pass: which message it is, its pair, and what the library says of it.
+ *
+ * SPDX-License-Identifier: GPL-2.0-or-later
+ */
+#include "zookeeper.h"
+
+#include "names.h"
+
+/* Longer lines are not kept. */
+enum { LONGEST_LINE = 1 << 16 };
+
+static void judge_no_more(struct connection *connection, packet_info *pinfo, const char *why) {
+    if (!connection->unjudged) {
+        connection->unjudged = pinfo->num;
+        connection->why = why;
+    }
+    judge_end(&connection->judge);
+}
+
+void be_late(struct connection *connection, packet_info *pinfo, const char *why) {
+    connection->late = TRUE;
+    judge_no_more(connection, pinfo, why);
+}
+
+/* Whether who says this may have read more of the other side than is known here: it acknowledges bytes that make no
+ * frame, and not the middle of the next one alone. What TCP put together tells the acknowledgement of its last segment. */
+static gboolean may_know_more(const struct way *other, const struct tcpinfo *tcp) {
+    guint32 acknowledged = tcp->lastackseq - other->next;
+    return !other->begun || tcp->is_reassembled || ((gint32)acknowledged > 0 && acknowledged >= other->end - other->next);
+}
+
+/* Gives the frame to the judge, and keeps its line. */
+static void judge(struct connection *connection, packet_info *pinfo, const struct piece *piece, struct frame *frame,
+                  guint32 size, gboolean newer) {
+    const struct way *other = connection->way + (piece->side == ZK_CLIENT ? ZK_SERVER : ZK_CLIENT);
+    struct judge *judge = &connection->judge;
+    frame->verdict = VERDICT_NONE;
+    if (!judge->judges) {
+        return;
+    }
+    if (newer && frame->call) {
+        frame->call->left_out = TRUE;
+    }
+    if (frame->call && frame->call->left_out) {
+        frame->verdict = VERDICT_LEFT_OUT;
+        return;
+    }
+    gboolean is_welcome = frame->kind == ZK_CONNECTED && (!other->begun || other->next == other->first);
+    if ((is_welcome || frame->unasked || frame->disordered) && may_know_more(other, piece->tcp)) {
+        be_late(connection, pinfo, "lacks a request that was answered");
+        return;
+    }
+    frame->verdict = judge_take(judge, piece->side, piece->bytes, size, &frame->fault);
+    if (frame->verdict == VERDICT_REFUSED) {
+        connection->refused = pinfo->num;
+    } else if (frame->verdict == VERDICT_WELL) {
+        gsize length = judge_line_length(judge, piece->side);
+        if (length > 0 && length <= LONGEST_LINE) {
+            char *line = (char *)wmem_alloc(wmem_file_scope(), length + 1);
+            if (judge_line(judge, piece->side, line, length)) {
+                line[length] = 0;
+                frame->line = line;
+            }
+        }
+    } else {
+        judge_no_more(connection, pinfo, "has more requests that wait than are judged");
+    }
+}
+
+gboolean is_first(const struct way *way, const struct piece *piece) {
+    return way->whole && piece->number == way->first;
+}
+
+/* Which message a frame is. */
+static guint32 kind_of(const struct way *way, const struct piece *piece) {
+    if (is_first(way, piece)) {
+        return piece->side == ZK_CLIENT ? ZK_CONNECT : ZK_CONNECTED;
+    }
+    if (piece->side == ZK_CLIENT) {
+        return ZK_REQUEST;
+    }
+    return piece->there >= FRAME_HEAD + 4 && int_at(piece->bytes + FRAME_HEAD) == XID_EVENT ? ZK_EVENT : ZK_REPLY;
+}
+
+struct frame *frame_new(struct connection *connection, packet_info *pinfo, const struct piece *piece,
+                               guint32 size) {
+    struct way *way = connection->way + piece->side;
+    struct frame *frame = wmem_new0(wmem_file_scope(), struct frame);
+    const guint8 *payload = piece->bytes + FRAME_HEAD;
+    guint32 there = MIN(piece->there, size) - FRAME_HEAD;
+    gboolean newer = FALSE;
+    frame->packet = pinfo->num;
+    frame->count = connection->frames++;
+    frame->kind = kind_of(way, piece);
+    if (frame->kind == ZK_REQUEST && there >= REQUEST_HEAD) {
+        call_new(connection, pinfo, frame, payload, there);
+        newer = op_is_newer(frame->call->op) && message_read(ZK_REQUEST, (guint32)pref_profile, NULL, payload, there,
+                                                             NULL, 0).status == ZK_UNKNOWN_OP;
+    } else if (frame->kind == ZK_REPLY && there >= 4) {
+        frame->xid = int_at(payload);
+        call_answer(connection, pinfo, frame);
+        if (frame->call) {
+            struct way *client = connection->way + ZK_CLIENT;
+            way->sure = TRUE;
+            client->sure |= !client->sought && frame->call->asked >= client->since;
+        }
+    } else if (frame->kind == ZK_CONNECT && there >= 24) {
+        connection->session = (guint64)long_at(payload + 16);
+    } else if (frame->kind == ZK_CONNECTED && there >= 16) {
+        connection->session = (guint64)long_at(payload + 8);
+    }
+    frame->session = connection->session;
+    if (piece->there < size) {
+        be_late(connection, pinfo, "has a frame that was not captured whole");
+    }
+    judge(connection, pinfo, piece, frame, size, newer);
+    return frame;
+}
+
+struct frame *frame_without_payload(struct connection *connection, packet_info *pinfo, const struct piece *piece) {
+    struct frame *frame = wmem_new0(wmem_file_scope(), struct frame);
+    frame->packet = pinfo->num;
+    frame->session = connection->session;
+    judge(connection, pinfo, piece, frame, FRAME_HEAD, FALSE);
+    return frame;
+}
