@@ -37,9 +37,9 @@ class Sent(NamedTuple):
 
 
 def conversation(pieces, most=MOST_DATA, numbers=(1000, 2000), close=True, begun=None):
-    """The segments of a connection with these pieces, none of more than `most` bytes of data. `numbers` are the sequence
-    numbers before the client's and the server's first byte. The segments are a millisecond apart from `begun` on, where
-    that is given; else each has the time of its piece, and none an earlier one than those before it."""
+    """The segments of a connection with these pieces, none of more than `most` bytes of data. `numbers` are the
+    sequence numbers before the client's and the server's first byte. The segments are a millisecond apart from `begun`
+    on, where that is given; else each has the time of its piece, and none an earlier one than those before it."""
     first = {zkr.CLIENT: numbers[0], zkr.SERVER: numbers[1]}
     said = {zkr.CLIENT: 0, zkr.SERVER: 0}
     now = begun

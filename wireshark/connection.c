@@ -13,7 +13,7 @@
 
 #include "hole.h"
 
-/* Of TCP's conversation_completeness, whose numbers packet-tcp.c keeps to itself: a SYN of the client, and its answer. */
+/* Of TCP's conversation_completeness, whose numbers packet-tcp.c keeps to itself: the client's SYN, and the server's. */
 static const guint8 began[] = {[ZK_CLIENT] = 0x01, [ZK_SERVER] = 0x02};
 
 /* No more gaps of a side are kept; and bytes in which no frame is found wait for others up to here. */
@@ -165,8 +165,8 @@ static struct kept *look_for_frames(struct connection *connection, packet_info *
     return keep(connection, pinfo, piece, NO_FRAME, (guint32)end.place);
 }
 
-/* What stands where a frame may begin; `place` is where the next one does. `filling`: the bytes stand in a gap, and tell
- * nothing of those behind it. */
+/* What stands where a frame may begin; `place` is where the next one does. `filling`: the bytes stand in a gap, and
+ * tell nothing of those behind it. */
 static struct kept *look(struct connection *connection, packet_info *pinfo, const struct piece *piece, struct way *way,
                          guint32 *place, gboolean filling) {
     gboolean plausible = frame_is_plausible(piece->side, piece->bytes, piece->there, pref_limit);

@@ -24,10 +24,11 @@ void be_late(struct connection *connection, packet_info *pinfo, const char *why)
 }
 
 /* Whether who says this may have read more of the other side than is known here: it acknowledges bytes that make no
- * frame, and not the middle of the next one alone. What TCP put together tells the acknowledgement of its last segment. */
+ * frame, and not the middle of the next one alone. What TCP put together tells the acknowledgement of its last segment
+ * alone. */
 static gboolean may_know_more(const struct way *other, const struct tcpinfo *tcp) {
-    guint32 acknowledged = tcp->lastackseq - other->next;
-    return !other->begun || tcp->is_reassembled || ((gint32)acknowledged > 0 && acknowledged >= other->end - other->next);
+    gint32 acknowledged = (gint32)(tcp->lastackseq - other->next), next = (gint32)(other->end - other->next);
+    return !other->begun || tcp->is_reassembled || (acknowledged > 0 && acknowledged >= next);
 }
 
 /* Gives the frame to the judge, and keeps its line. */

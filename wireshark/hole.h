@@ -22,7 +22,7 @@ struct hole_end {
 /* Looks for frames in these bytes of a side (ZK_CLIENT, ZK_SERVER), whose payloads have at most `limit` bytes. */
 struct hole_end hole_end(uint32_t side, const uint8_t *bytes, size_t length, uint32_t limit);
 
-/* Whether a frame of this side, of which so many bytes are there, may be one: its length, and the first of its payload. */
+/* Whether these can be the first bytes of a frame of this side, by its length and the first of its payload. */
 bool frame_is_plausible(uint32_t side, const uint8_t *frame, size_t there, uint32_t limit);
 
 #endif

@@ -41,7 +41,7 @@ struct field {
     uint32_t length;   /* of all of it */
     uint32_t part;     /* which part of a multi it belongs to, from 1; else 0 */
     uint32_t element;  /* which element of a list it belongs to, from 1; else 0 */
-    int64_t number;    /* its value; of a text and a blob how many bytes it has, of a list how many elements; -1: null */
+    int64_t number;    /* its value; of a text or a blob how many bytes, of a list how many elements it has; -1: null */
     uint8_t kind;
     uint8_t name;
 };

@@ -114,7 +114,8 @@ static proto_item *add_field(proto_tree *tree, tvbuff_t *tvb, const struct field
             add_none(tree, tvb, field, at);
             return NULL;
         }
-        return proto_tree_add_item(tree, hf, tvb, at + 4, (int)field->number, field->kind == KIND_TEXT ? ENC_UTF_8 : ENC_NA);
+        return proto_tree_add_item(tree, hf, tvb, at + 4, (int)field->number,
+                                   field->kind == KIND_TEXT ? ENC_UTF_8 : ENC_NA);
     }
     gboolean is_time = field->name == FIELD_CTIME || field->name == FIELD_MTIME;
     return proto_tree_add_item(tree, hf, tvb, at, size, (is_time ? ENC_TIME_MSECS : 0) | ENC_BIG_ENDIAN);

@@ -22,10 +22,11 @@ struct judge {
 /* Begins, if there is memory. */
 void judge_begin(struct judge *judge, uint32_t limit, uint32_t profile);
 
-/* Takes a frame, which is the next of its side, in the order of the conversation. VERDICT_WELL, VERDICT_REFUSED with the
- * fault, or VERDICT_NONE where it doesn't judge, or can't for want of memory or of room for what waits. It judges no more
- * then, but for the first. */
-enum verdict judge_take(struct judge *judge, uint32_t side, const uint8_t *frame, size_t length, struct zk_fault *fault);
+/* Takes a frame, which is the next of its side, in the order of the conversation. VERDICT_WELL, VERDICT_REFUSED with
+ * the fault, or VERDICT_NONE where it doesn't judge, or can't for want of memory or of room for what waits. It judges no
+ * more then, but for the first. */
+enum verdict judge_take(struct judge *judge, uint32_t side, const uint8_t *frame, size_t length,
+                        struct zk_fault *fault);
 
 /* The length of the line of the frame that it has just taken; and the line, into so many bytes. */
 size_t judge_line_length(struct judge *judge, uint32_t side);

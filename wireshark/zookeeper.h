@@ -145,7 +145,8 @@ extern int hf_length, hf_side, hf_kind, hf_frame, hf_unread, hf_no_frame, hf_wor
 extern int hf_response_in, hf_response_to, hf_response_time, hf_expected_xid;
 extern int hf_verdict, hf_reason, hf_place, hf_line;
 extern gint ett_message, ett_list, ett_stat, ett_part, ett_acl;
-extern expert_field ei_refused, ei_unread, ei_newer, ei_order, ei_unasked, ei_error, ei_no_frame, ei_again, ei_cut, ei_many;
+extern expert_field ei_refused, ei_unread, ei_newer, ei_order, ei_unasked, ei_error, ei_no_frame, ei_again, ei_cut,
+    ei_many;
 
 /* Adds these fields of a payload that begins behind the first FRAME_HEAD bytes. */
 void tree_fields(tvbuff_t *tvb, packet_info *pinfo, proto_tree *tree, const struct field *fields, size_t count);
