@@ -16,7 +16,7 @@ pub(crate) struct MemorySource<'a> {
 }
 
 impl<'a> MemorySource<'a> {
-    /// Gives at most so many bytes a call, and fails at one, the first being 1.
+    /// Gives at most `step` bytes a call, and fails at the call `fails_at`, the first being 1.
     fn of(bytes: &'a [u8], step: usize, fails_at: u64) -> Self
         requires { 0 < step }
         ensures remaining { ⟦<MemorySource<'a> as Source>⟧.remaining result ≡ Some bytes.now }

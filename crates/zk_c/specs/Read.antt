@@ -1,4 +1,4 @@
--- What is told of a message whose fields are written.
+-- What is returned of a message whose fields are written.
 use Rattle.std.specs.Prelude.{◌≡◌, ◌≢◌, ◌⊎◌, ◌<◌, ◌^◌, ℕ, ℤ, pos, negsuc, List, [], length, Option, Some, None, Ok, Err, nat_le, if◌then◌else◌}
 use Rattle.zk_jute.specs.declared.fault.Reason.{Reason}
 use Rattle.zk_jute.specs.declared.fault.Reason.TheVariants.{NoMemory}
@@ -54,7 +54,7 @@ server_read room count (Connected hello flag) = record { status = room_status ro
 server_read room count (Answered r) = record { status = room_status room count; place = 0; count = count; kind = 4; xid = r.xid; operation = op_number (op_of_reply r); err = err_of r.outcome; zxid = r.zxid }
 server_read room count (Event zxid event) = record { status = room_status room count; place = 0; count = count; kind = 5; xid = negsuc 0; operation = pos 0; err = pos 0; zxid = zxid }
 
--- the frame's fields stand in the room, as far as it goes, and the answer counts them all
+-- the frame's fields are written, as many as there is room for, and the answer counts them all
 pub record TellsClient (f : ClientFrame) (before after : List Field) (answer : ReadAnswer) : Type 0 where
   pub written : AreWritten (client_fields f) before after answer.count
   pub told : answer ≡ client_read (length before) answer.count f
@@ -63,7 +63,7 @@ pub record TellsServer (s : ServerFrame) (before after : List Field) (answer : R
   pub written : AreWritten (server_fields s) before after answer.count
   pub told : answer ≡ server_read (length before) answer.count s
 
--- ---- no message: the numbers of its header, as far as they stand there, and the fault
+-- ---- no message: the numbers of its header, as far as they are there, and the fault
 
 abbrev pub number_of : Read ℤ → ℤ
 number_of (Ok x) = x.0
@@ -81,7 +81,7 @@ ask_head payload = record { status = 0; place = 0; count = 0; kind = 0; xid = in
 abbrev pub answer_head : List ℕ → ReadAnswer
 answer_head payload = record { status = 0; place = 0; count = 0; kind = 0; xid = int_there payload 0; operation = pos 0; err = int_there payload 12; zxid = long_there payload 4 }
 
--- by what it would be; a request of no operation has a header too
+-- by what it is read as; a request of no operation has a header too
 abbrev pub head_of : Option Opened → List ℕ → ReadAnswer
 head_of None payload = ask_head payload
 head_of (Some opened.First) payload = no_read 0
@@ -93,17 +93,17 @@ head_of (Some opened.Event) payload = answer_head payload
 abbrev pub refused_read : ReadAnswer → ItemFault → ℕ → ReadAnswer
 refused_read head fault count = record head { status = reason_number fault.reason; place = fault.place; count = count }
 
--- the fields of the items that end before the place, where it is known what the payload would be
+-- the fields of the items that end before the place, if it is known what the payload is read as
 abbrev pub fields_before : Option Opened → List ℕ → ℕ → List Field
 fields_before None payload place = []
 fields_before (Some o) payload place = opened_fields o payload place
 
--- these stand in the room, as far as it goes, and the answer counts them, and tells the header's numbers and the fault
+-- these are written, as many as there is room for; the answer counts them, and has the header's numbers and the fault
 pub record TellsRefused (o : Option Opened) (payload : List ℕ) (fault : ItemFault) (before after : List Field) (answer : ReadAnswer) : Type 0 where
   pub written : AreWritten (fields_before o payload fault.place) before after answer.count
   pub told : answer ≡ refused_read (head_of o payload) fault answer.count
 
--- the answer tells a fault of this kind, and never want of memory, of a payload that would be this
+-- the answer is a fault of this kind, never NoMemory, of a payload that is read as this
 pub record IsReadFault (Is : ℕ → Reason → Type 0) (IsOpened : Option Opened → Type 0) (payload : List ℕ) (before after : List Field) (answer : ReadAnswer) : Type 0 where
   pub fault : ItemFault
   pub is : IsTold Is fault
@@ -112,16 +112,16 @@ pub record IsReadFault (Is : ℕ → Reason → Type 0) (IsOpened : Option Opene
   pub is_opened : IsOpened opened
   pub tells : TellsRefused opened payload fault before after answer
 
--- it would be this
+-- it is read as this
 abbrev pub Just : Opened → Option Opened → Type 0
 Just o other = other ≡ Some o
 
--- it would be a request of the operation that its header tells, if the profile has one of that number
+-- it is read as a request of the operation in its header, if the profile has one of that number
 abbrev pub IsAskOf : Profile → List ℕ → Option Opened → Type 0
 IsAskOf profile payload None = IsNoOp profile (int_there payload 4)
 IsAskOf profile payload (Some o) = (op : Op) × (o ≡ opened.Ask op) × HasOp profile op × (int_there payload 4 ≡ op_number op)
 
--- ---- a payload is that of a message, whose fields are told; or its first fault is
+-- ---- a payload is that of a message, whose fields are written; or its first fault is returned
 
 abbrev pub ConnectOrFault : List ℕ → List Field → List Field → ReadAnswer → Type 0
 ConnectOrFault payload before after answer = ((f : ClientFrame) × IsConnect payload f) ⊎ IsReadFault (IsFirstFault payload) (Just opened.First) payload before after answer

@@ -9,7 +9,8 @@ use std::marker::Model;
 pub struct Loose<T, A: Allocator> {
     pub(crate) at: *mut T,
     pub(crate) alloc: A,
-    pub(crate) ghost value: { T },
+    /// The value in the box.
+    pub ghost value: { T },
 }
 
 impl<T, A: Allocator> Model for Loose<T, A> {

@@ -22,9 +22,9 @@ use zk_records::{Profile, op_of};
 pub extern "C" fn zk_read_first(payload: &[u8], room: &mut [Field]) -> ReadAnswer
     // A length of 4 GiB or more is refused.
     ensures range { 2 ^ 32 ≤ length payload.now → TellsNone 67 room.old room.new result }
-    // What is a connect request's is read: its fields stand in the room.
+    // If it is a connect request's, its fields are written.
     ensures only { (f : ClientFrame) → HasPlaces payload.now → IsConnect payload.now f → TellsClient f room.old room.new result }
-    // It is one's, or the first case that applies is told.
+    // It is one's, or the first case that applies is returned.
     ensures found { HasPlaces payload.now → ConnectOrFault payload.now room.old room.new result }
 {
     if payload.len() > u32::MAX as usize {
@@ -36,7 +36,7 @@ pub extern "C" fn zk_read_first(payload: &[u8], room: &mut [Field]) -> ReadAnswe
     }
 }
 
-/// A request of the operation that the payload's header tells, if the profile has one of that number.
+/// A request of the operation whose number is in the payload's header; `None` if the profile has none of that number.
 fn ask_of(profile: Profile, payload: &[u8]) -> Option<Opened>
     ensures { IsAskOf profile payload.now result }
 {
@@ -47,7 +47,7 @@ fn ask_of(profile: Profile, payload: &[u8]) -> Option<Opened>
     }
 }
 
-/// The fields of a request of the profile.
+/// Writes the fields of a request of `profile`.
 fn request_in(profile: Profile, payload: &[u8], room: &mut [Field]) -> ReadAnswer
     ensures only { HasPlaces payload.now → ReadsRequest profile payload.now room.old room.new result }
     ensures found { HasPlaces payload.now → RequestOrFault profile payload.now room.old room.new result }
@@ -63,9 +63,9 @@ fn request_in(profile: Profile, payload: &[u8], room: &mut [Field]) -> ReadAnswe
 pub extern "C" fn zk_read_request(profile: u32, payload: &[u8], room: &mut [Field]) -> ReadAnswer
     // A number that is no profile's is refused, and a length of 4 GiB or more.
     ensures range { ((p : Profile) → profile ≡ profile_number p → 2 ^ 32 ≤ length payload.now) → TellsNone 67 room.old room.new result }
-    // What is a request's is read: its fields stand in the room.
+    // If it is a request's, its fields are written.
     ensures only { (p : Profile) → profile ≡ profile_number p → HasPlaces payload.now → ReadsRequest p payload.now room.old room.new result }
-    // It is one's, or the first case that applies is told.
+    // It is one's, or the first case that applies is returned.
     ensures found { (p : Profile) → profile ≡ profile_number p → HasPlaces payload.now → RequestOrFault p payload.now room.old room.new result }
 {
     let Some(profile) = Profile::of_number(profile) else {
@@ -82,9 +82,9 @@ pub extern "C" fn zk_read_request(profile: u32, payload: &[u8], room: &mut [Fiel
 pub extern "C" fn zk_read_connected(payload: &[u8], room: &mut [Field]) -> ReadAnswer
     // A length of 4 GiB or more is refused.
     ensures range { 2 ^ 32 ≤ length payload.now → TellsNone 67 room.old room.new result }
-    // What is such an answer's is read: its fields stand in the room.
+    // If it is such an answer's, its fields are written.
     ensures only { (s : ServerFrame) → HasPlaces payload.now → IsWelcome payload.now s → TellsServer s room.old room.new result }
-    // It is one's, or the first case that applies is told.
+    // It is one's, or the first case that applies is returned.
     ensures found { HasPlaces payload.now → WelcomeOrFault payload.now room.old room.new result }
 {
     if payload.len() > u32::MAX as usize {
@@ -96,7 +96,7 @@ pub extern "C" fn zk_read_connected(payload: &[u8], room: &mut [Field]) -> ReadA
     }
 }
 
-/// The fields of a reply to what was asked.
+/// Writes the fields of a reply to `asked`.
 fn reply_in(asked: &Numbered<'_>, payload: &[u8], room: &mut [Field]) -> ReadAnswer
     requires { HasNoHead IsOfEvent payload.now }
     ensures only { HasPlaces payload.now → ReadsReply asked.now.op (parts_of asked.now.numbers.now) payload.now room.old room.new result }
@@ -121,9 +121,9 @@ pub extern "C" fn zk_read_reply(
     ensures long { 2 ^ 32 ≤ length payload.now → TellsNone 67 room.old room.new result }
     // A header with the xid of events is another message's.
     ensures event { WhereAsked operation parts.now (λ op ops. HasPlaces payload.now → HasHead IsOfEvent payload.now → TellsNone 82 room.old room.new result) }
-    // What is a reply to what was asked is read: its fields stand in the room.
+    // If it is a reply to what was asked, its fields are written.
     ensures only { WhereReply operation parts.now payload.now (λ op ops. ReadsReply op ops payload.now room.old room.new result) }
-    // It is one, or the first case that applies is told.
+    // It is one, or the first case that applies is returned.
     ensures found { WhereReply operation parts.now payload.now (λ op ops. ReplyOrFault op ops payload.now room.old room.new result) }
 {
     let Some(asked) = Numbered::of(operation, parts) else {
@@ -145,9 +145,9 @@ pub extern "C" fn zk_read_event(payload: &[u8], room: &mut [Field]) -> ReadAnswe
     ensures range { 2 ^ 32 ≤ length payload.now → TellsNone 67 room.old room.new result }
     // A header with another xid than that of events is another message's.
     ensures reply { HasPlaces payload.now → HasHead IsOfReply payload.now → TellsNone 82 room.old room.new result }
-    // What is an event's is read: its fields stand in the room.
+    // If it is an event's, its fields are written.
     ensures only { (s : ServerFrame) → HasPlaces payload.now → IsNotice payload.now s → TellsServer s room.old room.new result }
-    // It is one's, or the first case that applies is told.
+    // It is one's, or the first case that applies is returned.
     ensures found { HasPlaces payload.now → HasNoHead IsOfReply payload.now → NoticeOrFault payload.now room.old room.new result }
 {
     if payload.len() > u32::MAX as usize {

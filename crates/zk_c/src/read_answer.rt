@@ -1,4 +1,4 @@
-//! What C is told of a message whose fields are written.
+//! `ReadAnswer`: the message whose fields were written, in numbers.
 ghost use Rattle.std.specs.Prelude.{◌≡◌, ◌<◌, ◌^◌, pos, length};
 ghost use Rattle.zk_asks.specs.Frames as asks;
 ghost use Rattle.zk_answers.specs.Frames as answers;
@@ -17,9 +17,9 @@ use zk_records::op_number;
 #[repr(C)]
 #[derive(Clone, Copy)]
 pub struct ReadAnswer {
-    /// 0; 68 where there are more fields than room; or why it is no message's.
+    /// 0; 68 if there are more fields than room; or the reason why the payload is no message's.
     pub status: u32,
-    /// Where in the payload the fault stands.
+    /// The fault's place in the payload.
     pub place: u32,
     /// The number of the message's fields.
     pub count: u32,
@@ -34,7 +34,7 @@ pub struct ReadAnswer {
     pub zxid: i64,
 }
 
-/// The int that stands at a place; 0 where none does.
+/// The int at `place`; 0 if none is whole there.
 #[tactic(auto, using(crate::proofs::Reading::there, crate::proofs::Reading::not_there, crate::proofs::Reading::no_int))]
 pub fn int_there(payload: &[u8], place: usize) -> i32
     ensures { result ≡ int_there payload.now place }
@@ -48,7 +48,7 @@ pub fn int_there(payload: &[u8], place: usize) -> i32
     }
 }
 
-/// The long that stands at a place; 0 where none does.
+/// The long at `place`; 0 if none is whole there.
 #[tactic(auto, using(crate::proofs::Reading::there, crate::proofs::Reading::not_there, crate::proofs::Reading::no_long))]
 fn long_there(payload: &[u8], place: usize) -> i64
     ensures { result ≡ long_there payload.now place }
@@ -118,7 +118,7 @@ impl ReadAnswer {
         }
     }
 
-    /// The payload is no message's, and begins with this header; so many fields stand in front of the fault.
+    /// The payload is no message's, and has this header; `count` fields come before the fault.
     fn refused(self, fault: ItemFault, count: u32) -> ReadAnswer
         ensures { result ≡ refused_read self fault count }
     {
@@ -208,8 +208,8 @@ pub fn read_server(frame: &ServerRef<'_>, room: &mut [Field]) -> ReadAnswer
     ReadAnswer::server(places, count, frame)
 }
 
+/// Writes the fields before `place` of a payload read as `opened`, as many as `room` has places for.
 #[tactic(auto, using(zk_fields::proofs::Wholes::none_written))]
-/// Writes the fields in front of a place of a payload that would be this, as far as there is room.
 fn write_before(opened: Option<Opened>, payload: &[u8], place: u32, room: &mut [Field]) -> u32
     ensures { length payload.now < 2 ^ 32 → AreWritten (fields_before opened payload.now place) room.old room.new result }
 {
@@ -219,7 +219,7 @@ fn write_before(opened: Option<Opened>, payload: &[u8], place: u32, room: &mut [
     }
 }
 
-/// The numbers of the header of a payload that would be this.
+/// The numbers of the header of a payload read as `opened`.
 fn head_of(opened: Option<Opened>, payload: &[u8]) -> ReadAnswer
     ensures { result ≡ head_of opened payload.now }
 {
@@ -233,7 +233,7 @@ fn head_of(opened: Option<Opened>, payload: &[u8]) -> ReadAnswer
     }
 }
 
-/// The fields in front of the fault of a payload that would be this, as far as there is room.
+/// Writes the fields before the fault of a payload read as `opened`, as many as `room` has places for.
 pub fn read_fault(
     opened: Option<Opened>,
     payload: &[u8],

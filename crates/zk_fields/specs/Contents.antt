@@ -1,4 +1,4 @@
--- What lies in a payload where a field says.
+-- The content of a field in a payload.
 use Rattle.std.specs.Prelude.{◌≡◌, ℕ, ◌+◌, List, [], ◌∷◌, take, drop, Option, Some, IfSome}
 use Rattle.zk_jute.specs.Item.{AUstring, ABuffer, bytes_of}
 use Rattle.zk_fields.specs.declared.field.Field.{Field}

@@ -41,7 +41,7 @@ abbrev pub size_of : Entry → ℕ
 size_of (Under name i) = item_size i
 size_of (Head h) = 9
 
--- where its content lies: behind the length
+-- its content begins after the length
 abbrev pub run_field : ℕ → ℕ → ℕ → Option (List ℕ) → Field
 run_field place name kind None = record { place = place + 4; length = 0; number = pos 0; name = name; kind = kind; null = 1 }
 run_field place name kind (Some bytes) = record { place = place + 4; length = length bytes; number = pos 0; name = name; kind = kind; null = 0 }
@@ -63,7 +63,7 @@ abbrev pub field_of : ℕ → Entry → Field
 field_of place (Under name i) = item_field place name i
 field_of place (Head h) = record { place = place; length = 9; number = h.kind; name = 0; kind = 7; null = 0 }
 
--- so many bytes they have
+-- the bytes of all
 abbrev pub size_all : List Entry → ℕ
 size_all [] = 0
 size_all (e ∷ es) = size_of e + size_all es

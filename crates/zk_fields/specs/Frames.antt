@@ -26,7 +26,7 @@ abbrev pub flag_entries : Option Bool → List Entry
 flag_entries None = []
 flag_entries (Some b) = a_boolean.entries the_read_only b
 
--- what stands before the fields, the fields, and what stands behind them
+-- the items before the fields, the fields, and the items after them
 pub record Framed : Type 0 where
   pub front : List Item
   pub entries : List Entry
@@ -49,7 +49,7 @@ abbrev pub rest_behind : Outcome → List Item
 rest_behind (outcome.Done b) = body_behind b
 rest_behind (outcome.Failed op e) = []
 
--- the header's numbers are told beside the fields
+-- the header's items come before the fields
 abbrev pub client_framed : ClientFrame → Framed
 client_framed (client.Connect hello flag) = record { front = []; entries = connect_request.entries 0 hello ++ flag_entries flag; behind = [] }
 client_framed (client.Ask xid a) = record { front = header_items xid (op_number (op_of_ask a)); entries = ask_entries a; behind = ask_behind a }
@@ -73,7 +73,7 @@ client_fields f = framed_fields (client_framed f)
 abbrev pub server_fields : ServerFrame → List Field
 server_fields s = framed_fields (server_framed s)
 
--- the fields stand in the room from its beginning on, as far as it goes; all are counted
+-- the room begins with the fields, as many as it has places for, and is else as before; all are counted
 pub record AreWritten (fields before after : List Field) (count : ℕ) : Type 0 where
   pub count_is : count ≡ length fields
   pub room_is : after ≡ take (length before) fields ++ drop (length fields) before

@@ -1,11 +1,11 @@
--- The room in which fields are written, as far as it goes.
+-- The room in which fields are written, as many as it has places for.
 use Rattle.std.specs.Prelude.{◌≡◌, ℕ, ◌+◌, ◌<◌, ◌≤◌, ◌^◌, List, [], ◌∷◌, length, set}
 use Rattle.zk_fields.specs.declared.field.Field.{Field}
 use Rattle.zk_fields.specs.declared.field.At.{At}
 use Rattle.zk_jute.specs.Item.{HaveBytes}
 use Rattle.zk_fields.specs.Fields.{Entry, items_of, size_all, fields_from}
 
--- the fields stand in the room from this one on; those for which there is no room are left out
+-- the fields are written from this place of the room on; those beyond its end are left out
 abbrev pub written : ℕ → List Field → List Field → List Field
 written count [] room = room
 written count (f ∷ fs) room = written (count + 1) fs (set room count f)
@@ -16,11 +16,11 @@ after_one at size = record { count = at.count + 1; place = at.place + size }
 abbrev pub after : At → List Entry → At
 after at es = record { count = at.count + length es; place = at.place + size_all es }
 
--- they have bytes, and numbers of 32 bits tell where they are
+-- they have bytes, and their places are numbers of 32 bits
 abbrev pub Fits : At → List Entry → Type 0
 Fits at es = (at.count ≤ at.place) × (at.place + size_all es < 2 ^ 32) × HaveBytes (items_of es)
 
--- a field of so many bytes is written
+-- a field of `size` bytes is written
 abbrev pub Puts : At → List Field → Field → ℕ → At → List Field → Type 0
 Puts at room field size next new = at.count ≤ at.place → 1 ≤ size → at.place + size < 2 ^ 32 → (next ≡ after_one at size) × (new ≡ set room at.count field)
 

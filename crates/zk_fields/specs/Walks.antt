@@ -22,7 +22,7 @@ use Rattle.zk_fields.specs.Named.{Shape, Nothing, An, Both, Many}
 use Rattle.zk_fields.specs.Records.{texts, rights, stat, connect_request, connect_response, watcher_event, create_ask, delete_ask, set_data_ask, set_acl_ask, check_ask, watch_ask, path_ask, auth_ask, set_watches_ask}
 use Rattle.zk_fields.specs.Room.{Takes}
 
--- the entries that are there, and the place behind them where all are
+-- the entries that are whole there, and the place after them if all are
 pub record Met : Type 0 where
   pub entries : List Entry
   pub end : Option ℕ
@@ -34,7 +34,7 @@ abbrev pub item_met : ℕ → Read (List Item) → Met
 item_met name (Ok x) = record { entries = named name x.0; end = Some x.1 }
 item_met name (Err f) = none_met
 
--- these entries, and what is at the place behind them
+-- these entries, and what is at the place after them
 abbrev pub behind : List Entry → Option ℕ → (ℕ → Met) → Met
 behind es None others = record { entries = es; end = None }
 behind es (Some place) others = record { entries = es ++ (others place).entries; end = (others place).end }
@@ -42,7 +42,7 @@ behind es (Some place) others = record { entries = es ++ (others place).entries;
 abbrev pub met_then : Met → (ℕ → Met) → Met
 met_then m others = behind m.entries m.end others
 
--- so many, one after the other
+-- n of them, one after the other
 abbrev pub times_met : (ℕ → Met) → ℕ → ℕ → Met
 times_met f zero place = record { entries = []; end = Some place }
 times_met f (suc n) place = met_then (f place) (times_met f n)
@@ -61,7 +61,7 @@ walk (An name kind) src place = item_met name (items_at (One kind End) src place
 walk (Both a b) src place = met_then (walk a src place) (walk b src)
 walk (Many name s) src place = list_met name (walk s src) (size_at src place)
 
--- ---- the parts and the results of a multi: each begins with a header, which tells what follows
+-- ---- the parts and the results of a multi: each begins with a header, which says what follows
 
 abbrev pub header_at : List ℕ → ℕ → Read MultiHeader
 header_at src place = int_at src place >>= λ kind. bool_at src kind.1 >>= λ done. int_at src done.1 >>= λ err. Ok (record { kind = kind.0; done = done.0; err = err.0 }, err.1)
@@ -74,7 +74,7 @@ abbrev pub part_of : ℤ → Option PartOp
 part_of (pos n) = part_with n
 part_of (negsuc n) = None
 
--- what a header stands before that isn't the end marker: in a request, and in a reply
+-- what follows a header that isn't the end marker: in a request, and in a reply
 unfoldable pub part_mark : MultiHeader → Option Mark
 part_mark header = if header.done then None else option_map mark.Part (part_of header.kind)
 
@@ -111,7 +111,7 @@ headed mark_of src (Err f) = none_met
 abbrev pub head_met : (MultiHeader → Option Mark) → List ℕ → ℕ → Met
 head_met mark_of src place = headed mark_of src (header_at src place)
 
--- ---- whole payloads, by what they would be
+-- ---- whole payloads, by the kind of message that they are read as
 
 -- fields, or as many parts or results as there are
 pub data Content : Type 0 where
@@ -158,7 +158,7 @@ body_content ops.Auth = Fields Nothing
 body_content ops.SetWatches = Fields Nothing
 body_content ops.CloseSession = Fields Nothing
 
--- what stands behind the header, if there is one
+-- what follows the header, if there is one
 abbrev pub opened_content : Opened → Content
 opened_content opened.First = Fields (Both (connect_request.shape 0) (An the_read_only Boolean))
 opened_content (opened.Ask op) = ask_content op
@@ -179,6 +179,6 @@ opened_fields o payload place = if nat_le (opened_start o) (length (take place p
 
 -- ---- what a walk does
 
--- the entries' fields are written, and the walk ends behind them, or where the next item isn't there
+-- the entries' fields are written, and the walk ends after them, or where the next item isn't whole
 unfoldable pub Walks : At → List Field → Met → Walked → List Field → Type 0
 Walks at room met next new = Takes at room met.entries next.at new × (next.end ≡ met.end)

@@ -1,4 +1,4 @@
-//! Requests.
+//! The fields of requests, and of a multi's parts.
 ghost use Rattle.std.specs.Prelude.{◌≡◌, ◌∷◌, []};
 ghost use Rattle.std.specs.List.{flat_map};
 ghost use Rattle.zk_asks.specs.Parts.{part_header};
@@ -13,7 +13,7 @@ use crate::show::Show;
 use zk_asks::{AskOf, AskRef, PartItems, PartList, PartOf, PartRef};
 use zk_records::{MultiHeader, PartOp, part_number};
 
-/// The header that begins a part or a result.
+/// Writes the field of the header that begins a part or a result.
 #[tactic(auto, using(crate::proofs::Rooms::takes_one))]
 pub(crate) fn show_head(header: &MultiHeader, room: &mut [Field], at: At) -> At
     ensures { Takes at room.old (Head header.now ∷ []) result room.new }

@@ -1,4 +1,4 @@
-//! Replies.
+//! The fields of replies, and of a multi's results.
 ghost use Rattle.std.specs.Prelude.{◌≡◌};
 ghost use Rattle.std.specs.List.{flat_map};
 ghost use Rattle.zk_answers.specs.Results.{mark_before};
@@ -46,7 +46,7 @@ fn mark_before(done: &PartDoneRef<'_>) -> MultiHeader
     }
 }
 
-/// What stands behind its header.
+/// Writes the fields after a result's header.
 #[tactic(auto, using(crate::proofs::Rooms::takes_nothing))]
 fn show_result(done: &PartDoneRef<'_>, room: &mut [Field], at: At) -> At
     ensures { Takes at room.old (result_entries done.now) result room.new }

@@ -6,28 +6,28 @@ ghost use Rattle.zk_fields.specs.Room.{Puts};
 #[repr(C)]
 #[derive(Clone, Copy)]
 pub struct Field {
-    /// Where in the payload its content begins: behind its length, of a text or a blob.
+    /// The place in the payload where its content begins: for a text or a blob, after its length.
     pub place: u32,
-    /// So many bytes its content has.
+    /// The bytes of its content.
     pub length: u32,
-    /// An int, a long, a boolean, a count; the number of a part's header.
+    /// The number of an int or a long, 0 or 1 for a boolean, a list's count, or the operation in a part's header.
     pub number: i64,
-    /// Which field of the records it is.
+    /// The number of its name (`name.rt`).
     pub name: u16,
     /// 1: int. 2: long. 3: boolean. 4: text. 5: blob. 6: list. 7: part.
     pub kind: u8,
-    /// 1 where it is null.
+    /// 1 if it is null, else 0.
     pub null: u8,
 }
 
-/// How far a message's fields have come: so many, and the place in the payload behind them.
+/// The number of fields so far, and the place in the payload after them.
 #[derive(Clone, Copy)]
 pub struct At {
     pub count: u32,
     pub place: u32,
 }
 
-/// Writes a field, where there is room for it, and goes on by so many bytes of the payload.
+/// Writes `field`, if `room` has a place for it, and goes on by `size` bytes of the payload.
 pub(crate) fn put(field: Field, size: u32, room: &mut [Field], at: At) -> At
     ensures { Puts at room.old field size result room.new }
 {
@@ -41,7 +41,7 @@ pub(crate) fn put(field: Field, size: u32, room: &mut [Field], at: At) -> At
     }
 }
 
-/// The number of so many bytes.
+/// The number of `bytes`; `u32::MAX` for more than that.
 pub(crate) fn size_of(bytes: &[u8]) -> u32
     ensures { length bytes.now < 2 ^ 32 → result ≡ length bytes.now }
 {

@@ -1,4 +1,4 @@
-//! Whole frames.
+//! The fields of whole frames: `client_fields` and `server_fields`.
 ghost use Rattle.std.specs.Prelude.{◌≡◌, ◌<◌, ◌^◌, length};
 ghost use Rattle.zk_jute.specs.Item.{bytes_of};
 ghost use Rattle.zk_asks.specs.Frames as asks;
@@ -11,10 +11,10 @@ use crate::show::Show;
 use zk_answers::{OutcomeOf, OutcomeRef, ServerFrameOf, ServerRef};
 use zk_asks::{ClientFrameOf, ClientRef};
 
-/// Bytes of a request's header.
+/// The bytes of a request's header.
 pub(crate) const REQUEST: u32 = 8;
 
-/// Bytes of a reply's header.
+/// The bytes of a reply's header.
 pub(crate) const REPLY: u32 = 16;
 
 impl Show for Option<bool> {
@@ -91,7 +91,8 @@ fn server_start(frame: &ServerRef<'_>) -> u32
     }
 }
 
-/// Writes the fields of a client's frame into the room, as far as it goes, and counts them all.
+/// Writes the fields of the client's `frame` into `room`, as many as it has places for, and returns how many there are.
+/// The clause holds for a frame whose payload is shorter than 4 GiB.
 pub fn client_fields(frame: &ClientRef<'_>, room: &mut [Field]) -> u32
     ensures { asks.IsSent frame.now → length (asks.payload frame.now) < 2 ^ 32 → AreWritten (client_fields frame.now) room.old room.new result }
 {
@@ -102,7 +103,8 @@ pub fn client_fields(frame: &ClientRef<'_>, room: &mut [Field]) -> u32
     frame.show(0, room, at).count
 }
 
-/// Writes the fields of a server's frame into the room, as far as it goes, and counts them all.
+/// Writes the fields of the server's `frame` into `room`, as many as it has places for, and returns how many there are.
+/// The clause holds for a frame whose payload is shorter than 4 GiB.
 pub fn server_fields(frame: &ServerRef<'_>, room: &mut [Field]) -> u32
     ensures { answers.IsSent frame.now → length (answers.payload frame.now) < 2 ^ 32 → AreWritten (server_fields frame.now) room.old room.new result }
 {

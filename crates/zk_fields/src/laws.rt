@@ -1,4 +1,4 @@
-//! The laws of fields, as contracts.
+//! The laws of fields, as the contract of a function that does nothing.
 ghost use Rattle.std.specs.Prelude.{◌≡◌, length};
 ghost use Rattle.zk_jute.specs.Item.{bytes_of};
 ghost use Rattle.zk_asks.specs.Held.{ClientFrame};
@@ -8,7 +8,7 @@ ghost use Rattle.zk_answers.specs.Frames as answers;
 ghost use Rattle.zk_fields.specs.Frames.{Framed, framed_items, client_framed, server_framed};
 ghost use Rattle.zk_fields.specs.Contents.{AreAt};
 
-/// The laws of a message's fields; the function does nothing.
+/// The fields of a message are its items, in order and in their places. The function does nothing.
 pub fn field_laws()
     // The header, the fields' items and a multi's end are the message's items, in order.
     ensures client { (f : ClientFrame) → framed_items (client_framed f) ≡ asks.frame_items f }

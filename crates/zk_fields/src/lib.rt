@@ -1,4 +1,20 @@
 //! The fields of a message: its items in order, each with its name and its place.
+//!
+//! `client_fields` and `server_fields` are the main calls: they write the fields of a borrowed frame into the caller's
+//! array, as many as it has room for, and return how many there are. `opened_fields` does the same for the items of any
+//! payload that end before a place, such as that of a fault. `field_laws` says that the fields are the message's items,
+//! all and in order, and that each one's place and length are those of its content. Nothing is allocated.
+//!
+//! The names are those of docs/FORMATS.md, sections 3 and 4. A list is a field with its count, and then its elements'
+//! fields; a multi is, for each part or result, a field for the header and then the fields of its record. The numbers of
+//! a frame's own header (xid, operation, zxid, err) are no fields: `zk_c` returns them beside these.
+//!
+//! The crate rests on `zk_asks` and `zk_answers` for frames, on `zk_records` for records and on `zk_jute` for items.
+//!
+//! ```text
+//! let frame = borrow_ask(Profile::V34, payload)?;
+//! let count = client_fields(&frame, &mut room);
+//! ```
 #![tactic(auto)]
 
 mod ask;

@@ -1,4 +1,4 @@
-//! Lists.
+//! The fields of lists: the count, and the fields of each element.
 ghost use Rattle.std.specs.Prelude.{◌≡◌, ◌<◌, ◌^◌, ◌∷◌, [], List, Some, None, pos};
 ghost use Rattle.std.specs.List.{flat_map};
 ghost use Rattle.std.specs.Iterator.{YieldsFirst};
@@ -11,13 +11,13 @@ use crate::field::{At, Field, put};
 use crate::show::Show;
 use zk_jute::{Element, Elements, KnownPayload, Series, Stands};
 
-/// What is left of a list where it lies.
+/// The rest of a borrowed list.
 pub(crate) trait Left: Drop {
     type One: Show + Drop;
 
     ghost left: { Self → List Self.One };
 
-    /// The next one, which is no longer left; None where none is.
+    /// Takes the next element; `None` if none is left.
     fn take(&mut self) -> Option<Self::One>
         ensures { YieldsFirst left self.old result self.new };
 }
@@ -32,7 +32,7 @@ impl<'a, R: Element + Stands<KnownPayload<'a>> + Show> Left for Elements<'a, R> 
     }
 }
 
-/// The fields of all that is left, one after the other.
+/// Writes the fields of each of `items`, one after the other.
 pub(crate) fn show_all<I: Left>(items: I, name: u16, room: &mut [Field], at: At) -> At
     ensures { Takes at room.old (flat_map (I.One.entries name) (I.left items)) result room.new }
 {
@@ -44,14 +44,14 @@ pub(crate) fn show_all<I: Left>(items: I, name: u16, room: &mut [Field], at: At)
     at
 }
 
-/// The number of a list's count.
+/// The count as a field's number.
 fn count_number(count: usize) -> i64
     ensures { count < 2 ^ 31 → result ≡ pos count }
 {
     i64::try_from(count).unwrap_or(i64::MAX)
 }
 
-/// A list's count.
+/// Writes the field of a list's `count`.
 #[tactic(auto, using(crate::proofs::Rooms::takes_count))]
 pub(crate) fn show_count(name: u16, count: usize, room: &mut [Field], at: At) -> At
     ensures { Takes at room.old (Under name (ACount (Some count)) ∷ []) result room.new }
@@ -67,7 +67,7 @@ pub(crate) fn show_count(name: u16, count: usize, room: &mut [Field], at: At) ->
     put(field, 4, room, at)
 }
 
-/// The count of a list that is null.
+/// Writes the field of a list that is null.
 #[tactic(auto, using(crate::proofs::Rooms::takes_one))]
 pub(crate) fn show_null(name: u16, room: &mut [Field], at: At) -> At
     ensures { Takes at room.old (Under name (ACount None) ∷ []) result room.new }

@@ -1,4 +1,4 @@
-//! The fields of a payload that is no message's, up to its fault.
+//! `opened_fields`: the fields of any payload, up to a place.
 ghost use Rattle.std.specs.Prelude.{◌≡◌, ◌≤◌, ◌<◌, ◌^◌, length, take, IfOk, IfSome};
 ghost use Rattle.zk_jute.specs.Reading.{Tells};
 ghost use Rattle.zk_fields.specs.Frames.{AreWritten};
@@ -14,17 +14,22 @@ use zk_records::{
     AclList, ConnectRequestRef, ConnectResponseRef, MultiHeader, Op, PartOp, Stat, part_of,
 };
 
-/// What a payload would be.
+/// The kind of message that a payload is read as.
 #[derive(Clone, Copy)]
 pub enum Opened {
+    /// A connect request.
     First,
+    /// A request of this operation.
     Ask(Op),
+    /// The answer to a connect request.
     Connected,
+    /// A reply to a request of this operation.
     Reply(Op),
+    /// An event.
     Event,
 }
 
-/// The header of a part or a result, and the place behind it.
+/// The header of a part or a result, and the place after it.
 fn head_at(payload: &[u8], place: usize) -> Result<(MultiHeader, usize), ItemFault>
     requires { place ≤ length payload.now }
     ensures exact { Tells (λ x. x) result (header_at payload.now place) }
@@ -36,7 +41,7 @@ fn head_at(payload: &[u8], place: usize) -> Result<(MultiHeader, usize), ItemFau
     Ok((MultiHeader { kind, done, err }, place))
 }
 
-/// The record of a part of a multi.
+/// Writes the fields of the record of a multi's part.
 fn walk_record<'a>(
     op: PartOp,
     payload: &'a [u8],
@@ -60,7 +65,7 @@ fn walk_record<'a>(
     }
 }
 
-/// What a header of a multi stands before: a part, a part's own result, or an error.
+/// What follows a multi's header: a part, a part's own result, or an error.
 #[derive(Clone, Copy)]
 pub enum Mark {
     Part(PartOp),
@@ -68,7 +73,7 @@ pub enum Mark {
     Error,
 }
 
-/// What a header in a request stands before; None for the end marker, and for one that is no part's.
+/// What follows `header` in a request; `None` for the end marker, and for a header of no part.
 #[tactic(auto, using(crate::proofs::Marks::part_end, crate::proofs::Marks::part_none, crate::proofs::Marks::part_some))]
 fn part_mark(header: &MultiHeader) -> Option<Mark>
     ensures { result ≡ part_mark header.now }
@@ -82,7 +87,7 @@ fn part_mark(header: &MultiHeader) -> Option<Mark>
     }
 }
 
-/// What a header in a reply stands before; None for the end marker, and for one that is no result's.
+/// What follows `header` in a reply; `None` for the end marker, and for a header of no result.
 #[tactic(auto, using(crate::proofs::Marks::result_end, crate::proofs::Marks::result_error, crate::proofs::Marks::result_none, crate::proofs::Marks::result_some))]
 fn result_mark(header: &MultiHeader) -> Option<Mark>
     ensures { result ≡ result_mark header.now }
@@ -99,7 +104,7 @@ fn result_mark(header: &MultiHeader) -> Option<Mark>
     }
 }
 
-/// What stands behind a header.
+/// Writes the fields of what follows a header.
 fn walk_mark<'a>(mark: Mark, payload: &'a [u8], place: usize, room: &mut [Field], at: At) -> Walked
     requires { place ≤ length payload.now }
     ensures walks { Walks at room.old (walk (mark_shape mark) payload.now place) result room.new }
@@ -115,7 +120,7 @@ fn walk_mark<'a>(mark: Mark, payload: &'a [u8], place: usize, room: &mut [Field]
     }
 }
 
-/// A header, and what stands behind it.
+/// Writes the fields of a header and of what follows it.
 #[tactic(auto, using(crate::proofs::Walking::none_under, crate::proofs::Walking::walks_under))]
 fn walk_under<'a>(
     header: &MultiHeader,
@@ -248,7 +253,7 @@ fn walk_opened<'a>(
     }
 }
 
-/// Where the fields begin.
+/// The place where the fields begin: after the header.
 fn start_of(opened: Opened) -> u32
     ensures { result ≡ opened_start opened }
 {
@@ -259,7 +264,7 @@ fn start_of(opened: Opened) -> u32
     }
 }
 
-/// The bytes before the place.
+/// The bytes before `place`; all if it is beyond them.
 #[tactic(auto, using(std::proofs::lemmas::List::take_all))]
 fn before(payload: &[u8], place: u32) -> &[u8]
     ensures { result.now ≡ take place payload.now }
@@ -272,7 +277,8 @@ fn before(payload: &[u8], place: u32) -> &[u8]
     }
 }
 
-/// Writes the fields of the items that end before the place, as far as there is room, and counts them all.
+/// Writes the fields of the items of `payload` that end at or before `place`, read as `opened`, into `room`, as many as
+/// it has places for, and returns how many there are. The clause holds for a payload shorter than 4 GiB.
 pub fn opened_fields(opened: Opened, payload: &[u8], place: u32, room: &mut [Field]) -> u32
     ensures { length payload.now < 2 ^ 32 → AreWritten (opened_fields opened payload.now place) room.old room.new result }
 {

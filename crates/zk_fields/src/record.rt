@@ -1,4 +1,4 @@
-//! The records, by their fields: each with its name, in order.
+//! The fields of records: each with its name, in order.
 ghost use Rattle.zk_fields.specs.Records.{id, acl, stat, connect_request, connect_response, watcher_event, create_ask, delete_ask, set_data_ask, set_acl_ask, check_ask, watch_ask, path_ask, auth_ask, set_watches_ask};
 
 use crate::field::{At, Field};

@@ -1,4 +1,4 @@
-//! What a value's fields are.
+//! `Show`: the fields of a value, written.
 ghost use Rattle.std.specs.Prelude.{◌≡◌, ◌++◌, ℕ, List, option_copied};
 ghost use Rattle.zk_fields.specs.Fields.{Entry, named, bool_number, run_field, run_size};
 ghost use Rattle.zk_fields.specs.Room.{Takes, Puts};
@@ -7,12 +7,12 @@ ghost use Rattle.zk_jute.specs.Wired.{int, long, boolean, ustring, buffer};
 use crate::field::{At, Field, put, size_of};
 use zk_jute::{BlobRef, TextRef};
 
-/// What has fields.
+/// A value that has fields.
 pub trait Show {
-    /// Its entries, under a name where it is one item.
+    /// Its entries; under the given name if it is one item.
     ghost entries: { ℕ → Self → List Entry };
 
-    /// Writes them, as far as there is room.
+    /// Writes their fields from `at` on, as many as `room` has places for, and returns what comes after them.
     fn show(&self, name: u16, room: &mut [Field], at: At) -> At
         ensures { Takes at room.old (entries name self.now) result room.new };
 }
@@ -51,7 +51,7 @@ impl Show for i64 {
     }
 }
 
-/// 1 for true.
+/// 1 for true, 0 for false.
 fn bool_number(b: bool) -> i64
     ensures { result ≡ bool_number b }
 {
@@ -75,7 +75,7 @@ impl Show for bool {
     }
 }
 
-/// The field of a text or a blob: null, or so many bytes behind their length.
+/// Writes the field of a text or a blob: `None` is null, `bytes` are its content.
 fn run_field(name: u16, kind: u8, bytes: Option<&[u8]>, room: &mut [Field], at: At) -> At
     ensures { Puts at room.old (run_field at.place name kind (option_copied bytes.entry)) (run_size (option_copied bytes.entry)) result room.new }
 {

@@ -1,4 +1,4 @@
-//! The fields of a payload, item by item, as far as they are there.
+//! `Walk`: the fields of a payload that may be cut, item by item, as far as the items are whole.
 ghost use Rattle.std.specs.Prelude.{◌≡◌, ◌≤◌, ℕ, List, length, [], Some, IfOk, IfSome, refl};
 ghost use Rattle.zk_jute.specs.Item.{Int, Long, Boolean, Ustring, Buffer};
 ghost use Rattle.zk_jute.specs.Reading as reading;
@@ -19,14 +19,14 @@ use zk_jute::{
 };
 use zk_records::{AclRef, ConnectRequestRef, ConnectResponseRef, IdRef, Stat};
 
-/// How far a payload's fields have come, and the place behind them; None where the next item isn't there.
+/// What the fields came to, and the place after them; `None` if the next item isn't whole there.
 #[derive(Clone, Copy)]
 pub struct Walked {
     pub at: At,
     pub end: Option<usize>,
 }
 
-/// Nothing stands there.
+/// No items.
 #[tactic(auto, using(crate::proofs::Walking::walks_nothing))]
 pub(crate) fn walk_nothing(place: usize, at: At) -> Walked
     ensures walks { (room : List fields.Field) → Walks at room (walk Nothing [] place) result room }
@@ -38,12 +38,12 @@ pub(crate) fn walk_nothing(place: usize, at: At) -> Walked
     }
 }
 
-/// What may stand in a payload.
+/// What a payload may hold at a place.
 pub(crate) trait Walk<'a>: Sized {
-    /// The entries that are there, under a name where it is one item.
+    /// The entries that are whole there; under the given name if it is one item.
     ghost met: { ℕ → List ℕ → ℕ → Met };
 
-    /// Writes their fields, as far as there is room.
+    /// Writes their fields, as many as `room` has places for.
     fn walk(payload: &'a [u8], place: usize, name: u16, room: &mut [Field], at: At) -> Walked
         requires { place ≤ length payload.now }
         ensures walks { Walks at room.old (met name payload.now place) result room.new }
@@ -75,7 +75,7 @@ impl<'a> Item for BlobRef<'a> {
     ghost alone = { λ _ _. refl };
 }
 
-/// One item, where it is there.
+/// Writes the field of one item, if it is whole there.
 fn walk_item<'a, T: Item + Stands<Payload<'a>>>(
     payload: &'a [u8],
     place: usize,
@@ -214,7 +214,7 @@ impl<'a> Walk<'a> for ConnectResponseRef<'a> {
     }
 }
 
-/// So many, one after the other.
+/// Walks `count` of a kind, one after the other.
 pub(crate) fn walk_times<'a, T: Walk<'a>>(
     payload: &'a [u8],
     count: usize,
@@ -243,7 +243,7 @@ pub(crate) fn walk_times<'a, T: Walk<'a>>(
     }
 }
 
-/// The count of a list, None for null, and the place behind it.
+/// The count of a list, `None` for null, and the place after it.
 fn count_at(payload: &[u8], place: usize) -> Result<(Option<usize>, usize), ItemFault>
     requires { place ≤ length payload.now }
     ensures exact { Tells (λ x. x) result (reading.size_at payload.now place) }
