@@ -5,9 +5,10 @@
  *     fields reply OPERATION HEX
  *
  * A line for the message, or for what is wrong and where, and then a line a field. Of a payload that is no message's the
- * fields in front of the fault are shown. The status is 0 for a message's payload, else 1, and 2 for other words. */
+ * fields before the fault are shown. The status is 0 for a message's payload, else 1, and 2 for other arguments. */
 #include "zk.h"
 
+#include <ctype.h>
 #include <inttypes.h>
 #include <stdio.h>
 #include <stdlib.h>
@@ -15,15 +16,27 @@
 
 static const char *const messages[] = {"fault", "connect request", "request", "connect response", "reply", "event"};
 
-/* The payload of hexadecimal digits; its length, or SIZE_MAX. */
+/* The payload of hexadecimal digits; its length, or SIZE_MAX if they are no whole bytes. */
 static size_t payload_of(const char *digits, uint8_t *payload) {
-    size_t length = strlen(digits) / 2;
-    for (size_t i = 0; i < length; i++) {
+    size_t count = strlen(digits);
+    if (count % 2 != 0) return SIZE_MAX;
+    for (size_t i = 0; i < count; i += 2) {
         unsigned byte;
-        if (sscanf(digits + 2 * i, "%2x", &byte) != 1) return SIZE_MAX;
-        payload[i] = (uint8_t)byte;
+        if (!isxdigit((unsigned char)digits[i]) || !isxdigit((unsigned char)digits[i + 1])) return SIZE_MAX;
+        if (sscanf(digits + i, "%2x", &byte) != 1) return SIZE_MAX;
+        payload[i / 2] = (uint8_t)byte;
     }
-    return length;
+    return count / 2;
+}
+
+/* A peer chose these bytes, so what a terminal may take for a command is escaped. */
+static void put_text(const uint8_t *bytes, uint32_t length) {
+    fputs(" \"", stdout);
+    for (uint32_t i = 0; i < length; i++) {
+        if (bytes[i] >= ' ' && bytes[i] <= '~' && bytes[i] != '"' && bytes[i] != '\\') putchar(bytes[i]);
+        else printf("\\x%02x", bytes[i]);
+    }
+    puts("\"");
 }
 
 static void put_field(const uint8_t *payload, const struct zk_field *field) {
@@ -33,8 +46,8 @@ static void put_field(const uint8_t *payload, const struct zk_field *field) {
         return;
     }
     switch (field->kind) {
-    case ZK_KIND_TEXT: /* not ended by a zero byte */
-        printf(" \"%.*s\"\n", (int)field->length, (const char *)payload + field->place);
+    case ZK_KIND_TEXT:
+        put_text(payload + field->place, field->length);
         break;
     case ZK_KIND_BLOB:
         fputs(" #", stdout);
@@ -46,17 +59,15 @@ static void put_field(const uint8_t *payload, const struct zk_field *field) {
     }
 }
 
-static struct zk_read read_fields(char **words, const uint8_t *payload, size_t length, struct zk_field *out, size_t room) {
-    const int32_t none = 0;
-    switch (words[1][0]) {
-    case 'f': return zk_read_first(payload, length, out, room);
-    case 'c': return zk_read_connected(payload, length, out, room);
-    case 'e': return zk_read_event(payload, length, out, room);
-    case 'r': break;
-    default: exit(2);
-    }
-    if (strcmp(words[1], "request") == 0) return zk_read_request((uint32_t)atoi(words[2]), payload, length, out, room);
-    return zk_read_reply(atoi(words[2]), &none, 0, payload, length, out, room);
+/* A payload that is named by one word, or by a word and a number. */
+static struct zk_read read_fields(int count, char **words, const uint8_t *payload, size_t length, struct zk_field *out, size_t room) {
+    const char *name = words[1];
+    if (count == 3 && strcmp(name, "first") == 0) return zk_read_first(payload, length, out, room);
+    if (count == 3 && strcmp(name, "connected") == 0) return zk_read_connected(payload, length, out, room);
+    if (count == 3 && strcmp(name, "event") == 0) return zk_read_event(payload, length, out, room);
+    if (count == 4 && strcmp(name, "request") == 0) return zk_read_request((uint32_t)atoi(words[2]), payload, length, out, room);
+    if (count == 4 && strcmp(name, "reply") == 0) return zk_read_reply(atoi(words[2]), NULL, 0, payload, length, out, room);
+    exit(2);
 }
 
 int main(int count, char **words) {
@@ -65,14 +76,18 @@ int main(int count, char **words) {
     if (payload == NULL) return 2;
     size_t length = payload_of(words[count - 1], payload), room = 8;
     struct zk_field *fields = malloc(room * sizeof *fields);
-    if (fields == NULL || length == SIZE_MAX) return 2;
-    struct zk_read read = read_fields(words, payload, length, fields, room);
+    if (fields == NULL || length == SIZE_MAX) {
+        free(fields);
+        free(payload);
+        return 2;
+    }
+    struct zk_read read = read_fields(count, words, payload, length, fields, room);
     if (read.count > room) { /* the room is too small: the answer says how large it has to be */
         room = read.count;
         free(fields);
         fields = malloc(room * sizeof *fields);
         if (fields == NULL) return 2;
-        read = read_fields(words, payload, length, fields, room);
+        read = read_fields(count, words, payload, length, fields, room);
     }
     printf("%s %s xid=%" PRId32, messages[read.kind], zk_operation_name(read.operation), read.xid);
     if (read.kind == ZK_REPLY) printf(" zxid=%" PRId64 " err=%" PRId32 " %s", read.zxid, read.err, zk_error_name(read.err));

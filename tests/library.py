@@ -287,14 +287,16 @@ def run_examples(name, words):
 
 
 def run_fields(words):
-    """Whether the example shows the fields of a payload, and those in front of a fault."""
-    for digits, status, wanted in (
-        ("0000000100000003000000022f6101", 0, 'request exists xid=1\n12+2 path "/a"\n14+1 watch 1\n'),
-        ("0000000100000003000000022f6102", 1, 'fault exists xid=1 BAD_BOOL at 14\n12+2 path "/a"\n'),
+    """Whether the example shows the fields of a payload, and those before a fault, and refuses other arguments."""
+    for given, status, shown in (
+        ("request 34 0000000100000003000000022f6101", 0, 'request exists xid=1\n12+2 path "/a"\n14+1 watch 1\n'),
+        ("request 34 0000000100000003000000022f6102", 1, 'fault exists xid=1 BAD_BOOL at 14\n12+2 path "/a"\n'),
+        ("request 34 0000000100000003000000011b01", 0, 'request exists xid=1\n12+1 path "\\x1b"\n13+1 watch 1\n'),
+        ("request 34 0", 2, ""), ("request 34 0g", 2, ""), ("request 00", 2, ""), ("another 00", 2, ""),
     ):
-        found = subprocess.run([*words, "request", "34", digits], capture_output=True, text=True)
-        good = (found.returncode, found.stdout) == (status, wanted)
-        yield digits, good, f"fields {digits}: status {found.returncode}, {found.stdout}"
+        found = subprocess.run([*words, *given.split()], capture_output=True, text=True)
+        good = (found.returncode, found.stdout) == (status, shown)
+        yield given, good, f"fields {given}: status {found.returncode}, {found.stdout}"
 
 
 def judge_payloads(shared):
