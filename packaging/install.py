@@ -102,7 +102,7 @@ def make(folder, libdir, gate):
 
 
 def install(top, libdir="lib", gate=""):
-    """Installs below this folder; BUILD ends with what is told of the gate. A line for each part that is left out."""
+    """Installs below this folder; BUILD ends with what the gate printed. A line for each part that is left out."""
     with tempfile.TemporaryDirectory() as temporary:
         folder = pathlib.Path(temporary)
         yield from make(folder, libdir, gate)

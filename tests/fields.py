@@ -1,9 +1,8 @@
-"""Holds the fields that the library for C tells against tables of payloads and against a second reading of the formats.
+"""Compares the fields that the library for C writes with tables of payloads and with a second reading of the formats.
 
 tests/library.py calls it. The rows of the table were derived from docs/FORMATS.md and docs/EXAMPLES.md. Then each row's
-payload is truncated at each byte and each byte is changed, and the answer is compared with that of a reader which stands
-here, written from the tables of docs/FORMATS.md: the fields in front of a fault, and no byte outside of the room is
-written.
+payload is truncated at each byte and each byte is changed, and the answer is compared with that of a reader in this
+file, written from the tables of docs/FORMATS.md: the fields before a fault, and no byte outside of the room is written.
 """
 
 import ctypes
@@ -24,7 +23,7 @@ PARTS = {1: CREATE, 2: DELETE, 5: SET_DATA, 13: DELETE}
 RESULTS = {1: "path:text", 2: "", 5: STAT, 13: "", -1: "err:int"}
 
 # A row: the call and its numbers, the payload, what message it is or what is wrong, and its fields, a line a field:
-# where its content lies and how long it is, its name, its kind, and its number where it has one.
+# the place and the length of its content, its name, its kind, and its number if it has one.
 HELLO = "00000000 0000000000000000 00007530 0000000000000000 00000010 00000000000000000000000000000000"
 PLAIN_STAT = ("0000000000000004 0000000000000005 00000000000003e8 00000000000003e9 00000006 00000007 00000008 "
               "0000000000000009 00000003 0000000b 000000000000000c")
@@ -129,7 +128,7 @@ TABLE = (
         16+4 type int 3
         20+4 state int 4
         28+2 path text"""),
-    # what is wrong, and the fields in front of it
+    # what is wrong, and the fields before it
     ("request 34", "00000001 00000003 00000002 2f61 02", "BAD_BOOL 14 xid 1 operation 3", """
         12+2 path text"""),
     ("request 34", "00000009 00000003 00000002 2f61 01 00", "TRAILING 15 xid 9 operation 3", """
@@ -283,14 +282,14 @@ def words_of(kind, operation, err=0):
 
 
 def wanted(payload, place, kind, operation, names):
-    """The fields in front of a place, by the reader here."""
+    """The fields before a place, by the reader here."""
     err = int.from_bytes(payload[12:16], "big", signed=True) if kind in ("reply", "event") else 0
     start, words = words_of(kind, operation, err)
     return Reader(payload[:place], names).read(start, words) if start <= place else []
 
 
 class Caller:
-    """Calls of the library with a room of so many fields, and fields behind it that no call may write."""
+    """Calls of the library with a room of some fields, and fields after it that no call may write."""
 
     GUARD = (7, 7, 7, 7, 7, 7)
 
@@ -303,7 +302,7 @@ class Caller:
     def fields(self, room, size):
         found = [(f.place, f.length, f.number, f.name, f.kind, f.null) for f in room]
         if found[size:] != [self.GUARD] * 2:
-            raise AssertionError("a field behind the room was written")
+            raise AssertionError("a field after the room was written")
         return [field for field in found if field != self.GUARD]
 
     def read(self, call, payload, size):
@@ -337,7 +336,7 @@ def written(field, names):
 
 
 def compare_table(caller, statuses, kinds):
-    """Whether each row is told as it stands there, in a room that fits and in each smaller one."""
+    """Whether each payload has the fields of its row, in a room that fits and in each smaller one."""
     words = {number: name for name, number in caller.names.items()}
     for call, digits, message, rows in TABLE:
         payload, rows = bytes.fromhex(digits), [row.strip() for row in rows.splitlines() if row.strip()]
@@ -354,7 +353,7 @@ def compare_table(caller, statuses, kinds):
 
 
 def compare_damaged(caller):
-    """Whether each row's payload, truncated or with a byte changed, has the fields that stand in front of its fault."""
+    """Whether each row's payload, truncated or with a byte changed, has the fields before its fault."""
     for call, digits, _, _ in TABLE:
         payload, kind = bytes.fromhex(digits), call.split()[0]
         damaged = [payload[:length] for length in range(len(payload))]

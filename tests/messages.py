@@ -1,4 +1,4 @@
-"""Holds what a talk tells of each message of the stored recordings against a second reading of the formats.
+"""Compares what a talk returns of each message of the stored recordings with a second reading of the formats.
 
 tests/library.py calls it. Each recording is given to a talk in the pieces that it has, and again byte by byte. Where a
 frame becomes whole, its payload, its fields, its number and the numbers of its header are compared with the bytes that
@@ -24,7 +24,7 @@ def numbers_of(kind, payload):
 
 
 def compare_message(caller, talk, side, frame, payload):
-    """What is told of a side's kept frame, and what should be."""
+    """What is returned of a side's kept frame, and what should be."""
     library, size = caller.library, 4096
     message = library.zk_talk_view(talk.handle, side)
     kind = KINDS[message.kind - 1]
@@ -43,7 +43,7 @@ def compare_message(caller, talk, side, frame, payload):
 
 
 def compare_recording(caller, content, cut):
-    """What is told of each message of a recording whose pieces are cut to at most so many bytes."""
+    """What is returned of each message of a recording whose pieces are cut to at most `cut` bytes."""
     came, frames = [b"", b""], [0, 0]
     with caller.talk.Talk(caller.library, profile=35) as talk:
         for side, piece in caller.talk.pieces(content):
@@ -58,7 +58,7 @@ def compare_recording(caller, content, cut):
 
 
 def compare(talk, library, names, recordings):
-    """A line for each recording whose messages aren't told as they should be."""
+    """A line for each recording with a message that is returned otherwise."""
     caller = fields.Caller(talk, library, {"none": 0, **names})
     for path in recordings:
         for cut in (1 << 24, 1):

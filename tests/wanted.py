@@ -1,4 +1,4 @@
-"""What tests/wireshark.py wants to see: the fields of zkjson's objects, the plugin's sources as functions, and captures."""
+"""What tests/wireshark.py expects: the fields of zkjson's objects, the plugin's sources as functions, and captures."""
 
 import collections
 import contextlib
@@ -16,7 +16,7 @@ def hexadecimal(value):
     return f"0x{int(value, 16):016x}"
 
 
-# By name of zkjson's, the plugin's field, and how it spells the value; and what stands for some of these elsewhere.
+# By name of zkjson's, the plugin's field, and how it spells the value; and what replaces some of these elsewhere.
 SAME = {"xid": ("xid", str), "path": ("path", str), "zxid": ("zxid", hexadecimal), "err": ("err", str),
         "version": ("version", str), "flags": ("flags", str), "watch": ("watch", lambda value: str(int(value))),
         "timeout": ("timeout", str), "kind": ("event.kind", str), "state": ("event.state", str),
@@ -53,7 +53,7 @@ def differences(wanted, found):
 
 def cases():
     """The stored cases whose recordings are whole, by what is set: the greatest payload and the profile. Of each its
-    name, its pieces, and what is told of its refusal, if it is refused. Words of four letters, and operations of later
+    name, its pieces, and what is said of its refusal, if it is refused. Words of four letters, and operations of later
     releases, are not refused by the plugin; it takes no --waiting, and no limits of a ZKR2 head."""
     found = collections.defaultdict(list)
     stored = runpy.run_path(str(TOP / "tests" / "program.py"))["stored"]  # the tools have a module of this name, too
@@ -62,7 +62,7 @@ def cases():
         if ending.startswith(b". recording") or "--waiting" in options or recording.startswith(b"ZKR2"):
             continue
         pieces = []
-        with contextlib.suppress(zkr.Damaged):  # behind the refusal
+        with contextlib.suppress(zkr.Damaged):  # after the refusal
             pieces.extend(zkr.Reader(io.BytesIO(recording)))
         client = b"".join(piece.data for piece in pieces if piece.side == zkr.CLIENT)
         refused = re.search(r" refused (.*)", ending.decode())

@@ -4,11 +4,11 @@
     wireshark.py [--install] [--stub] [--mutants N] [--seeds N] [--golden] [WORD ..]
 
 It builds the plugin and puts it into a home of its own, with the proved library where that is built (else, or with
---stub, with a stub of it, which is told). With words it runs those tests whose names have one of them. --mutants says
+--stub, with a stub of it, which is reported). With words it runs those tests whose names have one of them. --mutants says
 how many mutated connections are read under the address sanitizer, --seeds how many lossy captures there are. --golden
 writes the files of wireshark/tests/golden anew, for a person to read. --install installs Debian's packages first.
 
-What is missing is told in one line, and then nothing is tested. The last line is `N passed, M failed`.
+What is missing is reported in one line, and then nothing is tested. The last line is `N passed, M failed`.
 """
 
 import argparse
@@ -43,7 +43,7 @@ def listings():
 
 
 class Tests:
-    """Each test_ gives pairs: whether it is as it should be, and what to tell else."""
+    """Each test_ gives pairs: whether it is as it should be, and what to print otherwise."""
 
     def __init__(self, plugin, folder, words):
         self.plugin, self.folder, self.words = plugin, folder, words
@@ -76,7 +76,7 @@ class Tests:
             yield len(secrets) > 1, f"{name} has {len(secrets)} secrets"
 
     def test_refusals(self):
-        """A refusal is told as the listing's last line tells it. Operations of later releases are left out, and not
+        """A refusal is that of the listing's last line. Operations of later releases are left out, and not
         refused."""
         for path, profile, listing in listings():
             if not listing[-1].startswith(". refused"):
@@ -299,7 +299,7 @@ def main():
         print(f"left out: the plugin for Wireshark, as {', '.join(missing)} is not here\n0 passed, 0 failed")
         return 0
     if not words.stub and not LIBRARY.exists():
-        print("the proved library is not built: a stub stands for it")
+        print("the proved library is not built: a stub replaces it")
         words.stub = True
     passed, failures = 0, []
     with tempfile.TemporaryDirectory() as folder:

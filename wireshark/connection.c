@@ -1,5 +1,5 @@
 /* connection.c
- * What is kept of a connection, and where its frames stand: found out on the first pass over the packets, looked up on
+ * What is kept of a connection, and the places of its frames: found out on the first pass over the packets, looked up on
  * every later one.
  *
  * A side's bytes have TCP's numbers, and a frame begins where the last one ended. So a loss is a number that is too
@@ -123,7 +123,7 @@ static void leap(struct connection *connection, packet_info *pinfo, struct way *
     if (wmem_list_count(way->gaps) > MOST_GAPS) {
         wmem_list_remove_frame(way->gaps, wmem_list_tail(way->gaps));
     }
-    /* Where just one frame isn't whole, the next one begins behind it. */
+    /* If only one frame isn't whole, the next one begins after it. */
     way->sought |= way->end == way->next || way->end != number;
     way->next = way->end = number;
     be_late(connection, pinfo, "lacks bytes that were not captured");
@@ -165,8 +165,8 @@ static struct kept *look_for_frames(struct connection *connection, packet_info *
     return keep(connection, pinfo, piece, NO_FRAME, (guint32)end.place);
 }
 
-/* What stands where a frame may begin; `place` is where the next one does. `filling`: the bytes stand in a gap, and
- * tell nothing of those behind it. */
+/* What is where a frame may begin; `place` is where the next one does. `filling`: the bytes are in a gap, and say nothing
+ * of those after it. */
 static struct kept *look(struct connection *connection, packet_info *pinfo, const struct piece *piece, struct way *way,
                          guint32 *place, gboolean filling) {
     gboolean plausible = frame_is_plausible(piece->side, piece->bytes, piece->there, pref_limit);
@@ -224,7 +224,7 @@ static struct kept *look(struct connection *connection, packet_info *pinfo, cons
     return kept;
 }
 
-/* What was captured before, or stands in a gap. */
+/* What was captured before, or is in a gap. */
 static struct kept *look_back(struct connection *connection, packet_info *pinfo, struct piece *piece, struct way *way) {
     guint32 known = way->next - piece->number;
     struct gap *gap = gap_at(way, piece->number);

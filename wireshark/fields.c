@@ -319,7 +319,7 @@ static bool read_request(struct reader *reader, uint32_t profile) {
     return op == OP_MULTI ? read_parts(reader) : read_layout(reader, row->ask);
 }
 
-/* Reads a reply; `ends` is told whether it ends where this has read. */
+/* Reads a reply; `ends` gets whether it ends where this has read. */
 static bool read_reply(struct reader *reader, const struct asked *asked, bool *ends) {
     if (!read_layout(reader, "xze")) {
         return false;

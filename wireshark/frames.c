@@ -24,7 +24,7 @@ void be_late(struct connection *connection, packet_info *pinfo, const char *why)
 }
 
 /* Whether who says this may have read more of the other side than is known here: it acknowledges bytes that make no
- * frame, and not the middle of the next one alone. What TCP put together tells the acknowledgement of its last segment
+ * frame, and not the middle of the next one alone. What TCP put together has the acknowledgement of its last segment
  * alone. */
 static gboolean may_know_more(const struct way *other, const struct tcpinfo *tcp) {
     gint32 acknowledged = (gint32)(tcp->lastackseq - other->next), next = (gint32)(other->end - other->next);

@@ -1,5 +1,5 @@
 /* hole.c
- * Where the frames of one side begin again behind bytes that were not captured (tools/resync.py has the rule in words).
+ * Where the frames of one side begin again after bytes that were not captured (tools/resync.py has the rule in words).
  *
  * SPDX-License-Identifier: GPL-2.0-or-later
  */
@@ -9,8 +9,8 @@
 
 enum { ENOUGH = 3, MOST_KEPT = 1 << 16 };
 
-/* An operation, and the sizes that its request's payload can have: `behind` bytes behind its path or, where `path` is
- * false, so many in all; or at least so many. */
+/* An operation, and the sizes that its request's payload can have: `behind` bytes after its path or, if `path` is
+ * false, `behind` bytes in all; or at least as many. */
 struct shape {
     int32_t op;
     bool path, exactly;
@@ -165,7 +165,7 @@ static enum follow frames_follow(uint32_t side, const uint8_t *bytes, size_t len
     return YES;
 }
 
-/* Whether the head of a plausible frame may stand here, by what few bytes have. */
+/* Whether these few bytes may begin the head of a plausible frame. */
 static bool may_begin(uint32_t side, const uint8_t *at) {
     if (at[0] > 1) {
         return false;

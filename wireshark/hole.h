@@ -1,5 +1,5 @@
 /* hole.h
- * Where the frames of one side begin again behind bytes that were not captured. It knows nothing of Wireshark.
+ * Where the frames of one side begin again after bytes that were not captured. It knows nothing of Wireshark.
  *
  * The rule is that of tools/resync.py, in whose words it is written down, and tests/wireshark.py holds the two against
  * each other.
@@ -13,7 +13,7 @@
 #include <stddef.h>
 #include <stdint.h>
 
-/* Where frames begin again, if they were found; else from where on bytes may still be needed, with more behind them. */
+/* Where frames begin again, if they were found; else from where on bytes may still be needed, with more after them. */
 struct hole_end {
     bool found;
     size_t place;

@@ -1,5 +1,5 @@
 /* message.h
- * What fields a payload of ZooKeeper's client protocol has, in order, and where each of them stands.
+ * What fields a payload of ZooKeeper's client protocol has, in order, and the place of each.
  *
  * SPDX-License-Identifier: GPL-2.0-or-later
  */
@@ -53,7 +53,7 @@ struct asked {
     const int32_t *parts;
 };
 
-/* What was read: ZK_WELL, or the reason and place of the first fault; and how many fields stand before it. */
+/* What was read: ZK_WELL, or the reason and place of the first fault; and how many fields come before it. */
 struct message {
     uint32_t status;
     uint32_t place;
@@ -66,10 +66,10 @@ struct message {
 struct message message_read(uint32_t kind, uint32_t profile, const struct asked *asked, const uint8_t *payload,
                             size_t length, struct field *out, size_t room);
 
-/* Whether replies to this operation are read behind their header. */
+/* Whether replies to this operation are read after their header. */
 bool message_knows_reply(int32_t op);
 
-/* A big-endian int that stands here. */
+/* The big-endian int at `at`. */
 static inline int32_t int_at(const uint8_t *at) {
     return (int32_t)((uint32_t)at[0] << 24 | (uint32_t)at[1] << 16 | (uint32_t)at[2] << 8 | at[3]);
 }

@@ -21,7 +21,7 @@ extern const value_string side_names[];
 int op_row(gint32 op);
 int op_rows(void);
 
-/* Whether this is an operation of releases behind 3.4; one that is a part alone, or none at all, isn't. */
+/* Whether this is an operation of releases after 3.4; one that is a part alone, or none at all, isn't. */
 gboolean op_is_newer(gint32 op);
 
 /* The name of a number, or "?". */

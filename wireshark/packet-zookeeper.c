@@ -24,7 +24,7 @@ struct shown {
     const struct connection *connection;
     const struct frame *frame;
     guint32 side;
-    guint32 there, size; /* of the frame, so many bytes were captured, of so many */
+    guint32 there, size; /* of the frame: the bytes that were captured, and all */
     gint32 op;
     const struct field *fields;
     size_t count;
@@ -305,7 +305,7 @@ static void show_bytes(tvbuff_t *tvb, packet_info *pinfo, proto_tree *top, enum 
                     what == NO_FRAME ? "without a frame" : what == REST ? "of a frame before" : "again");
 }
 
-/* What stands here, where the first pass didn't come by. */
+/* What is here, if the first pass didn't come by. */
 static struct kept guess(packet_info *pinfo, const struct piece *piece) {
     struct kept kept = {pinfo->num, piece->number, NO_FRAME, piece->size, NULL};
     if (frame_is_plausible(piece->side, piece->bytes, piece->there, pref_limit)) {

@@ -5,7 +5,7 @@
  */
 #include "zookeeper.h"
 
-/* A reply that was captured before its request was captured within so many messages of it. */
+/* A reply that was captured before its request was captured within this number of messages of it. */
 enum { MOST_EARLY = 64 };
 
 /* Xids that a client doesn't choose are those of requests that are answered in an order of their own. */
@@ -91,7 +91,7 @@ static struct call *take(struct connection *connection, gint32 xid) {
     }
     struct call *call = queue->first;
     if (xid == XID_PING && connection->late) {
-        call = queue->last; /* where a ping was lost, those behind it keep their replies */
+        call = queue->last; /* if a ping was lost, those after it keep their replies */
         queue->first = NULL;
     } else {
         queue->first = call->same;

@@ -1,5 +1,5 @@
 /* register.c
- * The plugin: its fields, what it tells of packets, its preferences, and where it is called.
+ * The plugin: its fields, what it notes on packets, its preferences, and where it is called.
  *
  * SPDX-License-Identifier: GPL-2.0-or-later
  */

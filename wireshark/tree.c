@@ -16,7 +16,7 @@ struct branch {
     proto_item *item;
 };
 
-/* Where the newest field stands. */
+/* The place of the newest field. */
 struct branches {
     struct branch part, list, element, stat;
     guint32 in_part, in_element;

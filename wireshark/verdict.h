@@ -1,5 +1,5 @@
 /* verdict.h
- * The strict verdict over a connection: that of the proved library, told frame by frame.
+ * The strict verdict over a connection: that of the proved library, frame by frame.
  *
  * SPDX-License-Identifier: GPL-2.0-or-later
  */
@@ -23,12 +23,12 @@ struct judge {
 void judge_begin(struct judge *judge, uint32_t limit, uint32_t profile);
 
 /* Takes a frame, which is the next of its side, in the order of the conversation. VERDICT_WELL, VERDICT_REFUSED with
- * the fault, or VERDICT_NONE where it doesn't judge, or can't for want of memory or of room for what waits. It judges no
+ * the fault, or VERDICT_NONE where it doesn't judge, or can't since memory, or room for what waits, is missing. It judges no
  * more then, but for the first. */
 enum verdict judge_take(struct judge *judge, uint32_t side, const uint8_t *frame, size_t length,
                         struct zk_fault *fault);
 
-/* The length of the line of the frame that it has just taken; and the line, into so many bytes. */
+/* The length of the line of the frame that it has just taken; and the line, into the bytes that there is room for. */
 size_t judge_line_length(struct judge *judge, uint32_t side);
 bool judge_line(struct judge *judge, uint32_t side, char *out, size_t length);
 

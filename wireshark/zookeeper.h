@@ -39,7 +39,7 @@ struct call {
 
 /* A frame, as it was met on the first pass. */
 struct frame {
-    guint32 packet, count;   /* so many frames came before it */
+    guint32 packet, count;   /* count: the frames before it */
     guint32 kind;            /* ZK_CONNECT and so on; 0: no message */
     gint32 xid;
     struct call *call;       /* of a request and of a reply */
@@ -51,25 +51,25 @@ struct frame {
     gint32 expected;
 };
 
-/* What stands at a byte of a side in a packet, as it was found on the first pass. */
+/* What begins at a byte of a side in a packet, as it was found on the first pass. */
 enum what { A_FRAME, NO_FRAME, AGAIN, REST, WORDS, MORE };
 struct kept {
     guint32 packet, number;  /* the number is TCP's */
     enum what what;
-    guint32 size;            /* so many bytes; of MORE how many are lacking */
+    guint32 size;            /* its bytes; of MORE those that are missing */
     struct frame *frame;
 };
 
-/* Bytes of a side that weren't captured when those behind them were. */
+/* Bytes of a side that weren't captured when those after them were. */
 struct gap {
     guint32 from, to;
 };
 
 struct way {
-    gboolean begun, whole;   /* whole: it is known where its first byte stands, which is at `first` */
+    gboolean begun, whole;   /* whole: the place of its first byte is known, `first` */
     gboolean sure, sought;   /* frames are known to begin at `next`; they have to be found first */
     guint32 first;
-    guint32 next, end;       /* behind the last frame; behind the one that begins there, where that is known */
+    guint32 next, end;       /* after the last frame; after the one that begins there, if that is known */
     guint32 since;           /* since this packet frames follow one another */
     struct gap rest;         /* a frame that isn't whole where its front was captured */
     wmem_list_t *gaps;
@@ -106,12 +106,12 @@ struct piece {
     guint32 side;
     guint32 number;
     const guint8 *bytes;
-    guint32 before;          /* so many of what TCP has given stand before it */
-    guint32 there, size;     /* so many were captured, of so many */
-    gboolean may_wait;       /* for more behind them */
+    guint32 before;          /* the bytes that TCP has given before it */
+    guint32 there, size;     /* the bytes that were captured, and all */
+    gboolean may_wait;       /* for more after them */
 };
 
-/* What stands at the beginning of these bytes: on the first pass found out, later looked up; NULL: it isn't known. */
+/* What these bytes begin with: on the first pass found out, later looked up; NULL: it isn't known. */
 const struct kept *kept_of(struct connection *connection, packet_info *pinfo, const struct piece *piece);
 
 /* ---- Frames (frames.c) */
@@ -119,7 +119,7 @@ const struct kept *kept_of(struct connection *connection, packet_info *pinfo, co
 /* From here on the connection isn't whole in the capture, for this reason, and is judged no more. */
 void be_late(struct connection *connection, packet_info *pinfo, const char *why);
 
-/* Whether a side's first byte stands here. */
+/* Whether a side's first byte is here. */
 gboolean is_first(const struct way *way, const struct piece *piece);
 
 /* A frame of this size that begins here, of which perhaps the front alone is there. */
@@ -148,7 +148,7 @@ extern gint ett_message, ett_list, ett_stat, ett_part, ett_acl;
 extern expert_field ei_refused, ei_unread, ei_newer, ei_order, ei_unasked, ei_error, ei_no_frame, ei_again, ei_cut,
     ei_many;
 
-/* Adds these fields of a payload that begins behind the first FRAME_HEAD bytes. */
+/* Adds these fields of a payload that begins after the first FRAME_HEAD bytes. */
 void tree_fields(tvbuff_t *tvb, packet_info *pinfo, proto_tree *tree, const struct field *fields, size_t count);
 
 /* The first field of this name outside of parts, or NULL. */
@@ -165,7 +165,7 @@ extern gint pref_profile;
 int dissect_zookeeper(tvbuff_t *tvb, packet_info *pinfo, proto_tree *tree, void *data);
 flag dissect_heuristic(tvbuff_t *tvb, packet_info *pinfo, proto_tree *tree, void *data);
 
-/* What a frame tells the statistics. */
+/* What the statistics get of a frame. */
 struct told {
     guint32 kind;
     gint32 op, err, event;
