@@ -4,8 +4,8 @@
     wireshark.py [--install] [--stub] [--mutants N] [--seeds N] [--golden] [WORD ..]
 
 It builds the plugin and puts it into a home of its own, with the proved library where that is built (else, or with
---stub, with a stub of it, which is reported). With words it runs those tests whose names have one of them. --mutants says
-how many mutated connections are read under the address sanitizer, --seeds how many lossy captures there are. --golden
+--stub, with a stub of it, which is reported). With words it runs those tests whose names have one of them. --mutants
+says how many mutated connections are read under the address sanitizer, --seeds how many lossy captures there are. --golden
 writes the files of wireshark/tests/golden anew, for a person to read. --install installs Debian's packages first.
 
 What is missing is reported in one line, and then nothing is tested. The last line is `N passed, M failed`.

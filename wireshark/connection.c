@@ -13,7 +13,7 @@
 
 #include "hole.h"
 
-/* Of TCP's conversation_completeness, whose numbers packet-tcp.c keeps to itself: the client's SYN, and the server's. */
+/* Of TCP's conversation_completeness, whose numbers packet-tcp.c keeps to itself: the SYN of the client, of the server. */
 static const guint8 began[] = {[ZK_CLIENT] = 0x01, [ZK_SERVER] = 0x02};
 
 /* No more gaps of a side are kept; and bytes in which no frame is found wait for others up to here. */
@@ -165,8 +165,8 @@ static struct kept *look_for_frames(struct connection *connection, packet_info *
     return keep(connection, pinfo, piece, NO_FRAME, (guint32)end.place);
 }
 
-/* What is where a frame may begin; `place` is where the next one does. `filling`: the bytes are in a gap, and say nothing
- * of those after it. */
+/* What is where a frame may begin; `place` is where the next one does. `filling`: the bytes are in a gap, and say
+ * nothing of those after it. */
 static struct kept *look(struct connection *connection, packet_info *pinfo, const struct piece *piece, struct way *way,
                          guint32 *place, gboolean filling) {
     gboolean plausible = frame_is_plausible(piece->side, piece->bytes, piece->there, pref_limit);

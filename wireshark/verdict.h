@@ -23,8 +23,8 @@ struct judge {
 void judge_begin(struct judge *judge, uint32_t limit, uint32_t profile);
 
 /* Takes a frame, which is the next of its side, in the order of the conversation. VERDICT_WELL, VERDICT_REFUSED with
- * the fault, or VERDICT_NONE where it doesn't judge, or can't since memory, or room for what waits, is missing. It judges no
- * more then, but for the first. */
+ * the fault, or VERDICT_NONE where it doesn't judge, or can't since memory, or room for what waits, is missing. Then it
+ * judges no more, but for the first. */
 enum verdict judge_take(struct judge *judge, uint32_t side, const uint8_t *frame, size_t length,
                         struct zk_fault *fault);
 
