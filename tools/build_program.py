@@ -110,9 +110,11 @@ class Build:
         return self.crate / "out"
 
     def lane(self, folder):
-        """A copy of the sources of all crates below the program."""
+        """A copy of the sources of all crates below the program, with their lines of crates.txt: `rt` wants a folder for
+        each line."""
         folder.mkdir()
-        shutil.copy(self.top / "crates.txt", folder)
+        lines = (self.top / "crates.txt").read_text().splitlines(keepends=True)
+        (folder / "crates.txt").write_text("".join(line for line in lines if line.split(":")[0].strip() in self.uses))
         for name in self.uses:
             shutil.copytree(self.top / "crates" / name, folder / "crates" / name, symlinks=True,
                             ignore=lambda at, names: {"out", "build.log"}.intersection(names))

@@ -14,13 +14,16 @@ from support import TOOLS, TOP, ToolCase
 sys.path.insert(0, str(TOOLS))
 import build_program  # noqa: E402
 
-# Writes down where it was called and how, and when that ended. Like the toolchain, it keeps every other call out of the
-# crate and those that it uses, which are in the file uses; a library is there once it is built. At the last crate it
-# makes a program that prints its words and its input.
+# Writes down where it was called and how, and when that ended. Like the toolchain, it refuses a crates.txt with a line of
+# a crate that has no folder, and keeps every other call out of the crate and those that it uses, which are in the file
+# uses; a library is there once it is built. At the last crate it makes a program that prints its words and its input.
 RT = """#!/bin/sh
 name=$(basename "$PWD")
 echo "$name $*" >> "$CALLS"
 echo "what the toolchain says"
+for each in $(sed 's/#.*//; s/:.*//' ../../crates.txt); do
+    [ -d ../$each/src ] || { echo "crates.txt: $each: there is no folder"; exit 2; }
+done
 for low in $(cat src/uses); do
     [ -e ../$low/out/rlib/made ] || { echo "$low is not built"; exit 1; }
     mkdir ../$low/taken || { echo "$low is taken"; exit 1; }
@@ -56,6 +59,7 @@ class WrapperCase(ToolCase):
             source.mkdir(parents=True)
             (source / "lib.rt").write_text("")
             (source / "uses").write_text(uses)
+        (self.top / "crates" / "other" / "src").mkdir(parents=True)
         (self.top / "crates.txt").write_text("# crates\nother: low\n" + "".join(
             f"{crate}: {uses} clap\n" for crate, uses in reversed(USES.items())))
         shutil.copy(TOP / "crates" / "zkdump" / "stdin", self.top / "crates" / "zkdump")
