@@ -2,6 +2,9 @@
 
 One loop serves all connections, and nothing in it waits: not for an end that doesn't read, not for a file or a process,
 and not for the reader of its lines. An end of one direction is passed on, and so is a reset.
+
+Descriptors are set aside before a client is taken, since a client that can't be passed on is worse than one that waits.
+Lines are written by a thread. What `show` has not read is held up to a bound; then that connection is passed on unread.
 """
 
 import errno

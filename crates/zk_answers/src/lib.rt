@@ -20,6 +20,14 @@
 //! let head = reply_head(payload)?;
 //! let frame = if head.xid == -1 { read_event(alloc, payload)? } else { read_reply(alloc, &form, payload)? };
 //! ```
+//!
+//! # Choices
+//!
+//! **A reply is judged by its header and then by a shape**: the operation's body or a multi's results if err is 0, and
+//! nothing otherwise. So Trailing at 16 is no case of its own. What is written needs no request, since each result has
+//! its number; `fits` decides whether results answer their parts.
+//!
+//! **`Failure` is never 0**, by its invariant.
 #![tactic(auto)]
 
 mod borrow;

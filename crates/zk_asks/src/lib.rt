@@ -17,6 +17,29 @@
 //! let scan = scan_ask(Profile::V34, payload)?;
 //! // scan.xid() is 1 and scan.op() is Op::Exists: exists "/a", with a watch
 //! ```
+//!
+//! # Choices
+//!
+//! **Two languages of items for payloads.** A body is the fields of a layout, or a multi's parts, whose headers decide
+//! what follows. What may come next is one definition for both.
+//!
+//! **A borrowed multi is read by its own headers.** `PartList` is a place and a count; each part is chosen by the
+//! number before it. The invariant says that as many parts are there, so its iterator never meets a fault
+//! (`proofs/Stretches.antt` of `zk_jute`). `DoneList` of `zk_answers` is of the same form.
+//!
+//! **A reply's reader takes what the request left as a trait** (`Asked`: the operation, the number of parts, each
+//! part), so the queue can answer it without a form. Requests don't implement it: their parts may be too many for 32
+//! bits. A `Form`, a `RequestRef`, a `Scan` and a `MultiRef` do. `put_ops` puts all parts' operations into a `Room` in
+//! one walk; asking for one after another would be quadratic.
+//!
+//! **Client frames do not implement `Spell`**: only `write_client` writes one, so its condition on the xid cannot be
+//! avoided. A frame is counted and then written, so a text that is too long for the limit is TooLong, not a lack of
+//! memory.
+//!
+//! **A `Form` has at most 4,294,967,295 parts**, and none if the operation is not multi.
+//!
+//! **Some public calls wrap a private one** (`borrow_ask` and `ask_ref`). The private one promises what was read and
+//! which fault it is; that every form is read follows from the laws.
 #![tactic(auto)]
 
 mod alone;

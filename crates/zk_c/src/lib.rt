@@ -16,6 +16,22 @@
 //! struct zk_step step = zk_talk_step(&talk, 0, piece, length); /* step.used bytes were used */
 //! zk_talk_free(&talk);
 //! ```
+//!
+//! # Choices
+//!
+//! **A handle is a struct that owns what is behind its pointer** (`TalkBox`): its `also_owns` is that of a box, or
+//! nothing. A struct that crosses to C may not hold a `Vec` or a `Box`, so the pointer is one to bytes, and a ghost
+//! field has the value. Only three functions make or open it, with proofs by hand. Each call takes the box out, works
+//! on it as safe code does, and puts it back.
+//!
+//! **What C asks for is written into its memory.** A line is copied out. For a message's bytes, the caller learns how
+//! many of those that it passed are the frame's. A frame that is said is kept until the next one, so the room can't be
+//! too small after the speaker has counted the message.
+//!
+//! **A single reply is judged by numbers**, read from the caller's memory, so no judging call allocates. The xid
+//! decides between reply and event, so the other kind's xid is ZK_MISFIT, and no fault of either kind.
+//!
+//! **`zk_listing` copies its messages**, since it is `read_all`. Callers that can't spare the memory make the steps.
 #![tactic(auto)]
 
 mod answer;

@@ -14,6 +14,13 @@
 //! let stuck = earliest(Layout::Asked(Op::Exists), b"\0\0\0\x05/a\x01");
 //! // Some(3): with 7 bytes in all, the text has 2 bytes, so the last byte of its length is impossible.
 //! ```
+//!
+//! # Choices
+//!
+//! **What may still follow is a set of lengths**: one number and, where a text, blob or list is among it, every number
+//! from some gap after it on. Sums of such sets are such sets, so `earliest` carries one small value from left to right
+//! and never allocates. The definition has none of this; `crates/talk_tests/make_bodies.py` tries it out on bodies of
+//! every layout.
 #![tactic(auto)]
 
 mod bodies;

@@ -15,6 +15,21 @@
 //! let frame = borrow_ask(Profile::V34, payload)?;
 //! let count = client_fields(&frame, &mut room);
 //! ```
+//!
+//! # Choices
+//!
+//! **Fields are written by a walk over the borrowed message** (`Show`), into a room that the caller passes. A cursor
+//! counts them and the payload's bytes after them, so a field's place is the number of bytes of the items before it.
+//! The cursor saturates, so no function has a condition, and one lemma serves records, lists and whole messages. If the
+//! room is too small all are counted, as `snprintf` does.
+//!
+//! **What comes before a fault is found by a second walk** (`Walk`), up to the fault's place. So no reader that judges
+//! payloads has to write fields. No law says that the two walks agree on a message's payload: `tests/fields.py`
+//! compares each with a second reading of the formats. A record's names are in the same line of its definition for both
+//! walks.
+//!
+//! **A header's numbers are in the answer and are no fields**, and a multi's end marker is none: fields are what a
+//! caller loops over. A part's or a result's header is one field.
 #![tactic(auto)]
 
 mod ask;

@@ -16,6 +16,19 @@
 //! line.front(b" ")?;
 //! line.text()?;       // "/a"
 //! ```
+//!
+//! # Choices
+//!
+//! **An item of a line is a form**: the values that fit, their spelling, and parsing from the left as a function on
+//! lists. Two laws hold of each: a spelling is parsed again whatever an item may be followed by, and what is parsed was
+//! spelled. Every item may be followed by the end, or by any byte but a letter, a digit, `-` and `/`; with that one
+//! set, unique parsing follows from the first law. Columns are not in the definitions.
+//!
+//! **Writers promise that what the output began with it still begins with** (`Keeps`) and undo nothing; only `put_line`
+//! of `zk_lines` cuts back. They also promise that what they wrote fits, since they look at each part in any case.
+//!
+//! **A last look at a text takes in some bytes again**, so no tail is gone over byte by byte. Of a blob the first block
+//! of digits is written whole, and the next begins after the odd bytes.
 #![tactic(auto)]
 
 mod code;

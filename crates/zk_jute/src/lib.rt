@@ -18,6 +18,37 @@
 //! let (list, end) = TextList::read_in(&LIST, 0)?;
 //! // list.count() is 2, and end is 14: the text "/a", and null.
 //! ```
+//!
+//! # Choices
+//!
+//! **Writing, parsing, and that they agree, are three traits.** `Spell` writes (`put`, `write`, `size_within`).
+//! `Stands` parses (`decode`, `read_in`). `Wire` says that what is written of a value are the items that are parsed,
+//! and parses copies (`read`). Some things are only written: references and pairs of references, an optional boolean,
+//! the elements of a list without their count. So a record is written from references to its parts. `decode` and `put`
+//! are the steps that an implementation gives; `read_in`, `read` and `write` are final, and carry the contracts.
+//! `decode` promises what reading as a function on lists gives. `read` and `read_in` promise what is in the bytes
+//! (found, only, fault), since a person relies on that.
+//!
+//! **One parser for owned and borrowed values.** `Stands<P>` has one `decode` over a source `P`: a `Payload`, from
+//! which texts, blobs and lists are borrowed, or `Kept`, which has an allocator and copies. The payload's lifetime is
+//! in the trait's type argument, since a trait with a lifetime of its own is refused at a call. Whether parsing may
+//! allocate is the source's property (`Origin::grows`), so a record says nothing of it.
+//!
+//! **What is known to be in a payload is not judged again.** `PayloadOf<'a, KNOWN>` is judged as `Payload<'a>`; of
+//! `KnownPayload<'a>` it is known what is there. A parser's condition is empty for the first, and for the second that a
+//! value is at the place. So the characters of a text are not looked at, and `unwrap` tests nothing. What a frame
+//! shows, iterators over lists, parts and results, and the walk over a multi's parts read this way.
+//!
+//! **A borrowed list is a place and a count.** Its value is computed from the bytes (`Element`). That all elements are
+//! there is its invariant, so `count` is exact.
+//!
+//! **What is known of a type is one ghost member**, the `wired` of its `Form`: its layout, its items, that these are of
+//! the layout, and that they tell values apart. All else is proved once, over layouts.
+//!
+//! **A value is written once, to any output.** `put` gives its bytes to an `Output`: a `Vec`, or a count. So `write`
+//! and `size_within` are each one call over `put`, and can't disagree. `put` has no condition; for a value without
+//! bytes, as a text of 2 GiB, it returns the output's refusal. After a refused allocation `put` leaves a beginning, and
+//! `write` removes it.
 #![tactic(auto)]
 
 mod ascii;

@@ -16,6 +16,17 @@
 //! let message = read_line(rt.alloc(), b"C 1 sync path=\"/a\"")?;
 //! let line = line_of(rt.alloc(), &message)?; // C 1 sync path="/a"
 //! ```
+//!
+//! # Choices
+//!
+//! **An operation's line is a row.** `row_of` of `zk_asks` and `zk_answers` says of what an operation's request or
+//! reply is made; `ask_line` and `body_line` name its form, and parsing is projected from `line_of`. `line_of` is stuck
+//! where the operation isn't known, since `search` can't rewrite an operation on which a form's type depends. `by_op`
+//! gives for each value what is given for each row. The laws of a form are one record, and a table has them if each of
+//! its forms has.
+//!
+//! **A list is written over what is left of it** (`Left`), not over an `Iterator`, which says of no iterator what is
+//! left.
 #![tactic(auto)]
 
 mod answer;

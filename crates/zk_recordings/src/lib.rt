@@ -16,6 +16,14 @@
 //! let run = reader.next(block);
 //! // block[..run.used] is content of run.side, or of neither if that is None.
 //! ```
+//!
+//! # Choices
+//!
+//! **A recording is a grammar by its spelling.** The fixed parts of both formats are rows of one table: width, good
+//! values, and the damage of a bad or cut one. A further format adds rows, not cases.
+//!
+//! **The head of a piece is read at once if a block begins with it whole** (`State::pass_head`); else byte by byte,
+//! which finds the damage.
 #![tactic(auto)]
 
 mod heads;

@@ -18,6 +18,19 @@
 //! op_of(Profile::V35, 15) // Some(Op::Create2)
 //! code_name(-101)         // Some("NONODE")
 //! ```
+//!
+//! # Choices
+//!
+//! **Records are nested pairs inside, and structs outside.** A pair's parser and writer are proved once, so a record
+//! needs no proof file. `specs/Records.antt` has its list of fields, each with its kind; `fields!` and `decode!` write
+//! the nesting in the bodies.
+//!
+//! **`Own::own` copies a borrowed value.** Owned and borrowed are two types in code and one in contracts, which the
+//! trait can't know; so a ghost member, `same`, names the copy's value. The trait is in this crate because a list of
+//! access rights is a type of `zk_jute` that holds one of `zk_records`.
+//!
+//! **Tables are data.** Names of errors and events are lists of number and name, and the calls search them, so every
+//! other number has none. Operations have one line a row; a law says that no two share a number.
 #![tactic(auto)]
 
 mod acl;

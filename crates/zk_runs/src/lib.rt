@@ -20,6 +20,16 @@
 //! let mut faults = FromWrite::new(rt.stderr());
 //! let status = run_words(rt.alloc(), words, &mut reader, &mut writer, &mut faults);
 //! ```
+//!
+//! # Choices
+//!
+//! **`build` judges a line once it is whole**, so its memory is a line and its message. A piece is put together in
+//! memory and written at once. A builder's contract holds for every list of lines that it may have taken, so its calls
+//! compose.
+//!
+//! **`Limits::new` judges the numbers of the command line**, so a number out of range cannot reach a command. Words
+//! that the system cannot give as texts `main` refuses by itself (`refuse`). These are three crates and not one, so
+//! each is proved beside others, and its edits are tried while the crates above are proved.
 #![tactic(auto)]
 
 mod build;

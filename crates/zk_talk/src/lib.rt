@@ -23,6 +23,25 @@
 //! let message = talk.view(Side::Client);         // Some if stepped.whole: the message, borrowed
 //! let ending = talk.finish();                    // Whole, Cut or Refused
 //! ```
+//!
+//! # Choices
+//!
+//! **`take` decides as `step` does, and then makes the message.** Both judge the whole frame borrowed, so each fault is
+//! decided in one place, before anything changes. `step` then changes the queue and keeps the frame. `take` copies the
+//! frame first, so if memory runs out, neither the queue nor the counts have changed, and the piece's bytes are taken
+//! back.
+//!
+//! **A kept frame is no part of the history.** `TalkState` has it beside what is held, so dropping it changes nothing
+//! that is known. The next call on that side drops it, whatever it returns. A refused frame stays held.
+//!
+//! **A view needs the kept bytes and one word.** A reply doesn't name its operation, and its request has left the
+//! queue; so the talk keeps the operation beside the frame. The invariant says that what is kept is such a frame, so
+//! `view` has no fault to return. That a view is dropped in time is the borrow checker's matter (`tests/refused.py`).
+//!
+//! **What the speaker accepts is a condition on each message and those before it**, and laws tie that to histories.
+//! Each case of a refusal denies the conditions of the cases before it, so at most one holds. The frame is appended
+//! before the request is queued, since a vector can be cut back and a queue cannot. A speaker has no bound on the bytes
+//! said; only a reader refuses a byte too many.
 #![tactic(auto)]
 
 mod frame;
