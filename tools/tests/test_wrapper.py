@@ -8,6 +8,7 @@ import signal
 import subprocess
 import sys
 import time
+import unittest
 
 from support import TOOLS, TOP, ToolCase
 
@@ -258,3 +259,12 @@ class Lanes(WrapperCase):
         found = list(build_program.crates_below((TOP / "crates.txt").read_text(), "zkdump"))
         self.assertEqual((found[-1], set(found) - {path.name for path in (TOP / "crates").iterdir()}), ("zkdump", set()))
         self.assertTrue(pathlib.Path(TOP / "tools" / "build_program.py").stat().st_mode & 0o100)
+
+    @unittest.skipUnless(shutil.which("rt"), "no toolchain is on this machine's PATH")
+    def test_the_toolchain_takes_a_lane_of_this_repository(self):
+        build = build_program.Build(TOP)
+        build.give = lambda *_: None
+        lane = build.lane(self.folder / "lane")
+        done = subprocess.run(["rt", "check", "--only", ""], cwd=lane / "crates" / "zk_frames", capture_output=True,
+                              text=True, check=False)
+        self.assertEqual(done.returncode, 0, done.stdout + done.stderr)
