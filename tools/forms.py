@@ -246,14 +246,14 @@ ASKS = {
     "setWatches": "zxid:hexadecimal dataWatches:texts existWatches:texts childWatches:texts", "closeSession": "",
     "multi": "",
 }
-TELLS = {
+ANSWERS = {
     "create": "path:text", "create2": "path:text stat:stat", "delete": "", "exists": "stat:stat",
     "getData": "blob:data stat:stat", "setData": "stat:stat", "getACL": "acl:acls stat:stat", "setACL": "stat:stat",
     "getChildren": "names:texts", "getChildren2": "names:texts stat:stat", "sync": "path:text", "ping": "", "auth": "",
     "setWatches": "", "closeSession": "", "multi": "",
 }
 REQUESTS = {name: Form(fields) for name, fields in ASKS.items()}
-REPLIES = {name: Form("zxid:hexadecimal " + fields) for name, fields in TELLS.items()}
+REPLIES = {name: Form("zxid:hexadecimal " + fields) for name, fields in ANSWERS.items()}
 REPLIES["connect"] = Form("version:number timeout:number session:hexadecimal passwd:secret ro:readonly")
 REPLIES[listing.EVENT] = Form("zxid:hexadecimal kind:kind state:number path:text")
 FAILED = Form("zxid:hexadecimal err:err")

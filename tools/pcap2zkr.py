@@ -84,7 +84,7 @@ class Capture:
                 if half.take(number, milliseconds, sequence, acknowledged, flags, data, snapped):
                     self.look_after(half.stream)
                 if number & 1023 == 0:
-                    progress.tell(f"{number} packets, {self.begun} connections")
+                    progress.show(f"{number} packets, {self.begun} connections")
         except KeyboardInterrupt:
             pass
         except (EOFError, OSError, packets.NotRead, *DAMAGED) as error:
@@ -164,7 +164,7 @@ class Capture:
             self.relieve()
 
     def relieve(self):
-        """Goes on behind missing bytes, in the connections that hold most."""
+        """Continues after missing bytes, in the connections that hold most."""
         holding = sorted({half.stream for half in self.halves.values() if half.stream.held},
                          key=lambda stream: stream.held)
         while self.budget.held > self.budget.most // 4 * 3:
@@ -194,15 +194,15 @@ class Capture:
         stream.let_go()
 
     def ports_heard(self):
-        """The other ports in the capture, as they are told."""
+        """The other ports in the capture, as they are reported."""
         most = sorted(self.heard, key=lambda port: (-self.heard[port], port))[:MOST_PORTS]
-        return "; the ports in it are " + ", ".join(map(str, most)) if most else ""
+        return f"; choose one of its ports with --port N: {', '.join(map(str, most))}" if most else ""
 
 
 def words_of():
     parser = zkr.Words(__doc__)
     parser.add_number("--port", range(1, 65536), default=2181, help="the server's port (2181)")
-    parser.add_argument("--late", action="store_true", help="join connections that were begun before the capture")
+    parser.add_argument("--late", action="store_true", help="join connections that began before the capture")
     parser.add_argument("capture", metavar="CAPTURE")
     parser.add_argument("prefix", metavar="PREFIX")
     parser.add_format()

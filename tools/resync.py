@@ -102,9 +102,9 @@ def is_request(payload, size):
     if len(payload) < 13:
         return size > len(payload)
     length = int.from_bytes(payload[8:12], "big", signed=True)
-    behind = size - 12 - length
+    rest = size - 12 - length
     return length > 0 and payload[12:13] == b"/" and \
-        (behind == AFTER_PATH[kind] if kind in AFTER_PATH else behind >= LEAST_AFTER_PATH[kind])
+        (rest == AFTER_PATH[kind] if kind in AFTER_PATH else rest >= LEAST_AFTER_PATH[kind])
 
 
 def is_reply(payload, size):

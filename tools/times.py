@@ -12,7 +12,7 @@ LARGEST = zkr.LIMITS[-1]
 
 
 class Beginning:
-    """The bytes of a side that are no whole frame yet: how many there are, and the first eight of them."""
+    """The bytes of a side's frame that isn't whole yet: how many there are, and the first eight of them."""
 
     def __init__(self):
         self.got, self.size, self.first = 0, None, b""
@@ -83,7 +83,8 @@ class Times:
         raise listing.NoListing(f"the listing has {messages} messages, and the recording {n - 1}")
 
     def compare(self, ending):
-        """Checks that the recording ends as the listing does. A listing without an ending line may be a front."""
+        """Checks that the recording ends as the listing does. A listing without an ending line may be the
+        beginning of one."""
         if not ending:
             return
         read, more = sum(self.count.values()), sum(1 for _ in self.frames)
@@ -116,6 +117,6 @@ def times_of(parser, path, beside, needed):
         return Times(pieces, None)
     if not beside and not os.path.exists(zkr.times_path(path)):
         if needed:
-            parser.error(f"{path} has no times: --times FILE names them")
+            parser.error(f"{path} has no times: name a file of them with --times FILE")
         return None
     return Times(pieces, zkr.times_beside(path, beside))

@@ -30,7 +30,7 @@ NAMED = 6       # the files that a page's title names
 
 
 class Reader:
-    """Reads runs: what the arguments choose of files."""
+    """Reads runs: what the arguments choose in files."""
 
     def __init__(self, parser, words, folder):
         self.port, self.folder, self.chosen = words.port, folder, selection.Selection(words)
@@ -109,9 +109,9 @@ def words_of():
     selection.add_words(parser)
     words = parser.parse_args()
     if not (words.output or words.text or words.trace):
-        parser.error("nothing to write: -o FILE, --text or --trace FILE")
+        parser.error("choose what to write: -o FILE, --text or --trace FILE")
     if words.against and (words.session, words.slower, words.begin, words.end) != (None,) * 4:
-        parser.error("of the choices --path and --op alone go with --against")
+        parser.error("--against compares what --path and --op choose: leave out the other choices")
     return parser, words
 
 

@@ -57,7 +57,7 @@ class Slow:
     """A request and its reply, with the fields that are reported of the slowest."""
 
     def __init__(self, asked, made, zxid):
-        self.told = {"time": time(asked.moment), "ms": made.microseconds / 1000,
+        self.row = {"time": time(asked.moment), "ms": made.microseconds / 1000,
                      "connection": made.connection.name, "n": asked.n, "op": made.op, "path": cut(asked.path),
                      "error": made.error, "zxid": zxid}
 
@@ -118,7 +118,7 @@ class Statistics:
                                for name, counts in ordered},
                 "events": dict(self.events.most_common()), "connections": list(self.rows()),
                 "unanswered": [request(made) for made in self.waiting],
-                "slowest": [slow.told for *_, slow in sorted(self.slowest, reverse=True)]}
+                "slowest": [slow.row for *_, slow in sorted(self.slowest, reverse=True)]}
 
     def rows(self):
         """The row of each connection, those of one session together; of a later one `gap` is the seconds from the end
@@ -150,9 +150,9 @@ def time(moment):
 
 def request(made):
     """The row of a request that was never answered."""
-    told = {"connection": made.connection.name, "n": made.n, "xid": made.xid and int(made.xid), "op": made.op,
+    row = {"connection": made.connection.name, "n": made.n, "xid": made.xid and int(made.xid), "op": made.op,
             "path": made.path}
-    return {name: value for name, value in told.items() if value is not None}
+    return {name: value for name, value in row.items() if value is not None}
 
 
 def main():
