@@ -215,8 +215,8 @@ def run_commands(name, text, program, seconds):
                 passed += 1
                 continue
             failed += 1
-            told = "did not end in time" if found is None else "prints" + shown(found)
-            print(f"{name}:{example.at}: $ {example.command}\n    {told}\n    expected{shown(example.lines)}")
+            outcome = "did not end in time" if found is None else "prints" + shown(found)
+            print(f"{name}:{example.at}: $ {example.command}\n    {outcome}\n    expected{shown(example.lines)}")
         folder.close()
     return passed, failed
 
@@ -226,7 +226,7 @@ def plain(text):
     return [line.strip() for line in text.splitlines() if line.strip()]
 
 
-def stands_in(lines, others):
+def are_in(lines, others):
     return any(others[k:k + len(lines)] == lines for k in range(len(others)))
 
 
@@ -234,7 +234,7 @@ def compare_code(page, text):
     """Looks for the page's code in the files that it names."""
     passed = failed = 0
     for block in re.finditer(r"^```rust (\S+)\n(.*?)^```$", text, re.M | re.S):
-        if stands_in(plain(block[2]), plain((TOP / block[1]).read_text())):
+        if are_in(plain(block[2]), plain((TOP / block[1]).read_text())):
             passed += 1
         else:
             failed += 1
