@@ -10,7 +10,7 @@ BUILT = pathlib.Path(__file__).resolve().parent.parent / "crates" / "zkdump" / "
 def add_program(parser):
     """The option that names the program."""
     parser.add_argument("--zkdump", metavar="PATH", default=str(BUILT) if BUILT.exists() else "zkdump",
-                        help="the program (that of this repository, where it is built)")
+                        help="the program (that of this repository if it is built, else zkdump on the PATH)")
 
 
 def prove_runs(parser, path):

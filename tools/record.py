@@ -3,15 +3,14 @@
 
     record.py [HOST:]PORT SERVER:PORT PREFIX
 
-Point the client at PORT, where this listens: on 127.0.0.1, or on HOST. An IPv6 address is written in brackets. The
-connections become PREFIX-1.zkr, PREFIX-2.zkr and so on; a number whose file is there already is passed over. Standard
-output has a line for each connection that begins or ends, with the client's address and the time; that of its end says
-who ended it, as closed=C (the client closed it first, by a FIN) or reset=S (the server reset it). Ctrl-C, or SIGTERM,
-ends it.
+Point the client at PORT: it listens there on 127.0.0.1, or on HOST. An IPv6 address is written in brackets. The
+connections become PREFIX-1.zkr, PREFIX-2.zkr and so on; a number whose file exists is skipped. When a connection begins
+or ends, it prints a line with the client's address and the time. The line of the end says who ended it, as closed=C
+(the client closed it first, by a FIN) or reset=S (the server reset it). Ctrl-C or SIGTERM ends the recorder.
 
-Every piece is in its file before it is passed on, so that in the recording no reply comes before its request. An end of
-one direction is passed on, and so is a reset. Only the owner may read the files: they have everything that was said,
-passwords of sessions and data of nodes included.
+Every piece is in its file before it is passed on, so in the recording no reply comes before its request. The end of one
+direction is passed on, and so is a reset. Only their owner may read the files: they have everything that was said,
+including session passwords and the data of nodes.
 """
 
 import sys

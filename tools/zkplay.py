@@ -141,9 +141,10 @@ def words_of():
                         "connection; may be given several times")
     parser.add_argument("--client", action="store_true", help="play the client, to the server at HOST:PORT")
     option("--wait", seconds, "SECONDS", default=10, help="how long it waits for a byte (10)")
-    parser.add_number("--connections", MOST_CONNECTIONS, help="how many it plays (as many as there are recordings)")
+    parser.add_number("--connections", MOST_CONNECTIONS,
+                      help="how many connections it plays to (one for each recording)")
     option("--delay", seconds, "SECONDS", default=0, help="wait before each piece that is sent")
-    option("--cut-at", place, "FRAME[:PLACE]", help="end the side that is played there")
+    option("--cut-at", place, "FRAME[:PLACE]", help="end the played side there")
     option("--reset-at", place, "FRAME[:PLACE]", help="reset the connection there")
     option("--flip", flip, "FRAME:PLACE[=HH]", action="append", default=[],
            help="send this byte there, or the recorded one with its lowest bit changed; may be given several times")

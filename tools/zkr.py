@@ -338,7 +338,7 @@ class Words(argparse.ArgumentParser):
         self.add_argument("--times", action="store_true", help="write RECORDING.times, too: a line for each piece, "
                           "its milliseconds since 1970")
         self.add_argument("--format", choices=("zkr1", "zkr2"), default="zkr1",
-                          help="zkr2 has a time in each piece, and in its head these three:")
+                          help="zkr2 has a time in each piece, and in its head these three numbers:")
         self.add_number("--limit", LIMITS, help=f"the greatest payload of a frame ({USUAL_LIMIT})")
         self.add_number("--waiting", WAITINGS, help=f"how many requests may wait ({USUAL_WAITING})")
         self.add_argument("--profile", choices=PROFILES, help="the release whose operations are used (3.4)")

@@ -9,7 +9,7 @@ has any number of connections. Captures have times; recordings have them within 
 -o writes one page that needs no other file and no network: the sessions in time, the latency of requests, and tables,
 each row of which leads to the messages around it. --text writes the tables to standard output. --trace writes the
 requests as trace events, which Perfetto (ui.perfetto.dev) and Chrome open. --against compares the run with another one,
-without xids, zxids, sessions and times; it is given once for each file of the other run. The status is 1 where the runs
+without xids, zxids, sessions and times; it is given once for each file of the other run. The status is 1 if the runs
 differ.
 
 The page has no passwords of sessions and no credentials, but it has data of nodes: its owner alone may read it.

@@ -4,11 +4,10 @@ slowest requests, and those without a reply.
 
     zkstat.py [--json] [--recording REC.zkr [--times FILE]] [CHOICE ..] [FILE ..]
 
-It reads recordings by their names (zkdump show makes their listings), listings, or the lines that zkjson makes of
-these, also of several connections; without a name a listing or zkjson's lines from standard input. Where there are
-times there are latencies: from a request's last byte to its reply's. p50, p95 and p99 are those of HdrHistogram with
-three significant digits, in microseconds; max is exact. A multi has failed where one of its parts has. Connections of
-one session are grouped.
+It reads listings, recordings, whose listings zkdump show makes, and the lines of zkjson, also of several connections;
+without a FILE it reads a listing, or lines of zkjson, from standard input. If there are times, there are latencies:
+from a request's last byte to its reply's. p50, p95 and p99 are those of HdrHistogram with three significant digits, in
+microseconds; max is exact. A multi has failed if one of its parts has. Connections of one session are grouped.
 """
 
 import collections

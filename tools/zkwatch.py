@@ -5,13 +5,13 @@
 
 It listens on PORT (0 is any free one; the first line of standard output has it) and passes every connection on to the
 server. Each has a `zkdump show` of its own, which gets every piece before it is passed on; so a request is read before
-its reply can come. The lines of all are printed with the time and the connection's number. Once a conversation is
-refused, or is no longer read for another reason, a line says so, and its bytes are still passed on. Ctrl-C, or SIGTERM,
-ends it.
+its reply can come. The lines of all are printed with the time and the connection's number. If a conversation is
+refused, or can't be read any longer, a line reports that, and its bytes are still passed on. Ctrl-C or SIGTERM ends the
+proxy.
 
-No connection waits for `show`, or for the reader of the lines: a connection of which MOST_WAITING bytes wait to be read
-is no longer watched. As an example for authors of proxies: `show` writes a message's line as soon as its last byte is
-there, before it reads on, and it waits where the reader of its lines waits.
+No connection waits for `show`, or for the reader of the lines: a connection of which 64 MB wait to be read is no longer
+watched. For authors of proxies: `show` writes a message's line as soon as its last byte has come, before the next read,
+and it waits if the reader of its lines does.
 """
 
 import errno
