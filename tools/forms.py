@@ -20,7 +20,7 @@ STAT = ("czxid", "mzxid", "ctime", "mtime", "version", "cversion", "aversion", "
 HEXADECIMAL = {"czxid", "mzxid", "ephemeralOwner", "pzxid"}
 STAT_FORM = "{" + ", ".join(f'"{name}": "0x%x"' if name in HEXADECIMAL else f'"{name}": %d' for name in STAT) + "}"
 MASK = 0xffff_ffff_ffff_ffff
-USUAL = 64      # lists up to this length are often the same again
+USUAL = 64      # lists up to this length are often repeated
 BITS = {"0": "false", "1": "true", "-": "null"}
 
 

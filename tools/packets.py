@@ -39,7 +39,7 @@ class Source:
     def more(self, at):
         """Reads on, and drops the bytes before `at`. False at the stream's end."""
         rest = self.data[at:]
-        # As much again as is there, so that a large packet isn't copied once for each small part of it.
+        # It reads as much again as is there: else a large packet would be copied once for each small part of it.
         new = self.read(max(BLOCK, len(rest)))
         self.data, self.at = rest + new, 0
         return bool(new)

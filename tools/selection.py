@@ -73,12 +73,12 @@ class Selection:
         self.all = not self.by_message and not self.sessions
 
     def chosen(self, talk):
-        """What is chosen of conversations, in the form of iterating over them."""
+        """The chosen messages, as iterating over `talk` yields messages."""
         found = self.of_messages(talk) if self.by_message else talk
         return self.of_sessions(found) if self.sessions else found
 
     def left(self, talk):
-        """The requests that are chosen of those that wait."""
+        """The chosen ones of the requests that wait."""
         return [made for made in talk.left() if (made.chosen and self.slower is None or not self.by_message)
                 and (not self.sessions or made.connection.session in self.sessions)]
 
