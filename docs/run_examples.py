@@ -25,8 +25,8 @@ What isn't run is marked with a line `<!-- not run: WHY -->` before its block. A
 does not begin with a command fails, and so does any block of code but for those of Rust: a block that begins with
 "```rust FILE" must be in that file, line for line, but for how far it is indented.
 
-It prints what differs, what is marked, and one last line, N passed, M failed. The status is 0 where nothing differs, 1
-where something does, 2 for wrong arguments or where a page cannot be read.
+It prints what differs, what is marked, and one last line, N passed, M failed. The status is 0 if nothing differs, 1
+if something does, 2 for wrong arguments or if a page cannot be read.
 """
 
 import argparse
@@ -150,7 +150,7 @@ class Folder:
         return process
 
     def run(self, example):
-        """The lines that the command prints; None where it did not end in time."""
+        """The lines that the command prints; None if it did not end in time."""
         command, ports = example.command, {}
         if SERVER in command:
             server = self.begin([PLAYER, "0", example.played], subprocess.PIPE, text=True)

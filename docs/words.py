@@ -12,7 +12,7 @@ texts, which are its messages and help.
 A sentence ends with a full stop, a question or an exclamation mark; a table's cell, an item of a list and a heading are
 sentences of their own. Code within a sentence is one word; blocks of code are none.
 
-The status is 0 where nothing is wrong, 1 where something is, 2 for wrong arguments.
+The status is 0 if nothing is wrong, 1 if something is, 2 for wrong arguments.
 """
 
 import pathlib

@@ -4,7 +4,7 @@
 
     damage.py [--jobs N] [--only WORD] [PROGRAM]
 
-The program is crates/zkdump/out/zkdump where none is named. For each conversation
+The program is crates/zkdump/out/zkdump if none is named. For each conversation
 
 - prefixes: each prefix of its bytes ends as the definitions say: with the fault, if the prefix decides that; else cut
   or whole, by counting frames;

@@ -36,7 +36,7 @@ ERRORS = (errno.EIO, errno.EINTR)
 
 
 def compiled(folder):
-    """The library of device.c, or None where there is no C compiler."""
+    """The library of device.c, or None if there is no C compiler."""
     for compiler in filter(None, (os.environ.get("CC"), "cc", "gcc", "clang")):
         if shutil.which(compiler):
             library = os.path.join(folder, "device.so")

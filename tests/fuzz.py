@@ -11,7 +11,7 @@ make the mutant N again. Of each
 - the status is 0 or 1, standard error is empty, and the run ends within ten seconds;
 - the last line of `show` is what `check` prints for the same bytes cut into other pieces, except for the offset of a
   damage, which moves with the heads of pieces before it;
-- the status is 0 where that line is whole, and else 1;
+- the status is 0 if that line is whole, and else 1;
 - if it is undamaged, `migrate` writes its pieces in the second format, and `check` prints the same line for those;
 - if it is whole, `build` of the listing makes each side's bytes again, one message a piece, and `show` of that prints
   the listing.

@@ -107,7 +107,7 @@ def runs():
 
 
 def compiled(folder):
-    """The library of refuse.c, or None where there is no C compiler."""
+    """The library of refuse.c, or None if there is no C compiler."""
     for compiler in filter(None, (os.environ.get("CC"), "cc", "gcc", "clang")):
         if shutil.which(compiler):
             library = os.path.join(folder, "refuse.so")

@@ -50,7 +50,7 @@ def word(made, name, otherwise=NEEDED):
 
 
 def error_of(made, number="err"):
-    """The name of the error that an object has, or its number; None where it has none."""
+    """The name of the error that an object has, or its number; None if it has none."""
     found = value(made, number, (int,), None)
     return word(made, number + "Name", None if found is None else str(found))
 
@@ -114,7 +114,7 @@ class Joined(listing.Conversations):
         return [path_of(part, "path") for part in parts_of(object_of(line))]
 
     def zxid(self, line):
-        """The zxid of a reply's line; None where it has none."""
+        """The zxid of a reply's line; None if it has none."""
         found = object_of(line).get("zxid")
         return found if isinstance(found, str) and SESSION.fullmatch(found) else None
 
@@ -187,7 +187,7 @@ class Known:
 
 
 def path_of(made, name):
-    """A path as a line has it; None where there is none."""
+    """A path as a line has it; None if there is none."""
     found = value(made, name, (str,), None)
     return None if found is None else listing.spelled(found)
 

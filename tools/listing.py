@@ -263,6 +263,6 @@ class Listing(Conversations):
         return [path for path in PATHS.findall(line) if path] if made.op == "multi" else [made.path]
 
     def zxid(self, line):
-        """The zxid of a reply's line as ZooKeeper's logs print it; None where it has none."""
+        """The zxid of a reply's line as ZooKeeper's logs print it; None if it has none."""
         found = ZXID.search(line)
         return found and hexadecimal(int(found[1]))

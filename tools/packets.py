@@ -168,7 +168,7 @@ def clock_of(order, options):
 
 
 def network_place(link, packet, at):
-    """Where the IP header begins, of a packet that begins at this place; past its end where it has none."""
+    """Where the IP header begins, of a packet that begins at this place; past its end if it has none."""
     if link == ETHERNET:
         at += 12
         while packet[at:at + 2] in VLANS:
@@ -180,7 +180,7 @@ def network_place(link, packet, at):
 
 
 def other_network(packet, at, end):
-    """Of an IP packet: where TCP begins, where it should end, and the ends. None where there is no TCP."""
+    """Of an IP packet: where TCP begins, where it should end, and the ends. None if there is no TCP."""
     version = packet[at] >> 4 if at < end else 0
     if version == 4 and end - at >= 20:
         size, fragment, kind = IPV4.unpack_from(packet, at)

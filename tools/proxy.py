@@ -93,7 +93,7 @@ class Connection:
         self.watch()
 
     def watch(self):
-        """Waits for the events that something is left to do for; where there are none, the connection is over."""
+        """Waits for the events that something is left to do for; if there are none, the connection is over."""
         if all(way.ended for way in self.ways):
             self.close()
             return

@@ -19,7 +19,7 @@ def shown(text):
 
 
 def complain(trouble):
-    """Reports trouble in one line on standard error, where that can be written."""
+    """Reports trouble in one line on standard error, if that can be written."""
     if isinstance(trouble, OSError) and trouble.strerror:
         file = "" if trouble.filename is None else f"{os.fsdecode(trouble.filename)}: "
         trouble = file + trouble.strerror
@@ -27,7 +27,7 @@ def complain(trouble):
 
 
 def report(line):
-    """Writes a line on standard error, where that can be written."""
+    """Writes a line on standard error, if that can be written."""
     try:
         if sys.stderr:
             print(shown(line), file=sys.stderr, flush=True)
@@ -55,8 +55,8 @@ def drop_standard_output():
 
 
 def tool(main):
-    """Runs a tool's main function. An error is reported in one line; the status is then 1 where it is in the input, and
-    3 where it is the system's."""
+    """Runs a tool's main function. An error is reported in one line; the status is then 1 if it is in the input, and
+    3 if it is the system's."""
     hold_standard_streams()
     try:
         if sys.stdout is None:

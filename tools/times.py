@@ -111,7 +111,7 @@ class Times:
 
 def times_of(parser, path, beside, needed):
     """The times of the messages of the recording at this path: in the file `beside`, where that is named; else in the
-    recording, or in the usual file. None where there are none, unless they are `needed`."""
+    recording, or in the usual file. None if there are none, unless they are `needed`."""
     pieces = zkr.Reader(open(path, "rb"))
     if pieces.head.form == "zkr2" and not beside:
         return Times(pieces, None)

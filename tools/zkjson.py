@@ -30,7 +30,7 @@ PART = re.compile(r"([{;])([A-Za-z]+)", re.ASCII)
 
 
 def form_of(line, made):
-    """The form of what follows the operation; a KeyError where there is none."""
+    """The form of what follows the operation; a KeyError if there is none."""
     if made.side == "C":
         return forms.REQUESTS[made.op]
     if made.error and made.op != listing.EVENT and FAILS.match(line, made.end):

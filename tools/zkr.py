@@ -64,7 +64,7 @@ LARGEST_FRAMES = Head(client_limit=LIMITS[-1], server_limit=LIMITS[-1])
 
 
 class Piece(NamedTuple):
-    """Bytes of one side that were taken together, and when; None where that isn't known."""
+    """Bytes of one side that were taken together, and when; None if that isn't known."""
     side: bytes
     milliseconds: Optional[float]
     data: bytes

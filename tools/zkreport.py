@@ -59,7 +59,7 @@ class Reader:
 
 @contextlib.contextmanager
 def new_file(path):
-    """A new file to write to, or None where there is no path. It is removed where writing it fails."""
+    """A new file to write to, or None if there is no path. It is removed if writing it fails."""
     if path is None:
         yield None
         return

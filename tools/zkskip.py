@@ -47,7 +47,7 @@ def after(payload, at, items):
 
 
 def later_part(payload):
-    """The operation of the first part of a multi that it can't have in these releases; None where there is none."""
+    """The operation of the first part of a multi that it can't have in these releases; None if there is none."""
     at = 8
     try:
         while (kind := int_at(payload, at)) in PARTS:

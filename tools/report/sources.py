@@ -26,7 +26,7 @@ PART = re.compile(r"-(\d+)(?:\.(\d+))?\.zkr")
 class Source:
     """A file, and what is known of its connection beside it. Lines of zkjson may have several connections.
 
-    `path` is None where nothing is recorded. Of a capture there are the ends of the connection, when it began and
+    `path` is None if nothing is recorded. Of a capture there are the ends of the connection, when it began and
     ended, and in `notes` the other words of pcap2zkr's line, each with its value, or with None. What follows a loss is
     a separate part: `first` is the part that the connection begins with.
     """

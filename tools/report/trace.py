@@ -25,7 +25,7 @@ class Trace:
             self.out.flush()
 
     def request(self, connection, asked, made):
-        """Takes a request and its reply, or None where it has none."""
+        """Takes a request and its reply, or None if it has none."""
         if asked.moment is None or made and made.moment is None:
             return
         self.ids += 1
