@@ -1,18 +1,18 @@
 #!/usr/bin/env python3
-"""Shows how the time and the memory of zkdump's commands grow with the size of what is read.
+"""Shows how the time and the memory of zkdump's commands grow with the size of the input.
 
     bench/growth.py [--program PATH] [--quick] [--only WORD] [--core N]
 
-Each row is a size of one of these: the parts of one multi; the requests that wait at once, as many as usually may, and
-more; the names of one list; the bytes of one path; the bytes of one frame that come in pieces of one byte; and the
+Each row is a size of one of these: the parts of one multi; the requests that wait at once, up to the usual limit, and
+above it; the names of one list; the bytes of one path; the bytes of one frame that come in pieces of one byte; and the
 megabytes of a long recording. All but the last are repeated in their recording up to the same total, so that linear
-work takes the same time at each size. `build` reads the listing of it. The cost of a recording of no pieces, and of its
-listing, is subtracted.
+work takes the same time at each size. `build` reads the recording's listing. The cost of a recording of no pieces, and
+of its listing, is subtracted.
 
 It prints a table: the size, and for each command CPU seconds (the least of three runs), nanoseconds for each (part,
-request, name or byte), and the greatest memory. The status is 1 where twice the size takes more than three times the
-time, beyond noise, where a longer recording takes a megabyte more memory, or where a run doesn't find its recording
-whole. With --quick sizes and totals are smaller.
+request, name or byte), and the greatest memory. The status is 1 if twice the size takes more than three times the time,
+beyond noise, if a longer recording takes a megabyte more memory, or if a run doesn't report its recording as whole.
+With --quick sizes and totals are smaller.
 """
 
 import functools
@@ -33,10 +33,10 @@ COMMANDS = ("check", "show", "build", "migrate")
 STAT = bytes(68)
 
 
-def exchange(operation, asked, told, size=making.LARGEST_READ):
+def exchange(operation, asked, answered, size=making.LARGEST_READ):
     """One request and its reply, in pieces of this size."""
     return (making.pieces(b"C", making.frame(making.request(1, operation, asked)), size)
-            + making.pieces(b"S", making.frame(making.reply(1, told)), size))
+            + making.pieces(b"S", making.frame(making.reply(1, answered)), size))
 
 
 def multi(parts):
@@ -46,15 +46,15 @@ def multi(parts):
         (making.DELETE, making.text("/a") + bytes(4), b""),
         (making.SET_DATA, making.text("/a") + making.blob(b"") + bytes(4), STAT),
         (making.CHECK, making.text("/a") + bytes(4), b""))), parts)
-    asked, told = zip(*((making.part(kind, ask), making.part(kind, result, 0)) for kind, ask, result in kinds))
-    return exchange(making.MULTI, b"".join(asked) + making.END_OF_PARTS, b"".join(told) + making.END_OF_PARTS)
+    asked, answered = zip(*((making.part(kind, ask), making.part(kind, result, 0)) for kind, ask, result in kinds))
+    return exchange(making.MULTI, b"".join(asked) + making.END_OF_PARTS, b"".join(answered) + making.END_OF_PARTS)
 
 
 def queue(requests):
     """`requests` requests, and then their replies."""
     asked = making.frame(making.request(1, making.EXISTS, making.text("/a") + b"\0"))
-    told = making.frame(making.reply(1, error=making.NO_NODE))
-    return making.pieces(b"C", asked * requests) + making.pieces(b"S", told * requests)
+    answered = making.frame(making.reply(1, error=making.NO_NODE))
+    return making.pieces(b"C", asked * requests) + making.pieces(b"S", answered * requests)
 
 
 def names(count):

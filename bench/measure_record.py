@@ -1,5 +1,5 @@
 #!/usr/bin/env python3
-"""Measures what tools/record.py costs: the time of an answer with and without it, and the bytes a second.
+"""Measures what tools/record.py costs: the time of an answer with and without it, and the bytes per second.
 
     measure_record.py [--rounds N] [--megabytes N]
 
@@ -23,7 +23,7 @@ ASK = bytes(100)
 
 
 def serve(listener):
-    """Answers all that it hears with the same bytes."""
+    """Answers with the bytes that it receives."""
     ready = selectors.DefaultSelector()
     ready.register(listener, selectors.EVENT_READ)
     while True:
@@ -75,7 +75,7 @@ def answers(port, clients, rounds, at_once=1):
 
 
 def flood(port, size):
-    """Megabytes a second of this many bytes, to the server and back."""
+    """Megabytes per second of `size` bytes, to the server and back."""
     block, begun = bytes(1 << 18), time.perf_counter()
     client = connect(port)
     sender = Process(target=lambda: [client.sendall(block) for _ in range(size // len(block))])

@@ -6,7 +6,7 @@
 The recordings are small, big and listing (make_recording.py). The decoders are cat, which decodes nothing; peer.rs,
 written by hand for this, where rustc is there; JuteDecode.java, ZooKeeper's own record classes, where there are javac
 and the jars of Debian's libzookeeper-java and libslf4j-java; and zkdump's check, and show, which writes to /dev/null.
-Each runs --times times (7), in turns and on one core, after a run whose count of messages or last line is checked.
+Each runs --times times (7), in turns and on one core, after a run whose count of messages, or last line, is checked.
 
 It prints a table: megabytes (1,000,000 bytes) read in a CPU second, that rate divided by the peer's, CPU seconds (the
 program's own and the system's), the program's own alone, and the greatest memory. Seconds are medians, or with --least,
@@ -30,9 +30,9 @@ PEER = "peer.rs"
 
 
 def peer(folder):
-    """The command of the peer, once it counts the messages of the stored recordings as their listings do."""
+    """The command of the peer, if it counts the messages of the stored recordings as their listings do."""
     if not shutil.which("rustc"):
-        print(f"{PEER} is left out: rustc isn't on this machine's PATH")
+        print(f"{PEER} is left out: rustc is not on the PATH")
         return None
     program = folder / "peer"
     subprocess.run(["rustc", "-O", "-C", "codegen-units=1", "--edition", "2021", HERE / "peer" / PEER, "-o", program],
@@ -42,7 +42,7 @@ def peer(folder):
         timing.run([program, *profile], listing.with_suffix(".zkr"), folder / "answer")
         lines = listing.read_bytes().count(b"\n") - 1
         if (folder / "answer").read_text() != f"{lines} messages\n":
-            sys.exit(f"{PEER} counts otherwise than {listing}")
+            sys.exit(f"{PEER} does not count {lines} messages, as {listing} has")
     return [program]
 
 
@@ -50,7 +50,7 @@ def jute(folder, jars):
     """The command of Java's decoder."""
     paths = [jars / name for name in JARS]
     if not shutil.which("javac") or not all(map(os.path.exists, paths)):
-        print(f"JuteDecode.java is left out: this machine has no javac, or {jars} lacks one of {', '.join(JARS)}")
+        print(f"JuteDecode.java is left out: javac is not on the PATH, or {jars} lacks one of {', '.join(JARS)}")
         return None
     among = ":".join(map(str, [*paths, folder]))
     subprocess.run(["javac", "-cp", among, "-d", folder, HERE / "JuteDecode.java"], check=True)
@@ -58,7 +58,7 @@ def jute(folder, jars):
 
 
 class Decoder:
-    """A command, how its answer ends (None where it isn't asked), and the costs of its runs over one recording."""
+    """A command, how its output ends (None if that isn't checked), and the costs of its runs over one recording."""
 
     def __init__(self, name, command, ending):
         self.name, self.command, self.ending, self.costs = name, command, ending, []
@@ -81,7 +81,7 @@ class Decoder:
 
 
 def decoders(folder, words):
-    """What can be run here: names, commands, and the ends of answers, None for the number of messages."""
+    """What can be run here: names, commands, and how their output ends; None is the number of messages."""
     commands = (("cat", ["cat"], b""), (PEER, peer(folder), None), ("JuteDecode.java", jute(folder, words.jars), None),
                 ("zkdump check", [words.program, "check"], timing.WHOLE),
                 ("zkdump show", [words.program, "show"], timing.WHOLE))

@@ -63,7 +63,7 @@ def parsed(parser):
     """The parsed arguments; the program is there, and this process and its runs are bound to one core."""
     found = parser.parse_args()
     if not os.access(found.program, os.X_OK):
-        sys.exit(f"{found.program} isn't there: ./zkdump builds it")
+        sys.exit(f"{found.program} is not there: build it with ./zkdump")
     os.sched_setaffinity(0, {max(os.sched_getaffinity(0)) if found.core is None else found.core})
     return found
 

@@ -7,7 +7,7 @@ A page names clauses of a function as `call` (clause, ..) or, within brackets, a
 a trait or type as `Type` (call, ..). Each such word must be the name of a clause of a function of that name in
 crates/*/src, or of a call of that type. Without arguments it reads README.md, those of tools and crates, and docs/*.md.
 
-It prints what is wrong and one last line. The status is 0 where nothing is.
+It prints what is wrong and one last line. The status is 0 if nothing is.
 """
 
 import collections

@@ -25,8 +25,8 @@ What isn't run is marked with a line `<!-- not run: WHY -->` before its block. A
 does not begin with a command fails, and so does any block of code but for those of Rust: a block that begins with
 "```rust FILE" must be in that file, line for line, but for how far it is indented.
 
-It prints what differs, what is marked, and one last line, N passed, M failed. The status is 0 where nothing differs, 1
-where something does, 2 for wrong arguments or where a page cannot be read.
+It prints what differs, what is marked, and one last line, N passed, M failed. The status is 0 if nothing differs, 1
+if something does, 2 for wrong arguments or if a page cannot be read.
 """
 
 import argparse
@@ -150,7 +150,7 @@ class Folder:
         return process
 
     def run(self, example):
-        """The lines that the command prints; None where it did not end in time."""
+        """The lines that the command prints; None if it did not end in time."""
         command, ports = example.command, {}
         if SERVER in command:
             server = self.begin([PLAYER, "0", example.played], subprocess.PIPE, text=True)
@@ -215,8 +215,8 @@ def run_commands(name, text, program, seconds):
                 passed += 1
                 continue
             failed += 1
-            told = "did not end in time" if found is None else "prints" + shown(found)
-            print(f"{name}:{example.at}: $ {example.command}\n    {told}\n    expected{shown(example.lines)}")
+            outcome = "did not end in time" if found is None else "prints" + shown(found)
+            print(f"{name}:{example.at}: $ {example.command}\n    {outcome}\n    expected{shown(example.lines)}")
         folder.close()
     return passed, failed
 
@@ -226,7 +226,7 @@ def plain(text):
     return [line.strip() for line in text.splitlines() if line.strip()]
 
 
-def stands_in(lines, others):
+def are_in(lines, others):
     return any(others[k:k + len(lines)] == lines for k in range(len(others)))
 
 
@@ -234,7 +234,7 @@ def compare_code(page, text):
     """Looks for the page's code in the files that it names."""
     passed = failed = 0
     for block in re.finditer(r"^```rust (\S+)\n(.*?)^```$", text, re.M | re.S):
-        if stands_in(plain(block[2]), plain((TOP / block[1]).read_text())):
+        if are_in(plain(block[2]), plain((TOP / block[1]).read_text())):
             passed += 1
         else:
             failed += 1

@@ -6,17 +6,19 @@
 It prints each page's words (those of `wc -w`, without the parts that scripts write), the limit, and the longest
 sentence. With --check it prints only what is wrong: a page or docs/ above its limit of words, a sentence above the
 page's, a word of DIALECT more often than its number allows, a date, a machine or an hour outside of bench/README.md and
-CHANGELOG.md, and a link between pages whose file or heading isn't there.
+CHANGELOG.md, a link between pages whose file or heading isn't there, and a word of DIALECT in a script's comments or
+texts, which are its messages and help.
 
 A sentence ends with a full stop, a question or an exclamation mark; a table's cell, an item of a list and a heading are
 sentences of their own. Code within a sentence is one word; blocks of code are none.
 
-The status is 0 where nothing is wrong, 1 where something is, 2 for wrong arguments.
+The status is 0 if nothing is wrong, 1 if something is, 2 for wrong arguments.
 """
 
 import pathlib
 import re
 import sys
+import tokenize
 
 TOP = pathlib.Path(__file__).resolve().parent.parent
 
@@ -31,12 +33,12 @@ DIALECT = {
     r"(?:wants?|wanted|want of) memory|memory is wanted": 0,
     r"says? no more": 0,
     r"where (?:it|they) lies?": 0,
-    r"(?:is|are|was|were) told": 2,
-    r"tells?": 4,
-    r"wants?": 6,
-    r"stands?": 35,
-    r"comes? to": 10,
-    r"behind": 10,
+    r"(?:is|are|was|were) told": 0,
+    r"tells?": 2,
+    r"wants?": 4,
+    r"stands?": 28,
+    r"comes? to": 6,
+    r"behind": 3,
 }
 DIARY = re.compile(r"\b\d{1,2} (?:January|February|March|April|May|June|July|August|September|October|November|December)"
                    r"|\b(?:this|that) machine\b|\b(?:hours?|minutes?) on\b|\bat a load of\b")
@@ -105,6 +107,25 @@ def lost(path, text):
             yield f"{name_of(path)}: the link {name} to {target} leads nowhere"
 
 
+def scripts():
+    """The scripts in Python, except this one, which has the words themselves."""
+    folders = ("bench", "docs", "examples", "packaging", "tests", "tools")
+    found = {path for folder in folders for path in (TOP / folder).rglob("*.py")}
+    return sorted({*found, TOP / "release"} - {pathlib.Path(__file__).resolve()})
+
+
+def in_scripts():
+    """The words of DIALECT in the comments and texts of scripts."""
+    kinds = tokenize.COMMENT, tokenize.STRING, getattr(tokenize, "FSTRING_MIDDLE", tokenize.STRING)
+    dialect = re.compile(rf"\b(?:{'|'.join(DIALECT)})\b", re.I)
+    for path in scripts():
+        with tokenize.open(path) as script:
+            for token in tokenize.generate_tokens(script.readline):
+                if token.type in kinds:
+                    yield from (f"{name_of(path)}:{token.start[0]}: plainer words: {found[0]}"
+                                for found in dialect.finditer(token.string))
+
+
 def judged(texts):
     """What is wrong."""
     sizes = {name_of(path): len(GENERATED.sub("", text).split()) for path, text in texts.items()}
@@ -125,6 +146,7 @@ def judged(texts):
         count = len(re.findall(rf"\b(?:{word})\b", every, re.I))
         if count > limit:
             yield f"the pages have \"{word}\" {count} times, and at most {limit} are allowed"
+    yield from in_scripts()
 
 
 def main():

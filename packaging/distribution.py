@@ -17,7 +17,7 @@ def make(to, gate=""):
         yield from install(top, "lib", gate)
         archive.pack(top, to / f"{NAME}.tar.gz")
         if debian.missing():
-            yield f"the Debian packages, as {', '.join(debian.missing())} is missing"
+            yield f"the Debian packages, since {', '.join(debian.missing())} is missing"
         else:
             yield from debian.packages(work, to, gate)
     made = sorted(path for path in to.iterdir() if path.suffix in (".gz", ".deb"))

@@ -3,9 +3,9 @@
 
     install.py [--destdir FOLDER] [--prefix PREFIX] [--libdir LIB] [--remove]
 
-PREFIX is /usr/local where no other is named, and LIB is a folder below it, lib where no other is named. All is put below
-FOLDER, for who makes a package. The program and the proved library have to be built; any other part that can't be made
-is told, and left out. The same words with --remove take away what was installed.
+PREFIX is /usr/local if no other is named, and LIB is a folder below it, lib if no other is named. Everything goes below
+FOLDER, for whoever makes a package. The program has to be built. Any other part that can't be made is left out, which
+is reported. The same arguments with --remove take away what was installed.
 """
 
 import argparse
@@ -82,9 +82,9 @@ def toolchain():
 
 
 def make(folder, libdir, gate):
-    """Makes in a folder what is made. A line for each part that is left out."""
+    """Makes in a folder the files that are made. A line for each part that is left out."""
     if make_library.missing() or not LIBRARY.exists():
-        yield f"the libraries, as {', '.join(make_library.missing()) or LIBRARY.relative_to(TOP)} is missing"
+        yield f"the libraries, since {', '.join(make_library.missing()) or LIBRARY.relative_to(TOP)} is missing"
     else:
         make_library.make(folder)
     for name, below in TEMPLATES.items():
@@ -95,7 +95,7 @@ def make(folder, libdir, gate):
             text = text.replace(f"@{word}@", value)
         (folder / name).write_text(text)
     if make_manual.missing():
-        yield f"the manual pages, as {make_manual.missing()[0]} is missing"
+        yield f"the manual pages, since {make_manual.missing()[0]} is missing"
     else:
         make_manual.make(folder, VERSION, commands())
     (folder / "BUILD").write_text(f"zkdump {VERSION}\ntoolchain: {toolchain()}\n{gate}")
@@ -107,7 +107,7 @@ def install(top, libdir="lib", gate=""):
         folder = pathlib.Path(temporary)
         yield from make(folder, libdir, gate)
         files = layout(libdir)
-        # Links come last, so that one to what is left out is left out, too.
+        # Links come last: one to a file that is left out is left out, too.
         for where, what in sorted(files.items(), key=lambda item: isinstance(item[1], Link)):
             to = pathlib.Path(top, where)
             if isinstance(what, Made):
@@ -147,7 +147,7 @@ def main():
         remove(top, words.libdir)
         return 0
     if not PROGRAM.exists():
-        print("install.py: the program is not built; ./zkdump builds it", file=sys.stderr)
+        print("install.py: the program is not built: build it with ./zkdump", file=sys.stderr)
         return 1
     os.umask(0o022)
     try:

@@ -6,7 +6,7 @@
 FOLDER/libzk.a is one archive of one object: the proved library and the toolchain's functions by which it allocates.
 FOLDER/libzk.so.1 is the same as a shared library, whose names have the version LIBZK_1. Both export the functions of
 include/zk.h and no other name, and need nothing but the C library. The proved library is crates/zk_c/out/libzk_c.a
-where no other is named. The status is 1 where a library can't be made.
+if no other is named. The status is 1 if a library can't be made.
 """
 
 import argparse

@@ -4,18 +4,18 @@
 
     damage.py [--jobs N] [--only WORD] [PROGRAM]
 
-The program is crates/zkdump/out/zkdump where none is named. For each conversation
+The program is crates/zkdump/out/zkdump if none is named. For each conversation
 
-- fronts: each front of its bytes ends as the definitions say: with the fault, where that is decided, else cut or whole,
-  which counting frames decides;
+- prefixes: each prefix of its bytes ends as the definitions say: with the fault, if the prefix decides that; else cut
+  or whole, by counting frames;
 - cuts: each piece, cut in two at each place, has the same listing;
-- bytes: with each byte replaced by 00, 01, 7f, 80 and ff it is refused, not before that byte, or cut, or whole, and
-  then the listing is built into the bytes that were fed;
+- bytes: with each byte replaced by 00, 01, 7f, 80 and ff it is refused, not before that byte, or cut, or whole; if it
+  is whole, `build` makes the same bytes of its listing;
 - lengths: with each length and count replaced by 7fffffff, 80000000 and fffffffe it is refused or cut, within 64 MB of
   address space.
 
-And once: ping (273 feedings of a ping and its reply), and limit (data of 4,194,216 bytes, and a length of 4,194,305).
-It prints what differs, the greatest memory of a run, and one last line. The status is 0 where nothing differs.
+And once: ping (a ping and its reply, cut in two in 273 ways), and limit (data of 4,194,216 bytes, and a length of
+4,194,305). It prints what differs, the greatest memory of a run, and one last line. The status is 0 if nothing differs.
 """
 
 import argparse
@@ -64,7 +64,7 @@ def ending(pieces):
 
 
 def fault_at(pieces, line):
-    """How many bytes have come with the one that decides the refusal; None where the line is no refusal."""
+    """How many bytes have come with the one that decides the refusal; None if the line is not a refusal."""
     found = re.match(rb"\. refused side=(.) frame=\d+ offset=(\d+) ", line)
     if not found:
         return None
@@ -77,7 +77,7 @@ def fault_at(pieces, line):
     return before + 1
 
 
-def front(pieces, size):
+def prefix(pieces, size):
     kept = []
     for side, data in pieces:
         kept.append((side, data[:size]))
@@ -181,11 +181,11 @@ class Tests:
         self.passed = 0
         self.failures = []
 
-    def hold(self, what, same, *told):
+    def hold(self, what, same, *facts):
         if same:
             self.passed += 1
         else:
-            self.failures.append(f"{self.name}: {what}: {' '.join(map(str, told))}")
+            self.failures.append(f"{self.name}: {what}: {' '.join(map(str, facts))}")
 
     def run(self, word, data, space=None):
         if space is None:
@@ -200,7 +200,8 @@ class Tests:
     def ends(self, what, pieces, line):
         """The ending line of the pieces is this one."""
         found = self.run("check", recording(pieces))
-        self.hold(what, found == (line + b"\n", b"", 0 if line.startswith(b". whole") else 1), "wanted", line, "found", found)
+        right = found == (line + b"\n", b"", 0 if line.startswith(b". whole") else 1)
+        self.hold(what, right, "expected", line, "found", found)
 
     def judge(self, what, pieces, before, space=None):
         """A changed conversation ends as it may, where the change is after `before` bytes; returns the last line."""
@@ -218,9 +219,9 @@ class Tests:
         self.hold(what, right and not errors, status, line, errors)
         return line
 
-    def try_fronts(self):
+    def try_prefixes(self):
         for size in range(sum(len(data) for _, data in self.pieces) + 1):
-            part = front(self.pieces, size)
+            part = prefix(self.pieces, size)
             decided = self.fault is not None and self.fault <= size
             self.ends(f"the first {size} bytes", part, self.line if decided else ending(part))
 
@@ -230,7 +231,7 @@ class Tests:
             for at in range(1, len(data)):
                 cut = [*self.pieces[:number], (side, data[:at]), (side, data[at:]), *self.pieces[number + 1:]]
                 found = self.run("show", recording(cut))
-                self.hold(f"piece {number} cut at {at}", found == listing, "wanted", listing, "found", found)
+                self.hold(f"piece {number} cut at {at}", found == listing, "expected", listing, "found", found)
 
     def try_bytes(self):
         for side, data in zip((b"C", b"S"), sides(self.pieces)):
@@ -241,7 +242,7 @@ class Tests:
                                    *replaced(self.pieces, side, offset, bytes([value])))
 
     def try_lengths(self):
-        good = self.pieces if self.fault is None else front(self.pieces, self.fault - 1)
+        good = self.pieces if self.fault is None else prefix(self.pieces, self.fault - 1)
         for side, offset in lengths(*sides(good)):
             for value in LENGTHS:
                 what = f"length at {offset} of {side.decode()} is {value}"
@@ -268,8 +269,9 @@ class Tests:
         pieces = [*self.pieces, (b"C", ask), (b"S", struct.pack(">i", LIMIT) + reply)]
         self.ends("a reply of the usual limit", pieces, b". whole unanswered=0")
         output, _, status = self.run("show", recording(pieces))
-        wanted = b"S 1 getData zxid=5 blob=#" + b"00" * 4_194_216 + b" stat=(0,0,0,0,0,0,0,0,0,0,0)\n. whole unanswered=0\n"
-        self.hold("the line of a reply of the usual limit", status == 0 and output.endswith(wanted))
+        data = b"00" * 4_194_216
+        expected = b"S 1 getData zxid=5 blob=#%b stat=(0,0,0,0,0,0,0,0,0,0,0)\n. whole unanswered=0\n" % data
+        self.hold("the line of a reply of the usual limit", status == 0 and output.endswith(expected))
         self.ends("a length above the usual limit", [*pieces[:-1], (b"S", struct.pack(">i", LIMIT + 1))],
                   b". refused side=S frame=1 offset=45 place=0 reason=LengthRange")
 
@@ -297,22 +299,22 @@ def main():
     parser = argparse.ArgumentParser(description="Damaged input, over the proved program.")
     parser.add_argument("program", nargs="?", default=str(BUILT))
     parser.add_argument("--jobs", type=int, default=os.cpu_count() or 1)
-    parser.add_argument("--only", choices=("fronts", "cuts", "bytes", "lengths", "ping", "limit"))
+    parser.add_argument("--only", choices=("prefixes", "cuts", "bytes", "lengths", "ping", "limit"))
     options = parser.parse_args()
     if not os.access(options.program, os.X_OK):
-        parser.error(f"{options.program} is no program; ./zkdump builds it")
+        parser.error(f"{options.program} is not a program: build it with ./zkdump")
     every = list(conversations())
     base = next(one for one in every if one[0] == "connect_answered")
-    tasks = [(options.program, kind, one) for kind in ("bytes", "fronts", "cuts", "lengths") for one in every]
+    tasks = [(options.program, kind, one) for kind in ("bytes", "prefixes", "cuts", "lengths") for one in every]
     tasks += [(options.program, kind, base) for kind in ("ping", "limit")]
     passed, failures, peak = 0, [], 0
     with concurrent.futures.ProcessPoolExecutor(options.jobs) as pool:
-        wanted = [task for task in tasks if options.only in (None, task[1])]
-        for good, bad, kind, most in pool.map(test, wanted):
+        chosen = [task for task in tasks if options.only in (None, task[1])]
+        for good, bad, kind, most in pool.map(test, chosen):
             passed, failures = passed + good, failures + bad
             peak = max(peak, most if kind == "lengths" else 0)
     print("\n".join(failures[:50]), end="\n" if failures else "")
-    print(f"where lengths are only claimed, a run and the script that started it had {peak} kB at most")
+    print(f"the greatest memory of a run with a changed length, and of the script that started it: {peak} kB")
     print(f"{passed} passed, {len(failures)} failed")
     return 1 if failures else 0
 

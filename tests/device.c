@@ -1,6 +1,6 @@
 /* The C library's read and write, as a standard input and a standard output may answer them. By the environment:
    READ_MOST, WRITE_MOST: the greatest number of bytes of a call. READ_ROOM, WRITE_ROOM: the number of bytes after which
-   calls fail, with the error READ_ERROR, WRITE_ERROR; where that is 0 they read or write no byte. tests/devices.py runs
+   calls fail, with the error READ_ERROR, WRITE_ERROR; if that is 0 they read or write no byte. tests/devices.py runs
    the proved program with these functions in place of those of the C library. */
 #define _GNU_SOURCE
 #include <errno.h>
@@ -13,7 +13,7 @@ static unsigned long number(const char *name, unsigned long other) {
     return value == NULL ? other : strtoul(value, NULL, 10);
 }
 
-/* How many of `count` bytes a call may pass: -1 where it fails. */
+/* How many of `count` bytes a call may read or write; -1 if it has to fail. */
 static ssize_t passing(size_t count, unsigned long room, unsigned long most, unsigned long error) {
     if (room == 0 && count != 0) {
         errno = (int)error;

@@ -6,16 +6,16 @@
 tests/device.c, which a C compiler makes a library of, takes the place of the C library's read and write. For each
 stored case of show, check, build and migrate (crates/zkdump/cases)
 
-- steps: with reads and writes of 1 and of 7 bytes the run does what it does with all at once;
-- reads: where a read fails after a front of the input, with an input or output error or as interrupted, the run ends
-  with status 3 and `zkdump: read failed`, and what it wrote is a front of what it writes otherwise. `show` has
-  written the line of each message that is whole in that front, and no more, and `build` and `migrate` the pieces. Where
-  the front decides everything, the run is the usual one;
-- writes: where a write fails, or takes no byte, after a front of the output, the run ends with status 3 and
-  `zkdump: write failed`, and has written that front.
+- steps: with reads and writes of 1 and of 7 bytes the run does the same as with all bytes at once;
+- reads: if a read fails after a prefix of the input, with an input or output error or as interrupted, the run ends
+  with status 3 and `zkdump: read failed`, and what it wrote is a prefix of what it writes otherwise. `show` has written
+  the line of each message that is whole in the prefix, and nothing else, and `build` and `migrate` the pieces. If the
+  prefix decides everything, the run is the usual one;
+- writes: if a write fails, or takes no byte, after a prefix of the output, the run ends with status 3 and
+  `zkdump: write failed`, and has written that prefix.
 
-It prints what differs and one last line. The status is 0 where nothing differs. Where there is no C compiler it says
-so, and runs nothing.
+It prints what differs and one last line. The status is 0 if nothing differs. Without a C compiler it reports that, and
+runs nothing.
 """
 
 import argparse
@@ -31,12 +31,12 @@ from program import BUILT, TOP, Program
 
 CASES = TOP / "crates" / "zkdump" / "cases"
 READ_FAILED, WRITE_FAILED = b"zkdump: read failed\n", b"zkdump: write failed\n"
-TRIES = 8  # fronts of a case that are tried
+TRIES = 8  # prefixes of a case that are tried
 ERRORS = (errno.EIO, errno.EINTR)
 
 
 def compiled(folder):
-    """The library of device.c, or None where there is no C compiler."""
+    """The library of device.c, or None if there is no C compiler."""
     for compiler in filter(None, (os.environ.get("CC"), "cc", "gcc", "clang")):
         if shutil.which(compiler):
             library = os.path.join(folder, "device.so")
@@ -51,8 +51,8 @@ def content(path):
     return path.read_bytes() if path.exists() else b""
 
 
-def fronts(size):
-    """The lengths of some fronts of `size` bytes, each shorter than `size`: the shortest and the longest are among
+def prefixes(size):
+    """The lengths of some prefixes of `size` bytes, each shorter than `size`: the shortest and the longest are among
     them."""
     return sorted({*range(0, size, max(1, size // TRIES)), size - 1} - {-1})
 
@@ -79,7 +79,7 @@ class Devices:
             self.hold(f"{name}, {most} at a time", found, found == ample)
 
     def reads(self, name, words, data, ample):
-        for size in fronts(len(data)):
+        for size in prefixes(len(data)):
             # (the last line of `build` may lack its line feed where the input ends, and nowhere else)
             part = self.run(words, data[:data.rfind(b"\n", 0, size) + 1 if words[0] == "build" else size])
             for error in ERRORS:
@@ -88,20 +88,20 @@ class Devices:
                 if (errors, status) == (READ_FAILED, 3):
                     right = ample[0].startswith(output) and output == self.written(words[0], part[0])
                 else:
-                    # (the front decides all)
+                    # (the prefix decides everything)
                     right = found == ample
                 self.hold(f"{name}, a failed read after {size} bytes", found, right)
 
     @staticmethod
     def written(command, output):
-        """What a run has written when the read after a front fails, given what a run over the front alone writes."""
+        """What a run has written when the read after a prefix fails, given what a run over the prefix alone writes."""
         if command == "show":
             # (the line of the ending isn't)
             return output[:output.rstrip(b"\n").rfind(b"\n") + 1]
         return b"" if command == "check" else output
 
     def writes(self, name, words, data, ample):
-        for size in fronts(len(ample[0])):
+        for size in prefixes(len(ample[0])):
             for error in (0, *ERRORS):
                 found = self.run(words, data, WRITE_ROOM=size, WRITE_ERROR=error)
                 self.hold(f"{name}, a failed write after {size} bytes", found, found == (ample[0][:size], WRITE_FAILED, 3))
@@ -113,7 +113,7 @@ def main():
     parser.add_argument("--program", default=str(BUILT))
     options = parser.parse_args()
     if not os.access(options.program, os.X_OK):
-        parser.error(f"{options.program} is no program; ./zkdump builds it")
+        parser.error(f"{options.program} is not a program: build it with ./zkdump")
     with tempfile.TemporaryDirectory() as folder:
         library = compiled(folder)
         if library is None:

@@ -9,15 +9,15 @@ swapped, dropped or doubled, and lengths changed. A mutant is fixed by the seed 
 make the mutant N again. Of each
 
 - the status is 0 or 1, standard error is empty, and the run ends within ten seconds;
-- what `show` ends with is what `check` says of the same bytes cut into other pieces, but for the offset of a damage,
-  which moves with the heads of pieces before it;
-- the status is 0 where that line is whole, and else 1;
-- where it is undamaged, `migrate` writes its pieces in the second format, and `check` says the same of that;
-- where it is whole, `build` of the listing makes each side's bytes again, one message a piece, and `show` of that
-  prints the listing.
+- the last line of `show` is what `check` prints for the same bytes cut into other pieces, except for the offset of a
+  damage, which moves with the heads of pieces before it;
+- the status is 0 if that line is whole, and else 1;
+- if it is undamaged, `migrate` writes its pieces in the second format, and `check` prints the same line for those;
+- if it is whole, `build` of the listing makes each side's bytes again, one message a piece, and `show` of that prints
+  the listing.
 
-It prints the mutants that do otherwise, counts of how the mutants end, and one last line. With --keep the mutants that
-do otherwise are written to that folder. The status is 0 where there are none.
+It prints the mutants for which one of these fails, counts of how the mutants end, and one last line. --keep writes the
+former to that folder. The status is 0 if there are none.
 """
 
 import argparse
@@ -64,7 +64,7 @@ def double(chance, data, _):
 
 
 def number(chance, data, _):
-    """Four bytes that are likely a length are another number."""
+    """Changes four bytes that are likely a length."""
     if len(data) < 13:
         return data
     low = chance.randrange(4, len(data) - 8)
@@ -115,7 +115,7 @@ def join(chance, pieces, others):
 
 @of_pieces
 def turn(chance, pieces, _):
-    """A piece is marked as the other side's."""
+    """Marks a piece as the other side's."""
     at = chance.randrange(len(pieces))
     side, data = pieces[at]
     return [*pieces[:at], (b"S" if side == b"C" else b"C", data), *pieces[at + 1:]]
@@ -181,7 +181,7 @@ def moved(line, growth):
 
 
 def trouble(program, chance, data, options):
-    """What the program does otherwise with a mutant, or None; and its last line."""
+    """What the program does wrong with a mutant, or None; and its last line."""
     listing, errors, status = program.run(["show", *options], data)
     line = last_line(listing)
     if status not in (0, 1) or errors:
@@ -190,9 +190,9 @@ def trouble(program, chance, data, options):
         return f"show: status {status} with {line!r}", line
     other, growth = cut_again(chance, data)
     found = program.run(["check", *options], other)
-    wanted = (moved(line, growth) + b"\n", b"", status)
-    if found != wanted:
-        return f"check of other pieces: {found} in place of {wanted}", line
+    expected = (moved(line, growth) + b"\n", b"", status)
+    if found != expected:
+        return f"check of other pieces: {found}, expected {expected}", line
     pieces, rest = split(data)
     if data.startswith(HEAD) and not rest:
         migrated = second(pieces, options)
@@ -200,7 +200,7 @@ def trouble(program, chance, data, options):
             return "migrate gives other bytes", line
         found = program.run(["check"], migrated)
         if found != (line + b"\n", b"", status):
-            return f"check of the second format: {found} in place of {line}", line
+            return f"check of the second format: {found}, expected {line}", line
     if status:
         return None, line
     built, errors, status = program.run(["build", *options], listing)
@@ -228,18 +228,18 @@ def main():
     parser.add_argument("--keep", type=pathlib.Path)
     options = parser.parse_args()
     if not os.access(options.program, os.X_OK):
-        parser.error(f"{options.program} is no program; ./zkdump builds it")
+        parser.error(f"{options.program} is not a program: build it with ./zkdump")
     recordings = [data for _, _, data, _ in stored() if data.startswith(HEAD)]
     program, kinds, failed = Program(options.program, SECONDS), collections.Counter(), 0
     begin = time.monotonic()
     for each in range(options.first, options.first + options.count):
         chance, data, words = mutant(options.seed, each, recordings)
-        told, line = trouble(program, chance, data, words)
+        fault, line = trouble(program, chance, data, words)
         kinds[kind_of(line)] += 1
-        if not told:
+        if not fault:
             continue
         failed += 1
-        print(f"seed {options.seed}, mutant {each}, {words}: {told[:1000]}")
+        print(f"seed {options.seed}, mutant {each}, {words}: {fault[:1000]}")
         if options.keep:
             options.keep.mkdir(parents=True, exist_ok=True)
             (options.keep / f"{options.seed}-{each}.zkr").write_bytes(data)

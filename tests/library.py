@@ -176,7 +176,7 @@ def field_names():
 
 
 def crate_names(numbers):
-    """What the header's functions for names should tell, by those of zk_records: of each a name by its number."""
+    """What the header's functions for names should return, by those of zk_records: for each, the name of a number."""
     text = plain((RECORDS / "names.rt").read_text() + (RECORDS / "op.rt").read_text())
     body = {name: found for name, found in re.findall(r"^pub fn (\w+)(.*?)^\}", text, flags=re.M | re.S)}
     operations = {}
@@ -205,7 +205,7 @@ def declared():
 
 
 def header_names(numbers):
-    """What the header's functions for names tell."""
+    """What the header's functions for names return."""
     number = {f"ZK_{name}": n for name, n in numbers.items()}
     functions = re.findall(r"const char \*zk_(\w+)_name\((.*?)^\}", HEADER.read_text(), flags=re.M | re.S)
     return {kind: {number[of] if of in number else int(of): name
@@ -230,8 +230,8 @@ def compare_header():
 
 
 def made(folder, library):
-    """The examples as programs, linked with the libraries that are made of this one: a name and the words that run it,
-    or None where it can't be made."""
+    """The examples as programs, linked with the libraries that are made of this one: a name and the command that runs
+    it, or None if it can't be made."""
     c = next(filter(shutil.which, filter(None, (os.environ.get("CC"), "cc"))), None)
     c = None if make_library.missing() else c
     proxy, nulls, shown, listing = (os.path.join(folder, name) for name in ("proxy", "nulls", "fields", "listing"))
@@ -242,7 +242,7 @@ def made(folder, library):
                                 (shown, EXAMPLES / "fields.c")):
             words = [*warned, "-o", program, source, archive]
             if subprocess.run([*words, "-fsanitize=address"], stderr=subprocess.DEVNULL).returncode != 0:
-                print(f"skipped: {source.name} is not looked at for memory that isn't given up")
+                print(f"skipped: {source.name} is not checked for memory that isn't freed")
                 subprocess.run(words, check=True)
     yield "null pointers", [nulls] if c else None
     yield "fields", [shown] if c else None
@@ -266,8 +266,8 @@ def sides(recording):
 
 
 def run_examples(name, words):
-    """Over each recording: its name, whether the example prints its listing, and the message if not. And whether the
-    lines of a whole listing, said again, give each side's bytes."""
+    """For each recording: its name, whether the example prints its listing, and the message if not. And whether the
+    lines of a whole listing, said again, make each side's bytes."""
     for path in sorted((TOP / "captures").glob("*.zkr")):
         listing = path.with_suffix(".show")
         found = subprocess.run([*words, path], capture_output=True)
@@ -300,7 +300,7 @@ def run_fields(words):
 
 
 def judge_payloads(shared):
-    """Whether each payload of the table is judged as it says."""
+    """Whether each payload of the table is judged as the table has it."""
     sys.path.append(str(EXAMPLES))
     library, numbers = importlib.import_module("talk").Library(shared), declared()[2]
     for call, digits, status, place in JUDGED:
@@ -316,7 +316,7 @@ def judge_payloads(shared):
 
 
 def refuse_lines(shared):
-    """Whether each line of the table is refused as it says, and the next one that may be said is said after it."""
+    """Whether each line of the table is refused as the table has it, and the next one that may come is then said."""
     talk, numbers = importlib.import_module("talk"), declared()[2]
     library = talk.Library(shared)
     for before, refused, status, column in REFUSED_LINES:
@@ -337,8 +337,8 @@ def compare_fields(shared):
 
 
 def list_whole(shared):
-    """Whether each recording's listing comes by one call, or its length where there is no room; and pieces that aren't
-    the bytes are refused."""
+    """Whether one call writes each recording's listing, or returns its length if there is no room; and pieces that
+    aren't the bytes are refused."""
     talk, numbers = importlib.import_module("talk"), declared()[2]
     library = talk.Library(shared)
     for path in sorted((TOP / "captures").glob("*.zkr")):

@@ -58,7 +58,7 @@ def compare_recording(caller, content, cut):
 
 
 def compare(talk, library, names, recordings):
-    """A line for each recording with a message that is returned otherwise."""
+    """A line for each recording with a message that is returned wrongly."""
     caller = fields.Caller(talk, library, {"none": 0, **names})
     for path in recordings:
         for cut in (1 << 24, 1):

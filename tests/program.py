@@ -12,8 +12,8 @@ HEAD = b"ZKR1"
 
 
 class Program:
-    """Runs one program, again and again: with its input, output and errors in three files that stay open, a run
-    takes hardly more than the program itself."""
+    """Runs one program, again and again. Its input, output and errors are in three files that stay open, so a run
+    takes hardly more time than the program itself."""
 
     def __init__(self, path, seconds=60):
         self.path = os.path.abspath(path)

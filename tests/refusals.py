@@ -8,7 +8,7 @@ alone a program allocates, and refuses the Nth call of a run. For each stored ca
 up from 1 until a run meets no refusal
 
 - show, check, build, migrate: over the stored cases, and `build` over the listings of those of show, too, the run does
-  what it does with ample memory; or it ends with status 3, `zkdump: out of memory` on standard error, and a front of
+  the same as with ample memory; or it ends with status 3, `zkdump: out of memory` on standard error, and a prefix of
   the output that it has with ample memory;
 - calls: over the recordings of the first format that check is stored with, a test of the library
   (crates/talk_tests/src/growth.rt) passes, with the example on its standard input: each call of read_all, Talk::new,
@@ -17,8 +17,8 @@ up from 1 until a run meets no refusal
   which are called once, never allocate.
 
 The program is crates/zkdump/out/zkdump, and the tests are crates/talk_tests/out/talk_tests_tests, where no others are
-named; `./test` builds both there, and so do `./zkdump` and, in crates/talk_tests, `rt test`. It prints the runs that do
-otherwise and one last line. The status is 0 where none does. Where there is no C compiler it says so, and runs nothing.
+named; `./test` builds both there, and so do `./zkdump` and, in crates/talk_tests, `rt test`. It prints the other runs
+and one last line. The status is 0 if there are none. Without a C compiler it reports that, and runs nothing.
 """
 
 import argparse
@@ -107,7 +107,7 @@ def runs():
 
 
 def compiled(folder):
-    """The library of refuse.c, or None where there is no C compiler."""
+    """The library of refuse.c, or None if there is no C compiler."""
     for compiler in filter(None, (os.environ.get("CC"), "cc", "gcc", "clang")):
         if shutil.which(compiler):
             library = os.path.join(folder, "refuse.so")
@@ -125,10 +125,10 @@ def main():
     parser.add_argument("--tests", default=str(TESTS))
     options = parser.parse_args()
     programs = [(options.program, "./zkdump")] if options.only != "calls" else []
-    programs += [(options.tests, "rt test, in crates/talk_tests,")] if options.only in (None, "calls") else []
+    programs += [(options.tests, "rt test in crates/talk_tests")] if options.only in (None, "calls") else []
     for path, made in programs:
         if not os.access(path, os.X_OK):
-            parser.error(f"{path} is no program; {made} builds it")
+            parser.error(f"{path} is not a program: build it with {made}")
     passed, failures, begin = 0, [], time.monotonic()
     with tempfile.TemporaryDirectory() as folder, concurrent.futures.ProcessPoolExecutor(options.jobs) as pool:
         library = compiled(folder)

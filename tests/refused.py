@@ -5,8 +5,8 @@
 
 tests/refused/NAME.txt is the text of a crate that uses the repository's crates. Its lines with `// refused: CODE`, and
 no others, must be refused with that code. tests/refused/NAME.edit changes a crate of the repository, as a must-fail
-edit does. Its lines `refused: CODE` say how each new text, and no other line, must be refused. It prints what fails and
-`N passed, M failed`; its status is 1 where one failed.
+edit does. Each new text, and no other line, must be refused with the code in its line `refused: CODE`. It prints what
+fails and `N passed, M failed`; its status is 1 if one failed.
 """
 import re
 import shutil
@@ -27,7 +27,7 @@ def uses(crates):
 
 
 def check(crate):
-    """What the checker says of the crate before any proof; those below it are read as their sources."""
+    """What the checker reports of the crate before any proof; it reads those below it as sources."""
     every, home = uses(crate.parent.parent / "crates.txt"), build_library.kit()
     below, left, kits = {}, list(every[crate.name]), {"core", "std"}
     while left:
@@ -62,7 +62,7 @@ def errors(crate):
 
 
 def program(top, text):
-    """What is refused of a program, and what it says of itself."""
+    """What is refused of a program, and what its comments expect."""
     libraries = " ".join(sorted(set(re.findall(r"^use (\w+)::", text, re.M))))
     with open(top / "crates.txt", "a") as crates:
         crates.write(f"probe: {libraries}\n")
@@ -75,12 +75,12 @@ def program(top, text):
 
 
 def edit(top, text):
-    """What is refused of a crate that is edited, and what the edit says."""
+    """What is refused of a crate that is edited, and what the edit expects."""
     crate, wanted = top / "crates" / re.search(r"^crate: (.*)$", text, re.M)[1], []
     for name, old, new, code in re.findall(r"^file: src/(.*)\nold: (.*)\nnew: (.*)\nrefused: (.*)$", text, re.M):
         before, found, after = (crate / "src" / name).read_text().partition(old)
         if not found or old in after:
-            return [], [("the old text doesn't stand there once", 0, name)]
+            return [], [("the old text is not there exactly once", 0, name)]
         (crate / "src" / name).write_text(before + new + after)
         wanted.append((name, before.count("\n") + 1, code))
     return errors(crate), sorted(wanted)
@@ -95,7 +95,7 @@ def main():
             got, wanted = {".txt": program, ".edit": edit}[path.suffix](Path(temporary), path.read_text())
         if not wanted or got != wanted:
             failed += 1
-            print(f"{path.name}: refused {got}, and should be {wanted}")
+            print(f"{path.name}: refused {got}, expected {wanted}")
     print(f"{len(programs) - failed} passed, {failed} failed")
     return 1 if failed else 0
 

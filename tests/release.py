@@ -66,7 +66,7 @@ COMPLETED = (
 
 
 def run(*words, **options):
-    """The run of a command, which is given up after a minute."""
+    """The run of a command, which is ended after a minute."""
     try:
         return subprocess.run(words, capture_output=True, timeout=60, **options)
     except subprocess.TimeoutExpired:
@@ -74,7 +74,7 @@ def run(*words, **options):
 
 
 def skip(what, *tools):
-    """Whether a tool is missing, which is then reported."""
+    """Whether a tool is missing; if one is, that is reported."""
     lacking = [tool for tool in tools if not shutil.which(tool)]
     if lacking:
         print(f"skipped: {what}: {', '.join(lacking)} is missing")

@@ -10,7 +10,7 @@ def address_text(address):
 
 
 def address_of(text, usual):
-    """A host and a port, out of HOST:PORT or [HOST]:PORT, or of PORT alone where there is a usual host."""
+    """The host and the port of HOST:PORT or [HOST]:PORT, or of PORT alone if there is a usual host."""
     host, colon, port = text.rpartition(":")
     if host[:1] + host[-1:] == "[]":
         host = host[1:-1]
@@ -23,20 +23,20 @@ def address_of(text, usual):
 
 
 def address_word(parser, text, usual):
-    """The host and the port that a command's word names."""
+    """The host and the port in an argument of a command."""
     try:
         return address_of(text, usual)
     except ValueError:
-        parser.error(f"{text!r} is no host and port")
+        parser.error(f"{text!r} is not an address: write {'[HOST:]PORT' if usual else 'HOST:PORT'}")
 
 
 def found(address, *flags):
-    """The socket addresses that a host and a port stand for. An OSError names them."""
+    """The socket addresses of a host and a port. An OSError names the two."""
     try:
         return socket.getaddrinfo(*address, 0, socket.SOCK_STREAM, 0, *flags)
     except (OSError, UnicodeError) as error:
         raise OSError(error.errno if isinstance(error, OSError) else None, getattr(error, "strerror", None) or
-                      "this is no name of a host", address_text(address)) from None
+                      "this is not the name of a host", address_text(address)) from None
 
 
 def listen(address):

@@ -6,7 +6,7 @@
 FOLDER is the repository. Crates are proved in the order of crates.txt's uses; those that don't use each other are
 proved side by side, as far as there are processors and memory. `rt check` keeps every other `rt` out of the crates that
 it uses, so each further check has a copy of the sources, a lane; what it has proved is then copied to all lanes. The
-old program stays until the new one is built. Standard error reports the progress.
+old program stays until the new one is built. The progress is reported on standard error.
 """
 
 import concurrent.futures
@@ -75,12 +75,12 @@ class Build:
         self.begun, self.writing, self.children, self.is_over = 0, threading.Lock(), set(), False
 
     def lane_count(self):
-        """How many checks may go side by side."""
+        """How many checks may run side by side."""
         return max(1, min(self.processors // 2, memory_left() // CHECK_MEMORY, MOST_LANES))
 
-    def behind(self, name):
+    def chain_size(self, name):
         """How many bytes of sources are on the longest chain of crates from this one up."""
-        above = [self.behind(other) for other, used in self.uses.items() if name in used]
+        above = [self.chain_size(other) for other, used in self.uses.items() if name in used]
         return sum(file.stat().st_size for file in self.sources(name)) + max(above, default=0)
 
     def sources(self, name):
@@ -110,8 +110,8 @@ class Build:
         return self.crate / "out"
 
     def lane(self, folder):
-        """A copy of the sources of all crates below the program, with their lines of crates.txt: `rt` wants a folder for
-        each line."""
+        """A copy of the sources of all crates below the program, with their lines of crates.txt, since `rt` needs a
+        folder for each line."""
         folder.mkdir()
         lines = (self.top / "crates.txt").read_text().splitlines(keepends=True)
         (folder / "crates.txt").write_text("".join(line for line in lines if line.split(":")[0].strip() in self.uses))
@@ -157,7 +157,7 @@ class Build:
         one with the longest chain above it first. It gets all jobs but those of the other crates that are being proved
         or begin with it, which get one each."""
         free, done, running = list(lanes), set(), {}
-        left = sorted([name for name in self.uses if name != PROGRAM], key=self.behind, reverse=True)
+        left = sorted([name for name in self.uses if name != PROGRAM], key=self.chain_size, reverse=True)
         with concurrent.futures.ThreadPoolExecutor(len(lanes)) as pool:
             try:
                 while left or running:
@@ -183,21 +183,21 @@ class Build:
 
     def prove(self, name, lane, jobs):
         """Proves a crate in a lane, and has its library built there for the crates above."""
-        begun = self.tell_begin(name)
+        begun = self.report_begin(name)
         words = "--jobs", str(jobs)
         self.call(name, lane, "check", *words)
         if any(name in used for used in self.uses.values()):
             self.call(name, lane, "lib", *words)
         say(f"{name} took {round(time.monotonic() - begun)} s")
 
-    def tell_begin(self, name):
+    def report_begin(self, name):
         with self.writing:
             self.begun += 1
             say(f"proving {name}, crate {self.begun} of {len(self.uses)}")
         return time.monotonic()
 
     def call(self, name, lane, *words, file=os.devnull):
-        """Runs `rt` in a crate's folder with this file as its input, and writes what it says into the log."""
+        """Runs `rt` in a crate's folder with this file as its input, and writes what it prints to the log."""
         with tempfile.TemporaryFile() as said, open(file, "rb") as stdin:
             child = subprocess.Popen(["rt", *words], cwd=lane / "crates" / name, stdin=stdin, stdout=said,
                                      stderr=subprocess.STDOUT, start_new_session=True)
@@ -221,7 +221,7 @@ class Build:
             os.killpg(child.pid, signal.SIGTERM)
 
     def end_children(self):
-        """Ends what still runs, once one has failed or all are to end."""
+        """Ends the checks that still run, after one has failed or a signal came."""
         with self.writing:
             self.is_over = True
             children = list(self.children)
@@ -231,14 +231,14 @@ class Build:
             child.wait()
 
     def replace_program(self):
-        """Proves the program's own crate, builds it, and has it check the stored run, since the status of `rt run` is that
-        of the program. If anything fails, the program that was there is put back."""
+        """Proves the program's own crate, builds it, and has it check the stored run, since the status of `rt run` is
+        that of the program. If anything fails, the program that was there is put back."""
         program, before = self.out() / PROGRAM, self.out() / f"{PROGRAM}.before"
         if before.exists():
             os.replace(before, program)
         if program.exists():
             shutil.copy2(program, before)
-        begun = self.tell_begin(PROGRAM)
+        begun = self.report_begin(PROGRAM)
         try:
             self.call(PROGRAM, self.top, "run", "--", "check", file=self.crate / "stdin")
             program.touch()

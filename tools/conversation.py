@@ -35,7 +35,7 @@ class Conversation:
         self.cutter = zkr.Cutter(self.series.head)
         self.stretches = [Stretch(self.put, self.first, self.began, not self.late)]
         # The sides whose connect message has passed; the sides whose frames were not found yet, with the bytes in which
-        # they may be; and those of which it is sure that they were found.
+        # they may be; and those whose frames were certainly found.
         self.connected, self.sought, self.trusted = set(), {}, set(SIDES)
         if self.late:
             self.connected, self.sought, self.trusted = set(SIDES), dict.fromkeys(SIDES, b""), set()
@@ -132,7 +132,7 @@ class Conversation:
         if message.side == zkr.CLIENT:
             last.ask(message)
         elif message.payload[:4] == EVENT:
-            stretches[0].tell(message)
+            stretches[0].take_event(message)
         else:
             taker = next((stretch for stretch in stretches if stretch.answer(message, stretch is last)), None)
             if taker:
@@ -206,7 +206,7 @@ class Conversation:
         if stretch.whole:
             self.unfinished = 0
         if stretch.recording:
-            self.tell(stretch, stretch.recording.last, stretch.recording.ended)
+            self.report(stretch, stretch.recording.last, stretch.recording.ended)
         else:
             self.stretches[0].join(stretch)
 
@@ -221,16 +221,16 @@ class Conversation:
         for stretch in others:
             stretch.end(True)
             if stretch.recording:
-                self.tell(stretch, stretch.recording.last, stretch.recording.ended)
+                self.report(stretch, stretch.recording.last, stretch.recording.ended)
         last.end(True)
         for side in SIDES if self.stretches else ():
             last.skipped[side] += self.waits(side)
         holes = self.holes or {half.side: half.lacks() for half in stream.halves}
         last.holes |= {side for side in SIDES if holes[side]}
-        self.tell(last, stream.last, ended, how or ["open"])
+        self.report(last, stream.last, ended, how or ["open"])
         self.stretches = ()
 
-    def tell(self, stretch, last, ended, how=()):
+    def report(self, stretch, last, ended, how=()):
         """Ends the recording of a stretch, where there is one, and prints its line."""
         recording, notes, lost = stretch.recording, [], any(stretch.lost.values())
         path, count = "-", dict.fromkeys(SIDES, 0)

@@ -20,7 +20,7 @@ STAT = ("czxid", "mzxid", "ctime", "mtime", "version", "cversion", "aversion", "
 HEXADECIMAL = {"czxid", "mzxid", "ephemeralOwner", "pzxid"}
 STAT_FORM = "{" + ", ".join(f'"{name}": "0x%x"' if name in HEXADECIMAL else f'"{name}": %d' for name in STAT) + "}"
 MASK = 0xffff_ffff_ffff_ffff
-USUAL = 64      # lists up to this length are often the same again
+USUAL = 64      # lists up to this length are often repeated
 BITS = {"0": "false", "1": "true", "-": "null"}
 
 
@@ -246,14 +246,14 @@ ASKS = {
     "setWatches": "zxid:hexadecimal dataWatches:texts existWatches:texts childWatches:texts", "closeSession": "",
     "multi": "",
 }
-TELLS = {
+ANSWERS = {
     "create": "path:text", "create2": "path:text stat:stat", "delete": "", "exists": "stat:stat",
     "getData": "blob:data stat:stat", "setData": "stat:stat", "getACL": "acl:acls stat:stat", "setACL": "stat:stat",
     "getChildren": "names:texts", "getChildren2": "names:texts stat:stat", "sync": "path:text", "ping": "", "auth": "",
     "setWatches": "", "closeSession": "", "multi": "",
 }
 REQUESTS = {name: Form(fields) for name, fields in ASKS.items()}
-REPLIES = {name: Form("zxid:hexadecimal " + fields) for name, fields in TELLS.items()}
+REPLIES = {name: Form("zxid:hexadecimal " + fields) for name, fields in ANSWERS.items()}
 REPLIES["connect"] = Form("version:number timeout:number session:hexadecimal passwd:secret ro:readonly")
 REPLIES[listing.EVENT] = Form("zxid:hexadecimal kind:kind state:number path:text")
 FAILED = Form("zxid:hexadecimal err:err")

@@ -34,7 +34,7 @@ class Histogram:
         return sum(self.counts.values())
 
     def percentile(self, percent):
-        """The number that `percent` of a hundred don't exceed; None where there are none."""
+        """The number that `percent` of a hundred don't exceed; None if there are none."""
         due = max(1, -(-percent * self.total() // 100))
         for least in sorted(self.counts):
             due -= self.counts[least]

@@ -13,8 +13,8 @@ from times import times_of
 
 def add_words(parser):
     """Adds the arguments that say what is read."""
-    parser.add_argument("inputs", metavar="FILE", nargs="*", help="listings and recordings; else a listing on standard "
-                        "input. Those of recordings are made by zkdump show")
+    parser.add_argument("inputs", metavar="FILE", nargs="*", help="listings, or recordings, whose listings zkdump show "
+                        "makes; without one, a listing on standard input")
     parser.add_argument("--recording", metavar="FILE", help="the recording that the listing is of, for its times")
     parser.add_argument("--times", metavar="FILE", help="the times of its pieces (RECORDING.times)")
     parser.add_argument("--profile", choices=zkr.PROFILES, help="the release that zkdump judges recordings by (3.4)")
@@ -25,9 +25,9 @@ def conversations(parser, words, objects, progress, before_read=lambda: None):
     """The conversations that these arguments name, each a Listing, or a Joined where `objects` allows those.
     Before each read `before_read` is called; `progress` is updated with the number of lines."""
     if words.recording and len(words.inputs) > 1:
-        parser.error("--recording goes with one listing")
+        parser.error("--recording is for one listing: name one file, or none")
     if words.times and not words.recording and len(words.inputs) != 1:
-        parser.error("--times goes with one recording")
+        parser.error("--times is for one recording: name that one")
     if len(set(words.inputs)) < len(words.inputs):
         parser.error("a file is named twice")
     for path in words.inputs or [listing.STANDARD_INPUT]:
@@ -45,13 +45,13 @@ def conversation(parser, words, path, stream, objects, progress, before_read):
     times, name = None, words.recording or path
     if stream.peek(4)[:4] in (b"ZKR1", b"ZKR2"):
         if path == listing.STANDARD_INPUT or words.recording:
-            parser.error("a recording is read by its name alone, and without --recording")
+            parser.error("this is a recording: name it as the argument, and leave out --recording")
         lines, times = lines_of_show(parser, words, path, before_read), times_of(parser, path, words.times, False)
     else:
         if words.recording:
             times = times_of(parser, words.recording, words.times, True)
         elif words.times:
-            parser.error("--times goes with a recording")
+            parser.error("--times is for a recording, and this is a listing: add --recording REC.zkr")
         lines = listing.lines_of(stream, before_read)
     first = next(lines, None)
     if first is None:
@@ -65,7 +65,7 @@ def conversation(parser, words, path, stream, objects, progress, before_read):
 def lines_of_show(parser, words, path, before_read):
     """The lines of a recording."""
     if not shutil.which(words.zkdump):
-        parser.error(f"there is no program {words.zkdump}: --zkdump PATH names it")
+        parser.error(f"there is no program {words.zkdump}: name it with --zkdump PATH")
     options = ["--profile", words.profile] if words.profile else []
     if limit := getattr(words, "limit", None):
         options += ["--limit", str(limit)]

@@ -13,7 +13,7 @@ NEEDED = object()
 
 
 def no_constant(name):
-    raise ValueError(f"{name} is no number of JSON")
+    raise ValueError(f"{name} is not a number of JSON")
 
 
 DECODER = json.JSONDecoder(parse_constant=no_constant)
@@ -24,11 +24,11 @@ def object_of(line):
     try:
         made, end = DECODER.raw_decode(line)
     except json.JSONDecodeError as error:
-        raise ValueError(f"this is no JSON from column {error.colno} on") from None
+        raise ValueError(f"this is not JSON from column {error.colno} on") from None
     except RecursionError:
-        raise ValueError("this is nested too deep") from None
+        raise ValueError("this is nested too deeply") from None
     if not isinstance(made, dict) or line[end:].strip():
-        raise ValueError("this is no object of zkjson")
+        raise ValueError("this is not an object of zkjson")
     return made
 
 
@@ -38,19 +38,19 @@ def value(made, name, kinds, otherwise=NEEDED):
     if found is NEEDED:
         raise ValueError(f"this object has no {name!r}")
     if found is not otherwise and (type(found) not in kinds or str not in kinds and not -MOST < found < MOST):
-        raise ValueError(f"this is no object of zkjson: its {name!r}")
+        raise ValueError(f"zkjson doesn't write this value of {name!r}")
     return found
 
 
 def word(made, name, otherwise=NEEDED):
     found = value(made, name, (str,), otherwise)
     if found is not otherwise and not WORD.fullmatch(found):
-        raise ValueError(f"this is no object of zkjson: its {name!r}")
+        raise ValueError(f"zkjson doesn't write this value of {name!r}")
     return found
 
 
 def error_of(made, number="err"):
-    """The name of the error that an object has, or its number; None where it has none."""
+    """The name of the error that an object has, or its number; None if it has none."""
     found = value(made, number, (int,), None)
     return word(made, number + "Name", None if found is None else str(found))
 
@@ -59,7 +59,7 @@ def parts_of(made):
     """The parts of a multi."""
     parts = made.get("parts", [])
     if type(parts) is not list or not all(type(part) is dict for part in parts):
-        raise ValueError("this is no object of zkjson: its 'parts'")
+        raise ValueError("zkjson doesn't write this value of 'parts'")
     return parts
 
 
@@ -67,8 +67,8 @@ class Joined(listing.Conversations):
     """The lines of zkjson, message by message, with the interface of a Listing; `name` is the connection of objects
     that name none.
 
-    A reply belongs to the request whose number it has, so lines may have been left out. Where the request is not there,
-    what the reply says of it is returned in its place.
+    A reply belongs to the request whose number it has, so lines may have been left out. If the request is not there,
+    one is returned that is made of what the reply has of it.
     """
 
     def __init__(self, name, lines, progress):
@@ -89,7 +89,7 @@ class Joined(listing.Conversations):
                 raise listing.NoListing(f"line {n}: {error}") from None
             yield line, message, asked
             if n % 1000 == 0:
-                self.progress.tell(f"{n:,} lines")
+                self.progress.show(f"{n:,} lines")
         self.progress.end()
 
     def known(self, made):
@@ -114,7 +114,7 @@ class Joined(listing.Conversations):
         return [path_of(part, "path") for part in parts_of(object_of(line))]
 
     def zxid(self, line):
-        """The zxid of a reply's line; None where it has none."""
+        """The zxid of a reply's line; None if it has none."""
         found = object_of(line).get("zxid")
         return found if isinstance(found, str) and SESSION.fullmatch(found) else None
 
@@ -130,17 +130,17 @@ class Known:
         connection, n = self.connection, value(made, "n", (int,))
         if connection.ending or n <= self.last:
             raise ValueError(f"message {n} of connection {json.dumps(connection.name)} comes after its message "
-                             f"{self.last} or its ending: two recordings have this name, or the order is lost")
+                             f"{self.last} or its ending: two recordings have this name, or lines are not in order")
         self.last = n
         side, op = value(made, "side", (str,)), word(made, "op")
         if side not in ("C", "S"):
-            raise ValueError("this is no object of zkjson: its 'side'")
+            raise ValueError("zkjson doesn't write this value of 'side'")
         error = error_of(made) if op != listing.EVENT else error_of(made, "kind")
         if op == "multi" and side == "S" and not error:
             error = listing.error_of_parts([each for each in map(error_of, parts_of(made)) if each])
         at, ms = value(made, "at", (int, float), None), value(made, "ms", (int, float), None)
         if not all(number is None or number >= 0 and math.isfinite(number) for number in (at, ms)):
-            raise ValueError("this is no object of zkjson: its 'at' or its 'ms'")
+            raise ValueError("zkjson doesn't write this value of 'at' or of 'ms'")
         xid = value(made, "xid", (int,), None)
         connection.known = connection.known or side == "S"
         if op == listing.CONNECT:
@@ -176,18 +176,18 @@ class Known:
         made.pop("connection", None)
         if made["ending"] not in listing.ENDINGS or not all(
                 type(each) is int or type(each) is str and WORD.fullmatch(each) for each in made.values()):
-            raise ValueError("this is no ending of zkjson")
+            raise ValueError("this is not an ending of zkjson")
         self.connection.ending = made
         if type(waiting) is list:
             self.waiting = set(filter(lambda each: type(each) is int, waiting))
 
     def left(self):
-        """The requests to which no reply has come: where the ending says which these are, those."""
+        """The requests to which no reply has come: those that the ending lists, if it does."""
         return [made for made in self.requests.values() if self.waiting is None or made.n in self.waiting]
 
 
 def path_of(made, name):
-    """A path as a line has it; None where there is none."""
+    """A path as a line has it; None if there is none."""
     found = value(made, name, (str,), None)
     return None if found is None else listing.spelled(found)
 
@@ -196,5 +196,5 @@ def session_of(made):
     """The session of a connect message, as a number."""
     found = made.get("session")
     if not isinstance(found, str) or not SESSION.fullmatch(found):
-        raise ValueError("this is no object of zkjson: its 'session'")
+        raise ValueError("zkjson doesn't write this value of 'session'")
     return int(found, 16)

@@ -43,8 +43,8 @@ class NoListing(ValueError):
 
 
 def no_line(n, at):
-    """The complaint about line n, which can be read to the place `at` alone."""
-    return NoListing(f"line {n}: this is no line of a listing from column {at + 1} on")
+    """The error for line n, which can be parsed up to the place `at`."""
+    return NoListing(f"line {n}: this is not a line of a listing from column {at + 1} on")
 
 
 class Connection:
@@ -141,7 +141,7 @@ def spelled(value):
 def ending_of(line, n):
     """An ending line, its numbers as numbers."""
     if not ENDING.fullmatch(line):
-        raise NoListing(f"line {n}: this is no ending line")
+        raise NoListing(f"line {n}: this is not an ending line")
     word, *fields = line[2:].split(" ")
     made = {"ending": word}
     for name, _, value in (field.partition("=") for field in fields):
@@ -176,7 +176,7 @@ class Conversations:
 
     @contextlib.contextmanager
     def complaints(self):
-        """Names the file that was not understood, where it has a name."""
+        """Names the file that could not be parsed, if it has a name."""
         try:
             yield
         except ValueError as error:
@@ -236,7 +236,7 @@ class Listing(Conversations):
                 connection.connect(side, session and int(session[1]))
             yield line, made, asked
             if n % 1000 == 0:
-                self.progress.tell(f"{n:,} lines")
+                self.progress.show(f"{n:,} lines")
         if frames:
             self.times.compare(connection.ending)
         self.progress.end()
@@ -263,6 +263,6 @@ class Listing(Conversations):
         return [path for path in PATHS.findall(line) if path] if made.op == "multi" else [made.path]
 
     def zxid(self, line):
-        """The zxid of a reply's line as ZooKeeper's logs print it; None where it has none."""
+        """The zxid of a reply's line as ZooKeeper's logs print it; None if it has none."""
         found = ZXID.search(line)
         return found and hexadecimal(int(found[1]))

@@ -27,7 +27,7 @@ SECTION, INTERFACE, OLD_PACKETS, PACKET = 0x0A0D0D0A, 1, (2, 3), 6
 
 
 class NotRead(ValueError):
-    """A file that is no capture, or one that isn't read here."""
+    """A file that is not a capture, or one of a kind that this module doesn't read."""
 
 
 class Source:
@@ -39,7 +39,7 @@ class Source:
     def more(self, at):
         """Reads on, and drops the bytes before `at`. False at the stream's end."""
         rest = self.data[at:]
-        # As much again as is there, so that a large packet isn't copied once for each small part of it.
+        # It reads as much again as is there: else a large packet would be copied once for each small part of it.
         new = self.read(max(BLOCK, len(rest)))
         self.data, self.at = rest + new, 0
         return bool(new)
@@ -92,7 +92,7 @@ def packets_of_pcap(source, mark):
     forms = {struct.pack(order + "I", number): (order, unit)
              for order in "<>" for number, unit in ((0xA1B2C3D4, 1e-3), (0xA1B23C4D, 1e-6))}
     if mark not in forms:
-        raise NotRead("no capture of pcap or pcapng")
+        raise NotRead("this is not a capture of pcap or pcapng")
     order, unit = forms[mark]
     link = struct.unpack(order + "16xI", source.exactly(20))[0] & 0x0FFFFFFF
     unpack = struct.Struct(order + "IIII").unpack_from
@@ -107,7 +107,7 @@ def packets_of_pcap(source, mark):
             yield seconds * 1000 + part * unit, link, data, at + 16, end
             at = end
         if size > LARGEST_PACKET:
-            raise NotRead(f"a packet of {size} bytes")
+            raise NotRead(f"the capture is damaged: it has a packet of {size} bytes")
         if not source.more(at):
             if at < last:
                 raise EOFError("the capture ends within a packet")
@@ -133,7 +133,7 @@ def packets_of_pcapng(source):
             link, unit, offset = interfaces[interface]
             yield ((high << 32) + low) * unit + offset, link, body, 20, min(20 + length, len(body))
         elif kind in OLD_PACKETS:
-            raise NotRead("a pcapng of an old form; convert it: editcap -F pcapng OLD NEW")
+            raise NotRead("this is a pcapng of an old form: convert it with editcap -F pcapng OLD NEW")
         if source.at == len(source.data) and not source.more(source.at):
             return
         kind = struct.unpack(order + "I", source.exactly(4))[0]
@@ -144,10 +144,10 @@ def block_body(source, order, head, least):
     length."""
     size = struct.unpack(order + "I", head)[0]
     if not least <= size <= LARGEST_PACKET:
-        raise NotRead(f"a block of {size} bytes")
+        raise NotRead(f"the capture is damaged: it has a block of {size} bytes")
     body = source.exactly(size - least)
     if source.exactly(4) != head:
-        raise NotRead("a block has one length before it and another after it")
+        raise NotRead("the capture is damaged: a block has one length before it and another after it")
     return body
 
 
@@ -168,19 +168,19 @@ def clock_of(order, options):
 
 
 def network_place(link, packet, at):
-    """Where the IP header begins, of a packet that begins at this place; past its end where it has none."""
+    """Where the IP header begins, of a packet that begins at this place; past its end if it has none."""
     if link == ETHERNET:
         at += 12
         while packet[at:at + 2] in VLANS:
             at += 4
         return at + 2 if packet[at:at + 2] in IP_KINDS else len(packet)
     if link not in LINKS:
-        raise NotRead(f"link type {link} is not read here")
+        raise NotRead(f"packets of link type {link} can't be read: capture at another interface")
     return at + LINKS[link]
 
 
 def other_network(packet, at, end):
-    """Of an IP packet: where TCP begins, where it should end, and the ends. None where there is no TCP."""
+    """Of an IP packet: where TCP begins, where it should end, and the ends. None if there is no TCP."""
     version = packet[at] >> 4 if at < end else 0
     if version == 4 and end - at >= 20:
         size, fragment, kind = IPV4.unpack_from(packet, at)

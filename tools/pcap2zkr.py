@@ -4,28 +4,28 @@
     pcap2zkr.py [--port N] [--late] CAPTURE PREFIX
 
 CAPTURE is a file of pcap or pcapng, also one packed with gzip, or - for standard input. Each connection to the port
-(2181) becomes PREFIX-1.zkr, PREFIX-2.zkr and so on; a number whose file is there already is passed over. It gets a line
-on standard output, once it has ended (here on two lines):
+(2181) becomes PREFIX-1.zkr, PREFIX-2.zkr and so on; a number whose file exists is skipped. Once a connection has ended,
+its line is printed (here on two lines):
 
     PREFIX-1.zkr 10.0.0.7:41822 > 10.0.0.9:2181 begun 2026-11-22T20:31:07.120Z ended 2026-11-22T20:31:09.884Z
         client=1045 server=2210 packets=1-37 resent=0 closed=C
 
-packets= has the numbers of its first and its last packet in the capture, and resent= says how many segments were
-captured again. closed=C says that the client sent the first FIN, reset=S that the server sent a reset, and open that
+`packets` has the numbers of its first and its last packet in the capture, and `resent` how many segments were captured
+again. `closed=C` means that the client sent the first FIN, `reset=S` that the server sent a reset, and `open` that
 neither was captured; `ended` is the time of that, or of the last packet.
 
-Bytes are written only after everything that their sender had acknowledged, so that no reply comes before its
-request, in whatever order packets were captured. Where bytes are missing, the recording ends before them, and the line
-says `hole=C` or `hole=S`, the side that they are of. What follows them is PREFIX-1.2.zkr and so on, each with its line:
-from a request on that has its reply, after a connect request and response that are made up (all numbers -1). The line
-says how many bytes of each side were not captured before it (`lost=C:0,S:96`), how many were captured but are left out
-(`skipped=C:120,S:300`), and how many replies are, since their requests are not in it (`unasked=3`). `snapped` says that
-packets were not captured whole.
+Bytes are written only after everything that their sender had acknowledged, so no reply comes before its request, in
+whatever order packets were captured. Where bytes are missing, the recording ends before them, and its line has `hole=C`
+or `hole=S`, the side of the missing bytes. What follows them becomes PREFIX-1.2.zkr and so on, each with its line. Such
+a recording has a made-up connect request and response (all numbers -1), and then begins with the first request whose
+reply is there. Its line has the numbers of bytes of each side that were not captured before it (`lost=C:0,S:96`), of
+captured bytes that are left out (`skipped=C:120,S:300`), and of replies that are left out because their requests are
+not in it (`unasked=3`). `snapped` means that packets were not captured whole.
 
-A connection that began before the capture gets a line with `late`, and no recording. With --late it is joined in the
-same way.
+A connection that began before the capture gets a line with `late`, and no recording. With --late it gets one, which
+begins in the same way as after missing bytes.
 
-The status is 1 where anything was left out, or the capture has no connection to the port.
+The status is 1 if anything was left out, or if the capture has no connection to the port.
 """
 
 import ipaddress
@@ -84,7 +84,7 @@ class Capture:
                 if half.take(number, milliseconds, sequence, acknowledged, flags, data, snapped):
                     self.look_after(half.stream)
                 if number & 1023 == 0:
-                    progress.tell(f"{number} packets, {self.begun} connections")
+                    progress.show(f"{number} packets, {self.begun} connections")
         except KeyboardInterrupt:
             pass
         except (EOFError, OSError, packets.NotRead, *DAMAGED) as error:
@@ -164,7 +164,7 @@ class Capture:
             self.relieve()
 
     def relieve(self):
-        """Goes on behind missing bytes, in the connections that hold most."""
+        """Continues after missing bytes, in the connections that hold most."""
         holding = sorted({half.stream for half in self.halves.values() if half.stream.held},
                          key=lambda stream: stream.held)
         while self.budget.held > self.budget.most // 4 * 3:
@@ -194,15 +194,15 @@ class Capture:
         stream.let_go()
 
     def ports_heard(self):
-        """The other ports in the capture, as they are told."""
+        """The other ports in the capture, as they are reported."""
         most = sorted(self.heard, key=lambda port: (-self.heard[port], port))[:MOST_PORTS]
-        return "; the ports in it are " + ", ".join(map(str, most)) if most else ""
+        return f"; choose one of its ports with --port N: {', '.join(map(str, most))}" if most else ""
 
 
 def words_of():
     parser = zkr.Words(__doc__)
     parser.add_number("--port", range(1, 65536), default=2181, help="the server's port (2181)")
-    parser.add_argument("--late", action="store_true", help="join connections that were begun before the capture")
+    parser.add_argument("--late", action="store_true", help="join connections that began before the capture")
     parser.add_argument("capture", metavar="CAPTURE")
     parser.add_argument("prefix", metavar="PREFIX")
     parser.add_format()

@@ -16,12 +16,12 @@ BLOCK = 65536
 
 
 class Refused(ValueError):
-    """The peer doesn't say what was recorded, or the place of a fault isn't in the recording."""
+    """The peer didn't send what was recorded, or the place of a fault isn't in the recording."""
 
 
 class Position:
-    """Where a side's next byte is: the number of its frame, and its place in the payload. Before that are the four bytes
-    of the length, at the places -4 to -1."""
+    """Where a side's next byte is: the number of its frame, and its place in the payload. Before the payload are the
+    four bytes of the length, at the places -4 to -1."""
 
     def __init__(self):
         self.frame, self.place, self.length, self.offset = 0, -LENGTH, b"", 0
@@ -77,15 +77,15 @@ class Play:
                 elif is_end := self.say(piece.data):
                     break
         for frame, place in [*([self.end] if self.end and not is_end else []), *self.flips]:
-            raise Refused(f"the {NAMES[self.own]} of the recording does not come to frame={frame} "
-                          f"place={max(0, place)}, so no fault was made there")
+            raise Refused(f"the {NAMES[self.own]}'s bytes ended before frame={frame} place={max(0, place)}, "
+                          "so no fault was made there")
         if not is_end:
             if self.own == zkr.CLIENT:
                 self.connection.shutdown(socket.SHUT_WR)
             self.hear_end()
 
-    def told(self):
-        """What was played, as it is printed."""
+    def counts(self):
+        """How much was played, as it is printed."""
         count = "{} bytes of the client, {} of the server".format(*(self.at[side].offset for side in NAMES))
         return count + (f", and {self.pings} pings answered" if self.pings else "")
 
@@ -116,7 +116,7 @@ class Play:
         try:
             self.connection.sendall(data)
         except OSError as error:
-            raise self.refused(f"it takes no more: {error.strerror or error}") from None
+            raise self.refused(f"it can't be sent more: {error.strerror or error}") from None
 
     def before_the_end(self, at, size):
         """How many of a part's bytes are still sent, where the side ends in it."""
@@ -158,17 +158,17 @@ class Play:
         return self.own == zkr.SERVER and self.at[self.own].frame > 0 and self.at[self.peer].begins()
 
     def take(self, until):
-        """Takes what the peer says next, up to this moment; returns why there is nothing more."""
+        """Takes what the peer sends next, up to this moment; returns why nothing came, or None."""
         try:
             self.connection.settimeout(max(0.001, until - time.monotonic()))
             got = b"" if self.has_ended else self.connection.recv(BLOCK)
         except socket.timeout:
-            return "nothing comes"
+            return "nothing came"
         except OSError as error:
             return error.strerror
         self.heard += got
         self.has_ended = not got
-        return None if got else "it has ended"
+        return None if got else "it ended"
 
     def hear(self, due):
         """Takes these bytes from the peer."""
@@ -187,13 +187,13 @@ class Play:
             if not size:
                 reason = self.take(until)
                 if reason:
-                    raise self.refused(f"{reason}, {due[same]:02x} is due", same)
+                    raise self.refused(f"expected {due[same]:02x}: {reason}", same)
             elif self.heard[:size] == due[same:same + size]:
                 del self.heard[:size]
                 same, until = same + size, time.monotonic() + self.wait
             else:
                 other = next(at for at in range(size) if self.heard[at] != due[same + at])
-                raise self.refused(f"{self.heard[other]:02x} in place of {due[same + other]:02x}", same + other)
+                raise self.refused(f"expected {due[same + other]:02x}, got {self.heard[other]:02x}", same + other)
 
     def is_coming(self, due, until):
         """Answers the pings that come before this part of a frame. Returns whether the part itself is due: a recorded
@@ -214,7 +214,7 @@ class Play:
             elif reason := self.take(until):
                 if not head:
                     # (what comes from now on comes too late)
-                    raise self.refused(f"{reason}, {due[0]:02x} is due", 0)
+                    raise self.refused(f"expected {due[0]:02x}: {reason}", 0)
                 return True
 
     def answer_ping(self):
@@ -231,7 +231,7 @@ class Play:
             is_ping = self.may_ping() and PING.startswith(self.heard)
             is_over = self.heard and not is_ping or self.take(until)
         if self.heard:
-            raise self.refused(f"{self.heard[0]:02x} where the recording has no more")
+            raise self.refused(f"expected the end, got {self.heard[0]:02x}")
 
     def refused(self, reason, same=0):
         """The refusal of the peer's next byte, after `same` bytes that are as recorded. The numbers are those of

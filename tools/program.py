@@ -10,13 +10,13 @@ BUILT = pathlib.Path(__file__).resolve().parent.parent / "crates" / "zkdump" / "
 def add_program(parser):
     """The option that names the program."""
     parser.add_argument("--zkdump", metavar="PATH", default=str(BUILT) if BUILT.exists() else "zkdump",
-                        help="the program (that of this repository, where it is built)")
+                        help="the program (that of this repository if it is built, else zkdump on the PATH)")
 
 
 def prove_runs(parser, path):
-    """Ends with a line, where there is no program at this path, or it doesn't read a recording of no pieces."""
+    """Ends the tool with an error if there is no program at this path, or it can't read a recording of no pieces."""
     if not shutil.which(path):
-        parser.error(f"there is no program {path}: --zkdump PATH names it")
+        parser.error(f"there is no program {path}: name it with --zkdump PATH")
     try:
         with subprocess.Popen([path, "show"], stdin=subprocess.PIPE, stdout=subprocess.PIPE,
                               stderr=subprocess.DEVNULL) as show:
@@ -25,11 +25,11 @@ def prove_runs(parser, path):
                 show.stdin.close()
             except BrokenPipeError:
                 pass
-            told = show.stdout.read(len(b". whole"))
-            if told:
+            line = show.stdout.read(len(b". whole"))
+            if line:
                 show.kill()
-        trouble = "" if told == b". whole" else f"it writes no listing, and its status is {show.returncode}"
+        trouble = "" if line == b". whole" else f"it writes no listing, and its status is {show.returncode}"
     except OSError as error:
         trouble = error.strerror
     if trouble:
-        parser.error(f"{path} is no zkdump that runs here: {trouble}")
+        parser.error(f"{path} is not a zkdump that runs here: {trouble}")

@@ -1,4 +1,4 @@
-"""A proxy that passes connections on while somebody looks on: what record.py and zkwatch.py have in common.
+"""A proxy that passes connections on, each with an observer: what record.py and zkwatch.py have in common.
 
 One loop serves all connections, and nothing in it waits: not for an end that doesn't read, not for a file or a process,
 and not for the reader of its lines. An end of one direction is passed on, and so is a reset.
@@ -18,17 +18,17 @@ import time
 
 import zkr
 from addresses import address_text
-from teller import Teller
+from printer import Printer
 
 BLOCK = 65536
 READ, WRITE = selectors.EVENT_READ, selectors.EVENT_WRITE
 OTHER = {zkr.CLIENT: zkr.SERVER, zkr.SERVER: zkr.CLIENT}
 REST = 0.1                  # the seconds without new clients, once the system has no room for one
-LAST_WORDS = 30             # the seconds that lookers-on have to end, unless a second signal comes
+LAST_WORDS = 30             # the seconds that observers have to end, unless a second signal comes
 
 
 class Way:
-    """One direction of a connection: what one end has said and the other has not been sent yet."""
+    """One direction of a connection: what one end has sent and was not passed on to the other yet."""
 
     def __init__(self, side, source, target):
         self.side, self.source, self.target, self.unsent, self.ended = side, source, target, b"", False
@@ -36,15 +36,15 @@ class Way:
 
 class Connection:
     """A client's connection and the one to the server that it is passed on to. `ends` lists how its sides have ended,
-    in order: FIN, RST, or the system's name of an error. `room` has the descriptors that its looker-on may take."""
+    in order: FIN, RST, or the system's name of an error. `room` holds descriptors for its observer."""
 
     def __init__(self, proxy, number, client, peer, room):
         self.proxy, self.number, self.client, self.peer, self.room = proxy, number, client, address_text(peer), room
-        self.addresses, self.server, self.ways, self.looker, self.ends = iter(proxy.server), None, (), None, []
+        self.addresses, self.server, self.ways, self.observer, self.ends = iter(proxy.server), None, (), None, []
         client.setblocking(False)
 
     def connect(self, reason):
-        """Begins to connect to the next address of the server, or gives up for the reason that the last one gave."""
+        """Begins to connect to the next address of the server; if there is none, reports why the last one failed."""
         for family, kind, protocol, _, address in self.addresses:
             try:
                 self.server = socket.socket(family, kind, protocol)
@@ -91,12 +91,12 @@ class Connection:
             end.setsockopt(socket.IPPROTO_TCP, socket.TCP_NODELAY, 1)
             end.setsockopt(socket.SOL_SOCKET, socket.SO_KEEPALIVE, 1)
         self.room.close()
-        self.looker = self.proxy.look_on(self)
+        self.observer = self.proxy.observer_of(self)
         self.ways = (Way(zkr.CLIENT, self.client, self.server), Way(zkr.SERVER, self.server, self.client))
         self.watch()
 
     def watch(self):
-        """Waits for the events that something is left to do for; where there are none, the connection is over."""
+        """Waits for the events that something is left to do for; if there are none, the connection is over."""
         if all(way.ended for way in self.ways):
             self.close()
             return
@@ -105,7 +105,7 @@ class Connection:
                                 self)
 
     def receive(self, way):
-        """Takes what an end has said, gives it to the looker-on, and passes it on."""
+        """Reads what an end has sent, gives it to the observer, and passes it on."""
         try:
             data = way.source.recv(BLOCK)
         except BlockingIOError:
@@ -116,7 +116,7 @@ class Connection:
                 each.unsent, each.ended = b"", True
             return
         if data:
-            self.looker.piece(way.side, data)
+            self.observer.piece(way.side, data)
             way.unsent = data
             self.send(way)
         else:
@@ -134,7 +134,7 @@ class Connection:
         except BlockingIOError:
             pass
         except OSError as error:
-            # This end takes no more; what it said before is still passed on.
+            # Nothing more can be sent to this end; what it sent before is still passed on.
             self.broke(OTHER[way.side], error)
             way.unsent, way.ended = b"", True
 
@@ -154,8 +154,8 @@ class Connection:
                 end.setsockopt(socket.SOL_SOCKET, socket.SO_LINGER, struct.pack("ii", 1, 0))
             end.close()
         self.room.close()
-        if self.looker:
-            self.looker.over()
+        if self.observer:
+            self.observer.over()
         self.proxy.left(self)
 
     def ended_words(self):
@@ -167,7 +167,7 @@ class Connection:
 
 
 class Room:
-    """Descriptors that are held for a connection, until it needs them. An OSError says that there are too few."""
+    """Descriptors that are held for a connection, until it needs them. An OSError: there are too few."""
 
     def __init__(self, count, file):
         self.held = []
@@ -187,11 +187,11 @@ class Room:
 
 
 class Proxy:
-    """Takes clients' connections and passes them on, until a signal comes. What is done with each is up to the derived
-    classes: `look_on` returns a looker-on, which has `piece(side, data)`, called before the bytes are passed on, and
-    `over()`."""
+    """Accepts clients' connections and passes them on, until a signal comes. In a derived class `observer_of` returns
+    a connection's observer: its `piece(side, data)` is called before the bytes are passed on, and its `over()` at the
+    end."""
 
-    descriptors = 0         # the most descriptors of a looker-on
+    descriptors = 0         # the most descriptors of an observer
 
     def __init__(self, name, server):
         self.server, self.ready = server, selectors.DefaultSelector()
@@ -200,14 +200,14 @@ class Proxy:
         self.numbers = itertools.count(1)
         self.heard, self.bell = socket.socketpair()
         self.bell.setblocking(False)
-        self.complaints = Teller(2, f"{name}: ")
-        self.lines = Teller(1, failed=self.not_told)
+        self.complaints = Printer(2, f"{name}: ")
+        self.lines = Printer(1, failed=self.not_printed)
 
-    def look_on(self, connection):
+    def observer_of(self, connection):
         raise NotImplementedError
 
     def busy(self):
-        """Whether a looker-on has something left to do after its connection is over."""
+        """Whether an observer has something left to do after its connection is over."""
         return False
 
     def taken(self, connection):
@@ -219,12 +219,12 @@ class Proxy:
 
     def say(self, text):
         """Writes a line on standard output. Where nobody reads it any more, the connections continue."""
-        if not self.lines.tell(text):
-            self.complaints.tell_once("standard output is not read, so lines are lost")
+        if not self.lines.print(text):
+            self.complaints.print_once("standard output is not read, so lines are lost")
 
-    def not_told(self, error):
+    def not_printed(self, error):
         """Called in a thread where a line could not be written."""
-        self.complaints.tell_once(f"standard output: {error.strerror}; the connections go on")
+        self.complaints.print_once(f"standard output: {error.strerror}; the connections go on")
 
     def ring(self):
         """Ends the proxy, from any thread."""
@@ -242,7 +242,7 @@ class Proxy:
             self.waits.discard(file)
 
     def after(self, seconds, call):
-        """Calls this once, after `seconds`."""
+        """Calls `call` once, after `seconds`."""
         self.due[call] = time.monotonic() + seconds
 
     def run(self, listeners):
@@ -277,7 +277,7 @@ class Proxy:
             call()
 
     def stop(self):
-        """Ends every connection, and gives the lookers-on time for their last lines."""
+        """Ends every connection, and gives the observers time for their last lines."""
         for listener in self.listeners:
             self.wait_for(listener, 0)
         self.listeners = []
@@ -292,14 +292,14 @@ class Proxy:
             self.wait_for(listener, READ, self)
 
     def rest(self, error):
-        """Takes no clients for a moment; those that it has continue."""
-        self.complaints.tell_once(f"no more clients are taken for now: {error.strerror}; the connections go on")
+        """Accepts no clients for a moment; the connections continue."""
+        self.complaints.print_once(f"new clients have to wait: {error.strerror}; the connections go on")
         for listener in self.listeners:
             self.wait_for(listener, 0)
         self.after(REST, self.take_clients)
 
     def step(self, listener, _events):
-        """Takes a client's connection, if there is room for all that belongs to it."""
+        """Accepts a client's connection, if there are descriptors for all that belongs to it."""
         try:
             room = Room(2 + self.descriptors, listener)
         except OSError as error:

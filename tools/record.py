@@ -3,15 +3,14 @@
 
     record.py [HOST:]PORT SERVER:PORT PREFIX
 
-Point the client at PORT, where this listens: on 127.0.0.1, or on HOST. An IPv6 address is written in brackets. The
-connections become PREFIX-1.zkr, PREFIX-2.zkr and so on; a number whose file is there already is passed over. Standard
-output has a line for each connection that begins or ends, with the client's address and the time; that of its end says
-who ended it, as closed=C (the client closed it first, by a FIN) or reset=S (the server reset it). Ctrl-C, or SIGTERM,
-ends it.
+Point the client at PORT: it listens there on 127.0.0.1, or on HOST. An IPv6 address is written in brackets. The
+connections become PREFIX-1.zkr, PREFIX-2.zkr and so on; a number whose file exists is skipped. When a connection begins
+or ends, it prints a line with the client's address and the time. The line of the end says who ended it, as closed=C
+(the client closed it first, by a FIN) or reset=S (the server reset it). Ctrl-C or SIGTERM ends the recorder.
 
-Every piece is in its file before it is passed on, so that in the recording no reply comes before its request. An end of
-one direction is passed on, and so is a reset. Only the owner may read the files: they have everything that was said,
-passwords of sessions and data of nodes included.
+Every piece is in its file before it is passed on, so in the recording no reply comes before its request. The end of one
+direction is passed on, and so is a reset. Only their owner may read the files: they have everything that was said,
+including session passwords and the data of nodes.
 """
 
 import sys
@@ -27,7 +26,7 @@ def now():
 
 
 class Recording:
-    """The recording of a connection; `writer` is None where it can't be written, or can't be any more."""
+    """The recording of a connection; `writer` is None if it can't be written, or no longer."""
 
     def __init__(self, recorder, connection):
         self.recorder, self.connection, self.writer, self.words = recorder, connection, None, []
@@ -37,7 +36,7 @@ class Recording:
             self.path = self.writer.path
         except OSError as error:
             recorder.status = 3
-            recorder.complaints.tell_once(f"{recorder.series.prefix}: {error.strerror}; new connections go on without "
+            recorder.complaints.print_once(f"{recorder.series.prefix}: {error.strerror}; new connections go on without "
                                           "a recording")
         recorder.say(f"{self.path} {connection.peer} begun {zkr.clock(now())}")
 
@@ -47,7 +46,7 @@ class Recording:
                 self.writer.piece(side, now(), data)
             except OSError as error:
                 self.recorder.status = 3
-                self.recorder.complaints.tell(f"{self.path}: {error.strerror}; the connection of "
+                self.recorder.complaints.print(f"{self.path}: {error.strerror}; the connection of "
                                               f"{self.connection.peer} goes on without it")
                 self.close()
 
@@ -69,17 +68,17 @@ class Recording:
 
 
 class Recorder(proxy.Proxy):
-    """Takes clients' connections and records them; `status` is 3 where a recording could not be written."""
+    """Accepts clients' connections and records them; `status` is 3 if a recording could not be written."""
 
     def __init__(self, server, series):
         super().__init__("record.py", server)
         self.series, self.status, self.descriptors = series, 0, 2 if series.times else 1
 
-    def look_on(self, connection):
+    def observer_of(self, connection):
         return Recording(self, connection)
 
     def unreached(self, connection, reason):
-        self.complaints.tell(f"{connection.peer}: no connection to the server: {reason}")
+        self.complaints.print(f"{connection.peer}: no connection to the server: {reason}")
 
 
 def words_of():
@@ -106,7 +105,7 @@ def main():
         return 3
     recorder = Recorder(server, zkr.Series(words.prefix, head, words.times))
     for listener in listeners:
-        recorder.complaints.tell(f"listens on {addresses.address_text(listener.getsockname())}; Ctrl-C ends it")
+        recorder.complaints.print(f"listens on {addresses.address_text(listener.getsockname())}; Ctrl-C ends it")
     recorder.run(listeners)
     return recorder.status
 

@@ -66,4 +66,4 @@ class Series:
             print(line, flush=True)
         except OSError as error:
             self.unsaid = error
-            zkr.read_no_more()
+            zkr.drop_standard_output()

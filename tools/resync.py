@@ -2,7 +2,7 @@
 
 Any reader of captured connections can follow this rule. Its input is the bytes of one side that were captured without a
 gap since the loss, up to the end of a segment. Frames begin again at the first place from which plausible whole frames
-follow one another, up to the end of those bytes or three of them at least. Where there is no such place, wait for the
+follow one another, up to the end of those bytes or three of them at least. If there is no such place, wait for the
 next segment and look again. Meanwhile bytes are kept from the first place on that may still be one, but no more than
 65,536: a longer frame is passed over.
 
@@ -68,7 +68,7 @@ def resynchronise(side, data, limit):
 
 
 def frames_follow(side, data, at, limit):
-    """Whether plausible frames follow one another from this place on; None where more bytes are needed to know it."""
+    """Whether plausible frames follow one another from this place on; None if more bytes are needed to know it."""
     seen = 0
     while at < len(data) and seen < ENOUGH:
         if len(data) < at + HEADS[side]:
@@ -102,9 +102,9 @@ def is_request(payload, size):
     if len(payload) < 13:
         return size > len(payload)
     length = int.from_bytes(payload[8:12], "big", signed=True)
-    behind = size - 12 - length
+    rest = size - 12 - length
     return length > 0 and payload[12:13] == b"/" and \
-        (behind == AFTER_PATH[kind] if kind in AFTER_PATH else behind >= LEAST_AFTER_PATH[kind])
+        (rest == AFTER_PATH[kind] if kind in AFTER_PATH else rest >= LEAST_AFTER_PATH[kind])
 
 
 def is_reply(payload, size):

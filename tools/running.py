@@ -19,15 +19,15 @@ def shown(text):
 
 
 def complain(trouble):
-    """Reports trouble in one line on standard error, where that can be written."""
+    """Reports trouble in one line on standard error, if that can be written."""
     if isinstance(trouble, OSError) and trouble.strerror:
         file = "" if trouble.filename is None else f"{os.fsdecode(trouble.filename)}: "
         trouble = file + trouble.strerror
-    tell(f"{os.path.basename(sys.argv[0])}: {trouble}")
+    report(f"{os.path.basename(sys.argv[0])}: {trouble}")
 
 
-def tell(line):
-    """Writes a line on standard error, where that can be written."""
+def report(line):
+    """Writes a line on standard error, if that can be written."""
     try:
         if sys.stderr:
             print(shown(line), file=sys.stderr, flush=True)
@@ -49,14 +49,14 @@ def hold_standard_streams():
     os.close(held)
 
 
-def read_no_more():
+def drop_standard_output():
     """Drops standard output, whose reader has gone."""
     os.dup2(os.open(os.devnull, os.O_WRONLY), sys.stdout.fileno())
 
 
 def tool(main):
-    """Runs a tool's main function. An error is reported in one line; the status is then 1 where it is in the input, and
-    3 where it is the system's."""
+    """Runs a tool's main function. An error is reported in one line; the status is then 1 if it is in the input, and
+    3 if it is the system's."""
     hold_standard_streams()
     try:
         if sys.stdout is None:
@@ -65,7 +65,7 @@ def tool(main):
         sys.stdout.flush()
         return status
     except BrokenPipeError:
-        read_no_more()
+        drop_standard_output()
         return 3
     except KeyboardInterrupt:
         return 130
@@ -76,7 +76,7 @@ def tool(main):
         if sys.stdout:
             sys.stdout.flush()
     except OSError:
-        read_no_more()
+        drop_standard_output()
     return status
 
 
@@ -87,7 +87,7 @@ class Progress:
         self.what, self.shown = what, False
         self.due = time.monotonic() + 1 if may and sys.stderr and sys.stderr.isatty() else float("inf")
 
-    def tell(self, amount):
+    def show(self, amount):
         """Shows the amount that is done, once a second; `amount` is a text, or a function that returns it."""
         if time.monotonic() >= self.due:
             self.due, self.shown = time.monotonic() + 1, True

@@ -20,7 +20,7 @@ def moment(text):
     try:
         found = datetime.datetime.fromisoformat(re.sub("[Zz]$", "+00:00", text))
     except ValueError:
-        raise argparse.ArgumentTypeError(f"{text!r} is no time such as 2026-11-22T20:31:07.120Z, and no number of "
+        raise argparse.ArgumentTypeError(f"{text!r} is not a time: write it as 2026-11-22T20:31:07.120Z, or in "
                                          "milliseconds since 1970") from None
     if not found.tzinfo:
         found = found.replace(tzinfo=datetime.timezone.utc)
@@ -30,14 +30,14 @@ def moment(text):
 def latency(text):
     """A number of milliseconds."""
     if not LATENCY.fullmatch(text):
-        raise argparse.ArgumentTypeError(f"{text!r} is no number of milliseconds")
+        raise argparse.ArgumentTypeError(f"{text!r} is not a number of milliseconds")
     return float(text)
 
 
 def session(text):
     """A session's number in hexadecimal or decimal, as a listing.Connection has it."""
     if not SESSION.fullmatch(text):
-        raise argparse.ArgumentTypeError(f"{text!r} is no session such as 0x100003780a6001f")
+        raise argparse.ArgumentTypeError(f"{text!r} is not a session: write it as 0x100003780a6001f, or in decimal")
     return listing.hexadecimal(int(text, 0))
 
 
@@ -54,7 +54,7 @@ def add_words(parser):
                         help="choose connections of this session, in hexadecimal or decimal")
     parser.add_argument("--op", metavar="NAME", choices=OPERATIONS, action="append",
                         help="choose an operation, or event")
-    parser.add_argument("--slower", metavar="MS", type=latency, help="choose what took more milliseconds than these")
+    parser.add_argument("--slower", metavar="MS", type=latency, help="choose replies that took more milliseconds")
     parser.add_argument("--from", metavar="TIME", type=moment, dest="begin",
                         help="choose what was asked at this time or later; TIME as in 2026-11-22T20:31:07.120Z, or in "
                         "milliseconds since 1970")
@@ -63,7 +63,7 @@ def add_words(parser):
 
 
 class Selection:
-    """What the arguments choose. A reply goes with its request, but --slower chooses replies and nothing else."""
+    """What the arguments choose: requests with their replies, or with --slower replies and nothing else."""
 
     def __init__(self, words):
         self.paths, self.sessions, self.operations = words.path, words.session, words.op
@@ -73,12 +73,12 @@ class Selection:
         self.all = not self.by_message and not self.sessions
 
     def chosen(self, talk):
-        """What is chosen of conversations, in the form of iterating over them."""
+        """The chosen messages, as iterating over `talk` yields messages."""
         found = self.of_messages(talk) if self.by_message else talk
         return self.of_sessions(found) if self.sessions else found
 
     def left(self, talk):
-        """The requests that are chosen of those that wait."""
+        """The chosen ones of the requests that wait."""
         return [made for made in talk.left() if (made.chosen and self.slower is None or not self.by_message)
                 and (not self.sessions or made.connection.session in self.sessions)]
 

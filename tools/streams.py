@@ -2,8 +2,8 @@
 
 Bytes are passed on only after everything that their sender had acknowledged, so that no reply comes before its request,
 in whatever order packets were captured. Where bytes are missing, those after them wait: the missing ones may have been
-captured later. They are lost for good once the connection is over, or once too much waits; what follows them is then
-passed on.
+captured later. They count as lost once the connection is over, or once too much waits; what follows them is then passed
+on.
 """
 
 import collections
@@ -92,7 +92,7 @@ class Half:
                 stream.resets(self.side, place, milliseconds)
         elif data:
             if stream.reset and place >= stream.reset_at and stream.reset == self.side:
-                stream.reset = ""  # that reset was none of this connection's
+                stream.reset = ""  # that reset was not one of this connection
             self.put(Part(place, follows, number, milliseconds, data))
         if other.next >= 0:
             stream.write()
@@ -146,7 +146,7 @@ class Half:
         self.next = self.next + size & MASK
 
     def lose(self, size, number, milliseconds):
-        """Takes the next `size` bytes for lost."""
+        """Counts the next `size` bytes as lost."""
         self.add(Part(self.place, 0, number, milliseconds, b"", size), size)
         self.stream.hold(PART_COST)
         self.sort()
@@ -217,7 +217,7 @@ class Stream:
         return self.halves[0] if blocked == 2 else found
 
     def give_up(self):
-        """Takes the bytes for lost that everything else waits for, and continues after them. False where nothing
+        """Counts the bytes that everything else waits for as lost, and continues after them. False if nothing
         waits."""
         for half in self.halves:
             if half.ready and half.ready[0].follows > half.other.reached() and not half.other.ready:

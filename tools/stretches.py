@@ -88,7 +88,7 @@ class Stretch:
         self.asked[message.payload[:4]] = message
         self.bound()
 
-    def tell(self, event):
+    def take_event(self, event):
         """Takes an event."""
         if self.anchored:
             self.put(self, event)

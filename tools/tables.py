@@ -59,8 +59,8 @@ def unanswered(waiting):
     yield f"{len(waiting):>8} requests unanswered"
     for made in waiting[:SHOWN]:
         name = "" if made["connection"] == "-" else plain(made["connection"]) + " "
-        told = " ".join(str(made[each]) for each in ("xid", "op", "path") if each in made)
-        yield f"    {name}line {made['n']}: {told}"
+        request = " ".join(str(made[each]) for each in ("xid", "op", "path") if each in made)
+        yield f"    {name}line {made['n']}: {request}"
     if len(waiting) > SHOWN:
         yield f"    and {len(waiting) - SHOWN} more"
 

@@ -12,7 +12,7 @@ LARGEST = zkr.LIMITS[-1]
 
 
 class Beginning:
-    """The bytes of a side that are no whole frame yet: how many there are, and the first eight of them."""
+    """The bytes of a side's frame that isn't whole yet: how many there are, and the first eight of them."""
 
     def __init__(self):
         self.got, self.size, self.first = 0, None, b""
@@ -83,7 +83,8 @@ class Times:
         raise listing.NoListing(f"the listing has {messages} messages, and the recording {n - 1}")
 
     def compare(self, ending):
-        """Checks that the recording ends as the listing does. A listing without an ending line may be a front."""
+        """Checks that the recording ends as the listing does. A listing without an ending line may be the
+        beginning of one."""
         if not ending:
             return
         read, more = sum(self.count.values()), sum(1 for _ in self.frames)
@@ -110,12 +111,12 @@ class Times:
 
 def times_of(parser, path, beside, needed):
     """The times of the messages of the recording at this path: in the file `beside`, where that is named; else in the
-    recording, or in the usual file. None where there are none, unless they are `needed`."""
+    recording, or in the usual file. None if there are none, unless they are `needed`."""
     pieces = zkr.Reader(open(path, "rb"))
     if pieces.head.form == "zkr2" and not beside:
         return Times(pieces, None)
     if not beside and not os.path.exists(zkr.times_path(path)):
         if needed:
-            parser.error(f"{path} has no times: --times FILE names them")
+            parser.error(f"{path} has no times: name a file of them with --times FILE")
         return None
     return Times(pieces, zkr.times_beside(path, beside))

@@ -3,16 +3,16 @@
 
     zkjson.py [--recording REC.zkr [--times FILE]] [CHOICE ..] [FILE ..]
 
-It reads recordings by their names (zkdump show makes their listings) and listings; without a name a listing from
-standard input. A message has its connection and its number there, under `connection` and `n`, then `side`, `xid`
-(connect messages and events have none), `op`, and its fields under their names. Sessions and zxids are in hexadecimal,
-as ZooKeeper's logs print them; data is a text where it is UTF-8 that can be printed, else {"hex": DIGITS}; null is
-null. A number with a name has that beside it: `err` and `errName`, `kind` and `kindName`. A reply has under `of` the
-number of its request, and under `asked` that one's path. The last object of a connection is the ending line; its
-`waiting` are the numbers of the requests without a reply.
+It reads listings, and recordings, whose listings zkdump show makes; without a FILE it reads a listing from standard
+input. A message has its connection and its number there, `connection` and `n`, then `side`, `xid` (connect messages and
+events have none), `op`, and its fields under their names. Sessions and zxids are in hexadecimal, as ZooKeeper's logs
+print them. Data is a text if it is UTF-8 that can be printed, else {"hex": DIGITS}; null is null. A number with a name
+has that beside it: `err` and `errName`, `kind` and `kindName`. A reply has the number of its request, `of`, and that
+request's path, `asked`. The last object of a connection is the ending line; its `waiting` lists the numbers of the
+requests without a reply.
 
-With its recording a message has a time under `at`, in milliseconds since 1970, that of its last byte, and a reply has
-under `ms` how long it took. A ZKR2 recording has times of its own; for another they are in FILE, or REC.zkr.times.
+If the recording has times, a message has the time of its last byte, `at`, in milliseconds since 1970, and a reply has
+how long it took, `ms`. A ZKR2 recording has times within; for others they are in FILE, or in REC.zkr.times.
 """
 
 import json
@@ -30,7 +30,7 @@ PART = re.compile(r"([{;])([A-Za-z]+)", re.ASCII)
 
 
 def form_of(line, made):
-    """The form of what follows the operation; a KeyError where there is none."""
+    """The form of what follows the operation; a KeyError if there is none."""
     if made.side == "C":
         return forms.REQUESTS[made.op]
     if made.error and made.op != listing.EVENT and FAILS.match(line, made.end):

@@ -6,16 +6,16 @@
 
 It listens on PORT (0 is any free one; the first line of standard output names it), accepts a connection, and plays the
 recording: the client has to send exactly the recorded bytes, and each piece of the server is sent once the client's
-pieces before it have come. The first other byte, silence or an end where a byte is due is refused with one line, and
-the status is 1. Session and password are the recorded ones. Pings of the client that were not recorded are answered,
-and recorded ones may be missing. After the last piece it waits for the client's end. With --client it plays the client
-to a server: two of them are the two ends of a bench for proxies.
+pieces before it have come. If the client sends another byte, or ends or is silent where a byte is expected, one line
+reports that, and the status is 1. Session and password are the recorded ones. Pings of the client that were not
+recorded are answered, and recorded ones may be missing. After the last piece it waits for the client's end. With
+--client it plays the client to a server: two of them are the two ends of a bench for proxies.
 
-A listing may be given in place of a recording: `zkdump build` makes a recording of it. With --then RECORDING this one
-is played to the next connection; with --connections N they are played to N connections, again from the first one on.
+A listing may be given in place of a recording: `zkdump build` makes a recording of it. --then RECORDING plays another
+one to the next connection. --connections N plays them to N connections, and begins again with the first one.
 
-Faults, on each connection and the side that is played, whose FRAMEs are counted from 0: PLACE is a byte of the frame's
-payload, as in zkdump's ending lines, and a FRAME alone is the place before its length.
+Options make faults, on each connection, in what this side sends. FRAMEs are counted from 0; PLACE is a byte of the
+frame's payload, as in zkdump's ending lines, and a FRAME alone is the place before its length.
 """
 
 import errno
@@ -56,8 +56,8 @@ def opener(parser, path, words):
         program.prove_runs(parser, words.zkdump)
         built = subprocess.run([words.zkdump, "build"], stdin=file, capture_output=True, check=False)
     if built.returncode:
-        told = (built.stderr or built.stdout).decode(errors="replace").strip().rpartition("\n")[2]
-        raise ValueError(f"{path}: {told or f'zkdump build has ended with status {built.returncode}'}")
+        line = (built.stderr or built.stdout).decode(errors="replace").strip().rpartition("\n")[2]
+        raise ValueError(f"{path}: {line or f'zkdump build has ended with status {built.returncode}'}")
     return lambda: io.BytesIO(built.stdout)
 
 
@@ -65,7 +65,7 @@ class Bench:
     """Connections that are played side by side, and the exit status of all."""
 
     def __init__(self, openers, words):
-        self.openers, self.words, self.status, self.telling = openers, words, 0, threading.Lock()
+        self.openers, self.words, self.status, self.printing = openers, words, 0, threading.Lock()
         self.own = zkr.CLIENT if words.client else zkr.SERVER
         self.faults = playing.Faults(words.delay, words.flip, words.cut_at or words.reset_at, bool(words.reset_at))
 
@@ -87,14 +87,14 @@ class Bench:
                 play = playing.Play(self.openers[number % len(self.openers)], self.own, connection, self.words.wait,
                                     self.faults)
                 play.run()
-            self.tell(sys.stdout, f"{head}played: {play.told()}")
+            self.print(sys.stdout, f"{head}played: {play.counts()}")
         except (ValueError, OSError) as error:
             self.status = max(self.status, 3 if isinstance(error, OSError) else 1)
-            self.tell(sys.stderr, f"zkplay.py: {head}{error}")
+            self.print(sys.stderr, f"zkplay.py: {head}{error}")
 
-    def tell(self, stream, line):
-        """Prints a line, where the stream is open."""
-        with self.telling:
+    def print(self, stream, line):
+        """Prints a line, if the stream is open."""
+        with self.printing:
             if stream:
                 print(line, file=stream, flush=True)
 
@@ -106,14 +106,14 @@ def seconds(text):
             return float(text)
     except ValueError:
         pass
-    raise ValueError(f"{text!r} is no number of seconds from 0 to {LONGEST_WAIT}")
+    raise ValueError(f"{text!r} is not a number of seconds from 0 to {LONGEST_WAIT}")
 
 
 def place(text):
     """A frame and a place in it."""
     found = re.fullmatch(r"(\d{1,18})(?::(\d{1,18}))?", text, re.ASCII)
     if not found:
-        raise ValueError(f"{text!r} is no FRAME or FRAME:PLACE")
+        raise ValueError(f"{text!r} is not a place: write FRAME or FRAME:PLACE")
     return int(found[1]), -playing.LENGTH if found[2] is None else int(found[2])
 
 
@@ -121,7 +121,7 @@ def flip(text):
     """A frame and a place, and the byte that is to be there."""
     found = re.fullmatch(r"(\d{1,18}):(\d{1,18})(?:=([0-9a-fA-F]{2}))?", text, re.ASCII)
     if not found:
-        raise ValueError(f"{text!r} is no FRAME:PLACE or FRAME:PLACE=HH")
+        raise ValueError(f"{text!r} is not a byte's place: write FRAME:PLACE or FRAME:PLACE=HH")
     return (int(found[1]), int(found[2])), None if found[3] is None else int(found[3], 16)
 
 
@@ -141,16 +141,17 @@ def words_of():
                         "connection; may be given several times")
     parser.add_argument("--client", action="store_true", help="play the client, to the server at HOST:PORT")
     option("--wait", seconds, "SECONDS", default=10, help="how long it waits for a byte (10)")
-    parser.add_number("--connections", MOST_CONNECTIONS, help="how many it plays (as many as there are recordings)")
+    parser.add_number("--connections", MOST_CONNECTIONS,
+                      help="how many connections it plays to (one for each recording)")
     option("--delay", seconds, "SECONDS", default=0, help="wait before each piece that is sent")
-    option("--cut-at", place, "FRAME[:PLACE]", help="end the side that is played there")
+    option("--cut-at", place, "FRAME[:PLACE]", help="end the played side there")
     option("--reset-at", place, "FRAME[:PLACE]", help="reset the connection there")
     option("--flip", flip, "FRAME:PLACE[=HH]", action="append", default=[],
            help="send this byte there, or the recorded one with its lowest bit changed; may be given several times")
     program.add_program(parser)
     words = parser.parse_args()
     if words.cut_at and words.reset_at:
-        parser.error("--cut-at and --reset-at: only one of them ends a connection")
+        parser.error("--cut-at and --reset-at both end a connection: choose one")
     words.recordings = [words.recording, *words.then]
     words.connections = words.connections or len(words.recordings)
     words.address = addresses.address_word(parser, words.address, None if words.client else "127.0.0.1")

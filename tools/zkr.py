@@ -16,8 +16,8 @@ import re
 import struct
 from typing import NamedTuple, Optional
 
-from running import (Progress, allow_many_files, complain, hold_standard_streams, read_no_more,  # noqa: F401
-                     standard_input, tell, tool)
+from running import (Progress, allow_many_files, complain, hold_standard_streams, drop_standard_output,  # noqa: F401
+                     report, standard_input, tool)
 
 CLIENT, SERVER = b"C", b"S"
 LARGEST_PIECE = 16_777_220
@@ -64,7 +64,7 @@ LARGEST_FRAMES = Head(client_limit=LIMITS[-1], server_limit=LIMITS[-1])
 
 
 class Piece(NamedTuple):
-    """Bytes of one side that were taken together, and when; None where that isn't known."""
+    """Bytes of one side that were taken together, and when; None if that isn't known."""
     side: bytes
     milliseconds: Optional[float]
     data: bytes
@@ -151,7 +151,7 @@ def read_times(path):
     with open(path, encoding="ascii", errors="replace") as lines:
         for number, line in enumerate(iter(lambda: lines.readline(LONGEST_TIME), ""), 1):
             if not TIME.fullmatch(line):
-                raise ValueError(f"{path}: line {number} is no time")
+                raise ValueError(f"{path}: line {number} is not a time")
             yield line.removesuffix("\n")
 
 
@@ -329,7 +329,7 @@ class Words(argparse.ArgumentParser):
         """An option whose value is a number in the range `allowed`."""
         def number(text):
             if not (text.isascii() and text.isdigit() and text == str(int(text)) and int(text) in allowed):
-                raise argparse.ArgumentTypeError(f"{text!r} is no number from {allowed[0]} to {allowed[-1]}")
+                raise argparse.ArgumentTypeError(f"{text!r} is not a number from {allowed[0]} to {allowed[-1]}")
             return int(text)
         self.add_argument(word, type=number, metavar="N", **more)
 
@@ -338,7 +338,7 @@ class Words(argparse.ArgumentParser):
         self.add_argument("--times", action="store_true", help="write RECORDING.times, too: a line for each piece, "
                           "its milliseconds since 1970")
         self.add_argument("--format", choices=("zkr1", "zkr2"), default="zkr1",
-                          help="zkr2 has a time in each piece, and in its head these three:")
+                          help="zkr2 has a time in each piece, and in its head these three numbers:")
         self.add_number("--limit", LIMITS, help=f"the greatest payload of a frame ({USUAL_LIMIT})")
         self.add_number("--waiting", WAITINGS, help=f"how many requests may wait ({USUAL_WAITING})")
         self.add_argument("--profile", choices=PROFILES, help="the release whose operations are used (3.4)")
@@ -349,7 +349,7 @@ class Words(argparse.ArgumentParser):
         if words.format == "zkr1":
             for option, value in asked.items():
                 if value is not None:
-                    self.error(f"{option} goes with --format zkr2 alone")
+                    self.error(f"{option} is for --format zkr2: add that, or leave it out")
             return Head()
         limit = words.limit or USUAL_LIMIT
         return Head("zkr2", limit, limit, words.waiting or USUAL_WAITING, PROFILES[words.profile or "3.4"])

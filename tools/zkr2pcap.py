@@ -4,9 +4,9 @@
     zkr2pcap.py [--port N] REC.zkr [REC.zkr ..] CAPTURE.pcap
 
 Each recording becomes a TCP connection over IPv4, from a port of its own at 10.0.0.1 to port 2181, or N, at 10.0.0.2,
-with a beginning and an end that are made up. A packet has the time of its piece: those of a ZKR2 recording are within,
-others in REC.zkr.times, where that is there; else the packets are a millisecond apart, from the beginning of 1970 on.
-The capture may not be there already, and its owner alone may read it: it has everything that was said.
+with a made-up beginning and end. A packet has the time of its piece: those of a ZKR2 recording are within, others in
+REC.zkr.times, if that exists; else the packets are a millisecond apart, from the beginning of 1970 on. The capture may
+not exist already, and its owner alone may read it: it has everything that was said.
 """
 
 import heapq

@@ -9,7 +9,7 @@ has any number of connections. Captures have times; recordings have them within 
 -o writes one page that needs no other file and no network: the sessions in time, the latency of requests, and tables,
 each row of which leads to the messages around it. --text writes the tables to standard output. --trace writes the
 requests as trace events, which Perfetto (ui.perfetto.dev) and Chrome open. --against compares the run with another one,
-without xids, zxids, sessions and times; it is given once for each file of the other run. The status is 1 where the runs
+without xids, zxids, sessions and times; it is given once for each file of the other run. The status is 1 if the runs
 differ.
 
 The page has no passwords of sessions and no credentials, but it has data of nodes: its owner alone may read it.
@@ -30,7 +30,7 @@ NAMED = 6       # the files that a page's title names
 
 
 class Reader:
-    """Reads runs: what the arguments choose of files."""
+    """Reads runs: what the arguments choose in files."""
 
     def __init__(self, parser, words, folder):
         self.port, self.folder, self.chosen = words.port, folder, selection.Selection(words)
@@ -59,7 +59,7 @@ class Reader:
 
 @contextlib.contextmanager
 def new_file(path):
-    """A new file to write to, or None where there is no path. It is removed where writing it fails."""
+    """A new file to write to, or None if there is no path. It is removed if writing it fails."""
     if path is None:
         yield None
         return
@@ -109,9 +109,9 @@ def words_of():
     selection.add_words(parser)
     words = parser.parse_args()
     if not (words.output or words.text or words.trace):
-        parser.error("nothing to write: -o FILE, --text or --trace FILE")
+        parser.error("choose what to write: -o FILE, --text or --trace FILE")
     if words.against and (words.session, words.slower, words.begin, words.end) != (None,) * 4:
-        parser.error("of the choices --path and --op alone go with --against")
+        parser.error("--against compares what --path and --op choose: leave out the other choices")
     return parser, words
 
 

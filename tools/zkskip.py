@@ -1,5 +1,5 @@
 #!/usr/bin/env -S sh -c '[ -d /dev/stdin ] && exec <&-; exec python3 "$0" "$@"'
-"""Leaves out of a recording the requests that a release lacks, with their replies, so that zkdump reads on.
+"""Leaves out of a recording the requests that a release lacks, with their replies, so that zkdump reads all the rest.
 
     zkskip.py [--profile 3.4|3.5] REC.zkr PLAIN.zkr
     zkskip.py [--profile 3.4|3.5] < REC.zkr > PLAIN.zkr
@@ -7,8 +7,8 @@
 Left out are operations of later releases and of SASL, a check outside a multi, multis with parts of later releases, and
 auth under another xid than -4, which some Go clients send. Each has a line on standard error. Operations that no
 release has stay, and so does everything else. The new recording has the format of the old one, and one frame a piece,
-in the order of their last bytes; from where a side can no longer be cut into frames, its bytes stay as they are. Where
-REC.zkr.times is there, PLAIN.zkr.times is written, too. Neither file may be there already.
+in the order of their last bytes; from where a side can no longer be cut into frames, its bytes stay as they are. If
+REC.zkr.times exists, PLAIN.zkr.times is written, too. Neither new file may exist already.
 """
 
 import collections
@@ -47,7 +47,7 @@ def after(payload, at, items):
 
 
 def later_part(payload):
-    """The operation of the first part of a multi that it can't have in these releases; None where there is none."""
+    """The operation of the first part of a multi that it can't have in these releases; None if there is none."""
     at = 8
     try:
         while (kind := int_at(payload, at)) in PARTS:
@@ -58,7 +58,7 @@ def later_part(payload):
 
 
 def lacking(payload, operations):
-    """What a release with these operations lacks of a request; None where it lacks nothing, or no release has it."""
+    """What in a request a release with these operations lacks; None if it lacks nothing, or no release has it."""
     xid, kind = struct.unpack_from(">ii", payload)
     if kind == AUTH and xid != AUTH_XID:
         return "auth under an ordinary xid"
@@ -68,7 +68,7 @@ def lacking(payload, operations):
 
 
 class Skipping:
-    """Decides of each frame whether it stays. A reply answers the oldest request of its xid."""
+    """Decides which frames stay. A reply answers the oldest request of its xid."""
 
     def __init__(self, operations):
         self.operations = operations
@@ -85,7 +85,7 @@ class Skipping:
         self.waiting[xid].append(lacks)
         if lacks:
             self.requests += 1
-            tell(frame, xid, lacks)
+            report(frame, xid, lacks)
         return not lacks
 
     def stays_reply(self, frame, xid):
@@ -95,12 +95,12 @@ class Skipping:
             self.waiting.pop(xid, None)
         if lacks:
             self.replies += 1
-            tell(frame, xid, lacks)
+            report(frame, xid, lacks)
         return not lacks
 
 
-def tell(frame, xid, lacks):
-    zkr.tell(f"left out: {frame.side.decode()} frame={frame.number} xid={xid} {lacks}, {len(frame.payload)} bytes")
+def report(frame, xid, lacks):
+    zkr.report(f"left out: {frame.side.decode()} frame={frame.number} xid={xid} {lacks}, {len(frame.payload)} bytes")
 
 
 class StandardOutput:
@@ -131,7 +131,7 @@ def skip(pieces, times, out, skipping):
             if piece.side in cutter.broken:
                 rest(cutter, piece.side, milliseconds, out)
             done += len(piece.data)
-            progress.tell(lambda: f"{done:,} bytes")
+            progress.show(lambda: f"{done:,} bytes")
     finally:
         for side in cutter.held:
             rest(cutter, side, milliseconds, out)
@@ -152,7 +152,7 @@ def main():
                         help="the release whose operations stay (that in the head of a ZKR2 recording, else 3.4)")
     words = parser.parse_args()
     if words.source and not words.target:
-        parser.error("the new recording has to be named, too")
+        parser.error("name the new recording, too: REC.zkr PLAIN.zkr")
     recording = zkr.Reader(open(words.source, "rb") if words.source else zkr.standard_input())
     times = zkr.times_beside(words.source) if words.source and os.path.exists(zkr.times_path(words.source)) else None
     skipping = Skipping(OF_PROFILE[words.profile or zkr.RELEASES[recording.head.profile]])
@@ -164,7 +164,7 @@ def main():
         skip(recording, times, out, skipping)
     finally:
         out.close()
-        zkr.tell(f"left out: {skipping.requests} requests, {skipping.replies} replies")
+        zkr.report(f"left out: {skipping.requests} requests, {skipping.replies} replies")
     return 0
 
 

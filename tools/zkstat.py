@@ -4,11 +4,10 @@ slowest requests, and those without a reply.
 
     zkstat.py [--json] [--recording REC.zkr [--times FILE]] [CHOICE ..] [FILE ..]
 
-It reads recordings by their names (zkdump show makes their listings), listings, or the lines that zkjson makes of
-these, also of several connections; without a name a listing or zkjson's lines from standard input. Where there are
-times there are latencies: from a request's last byte to its reply's. p50, p95 and p99 are those of HdrHistogram with
-three significant digits, in microseconds; max is exact. A multi has failed where one of its parts has. Connections of
-one session are grouped.
+It reads listings, recordings, whose listings zkdump show makes, and the lines of zkjson, also of several connections;
+without a FILE it reads a listing, or lines of zkjson, from standard input. If there are times, there are latencies:
+from a request's last byte to its reply's. p50, p95 and p99 are those of HdrHistogram with three significant digits, in
+microseconds; max is exact. A multi has failed if one of its parts has. Connections of one session are grouped.
 """
 
 import collections
@@ -57,7 +56,7 @@ class Slow:
     """A request and its reply, with the fields that are reported of the slowest."""
 
     def __init__(self, asked, made, zxid):
-        self.told = {"time": time(asked.moment), "ms": made.microseconds / 1000,
+        self.row = {"time": time(asked.moment), "ms": made.microseconds / 1000,
                      "connection": made.connection.name, "n": asked.n, "op": made.op, "path": cut(asked.path),
                      "error": made.error, "zxid": zxid}
 
@@ -118,7 +117,7 @@ class Statistics:
                                for name, counts in ordered},
                 "events": dict(self.events.most_common()), "connections": list(self.rows()),
                 "unanswered": [request(made) for made in self.waiting],
-                "slowest": [slow.told for *_, slow in sorted(self.slowest, reverse=True)]}
+                "slowest": [slow.row for *_, slow in sorted(self.slowest, reverse=True)]}
 
     def rows(self):
         """The row of each connection, those of one session together; of a later one `gap` is the seconds from the end
@@ -150,9 +149,9 @@ def time(moment):
 
 def request(made):
     """The row of a request that was never answered."""
-    told = {"connection": made.connection.name, "n": made.n, "xid": made.xid and int(made.xid), "op": made.op,
+    row = {"connection": made.connection.name, "n": made.n, "xid": made.xid and int(made.xid), "op": made.op,
             "path": made.path}
-    return {name: value for name, value in told.items() if value is not None}
+    return {name: value for name, value in row.items() if value is not None}
 
 
 def main():

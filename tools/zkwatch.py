@@ -1,17 +1,17 @@
 #!/usr/bin/env -S sh -c '[ -d /dev/stdin ] && exec <&-; exec python3 "$0" "$@"'
-"""A proxy that shows what the ZooKeeper connections through it say, while they say it.
+"""A proxy that shows the messages of the ZooKeeper connections through it, as they pass.
 
     zkwatch.py [--zkdump PATH] [--profile 3.4|3.5] [--limit N] [--once] [HOST:]PORT SERVER:PORT
 
 It listens on PORT (0 is any free one; the first line of standard output has it) and passes every connection on to the
 server. Each has a `zkdump show` of its own, which gets every piece before it is passed on; so a request is read before
-its reply can come. The lines of all are printed with the time and the connection's number. Once a conversation is
-refused, or is no longer read for another reason, a line says so, and its bytes are still passed on. Ctrl-C, or SIGTERM,
-ends it.
+its reply can come. The lines of all are printed with the time and the connection's number. If a conversation is
+refused, or can't be read any longer, a line reports that, and its bytes are still passed on. Ctrl-C or SIGTERM ends the
+proxy.
 
-No connection waits for `show`, or for the reader of the lines: a connection of which MOST_WAITING bytes wait to be read
-is no longer watched. As an example for authors of proxies: `show` writes a message's line as soon as its last byte is
-there, before it reads on, and it waits where the reader of its lines waits.
+No connection waits for `show`, or for the reader of the lines: a connection of which 64 MB wait to be read is no longer
+watched. For authors of proxies: `show` writes a message's line as soon as its last byte has come, before the next read,
+and it waits if the reader of its lines does.
 """
 
 import errno
@@ -32,7 +32,7 @@ HEAD = zkr.Head()
 
 
 class Show:
-    """A connection's `show`: what waits to be written to it, and the beginning of a line that it has written."""
+    """The process `zkdump show` of a connection: what waits to be written to it, and the beginning of a line of it."""
 
     def __init__(self, watch, number):
         self.watch, self.number, self.waiting, self.line = watch, number, bytearray(HEAD.to_bytes()), bytearray()
@@ -42,7 +42,7 @@ class Show:
                                             start_new_session=True)
         except OSError as error:
             self.process, self.unread = None, f"{watch.command[0]}: {error.strerror}"
-            self.tell_unread()
+            self.report_unread()
             return
         for file in (self.process.stdin, self.process.stdout):
             os.set_blocking(file.fileno(), False)
@@ -131,11 +131,11 @@ class Show:
         if not self.unread and (status not in (0, 1) or not self.last.startswith(b".")):
             self.unread = f"zkdump has ended with status {status}"
         if self.unread or not self.is_over:
-            self.tell_unread()
+            self.report_unread()
         if self.is_over:
             self.watch.seen(self)
 
-    def tell_unread(self):
+    def report_unread(self):
         """Reports that the connection is no longer read."""
         self.waiting.clear()
         reason = f"{self.unread}: " if self.unread else ""
@@ -154,16 +154,16 @@ class Watch(proxy.Proxy):
     def say_of(self, number, text):
         self.say(f"{zkr.clock(time.time() * 1000)} #{number} {text}")
 
-    def not_told(self, error):
+    def not_printed(self, error):
         if error.errno == errno.EPIPE:
             self.ring()
         else:
-            super().not_told(error)
+            super().not_printed(error)
 
     def taken(self, connection):
         self.say_of(connection.number, f"from {connection.peer}")
 
-    def look_on(self, connection):
+    def observer_of(self, connection):
         show = Show(self, connection.number)
         self.shows.add(show)
         return show

@@ -59,10 +59,10 @@ def plain_object(value):
         return [plain_object(each) for each in value]
     if not isinstance(value, dict):
         return value
-    told = {name: plain_object(each) for name, each in value.items() if name not in TIMED_FIELDS}
-    if "ephemeralOwner" in told:
-        told["ephemeralOwner"] = told["ephemeralOwner"] != "0x0"
-    return told
+    fields = {name: plain_object(each) for name, each in value.items() if name not in TIMED_FIELDS}
+    if "ephemeralOwner" in fields:
+        fields["ephemeralOwner"] = fields["ephemeralOwner"] != "0x0"
+    return fields
 
 
 class Side:
@@ -99,7 +99,7 @@ class Comparison:
         for run in (ours, theirs):
             for before, after in zip(run, run[1:]):
                 if before.source is after.source:
-                    raise ValueError(f"{after.source.path} has several connections, which are not compared")
+                    raise ValueError(f"{after.source.path} has several connections: --against compares files of one")
         for number, (mine, other) in enumerate(itertools.zip_longest(ours, theirs)):
             if mine is None or other is None:
                 names = ((each and each.name, None) for each in (mine, other))
@@ -159,17 +159,17 @@ def tables(found, other, comparison):
 
 
 COLUMNS = [summary.Column("op", "operation", "op")] + [
-    summary.Column(f"{name}{side}", f"{heading}, {told}", kind)
+    summary.Column(f"{name}{side}", f"{heading}, {where}", kind)
     for name, heading, kind in (("asked", "asked", "count"), ("failed", "failed", "count"),
                                 ("unanswered", "unanswered", "count"), ("p50", "p50 ms", "ms"), ("p99", "p99 ms", "ms"))
-    for side, told in (("", "here"), ("Other", "there"))]
+    for side, where in (("", "here"), ("Other", "there"))]
 
 
-def lines_of(told):
+def lines_of(compared):
     """The lines of a comparison's first difference."""
-    first = told["first"]
+    first = compared["first"]
     if first is None:
-        yield f"no difference: {told['equal']} exchanges and events are the same"
+        yield f"no difference: {compared['equal']} exchanges and events are the same"
         return
     yield (f"the first difference is a {first['kind']} of connection {first['label']}, after {first['equal']} "
            "exchanges and events that are the same:")

@@ -28,7 +28,7 @@ class Operation:
         return sum(self.errors.values())
 
     def ms(self, percent):
-        """The latency that `percent` of a hundred replies didn't exceed; None where there are none."""
+        """The latency that `percent` of a hundred replies didn't exceed; None if there are none."""
         found = self.latencies.percentile(percent)
         return None if found is None else found / 1000
 
@@ -62,7 +62,7 @@ class Watch(list):
 
 
 class Connection:
-    """What is found of one connection, or of a part of it. Times are milliseconds since 1970, and None where there are
+    """What is found of one connection, or of a part of it. Times are milliseconds since 1970, and None if there are
     none. `label` is what it is called: the number of the connection, and of a later part that of the part; `first` is
     the part that the connection begins with."""
 
@@ -86,7 +86,7 @@ class Connection:
         return self.known and self.known.ending
 
     def session_id(self):
-        """The session as ZooKeeper's logs print it; None where the recording has none."""
+        """The session as ZooKeeper's logs print it; None if the recording has none."""
         if self.first:
             return self.first.session_id()
         for number in (self.session, self.asked_session):

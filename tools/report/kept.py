@@ -109,7 +109,7 @@ class Density:
         self.cells, self.troubles = collections.Counter(), collections.Counter()
 
     def add(self, connection, at, ms, trouble):
-        """Counts a request. `ms` is None where it has no reply; `trouble` is 1 where it failed, 2 where it has none."""
+        """Counts a request. `ms` is None if it has no reply; `trouble` is 1 if it failed, 2 if it has none."""
         bucket = int(at) // self.width
         if self.low is None:
             self.low = self.high = bucket
@@ -149,7 +149,7 @@ def bin_of(ms):
 
 
 class Counted:
-    """Counts by key of many keys. Where there are more than `most`, the rarest are forgotten: `short` is how much too
+    """Counts by key of many keys. If there are more than `most`, the rarest are forgotten: `short` is how much too
     small a count can be then. The first element of each entry is its count."""
 
     def __init__(self, new, most=MOST_PATHS):

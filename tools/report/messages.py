@@ -37,7 +37,7 @@ class Shortening:
         return f"{spelled[:1 + 2 * SHOWN[0][1]]}{f'{self.mark}:{len(spelled) // 2}'.encode().hex()}"
 
     def whole(self, text):
-        """What is left of a text, and the length that it had, or None where it was not cut."""
+        """What is left of a text, and the length that it had, or None if it was not cut."""
         found = self.cut.fullmatch(text)
         return (found[1], int(found[2])) if found else (text, None)
 

@@ -166,5 +166,5 @@ function shortcoming() {
   if (data.complete || !isFiltered()) return "";
   const others = filter.path || filter.outcome || filter.slower !== null || filter.from !== null || filter.to !== null;
   const told = `This page has ${count(requests.count)} of ${count(data.counts.asked)} requests: the slowest, the unanswered, and the failed or some of them.`;
-  return others ? `${told} Operations and errors follow the filters by session and operation alone, busiest paths the one by path; for the others make the report of a part of the run.` : told;
+  return others ? `${told} The filters by session and operation apply to operations and errors, and the filter by path to the busiest paths. For the other filters, make a report of a part of the run.` : told;
 }

@@ -135,9 +135,9 @@ def by_connection(cells, low):
 def by_session(found):
     """The rows of operations and errors of each session, of the busiest ones."""
     busiest = sorted(found.sessions, key=lambda each: -sum(one.messages for one in each.connections))
-    told = {}
+    rows = {}
     for session in busiest[:summary.MOST_SESSIONS]:
         operations = summary.operations_of(session.connections)
-        told[session.number] = {"operations": list(summary.operation_rows(operations)),
+        rows[session.number] = {"operations": list(summary.operation_rows(operations)),
                                 "errors": summary.error_rows(operations)}
-    return told
+    return rows

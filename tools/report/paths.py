@@ -16,7 +16,7 @@ class Cut(NamedTuple):
 
 
 def path_of(spelled):
-    """A path of its spelling in a line; None for null, and where there is none."""
+    """A path of its spelling in a line; None for null, and if there is none."""
     if spelled is None or spelled == "~":
         return None
     if len(spelled) <= LONGEST:

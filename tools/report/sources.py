@@ -26,7 +26,7 @@ PART = re.compile(r"-(\d+)(?:\.(\d+))?\.zkr")
 class Source:
     """A file, and what is known of its connection beside it. Lines of zkjson may have several connections.
 
-    `path` is None where nothing is recorded. Of a capture there are the ends of the connection, when it began and
+    `path` is None if nothing is recorded. Of a capture there are the ends of the connection, when it began and
     ended, and in `notes` the other words of pcap2zkr's line, each with its value, or with None. What follows a loss is
     a separate part: `first` is the part that the connection begins with.
     """
@@ -90,18 +90,18 @@ def sources_of(paths, folder, port, warnings):
         elif LISTINGS.match(mark):
             yield Source(path, name.removesuffix(".show"), mark)
         else:
-            raise ValueError(f"{path} is no capture, no recording and no listing")
+            raise ValueError(f"{path} is neither a capture nor a recording nor a listing")
 
 
 def captured(path, name, prefix, port, warnings):
     """The connections of a capture: recordings that begin with the prefix."""
     words = [sys.executable, TOOLS / "pcap2zkr.py", "--times", "--late", "--port", str(port), path, prefix]
     done = subprocess.run(words, stdout=subprocess.PIPE, stderr=subprocess.PIPE, check=False)
-    lines, told = done.stdout.decode().splitlines(), done.stderr.decode().strip().removeprefix("pcap2zkr.py: ")
+    lines, error = done.stdout.decode().splitlines(), done.stderr.decode().strip().removeprefix("pcap2zkr.py: ")
     if not lines:
-        raise ValueError(told or f"{path}: no connection")
-    if told:
-        warnings.append(told)
+        raise ValueError(error or f"{path}: no connection")
+    if error:
+        warnings.append(error)
     parts = {}
     for line in lines:
         yield source_of(line, name, prefix, parts)

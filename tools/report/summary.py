@@ -128,9 +128,9 @@ def closed_by(connection):
     if connection.is_refused():
         return "server: session expired"
     notes = connection.source.notes
-    for word, told in (("reset", "reset"), ("closed", "FIN")):
+    for word, how in (("reset", "reset"), ("closed", "FIN")):
         if word in notes:
-            return f"{SIDES[notes[word]]}: {told}"
+            return f"{SIDES[notes[word]]}: {how}"
     return "open at the end" if "open" in notes else "not known: a hole" if "hole" in notes else "not recorded"
 
 
@@ -140,13 +140,13 @@ def ending_of(connection):
     notes = [f"{word}={value}" if value else word for word, value in connection.source.notes.items()
              if word not in PLAIN_NOTES and value not in NOTHING]
     if ending is None:
-        told = "no ending line" if connection.source.path else "nothing recorded"
+        how = "no ending line" if connection.source.path else "nothing recorded"
     else:
-        told = " ".join([ending["ending"], *(f"{name}={value}" for name, value in ending.items()
+        how = " ".join([ending["ending"], *(f"{name}={value}" for name, value in ending.items()
                                              if name not in ("ending", "unanswered", "waiting"))])
     if connection.known and connection.known.backwards:
         notes.append(f"{connection.known.backwards} replies have a time before their request's")
-    return ", ".join([told, *notes])
+    return ", ".join([how, *notes])
 
 
 def operations_of(connections):

@@ -25,20 +25,20 @@ class Trace:
             self.out.flush()
 
     def request(self, connection, asked, made):
-        """Takes a request and its reply, or None where it has none."""
+        """Takes a request and its reply, or None if it has none."""
         if asked.moment is None or made and made.moment is None:
             return
         self.ids += 1
         self.events += 1
         name = asked.op if not (made and made.error) else f"{asked.op} {made.error}"
         where = {"cat": "request", "name": name, "id": self.ids, **self.place(connection)}
-        told = {"message": asked.n, "xid": asked.xid, "path": None if asked.path is None else paths.shown(asked.path)}
-        self.put(ph="b", ts=microseconds(asked.moment), args=told, **where)
+        facts = {"message": asked.n, "xid": asked.xid, "path": None if asked.path is None else paths.shown(asked.path)}
+        self.put(ph="b", ts=microseconds(asked.moment), args=facts, **where)
         if made:
-            end, told = made.moment, {"message": made.n, "error": made.error}
+            end, facts = made.moment, {"message": made.n, "error": made.error}
         else:
-            end, told = max(connection.ended, asked.moment), {"answered": False}
-        self.put(ph="e", ts=microseconds(end), args=told, **where)
+            end, facts = max(connection.ended, asked.moment), {"answered": False}
+        self.put(ph="e", ts=microseconds(end), args=facts, **where)
 
     def event(self, connection, made, path):
         """Takes an event of a watch."""

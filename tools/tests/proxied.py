@@ -15,7 +15,7 @@ from support import TOOLS, ToolCase, receive
 
 SECONDS = 20
 STAND_IN = f"""#!{sys.executable} -SE
-# Tells each frame as its side and its number; a frame of no bytes is refused.
+# Prints each frame as its side and its number; a frame of no bytes is refused.
 import sys
 sys.path.insert(0, {str(TOOLS)!r})
 import zkr

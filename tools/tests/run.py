@@ -1,7 +1,7 @@
 #!/usr/bin/env python3
 """Runs the tests of the tools: run.py [WORD ..] runs those of the files test_*.py whose names have one of the words.
 
-A test that can't run here is reported with its reason. The last line is `N passed, M failed`; the status is 1 where one
+A test that can't run here is reported with its reason. The last line is `N passed, M failed`; the status is 1 if one
 failed or none was found.
 """
 

@@ -17,37 +17,37 @@ class BadInput(ToolCase):
         return subprocess.run(["sh", "-c", command.replace("TOOLS", f"{sys.executable} {TOOLS}")], capture_output=True,
                               timeout=60, check=False, **more)
 
-    def assert_told(self, command, status, told):
+    def assert_ends(self, command, status, told):
         """That a command ends with this status and one line on standard error."""
         done = self.shell(command)
         self.assertEqual((done.returncode, done.stderr.decode()), (status, told), command)
 
     def test_closed_streams(self):
         for tool in READERS:
-            self.assert_told(f"TOOLS/{tool} <&-", 3, f"{tool}: standard input is closed, or a folder\n")
-            self.assert_told(f"TOOLS/{tool} {LISTING} >&-", 3, f"{tool}: standard output is closed\n")
-            self.assert_told(f"TOOLS/{tool} {LISTING} 2>&- > {self.folder}/out", 0, "")
-            self.assert_told(f"TOOLS/{tool} nothing 2>&- > {self.folder}/out", 3, "")
+            self.assert_ends(f"TOOLS/{tool} <&-", 3, f"{tool}: standard input is closed, or a folder\n")
+            self.assert_ends(f"TOOLS/{tool} {LISTING} >&-", 3, f"{tool}: standard output is closed\n")
+            self.assert_ends(f"TOOLS/{tool} {LISTING} 2>&- > {self.folder}/out", 0, "")
+            self.assert_ends(f"TOOLS/{tool} nothing 2>&- > {self.folder}/out", 3, "")
             self.assertEqual((self.folder / "out").read_bytes(), b"")
-            self.assert_told(f"TOOLS/{tool} {LISTING} <&- > {self.folder}/out", 0, "")
-        self.assert_told("TOOLS/zkskip.py <&-", 3, "zkskip.py: standard input is closed, or a folder\n")
+            self.assert_ends(f"TOOLS/{tool} {LISTING} <&- > {self.folder}/out", 0, "")
+        self.assert_ends("TOOLS/zkskip.py <&-", 3, "zkskip.py: standard input is closed, or a folder\n")
         whole = self.shell(f"TOOLS/zkskip.py < {RECORDING}").stdout
         self.assertEqual(self.shell(f"TOOLS/zkskip.py < {RECORDING} 2>&-").stdout, whole)
-        self.assert_told(f"TOOLS/zkskip.py < {RECORDING} >&-", 3, "zkskip.py: standard output is closed\n")
+        self.assert_ends(f"TOOLS/zkskip.py < {RECORDING} >&-", 3, "zkskip.py: standard output is closed\n")
 
     def test_a_full_disk(self):
         for command in (f"zkstat.py {LISTING}", f"zkjson.py {LISTING}"):
-            self.assert_told(f"TOOLS/{command} > /dev/full", 3, f"{command[:9]}: No space left on device\n")
+            self.assert_ends(f"TOOLS/{command} > /dev/full", 3, f"{command[:9]}: No space left on device\n")
         done = self.shell(f"TOOLS/zkskip.py < {RECORDING} > /dev/full")
         self.assertEqual((done.returncode, done.stderr.decode().splitlines()[-1]),
                          (3, "zkskip.py: No space left on device"))
 
     def test_folders(self):
         for tool in READERS:
-            self.assert_told(f"TOOLS/{tool} {self.folder}", 3, f"{tool}: {self.folder}: Is a directory\n")
-            self.assert_told(f"TOOLS/{tool} --recording {self.folder} {LISTING}", 3,
+            self.assert_ends(f"TOOLS/{tool} {self.folder}", 3, f"{tool}: {self.folder}: Is a directory\n")
+            self.assert_ends(f"TOOLS/{tool} --recording {self.folder} {LISTING}", 3,
                              f"{tool}: {self.folder}: Is a directory\n")
-            self.assert_told(f"TOOLS/{tool} --recording {RECORDING} --times {self.folder} {LISTING}", 3,
+            self.assert_ends(f"TOOLS/{tool} --recording {RECORDING} --times {self.folder} {LISTING}", 3,
                              f"{tool}: {self.folder}: Is a directory\n")
 
     def test_a_folder_as_standard_input(self):

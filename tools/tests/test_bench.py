@@ -43,8 +43,8 @@ class BenchCase(ToolCase):
         out, err = self.player.communicate(timeout=SECONDS)
         return self.player.returncode, out.splitlines(), err.splitlines()
 
-    def assert_refused(self, told):
-        self.assertEqual(self.ended(), (1, [], [f"zkplay.py: {told}"]))
+    def assert_refused(self, reason):
+        self.assertEqual(self.ended(), (1, [], [f"zkplay.py: {reason}"]))
 
 
 class Differences(BenchCase):
@@ -56,7 +56,7 @@ class Differences(BenchCase):
         recording = [(zkr.CLIENT, CONNECT), (zkr.SERVER, CONNECTED), *((zkr.CLIENT, ask) for ask in asks),
                      (zkr.CLIENT, close)]
         self.client(self.play(recording), CONNECT, asks[0], asks[1].replace(b"c", b"d"), close)
-        self.assert_refused("client frame=2 offset=90 place=15: 64 in place of 63")
+        self.assert_refused("client frame=2 offset=90 place=15: expected 63, got 64")
 
     def test_waits_that_are_no_waits(self):
         for wait in ("--wait=1e300", "--wait=inf", "--wait=nan", "--wait=-1", "--wait=1000001", "--delay=inf"):
@@ -123,7 +123,7 @@ class Faults(BenchCase):
             self.assertEqual(receive(connection, 100), EXISTS[:6])
         self.assertEqual(self.ended(), (0, ["played: 55 bytes of the client, 41 of the server"], []))
 
-    def test_a_fault_that_was_not_made_is_told(self):
+    def test_a_fault_that_was_not_made_is_reported(self):
         for words in (("--cut-at", "2"), ("--reset-at", "2:5"), ("--flip", "1:16"), ("--flip", "1:15", "--cut-at", "1:3")):
             with self.subTest(words=words):
                 client = self.client(self.play(RUN, *words), CLIENT_BYTES)
@@ -131,7 +131,7 @@ class Faults(BenchCase):
                 client.shutdown(socket.SHUT_WR)
                 status, out, err = self.ended()
                 self.assertEqual((status, out, len(err)), (1, [], 1))
-                self.assertRegex(err[0], r"the server of the recording does not come to frame=\d place=\d+, so no fault")
+                self.assertRegex(err[0], r"the server's bytes ended before frame=\d place=\d+, so no fault")
 
     def test_words(self):
         for words in (("--cut-at", "1:"), ("--reset-at", "1:2:3"), ("--flip", "1"), ("--flip", "1:2=001"),
@@ -202,8 +202,8 @@ class Pings(BenchCase):
         self.assertEqual(self.ended()[:2], (0, ["played: 9600053 bytes of the client, 41 of the server"]))
 
     def test_what_only_begins_as_a_ping_is_refused(self):
-        for said, told in ((PING[:11] + b"\0", "client frame=1 offset=53 place=0: 08 in place of 0f"),
-                           (PING[:8], "client frame=1 offset=53 place=0: 08 in place of 0f")):
+        for said, told in ((PING[:11] + b"\0", "client frame=1 offset=53 place=0: expected 0f, got 08"),
+                           (PING[:8], "client frame=1 offset=53 place=0: expected 0f, got 08")):
             client = self.client(self.play(RUN, "--wait", "0.5"), CONNECT, said)
             self.assertEqual(receive(client, 41), CONNECTED)
             self.assert_refused(told)
@@ -218,7 +218,7 @@ class Pings(BenchCase):
                 break
             select.select([client], [], [], 0.1)
             time.sleep(0.05)
-        self.assert_refused("client frame=1 offset=50 place=0: nothing comes, 00 is due")
+        self.assert_refused("client frame=1 offset=50 place=0: expected 00: nothing came")
 
 
 class Many(BenchCase):
@@ -254,7 +254,7 @@ class Many(BenchCase):
         self.assertEqual(receive(good, 20), MISSING)
         good.close()
         self.assertEqual(self.ended(), (1, [f"#1 {PLAYED}"],
-                                        ["zkplay.py: #2 client frame=0 offset=1 place=0: 72 in place of 00"]))
+                                        ["zkplay.py: #2 client frame=0 offset=1 place=0: expected 00, got 72"]))
 
     def test_many_that_are_played_to_a_server(self):
         address = self.play(RUN, "--connections", "5")

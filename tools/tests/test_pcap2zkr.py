@@ -50,7 +50,7 @@ class Forms(PcapCase):
         self.assertEqual([piece.milliseconds - wire.BEGUN for piece in pieces(made)],
                          list(range(3, 3 + len(pieces(made)))))
 
-    def test_bytes_behind_the_packet_and_other_traffic(self):
+    def test_bytes_after_the_packet_and_other_traffic(self):
         source = SMALL[0].read_bytes()
         packets = packed(wire.conversation(pieces(source)))
         noise = [packed(wire.conversation(pieces(source)), server=9999)[5][1], bytes(12) + b"\x08\x06" + bytes(28),
@@ -90,7 +90,7 @@ class Forms(PcapCase):
                     self.assertEqual((status, told, made, self.complaint.count("\n")), (3, [], [], 1))
             whole[4:8] = struct.pack("<I", second)
         status, _, err = self.run_tool("pcap2zkr.py", "-", self.folder / "s", stdin=b"\n\r\r\n\n\0\0\0M<+\x1a")
-        self.assertEqual((status, err), (3, "pcap2zkr.py: -: a block of 10 bytes\n"))
+        self.assertEqual((status, err), (3, "pcap2zkr.py: -: the capture is damaged: it has a block of 10 bytes\n"))
 
     def test_what_fails_is_named(self):
         capture, prefix = self.folder / "capture", self.folder / "none" / "r"
@@ -222,7 +222,8 @@ class Missing(PcapCase):
         capture = wire.pcap(packed(sent, server=9999) + packed(sent[:3], server=60_000) + packed(sent[4:8], server=80))
         status, told, _ = self.convert(capture)
         self.assertEqual((status, told), (1, []))
-        self.assertRegex(self.complaint, r": no connection to port 2181; the ports in it are 9999, 80, 60000\n$")
+        self.assertRegex(self.complaint,
+                         r": no connection to port 2181; choose one of its ports with --port N: 9999, 80, 60000\n$")
 
 
 class Others(PcapCase):

@@ -29,7 +29,7 @@ def then(sent, *segments):
 
 
 class Ends(PcapCase):
-    def told_of(self, sent):
+    def end_words(self, sent):
         """The words that say how it ended, and the milliseconds since the capture began."""
         status, told, _ = self.convert(capture_of(sent))
         words = told[0].split()
@@ -46,14 +46,14 @@ class Ends(PcapCase):
                                                                     ["closed=C", "reset=S"])):
             with self.subTest(words=words, segments=segments):
                 sent = then(opened(), *segments)
-                found, ended = self.told_of(sent)
+                found, ended = self.end_words(sent)
                 self.assertEqual(found, words)
                 self.assertEqual(ended, 4 + bool(segments))  # five segments before it, one in each millisecond
 
     def test_who_ended_it_where_captured_out_of_order(self):
         fin = wire.FIN | wire.ACK
         sent = then(opened(), (zkr.CLIENT, fin), (zkr.SERVER, fin))
-        self.assertEqual(self.told_of([*sent[:5], sent[6], sent[5]])[0], ["closed=C"])
+        self.assertEqual(self.end_words([*sent[:5], sent[6], sent[5]])[0], ["closed=C"])
 
     def test_packets_are_numbered_as_wireshark_does(self):
         sent, other = then(opened(), (zkr.CLIENT, wire.FIN | wire.ACK)), bytes(12) + b"\x08\x06" + bytes(28)
@@ -87,7 +87,7 @@ class Ends(PcapCase):
         sent = opened([ASK, REPLY, ASK, REPLY])
         for number in (sent[4].number + 5, sent[4].number + (1 << 30)):
             strange = sent[4]._replace(number=number, flags=wire.RST, data=b"")
-            found, _ = self.told_of([*sent[:5], strange, *sent[5:]])
+            found, _ = self.end_words([*sent[:5], strange, *sent[5:]])
             self.assertEqual(found, ["open"])
 
 

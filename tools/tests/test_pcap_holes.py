@@ -61,7 +61,7 @@ class JoinedCase(PcapCase):
 
 
 class Late(JoinedCase):
-    def test_is_told(self):
+    def test_is_reported(self):
         sent = list(wire.conversation(pieces(SMALL[0].read_bytes())))
         status, told, made = self.convert(capture_of(sent[6:]))
         self.assertEqual((status, made), (1, []))
@@ -106,7 +106,7 @@ class Late(JoinedCase):
         self.assertEqual([piece.data for piece in pieces(made[0])[2:]], [each.data for each in kept])
 
 
-class Behind(JoinedCase):
+class AfterLoss(JoinedCase):
     """What follows a loss."""
 
     def parts(self, said, *gone):

@@ -79,13 +79,13 @@ class RecordCase(ToolCase):
         self.addCleanup(client.close)
         return client
 
-    def told(self):
+    def next_line(self):
         """The next line on standard output."""
         return self.tool.stdout.readline().split()
 
     def ended(self):
         """The words of the next line that reports an end."""
-        while (words := self.told())[2] != "ended":
+        while (words := self.next_line())[2] != "ended":
             pass
         return words
 
@@ -99,13 +99,13 @@ class Passing(RecordCase):
         said = b"".join(path.read_bytes() for path in CAPTURES[:4])
         threading.Thread(target=lambda: (client.sendall(said), client.shutdown(socket.SHUT_WR)), daemon=True).start()
         self.assertEqual(exactly(client, len(said) + 4), said + b"end")
-        path, peer, begun, moment = self.told()
+        path, peer, begun, moment = self.next_line()
         self.assertEqual((path, peer, begun), (f"{self.prefix}-1.zkr", "%s:%d" % client.getsockname(), "begun"))
         self.assertRegex(moment, r"^\d{4}-\d\d-\d\dT\d\d:\d\d:\d\d\.\d{3}Z$")
         self.assertEqual(self.ended()[4:], [f"client={len(said)}", f"server={len(said) + 3}", "closed=C"])
         self.assertEqual(sides(self.recording()), (said, said + b"end"))
 
-    def test_each_request_stands_before_its_reply(self):
+    def test_each_request_is_before_its_reply(self):
         client = self.client(self.record(self.server()))
         for number in range(200):
             client.sendall(b"%5d" % number)
@@ -196,7 +196,7 @@ class Files(RecordCase):
         client = self.client(self.record(self.server(), "--times"))
         client.sendall(b"hi")
         exactly(client, 2)
-        self.assertEqual(self.told()[0], f"{self.prefix}-2.zkr")
+        self.assertEqual(self.next_line()[0], f"{self.prefix}-2.zkr")
         self.assertEqual(self.recording(1), b"mine")
         for name in ("r-2.zkr", "r-2.zkr.times"):
             self.assertEqual(stat.S_IMODE(self.prefix.with_name(name).stat().st_mode), 0o600)
@@ -267,7 +267,7 @@ class Addresses(RecordCase):
         with connection:
             connection.sendall(b"here")
             self.assertEqual(exactly(client, 4), b"here")
-        self.assertEqual(self.told()[0], f"{self.prefix}-1.zkr")
+        self.assertEqual(self.next_line()[0], f"{self.prefix}-1.zkr")
 
     def test_ipv6(self):
         try:
@@ -277,14 +277,14 @@ class Addresses(RecordCase):
         client = self.client(self.record(f"[::1]:{server}", listen="[::1]:0"), "::1")
         client.sendall(b"six")
         self.assertEqual(exactly(client, 3), b"six")
-        self.assertRegex(self.told()[1], r"^\[::1\]:\d+$")
+        self.assertRegex(self.next_line()[1], r"^\[::1\]:\d+$")
 
     def test_a_name_whose_first_address_has_no_server(self):
         client = self.client(self.record(f"localhost:{self.server()}", listen="localhost:0"))
         client.sendall(b"name")
         self.assertEqual(exactly(client, 4), b"name")
 
-    def test_what_is_in_use_or_not_there_is_told(self):
+    def test_what_is_in_use_or_not_there_is_reported(self):
         with socket.create_server(("127.0.0.1", 0)) as taken:
             port = taken.getsockname()[1]
             for words in ((str(port), "127.0.0.1:1", self.prefix), ("0", "no.such.name.invalid:1", self.prefix),

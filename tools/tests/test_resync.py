@@ -145,8 +145,8 @@ class Places(unittest.TestCase):
         time = 418 << 32 | 36_408_704
         stat = struct.pack(">qqqqiiiqiiq", 9, 9, time, time, 0, 0, 0, 0, 5, 0, 9)
         sizes = enumerate((0, 0, 0, 2, 0), 5)
-        behind = b"".join(reply(xid, 9, more=path(bytes(size)) + stat) for xid, size in sizes)
-        data = stat[16:] + behind
+        following = b"".join(reply(xid, 9, more=path(bytes(size)) + stat) for xid, size in sizes)
+        data = stat[16:] + following
         self.assertEqual(resync.resynchronise(SERVER, data, LIMIT)[0], len(stat) - 16)
 
     def test_random_bytes_have_no_frames(self):

@@ -21,7 +21,7 @@ OTHER_CLIENT = """
 
     $ tools/zkplay.py 2181 crates/zkdump/stdin
     listening on 127.0.0.1:2181
-    zkplay.py: client frame=0 offset=19 place=14: 27 in place of 75
+    zkplay.py: client frame=0 offset=19 place=14: expected 75, got 27
 """
 MARKED = "\n<!-- not run: no reason -->\n\n    $ exit 1\n    what it prints\n"
 
@@ -50,7 +50,7 @@ class RunExamples(ToolCase):
         self.assert_counts("    $ echo a\n    b\n\n    $ echo a\n    a\n\n    $ echo a\n", 1, 2)
         self.assert_counts(PASSES.replace("68", "69"), 0, 1)
 
-    def test_what_is_marked_is_told_and_what_is_not_fails(self):
+    def test_what_is_marked_is_reported_and_what_is_not_fails(self):
         status, out = self.run_page(MARKED)
         self.assertEqual((status, out.count("no reason"), out.splitlines()[-1]), (0, 1, "0 passed, 0 failed"))
         self.assert_counts(MARKED + "\n    $ echo a\n    b\n", 0, 1)

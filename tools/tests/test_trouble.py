@@ -29,12 +29,12 @@ class Descriptors(TroubleCase):
     def test_record(self):
         for limit in (20, 21, 22):
             with self.subTest(limit=limit):
-                self.assert_lives_through("record.py", limit, 30, "no more clients are taken for now: Too many open files")
+                self.assert_lives_through("record.py", limit, 30, "new clients have to wait: Too many open files")
                 for path in self.folder.glob("r-*.zkr"):
                     self.assertGreater(path.stat().st_size, 3)
 
     def test_zkwatch(self):
-        self.assert_lives_through("zkwatch.py", 30, 20, "no more clients are taken for now: Too many open files")
+        self.assert_lives_through("zkwatch.py", 30, 20, "new clients have to wait: Too many open files")
 
 
 class Ends(TroubleCase):
@@ -108,7 +108,7 @@ class Ends(TroubleCase):
 
 
 class Disk(TroubleCase):
-    def test_a_prefix_that_cannot_be_written_is_told_before_it_listens(self):
+    def test_a_prefix_that_cannot_be_written_is_reported_before_it_listens(self):
         (self.folder / "file").write_text("")
         (self.folder / "folder").mkdir()
         server = f"127.0.0.1:{self.echo.port}"

@@ -63,7 +63,7 @@ class Programs(TroubleCase):
         """The lines that zkwatch has printed of its connections, without the time, once there are `count` lines."""
         return [line.partition(" ")[2] for line in self.lines(count + 1)[1:]]
 
-    def test_a_program_that_does_not_run_is_told_at_once(self):
+    def test_a_program_that_does_not_run_is_reported_at_once(self):
         junk = self.folder / "junk"
         junk.write_bytes(b"\x7fELF junk")
         junk.chmod(0o700)
@@ -82,7 +82,7 @@ class Programs(TroubleCase):
         self.assertRegex(self.watched(4)[3], "^#2 .*: No such file or directory: what follows is passed on, and not read$")
         self.assert_pace(first)
 
-    def test_behind_a_refusal(self):
+    def test_after_a_refusal(self):
         client = self.client(self.begin("zkwatch.py"))
         self.ask(client, b"\0\0\0\0")
         self.assertEqual(self.watched(3)[1:], ["#1 . refused", "#1 what follows is passed on, and not read"])

@@ -100,7 +100,7 @@ class WrapperCase(ToolCase):
 
 
 class Wrapper(WrapperCase):
-    def test_it_tells_what_it_proves_and_then_is_silent(self):
+    def test_it_reports_what_it_proves_and_then_is_silent(self):
         status, out, err, calls = self.zkdump("show", "--limit", "64")
         self.assertEqual((status, out), (7, "ran show --limit 64\ninput"), err)
         self.assertEqual(sorted(calls), sorted(CALLS))
@@ -117,7 +117,7 @@ class Wrapper(WrapperCase):
         self.assertEqual(done.stdout, "ran check\n", done.stderr)
         self.assertIn("zkdump: low took ", done.stderr)
 
-    def test_it_tells_how_long_it_took_the_last_time(self):
+    def test_it_reports_how_long_it_took_the_last_time(self):
         self.assertRegex(self.zkdump()[2], r"(?m)^zkdump: all of it took \d+ s\.$")
         self.newer(self.top / "crates" / "low" / "src" / "lib.rt")
         self.assertRegex(self.zkdump()[2],
@@ -167,7 +167,7 @@ class Wrapper(WrapperCase):
         self.assertIn(f"{self.top}/crates/zkdump cannot be written", err)
         folders = os.environ["PATH"].split(":")
         self.path = ":".join(folder for folder in folders if not os.path.exists(os.path.join(folder, "rt")))
-        self.assertRegex(self.zkdump()[2], "^zkdump: the program is to be built, and the command rt .* is not on .*\n$")
+        self.assertRegex(self.zkdump()[2], "^zkdump: the program has to be built, and the command rt .* is not on .*\n$")
 
     def test_without_python_once_it_is_built(self):
         self.zkdump()

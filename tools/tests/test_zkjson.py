@@ -101,7 +101,7 @@ class Zkjson(ToolCase):
             with self.subTest(line=line):
                 self.assertEqual(made, {"n": n, **head, **expected, **answers})
 
-    def test_replies_tell_what_was_asked(self):
+    def test_replies_have_what_was_asked(self):
         found = self.json_of([line for pair in REPLIES for line in pair])
         self.assertEqual(len(found), 2 * len(REPLIES))
         for n, ((request, reply), expected) in enumerate(REPLIES.items()):
@@ -109,7 +109,7 @@ class Zkjson(ToolCase):
             with self.subTest(reply=reply):
                 self.assertEqual(found[2 * n + 1], {**head, **expected})
 
-    def test_endings_tell_who_waits(self):
+    def test_endings_list_the_waiting_requests(self):
         for line, expected in ENDINGS.items():
             with self.subTest(line=line):
                 found = self.json_of(['C 7 getData path="/a" watch=0', "C -2 ping", line])
@@ -134,9 +134,9 @@ class Zkjson(ToolCase):
                            ("C 1 ping}", "column 9 on"), ("C 1 ping  x=1", "column 9 on"),
                            ('C 1 setACL path="/a" acl=[1:"a"]', "column 21 on"),
                            ('C 1 getData path="/a"watch=0', "column 12 on"),
-                           ('C 1 setData path="/a" blob=#6', "column 22 on"), (". whole x", "this is no ending line"),
-                           (". cut", "this is no ending line"),
-                           (". refused side=X", "this is no ending line"),
+                           ('C 1 setData path="/a" blob=#6', "column 22 on"), 
+                           (". whole x", "this is not an ending line"), (". cut", "this is not an ending line"),
+                           (". refused side=X", "this is not an ending line"),
                            ("C 1 nonsense", "column 13 on")):
             with self.subTest(line=line):
                 status, out, err = self.run_tool("zkjson.py", stdin=f"C -2 ping\n{line}\n".encode())
@@ -179,7 +179,7 @@ class Zkjson(ToolCase):
             status, out, err = self.run_tool("zkjson.py", stdin=wrong.encode())
             self.assertEqual((status, out, err.count("\n")), (1, "", 1))
 
-    def test_lines_behind_the_ending_line_and_of_zkjson(self):
+    def test_lines_after_the_ending_line_and_of_zkjson(self):
         lines = "C -2 ping\n. whole unanswered=1\nS -2 ping zxid=5\n"
         status, out, err = self.run_tool("zkjson.py", stdin=lines.encode())
         self.assertEqual((status, out.count("\n"), err), (1, 1, "zkjson.py: line 3: a line after the ending line\n"))

@@ -77,19 +77,19 @@ class Zkplay(ToolCase):
     def test_the_first_other_byte(self):
         said = sides(RUN.read_bytes())[0]
         for other, told in (
-                (said[:67] + b"\0", "client frame=1 offset=68 place=14: 00 in place of 01"),
-                (said[:4] + b"\1" + said[5:], "client frame=0 offset=5 place=0: 01 in place of 00"),
-                (said[:52] + b"\x10" + said[53:], "client frame=1 offset=53 place=0: 10 in place of 0f"),
-                (b"ruok", "client frame=0 offset=1 place=0: 72 in place of 00"),
-                (said + b"\7", "client frame=2 offset=69 place=0: 07 where the recording has no more")):
+                (said[:67] + b"\0", "client frame=1 offset=68 place=14: expected 01, got 00"),
+                (said[:4] + b"\1" + said[5:], "client frame=0 offset=5 place=0: expected 00, got 01"),
+                (said[:52] + b"\x10" + said[53:], "client frame=1 offset=53 place=0: expected 0f, got 10"),
+                (b"ruok", "client frame=0 offset=1 place=0: expected 00, got 72"),
+                (said + b"\7", "client frame=2 offset=69 place=0: expected the end, got 07")):
             with self.subTest(told):
                 self.assertEqual(self.refusal(other), told)
 
     def test_an_end_and_silence_where_a_byte_is_due(self):
         said = sides(RUN.read_bytes())[0][:-1]
-        self.assertEqual(self.refusal(said, end=True), "client frame=1 offset=68 place=14: it has ended, 01 is due")
+        self.assertEqual(self.refusal(said, end=True), "client frame=1 offset=68 place=14: expected 01: it ended")
         self.assertEqual(self.refusal(said, "--wait", "0.5"),
-                         "client frame=1 offset=68 place=14: nothing comes, 01 is due")
+                         "client frame=1 offset=68 place=14: expected 01: nothing came")
 
     def test_a_damaged_recording(self):
         path = self.folder / "damaged.zkr"
@@ -117,7 +117,7 @@ class Zkplay(ToolCase):
         _, address = self.play(other)
         client, _ = self.play(RUN, "--client", address=f"{address[0]}:{address[1]}")
         self.assertEqual(self.ended(client),
-                         (1, "", "zkplay.py: server frame=1 offset=61 place=15: 9a in place of 9b\n"))
+                         (1, "", "zkplay.py: server frame=1 offset=61 place=15: expected 9b, got 9a\n"))
 
     def test_words(self):
         for words in ([], ["0"], ["0", str(RUN), "more"], ["port", str(RUN)], ["99999", str(RUN)],

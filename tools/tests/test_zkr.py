@@ -100,7 +100,7 @@ class Writing(ToolCase):
         path = self.folder / "times"
         for line in ("", "-1", "1e3", "nan", "1.", ".5", "1 ", "9" * 20, "1." + "0" * 10, "9" * 400, "\xb2"):
             path.write_bytes(f"1\n2.5\n{line}\n".encode("latin-1"))
-            with self.subTest(line=line), self.assertRaisesRegex(ValueError, "line 3 is no time$"):
+            with self.subTest(line=line), self.assertRaisesRegex(ValueError, "line 3 is not a time$"):
                 list(zkr.read_times(path))
 
     def test_large_data_is_several_pieces(self):
@@ -124,17 +124,17 @@ class Writing(ToolCase):
 
 
 class Progress(ToolCase):
-    def told(self, is_terminal):
+    def shown(self, is_terminal):
         stream = io.StringIO()
         stream.isatty = lambda: is_terminal
         with unittest.mock.patch("sys.stderr", stream), unittest.mock.patch("time.monotonic", side_effect=range(9)):
             progress = zkr.Progress("tool")
             for number in range(3):
-                progress.tell(f"{number} frames")
+                progress.show(f"{number} frames")
             progress.end()
         return stream.getvalue()
 
     def test_on_a_terminal_alone(self):
-        self.assertEqual(self.told(False), "")
-        self.assertEqual(self.told(True)[:17], "\rtool: 0 frames\033[")
-        self.assertTrue(self.told(True).endswith("\r\033[K"))
+        self.assertEqual(self.shown(False), "")
+        self.assertEqual(self.shown(True)[:17], "\rtool: 0 frames\033[")
+        self.assertTrue(self.shown(True).endswith("\r\033[K"))

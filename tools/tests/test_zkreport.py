@@ -120,8 +120,8 @@ class Zkreport(ToolCase):
                          [["#1", "0x7", "one"], ["#2", "0x7", "other"]])
         self.assertEqual(self.rows(found, "Slowest requests"), self.rows(TABLES, "Slowest requests"))
         status, out, err = self.run_tool("zkreport.py", "--text", path, "--against", path)
-        told = f"zkreport.py: {path} has several connections, which are not compared\n"
-        self.assertEqual((status, out, err), (1, "", told))
+        expected = f"zkreport.py: {path} has several connections: --against compares files of one\n"
+        self.assertEqual((status, out, err), (1, "", expected))
 
     def test_latencies_by_the_rule_of_hdrhistogram(self):
         """Of 5.001, 9 and 20 ms the middle one is counted with those that differ by less than a thousandth, up to
@@ -216,9 +216,9 @@ class Zkreport(ToolCase):
 
     def test_the_order_of_replies_among_requests_is_no_difference(self):
         head = "".join(LISTING.format(**HERE).splitlines(True)[:2])
-        ask, tell = 'C {} sync path="/{}"\n', 'S {} sync zxid=1 path="/{}"\n'
-        together = head + "".join(ask.format(n, n) for n in (1, 2)) + "".join(tell.format(n, n) for n in (1, 2))
-        apart = head + "".join(each.format(n, n) for n in (1, 2) for each in (ask, tell))
+        ask, answer = 'C {} sync path="/{}"\n', 'S {} sync zxid=1 path="/{}"\n'
+        together = head + "".join(ask.format(n, n) for n in (1, 2)) + "".join(answer.format(n, n) for n in (1, 2))
+        apart = head + "".join(each.format(n, n) for n in (1, 2) for each in (ask, answer))
         self.report("--text", self.listing("a.show", together), "--against", self.listing("b.show", apart))
         self.report("--text", self.listing("a.show", together), "--against", self.listing("b.show", head), status=1)
 
@@ -242,7 +242,7 @@ class Zkreport(ToolCase):
     def test_what_is_no_input(self):
         path = self.listing("words", "words")
         self.assertEqual(self.run_tool("zkreport.py", "--text", path),
-                         (1, "", f"zkreport.py: {path} is no capture, no recording and no listing\n"))
+                         (1, "", f"zkreport.py: {path} is neither a capture nor a recording nor a listing\n"))
         status, _, err = self.run_tool("zkreport.py", "--text", self.folder / "none")
         self.assertEqual((status, err.count("\n")), (3, 1))
 

@@ -5,7 +5,7 @@ from support import CAPTURES, PROGRAM, ToolCase, pieces
 
 from report import gather, sources, summary
 
-TOLD = """\
+LINES = """\
 /t/x-1.zkr 10.0.0.7:41822 > 10.0.0.9:2181 begun 2026-11-22T20:31:07.000Z ended 2026-11-22T20:31:08.000Z client=6 server=6 packets=1-88 resent=0 reset=S
 /t/x-2.zkr 10.0.0.7:41823 > 10.0.0.9:2181 begun 2026-11-22T20:31:07.000Z ended 2026-11-22T20:31:09.000Z client=6 server=3 packets=90-101 resent=2 hole=S
 /t/x-2.2.zkr 10.0.0.7:41823 > 10.0.0.9:2181 begun 2026-11-22T20:31:09.250Z ended 2026-11-22T20:31:10.000Z client=2 server=8 packets=102-182 resent=0 closed=C lost=C:0,S:81 skipped=C:0,S:0 unasked=0
@@ -24,7 +24,7 @@ class Captures(ToolCase):
         return run
 
     def test_the_lines_of_pcap2zkr(self):
-        run = self.run_of(TOLD.splitlines())
+        run = self.run_of(LINES.splitlines())
         self.assertEqual([each.label for each in run.connections], ["#1", "#2", "#2.2", "#3", "#4"])
         self.assertEqual(run.whole, 4)
         begun = 1795379467000
@@ -38,7 +38,7 @@ class Captures(ToolCase):
                           "nothing recorded, late", "no ending line"])
 
     def test_parts_of_a_connection_are_of_its_session_and_have_no_gap(self):
-        run = self.run_of(TOLD.splitlines())
+        run = self.run_of(LINES.splitlines())
         first, other, later = run.connections[1], run.connections[4], run.connections[2]
         first.session, other.session, later.session, later.is_late = "0x7", "0x7", "0xffffffffffffffff", True
         self.assertEqual(later.session_id(), "0x7")
@@ -48,7 +48,7 @@ class Captures(ToolCase):
         self.assertEqual(list(session.gaps()), [])
 
     def test_gaps(self):
-        run = self.run_of(TOLD.splitlines()[:3:2])
+        run = self.run_of(LINES.splitlines()[:3:2])
         for each in run.connections:
             each.session = "0x7"
         session, = summary.sessions_of(run)

@@ -98,7 +98,7 @@ class Zkskip(ToolCase):
         self.assertEqual(found[:20], head.to_bytes())
         self.assertEqual([piece.milliseconds for piece in pieces(found)], [0, 1, 4])
 
-    def test_the_second_format_tells_the_profile(self):
+    def test_the_second_format_has_the_profile(self):
         frames = [request(1, 15, CREATE), reply(1)]
         for profile, words, kept in ((34, [], []), (35, [], frames), (35, ["--profile=3.4"], []),
                                      (34, ["--profile=3.5"], frames)):

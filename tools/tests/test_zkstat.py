@@ -101,13 +101,13 @@ class Zkstat(ToolCase):
 
     def test_what_is_no_object_of_zkjson(self):
         ping = {"n": 2, "side": "C", "op": "ping", "xid": -2}
-        many = [("{", "this is no JSON from column 2 on"), ('{"a":' + "[" * 100_000, "this is nested too deep"),
-                ('{"n": NaN}', "NaN is no number of JSON"), ("[]", "this is no object of zkjson"),
+        many = [("{", "this is not JSON from column 2 on"), ('{"a":' + "[" * 100_000, "this is nested too deeply"),
+                ('{"n": NaN}', "NaN is not a number of JSON"), ("[]", "this is not an object of zkjson"),
                 ('{"n": 2, "side": "C"}', "this object has no 'op'"), ('{"op": "ping"}', "this object has no 'n'"),
                 ('{"n": 2, "op": "ping"}', "this object has no 'side'"),
-                ('{"ending": "x"}', "this is no ending of zkjson"), ("C -2 ping", "this is no JSON"),
-                ('{"ending": "whole", "unanswered": "\\u001b"}', "this is no ending of zkjson")]
-        many += [(json.dumps({**ping, **wrong}), "this is no object of zkjson") for wrong in (
+                ('{"ending": "x"}', "this is not an ending of zkjson"), ("C -2 ping", "this is not JSON"),
+                ('{"ending": "whole", "unanswered": "\\u001b"}', "this is not an ending of zkjson")]
+        many += [(json.dumps({**ping, **wrong}), "zkjson doesn't write this value of ") for wrong in (
             {"op": []}, {"op": "\x1b"}, {"op": "multi", "side": "S", "parts": 3},
             {"op": "multi", "side": "S", "parts": [3]},
             {"ms": -5}, {"at": "x"}, {"ms": 10**400}, {"n": True}, {"n": "2"}, {"connection": 3}, {"path": 3},
@@ -163,7 +163,7 @@ class Zkstat(ToolCase):
         self.assertEqual([each[0] for each in found], [0, 0], found)
         return "".join(each[1] for each in found).replace(f"{self.folder}/", "").encode()
 
-    def test_connections_of_one_session_stand_together(self):
+    def test_connections_of_one_session_are_together(self):
         self.recordings()
         wide, counts = "{:10}  {:17}  {:24}  {:24}", "asked  answered  failed  p50 ms  p95 ms  p99 ms  max ms"
         self.assertEqual(self.stat(stdin=self.joined()).splitlines(), [
@@ -265,5 +265,5 @@ class Zkstat(ToolCase):
         for words in (["--nonsense"], ["a", "b", "--recording", "c"], ["--times", "a"], ["a", "a"]):
             self.assert_bad_words("zkstat.py", *words)
         self.assertEqual(self.run_tool("zkstat.py", stdin=b"nonsense\n")[::2],
-                         (1, "zkstat.py: line 1: this is no line of a listing from column 1 on\n"))
+                         (1, "zkstat.py: line 1: this is not a line of a listing from column 1 on\n"))
         self.assertEqual(self.run_tool("zkstat.py"), (1, "", "zkstat.py: the listing is empty\n"))

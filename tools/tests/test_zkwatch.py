@@ -1,4 +1,4 @@
-"""Tests of zkwatch: what goes through it, and what it prints of it, with the program or with a stand-in for it."""
+"""Tests of zkwatch: what goes through it, and what it prints of it, with the program or with a script in its place."""
 
 import pathlib
 import re

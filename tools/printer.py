@@ -8,7 +8,7 @@ import time
 MOST_HELD = 1 << 20
 
 
-class Teller(threading.Thread):
+class Printer(threading.Thread):
     """Writes lines to the file of this number, each after `head`, in a thread of its own. It holds MOST_HELD bytes that
     nobody reads; what comes after them is lost, and so is what can't be written, for which `failed(error)` is
     called."""
@@ -17,10 +17,10 @@ class Teller(threading.Thread):
         super().__init__(daemon=True)
         self.number, self.head, self.failed = number, head, failed
         self.lines, self.held, self.ends, self.change = [], 0, False, threading.Condition()
-        self.told = {}
+        self.printed = {}
         self.start()
 
-    def tell(self, text):
+    def print(self, text):
         """Writes a line, and returns whether it was taken."""
         line = f"{self.head}{text}\n".encode(errors="backslashreplace")
         with self.change:
@@ -31,12 +31,12 @@ class Teller(threading.Thread):
             self.change.notify()
         return True
 
-    def tell_once(self, text, seconds=60):
-        """Reports a trouble that may come thousands of times: once in `seconds`."""
+    def print_once(self, text, seconds=60):
+        """Writes a line that may come thousands of times: once in `seconds`."""
         now = time.monotonic()
-        if now - self.told.get(text, -seconds) >= seconds:
-            self.told[text] = now
-            self.tell(text)
+        if now - self.printed.get(text, -seconds) >= seconds:
+            self.printed[text] = now
+            self.print(text)
 
     def is_full(self):
         return self.held >= MOST_HELD
