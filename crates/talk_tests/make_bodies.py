@@ -4,7 +4,7 @@
     make_bodies.py > src/earliest/bodies.rt
 
 The answers are made by the definition alone: the longest front of a body that begins some spelling of
-just as many bytes. Whether a front does is tried out: it is written as a pattern, in which each later
+the same number of bytes. Whether a front does is found by trying: it is written as a pattern, in which each later
 byte may be any, and `ends` gives the places where an item that fits the pattern may end.
 """
 
@@ -150,7 +150,7 @@ def parts_end(pattern, place):
 
 
 def begins(items, body, known):
-    """Whether the body's first `known` bytes begin a spelling of just as many bytes as the body has."""
+    """Whether the body's first `known` bytes begin a spelling of the body's length."""
     pattern = tuple(body[:known]) + (None,) * (len(body) - known)
     return len(body) in all_ends(items, pattern, {0})
 

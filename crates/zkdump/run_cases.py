@@ -78,10 +78,10 @@ def difference(wanted, found):
         if want == got:
             continue
         if isinstance(want, int):
-            return f"status {got} in place of {want}"
+            return f"status {got}, and {want} was expected"
         at = next((k for k, (a, b) in enumerate(zip(want, got)) if a != b), min(len(want), len(got)))
-        return (f"{what} differs at byte {at}\n    wanted {want[max(0, at - 30):at + 90]!r}"
-                f"\n    found  {got[max(0, at - 30):at + 90]!r}")
+        return (f"{what} differs at byte {at}\n    expected {want[max(0, at - 30):at + 90]!r}"
+                f"\n    found    {got[max(0, at - 30):at + 90]!r}")
     return "differs"
 
 

@@ -3,7 +3,7 @@
 //! A reply doesn't say which operation it replies to. So each call takes the request as an `Asked` (`zk_asks`): its
 //! operation, and those of a multi's parts.
 //!
-//! - `reply_head` reads the header, whose xid tells a reply from an event (-1).
+//! - `reply_head` reads the header, whose xid is -1 if an event follows.
 //! - `read_connected`, `read_reply` and `read_event` read a payload as an owned `ServerFrame`; `borrow_connected`,
 //!   `borrow_reply` and `borrow_event` decide the same and borrow, without memory; `connected_ref`, `reply_ref` and
 //!   `event_ref` borrow what is already judged.

@@ -145,7 +145,7 @@ macro_rules! read_ask_of {
     };
 }
 
-/// `put_ask_of!(out, ask: Create, Delete | Ping)` appends what stands behind a request's name.
+/// `put_ask_of!(out, ask: Create, Delete | Ping)` appends what follows a request's name.
 macro_rules! put_ask_of {
     ($out:ident, $ask:ident: $($held:ident),+ | $($bare:ident),+) => {
         match $ask {
@@ -162,8 +162,8 @@ fn read_body(line: &mut Reader<'_>, op: Op) -> Result<Ask, LineFault>
     ask_rows!(read_ask_of, line, op)
 }
 
-/// Appends what stands behind a request's name.
-// A function of its own: behind the name's `?` each arm's proof is dear.
+/// Appends what follows a request's name.
+// A function of its own: after the `?` of the name, each arm's proof is dear.
 fn put_body(out: &mut Vec<u8>, ask: &Ask) -> Result<(), AllocError>
     ensures spelled { OnOk result (out.new.items ≡ out.old.items ++ (asks.ask_written ask.now).spell) }
     ensures fits { OnOk result ((asks.ask_written ask.now).fits) }
@@ -172,7 +172,7 @@ fn put_body(out: &mut Vec<u8>, ask: &Ask) -> Result<(), AllocError>
     ask_rows!(put_ask_of, out, ask)
 }
 
-/// The same where it lies.
+/// The same of a borrowed request.
 fn put_body_ref(out: &mut Vec<u8>, ask: &AskRef<'_>) -> Result<(), AllocError>
     ensures spelled { OnOk result (out.new.items ≡ out.old.items ++ (asks.ask_written ask.now).spell) }
     ensures fits { OnOk result ((asks.ask_written ask.now).fits) }

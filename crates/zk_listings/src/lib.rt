@@ -22,8 +22,8 @@
 //! **The talk begins with the first byte of content**, since its limits may be the head's.
 //!
 //! **What was read is all that left the reader**, also the rest of a block after a fault: a fault, and a damage other
-//! than the end, remain whatever follows (`recording_laws`). A recording comes to its damage only if its history has no
-//! fault.
+//! than the end, remain whatever follows (`recording_laws`). A recording's summary is its damage only if its history has
+//! no fault.
 //!
 //! **`show` and `check` are one loop**, and differ in which lines they write. `show` keeps the lines of a block in one
 //! buffer and writes them before the next read. If memory runs out within a block, its lines are not written.
