@@ -40,5 +40,6 @@ IsDifference rest mark (Some k) = (k < 9) × (take k rest ≡ take k mark) × (s
 -- the header at a place, if it is possible there; else the first byte that none has
 abbrev pub IsMarkAt : List ℕ → ℕ → Result (Option PartOp) ℕ → Type 0
 IsMarkAt src place (Ok None) = (take 9 (drop place src) ≡ end_mark) × (length src ≡ place + 9)
-IsMarkAt src place (Ok (Some op)) = (take 9 (drop place src) ≡ part_mark op) × (place + 9 ≤ length src) × IsAmong (plus (part_sizes op) multi_sizes) (length src - (place + 9))
+IsMarkAt src place (Ok (Some op)) = (take 9 (drop place src) ≡ part_mark op) × (place + 9 ≤ length src) ×
+    IsAmong (plus (part_sizes op) multi_sizes) (length src - (place + 9))
 IsMarkAt src place (Err stuck) = StopsAt IsMark MayMark src place stuck

@@ -1,5 +1,7 @@
 -- The items of a line that aren't made of others.
-use Rattle.std.specs.Prelude.{◌≡◌, ℕ, ◌+◌, ◌*◌, ◌/◌, ◌%◌, ◌^◌, ◌<◌, List, [], ◌∷◌, ◌++◌, length, take, drop, Option, Some, None, Result, Ok, Err, Bool, true, false, ◌==◌, ◌&&◌, ◌||◌, nat_le, nat_lt, ◌-◌, if◌then◌else◌, ℤ, pos, negsuc, codes, IsUtf8, bytes_eq}
+use Rattle.std.specs.Prelude.{◌≡◌, ℕ, ◌+◌, ◌*◌, ◌/◌, ◌%◌, ◌^◌, ◌<◌, List, [], ◌∷◌, ◌++◌, length, take, drop, Option}
+use Rattle.std.specs.Prelude.{Some, None, Result, Ok, Err, Bool, true, false, ◌==◌, ◌&&◌, ◌||◌, nat_le, nat_lt, ◌-◌}
+use Rattle.std.specs.Prelude.{if◌then◌else◌, ℤ, pos, negsuc, codes, IsUtf8, bytes_eq}
 use Rattle.std.specs.List.{prefix_len, flat_map, AllByRecursion}
 use Rattle.std.specs.Fmt.{signed_decimal}
 use Rattle.std.specs.Str.{is_utf8}
@@ -23,7 +25,8 @@ in_range k (negsuc n) = nat_lt n (2 ^ k)
 
 -- a run of `-` and digits, where it is how its number is written
 unfoldable pub num_of : ℕ → List ℕ → List ℕ → Read ℤ
-num_of k run rest = if bytes_eq (signed_decimal (signed_digits_value 10 run)) run && in_range k (signed_digits_value 10 run) then Some (signed_digits_value 10 run, rest) else None
+num_of k run rest = if bytes_eq (signed_decimal (signed_digits_value 10 run)) run && in_range k
+    (signed_digits_value 10 run) then Some (signed_digits_value 10 run, rest) else None
 
 -- the longest such run
 unfoldable pub num_at : ℕ → List ℕ → Read ℤ
@@ -125,7 +128,8 @@ decoded (Err e) rest = None
 
 unfoldable pub blob_at : List ℕ → Read Blob
 blob_at [] = None
-blob_at (c ∷ rest) = if c == 126 then Some (nullable.Null, rest) else if c == 35 then decoded (decode_of (take (prefix_len in_hex rest) rest)) (drop (prefix_len in_hex rest) rest) else None
+blob_at (c ∷ rest) = if c == 126 then Some (nullable.Null, rest) else if c == 35
+    then decoded (decode_of (take (prefix_len in_hex rest) rest)) (drop (prefix_len in_hex rest) rest) else None
 
 abbrev pub blob : Form Blob
 blob = record { fits = blob_fits; spell = blob_spell; at = blob_at }

@@ -1,4 +1,5 @@
--- A value, and then nothing or one boolean: the payloads that open a connection (ZooKeeper 3.4, ClientCnxnSocket.readConnectResult and ZooKeeperServer.processConnectRequest).
+-- A value, and then nothing or one boolean: the payloads that open a connection (ZooKeeper 3.4,
+-- ClientCnxnSocket.readConnectResult and ZooKeeperServer.processConnectRequest).
 use Rattle.std.specs.Prelude.{◌≡◌, ◌≢◌, ℕ, ◌+◌, Bool, List, [], ◌∷◌, ◌++◌, length, Option, Some, None}
 use Rattle.zk_jute.specs.declared.fault.Reason.{Reason}
 use Rattle.zk_jute.specs.declared.fault.Reason.TheVariants.{Trailing}
@@ -44,5 +45,7 @@ IsWithFlag l items = (value : List Item) × (flag : List Item) × IsValueOf l va
 
 -- bytes that are no value alone are judged with the boolean
 pub data IsFlaggedOpeningFault (l : Layout) : List ℕ → ℕ → Reason → Type 0 where
-  of_either : (bytes : List ℕ) (place : ℕ) (reason : Reason) → ((value : List Item) → IsValueOf l value → bytes ≢ bytes_of value) → IsFault (IsWithFlag l) bytes place reason → IsFlaggedOpeningFault l bytes place reason
+  of_either : (bytes : List ℕ) (place : ℕ) (reason : Reason) →
+      ((value : List Item) → IsValueOf l value → bytes ≢ bytes_of value) → IsFault (IsWithFlag l) bytes place reason →
+      IsFlaggedOpeningFault l bytes place reason
   of_left : (bytes : List ℕ) (place : ℕ) → IsTrailing (IsWithFlag l) bytes place → IsFlaggedOpeningFault l bytes place Trailing

@@ -17,7 +17,8 @@ pub record BeginAlike (these : List Item) (behind : List ℕ) (those : List Item
 
 -- bytes have one fault of this kind at most
 abbrev pub HaveOneFault : (List ℕ → ℕ → Reason → Type 0) → Type 0
-HaveOneFault F = (bytes : List ℕ) (place other : ℕ) (reason because : Reason) → F bytes place reason → F bytes other because → (place ≡ other) × (reason ≡ because)
+HaveOneFault F = (bytes : List ℕ) (place other : ℕ) (reason because : Reason) → F bytes place reason →
+    F bytes other because → (place ≡ other) × (reason ≡ because)
 
 -- these bytes have none
 abbrev pub HasNoFault : (List ℕ → ℕ → Reason → Type 0) → List ℕ → Type 0

@@ -22,7 +22,9 @@ text_value src place = read_map text_of (text_at src place)
 abbrev pub blob_value : List ℕ → ℕ → Read Blob
 blob_value src place = read_map text_of (run_at src place)
 
-text_shown : (read : Read (Option (List ℕ))) → (read_map AUstring read >>= λ x. read_map (λ others. x.0 ∷ others) (Ok ([], x.1))) ≡ read_map text_items (read_map text_of read)
+text_shown : (read : Read (Option (List ℕ))) →
+    (read_map AUstring read >>= λ x. read_map
+    (λ others. x.0 ∷ others) (Ok ([], x.1))) ≡ read_map text_items (read_map text_of read)
 text_shown (Ok (None, after)) = refl
 text_shown (Ok (Some bytes, after)) = refl
 text_shown (Err f) = refl

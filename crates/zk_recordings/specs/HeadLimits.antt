@@ -19,7 +19,8 @@ are_or_not client server waiting = elim (cases_Bool (is_within 64 16777216 clien
 abbrev pub profile_by : ℕ → Profile
 profile_by n = if n == 35 then V35 else V34
 
-abbrev pub limits_by : (options : Limits) (client server waiting : ℕ) (profile : Profile) → AreLimits client server waiting ⊎ (AreLimits client server waiting → ⊥) → Limits
+abbrev pub limits_by : (options : Limits) (client server waiting : ℕ) (profile : Profile) →
+    AreLimits client server waiting ⊎ (AreLimits client server waiting → ⊥) → Limits
 limits_by options client server waiting profile (inl are) = record { client = client; server = server; waiting = waiting; profile = profile; in_range = are }
 limits_by options client server waiting profile (inr out) = options
 

@@ -34,4 +34,14 @@ stage_of (content got) = Content got
 stage_of (damaged d) = Damaged d
 
 abbrev pub state_of : State → ReaderState
-state_of s = record { at = s.at; stage = stage_of s.stage; format = s.format; client = s.client; server = s.server; waiting = s.waiting; limits = s.limits; side = s.side; size = s.size }
+state_of s = record {
+  at = s.at;
+  stage = stage_of s.stage;
+  format = s.format;
+  client = s.client;
+  server = s.server;
+  waiting = s.waiting;
+  limits = s.limits;
+  side = s.side;
+  size = s.size;
+}

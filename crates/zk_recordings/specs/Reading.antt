@@ -11,7 +11,10 @@ use Rattle.zk_recordings.specs.declared.parts.Part.{Part}
 use Rattle.zk_recordings.specs.declared.parts.Part.TheVariants.{Letters, ClientLimit, ServerLimit, Waiting, Profile, SideByte, Time, Size}
 use Rattle.zk_recordings.specs.Reader.{Content, Damaged, Fixed, ReaderStage, ReaderState}
 use Rattle.zk_recordings.specs.Parts.{number, width}
-use Rattle.zk_recordings.specs.Recording.{Head, format_of, head_limits, Piece, piece_values, piece_bytes, piece_history, side_byte, no_time, Place, AtLetters, InHead, InPieces, Cut, Bad, Recording, Breaks, Ends, Spells, place_of, begun_of, begun_history, damage_of, behind, nothing}
+use Rattle.zk_recordings.specs.Recording.{Head, format_of, head_limits, Piece, piece_values, piece_bytes}
+use Rattle.zk_recordings.specs.Recording.{piece_history, side_byte, no_time, Place, AtLetters, InHead, InPieces, Cut}
+use Rattle.zk_recordings.specs.Recording.{Bad, Recording, Breaks, Ends, Spells, place_of, begun_of, begun_history}
+use Rattle.zk_recordings.specs.Recording.{damage_of, behind, nothing}
 
 -- the limits that a head has, else the options
 abbrev pub chosen : Option Limits → Limits → Limits
@@ -167,7 +170,8 @@ pub data GoesOn (old : Recording) (used : List ℕ) (side : Option Side) (new : 
   in_head : (IsHeaded (place_of old) → ⊥) → IsBare (place_of new) → begun_of new ≡ [] → begun_history new ≡ [] → side ≡ None → GoesOn old used side new
   within : place_of new ≡ place_of old → begun_of new ≡ begun_of old ++ used → begun_history new ≡ begun_history old ++ content_of side used →
       MayHold side (place_of old) → GoesOn old used side new
-  ends : (head : Head) (pieces : List Piece) (piece : Piece) → place_of old ≡ InPieces head pieces → new ≡ Breaks (InPieces head (pieces ++ piece ∷ [])) nothing →
+  ends : (head : Head) (pieces : List Piece) (piece : Piece) → place_of old ≡ InPieces head pieces →
+      new ≡ Breaks (InPieces head (pieces ++ piece ∷ [])) nothing →
       piece_bytes (format_of head) piece ≡ begun_of old ++ used → piece_history piece ≡ begun_history old ++ content_of side used → GoesOn old used side new
 
 -- the reader, having read this recording, reads on
@@ -183,7 +187,8 @@ Accepts s part bytes new = (x begun : List ℕ) (byte : ℕ) (r : Recording) →
 
 -- whatever was read before a part and of it, these bytes are read on, and this is the state after them
 abbrev pub GoesOnFrom : ReaderState → Part → List ℕ → ℕ → List ℕ → ReaderState → Type 0
-GoesOnFrom s part bytes got used new = (x : List ℕ) (r : Recording) → Spells x r → HasHeadAt s (place_of r) → AtFixed s part bytes got r → ReadsOn new x r used None
+GoesOnFrom s part bytes got used new = (x : List ℕ) (r : Recording) → Spells x r → HasHeadAt s (place_of r) →
+    AtFixed s part bytes got r → ReadsOn new x r used None
 
 -- a head or a whole piece of this format has just ended; or none has
 abbrev pub IsBetweenOf : ReaderState → Format → Type 0

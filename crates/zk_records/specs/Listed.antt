@@ -16,7 +16,14 @@ pub record Listed (X : Type 0) : Type 1 where
 
 infixr 25 ◌of◌
 abbrev pub ◌of◌ : {X Y : Type 0} → Wired Y → (X → Y) → Listed X
-w of f = record { layout = w.layout; items = λ x. w.items (f x); Same = λ x y. f x ≡ f y; unfolds = λ x. w.unfolds (f x); apart = λ x y e. w.tells_apart (f x) (f y) e; has_fields = w.has_fields }
+w of f = record {
+  layout = w.layout;
+  items = λ x. w.items (f x);
+  Same = λ x y. f x ≡ f y;
+  unfolds = λ x. w.unfolds (f x);
+  apart = λ x y e. w.tells_apart (f x) (f y) e;
+  has_fields = w.has_fields;
+}
 
 pub both_apart : {X : Type 0} (v w : Listed X) (x y : X) → v.items x ++ w.items x ≡ v.items y ++ w.items y → v.Same x y × w.Same x y
 both_apart v w x y e =

@@ -23,7 +23,9 @@ use Rattle.zk_records.specs.declared.body.DataBodyOf.{DataBodyOf}
 use Rattle.zk_records.specs.declared.body.AclBodyOf.{AclBodyOf}
 use Rattle.zk_records.specs.declared.body.ChildrenBodyOf.{ChildrenBodyOf}
 use Rattle.zk_records.specs.declared.body.CreateBodyOf.{CreateBodyOf}
-use Rattle.zk_records.specs.Held.{Id, Acl, ConnectRequest, ConnectResponse, WatcherEvent, CreateAsk, DeleteAsk, SetDataAsk, SetAclAsk, CheckAsk, WatchAsk, PathAsk, AuthAsk, SetWatchesAsk, DataBody, AclBody, ChildrenBody, CreateBody}
+use Rattle.zk_records.specs.Held.{Id, Acl, ConnectRequest, ConnectResponse, WatcherEvent, CreateAsk, DeleteAsk}
+use Rattle.zk_records.specs.Held.{SetDataAsk, SetAclAsk, CheckAsk, WatchAsk, PathAsk, AuthAsk, SetWatchesAsk}
+use Rattle.zk_records.specs.Held.{DataBody, AclBody, ChildrenBody, CreateBody}
 use Rattle.zk_records.specs.Listed.{Listed, ◌of◌, ◌and◌, by}
 use Rattle.zk_jute.specs.Wired.{Wired, int, long, boolean, ustring, buffer, vector}
 

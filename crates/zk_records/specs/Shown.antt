@@ -22,7 +22,9 @@ put_front i read = read_map (λ others. i ∷ others) read
 abbrev then_items : {A : Type 0} → (A → Item) → Read A → (ℕ → Read (List Item)) → Read (List Item)
 then_items make read next = read_map make read >>= λ x. put_front x.0 (next x.1)
 
-ident_shown : (t : Option (List ℕ)) (read : Read (Option (List ℕ))) → put_front (AUstring t) (then_items AUstring read (λ after. Ok ([], after))) ≡ read_map id.items (read_map (λ (i : Text). record { scheme = text_of t; ident = i }) (read_map text_of read))
+ident_shown : (t : Option (List ℕ)) (read : Read (Option (List ℕ))) →
+    put_front (AUstring t) (then_items AUstring read (λ after. Ok ([], after))) ≡ read_map id.items (read_map
+    (λ (i : Text). record { scheme = text_of t; ident = i }) (read_map text_of read))
 ident_shown None (Ok (None, after)) = refl
 ident_shown None (Ok (Some b, after)) = refl
 ident_shown (Some a) (Ok (None, after)) = refl
@@ -31,7 +33,9 @@ ident_shown None (Err f) = refl
 ident_shown (Some a) (Err f) = refl
 
 id_shown : (read : Read (Option (List ℕ))) (next : ℕ → Read (Option (List ℕ)))
-    → then_items AUstring read (λ after. then_items AUstring (next after) (λ after. Ok ([], after))) ≡ read_map id.items (read_map text_of read >>= λ s. read_map (λ (i : Text). record { scheme = s.0; ident = i }) (read_map text_of (next s.1)))
+    → then_items AUstring read (λ after. then_items AUstring (next after)
+    (λ after. Ok ([], after))) ≡ read_map id.items (read_map text_of read
+    >>= λ s. read_map (λ (i : Text). record { scheme = s.0; ident = i }) (read_map text_of (next s.1)))
 id_shown (Ok (t, after)) next = ident_shown t (next after)
 id_shown (Err f) next = refl
 
@@ -39,7 +43,8 @@ pub id_is_value : (src : List ℕ) (place : ℕ) → items_at id.layout src plac
 unfolding items_at ◌then◌
 id_is_value src place = id_shown (text_at src place) (text_at src)
 
-who_shown : (n : ℤ) (read : Read Id) → put_front (AnInt n) (read_map id.items read) ≡ read_map acl.items (read_map (λ (w : Id). record { perms = n; who = w }) read)
+who_shown : (n : ℤ) (read : Read Id) →
+    put_front (AnInt n) (read_map id.items read) ≡ read_map acl.items (read_map (λ (w : Id). record { perms = n; who = w }) read)
 who_shown n (Ok x) = refl
 who_shown n (Err f) = refl
 
