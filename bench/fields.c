@@ -41,7 +41,8 @@ static void add(uint32_t count) {
     field_count += count;
     for (uint32_t i = 0; i < count; i++) {
         const struct zk_field *it = &fields[i];
-        sum += it->place + 3u * it->length + 5u * (uint64_t)it->number + 7u * it->name + 11u * it->kind + 13u * it->null;
+        sum += it->place + 3u * it->length + 5u * (uint64_t)it->number;
+        sum += 7u * it->name + 11u * it->kind + 13u * it->null;
     }
 }
 

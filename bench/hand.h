@@ -40,7 +40,8 @@ static inline bool hand_there(struct hand *it, uint32_t size) {
     return it->good;
 }
 
-static inline void hand_put(struct hand *it, uint32_t length, int64_t number, uint16_t name, uint8_t kind, uint8_t null) {
+static inline void hand_put(struct hand *it, uint32_t length, int64_t number, uint16_t name, uint8_t kind,
+                            uint8_t null) {
     it->out[it->count++] = (struct zk_field){it->at, length, number, name, kind, null};
     it->at += length;
 }
@@ -72,10 +73,11 @@ static bool hand_utf8(const uint8_t *at, uint32_t length) {
         }
         uint8_t byte = at[i++];
         if (byte < 0x80) continue;
-        uint32_t more = byte >= 0xc2 && byte < 0xe0 ? 1 : byte >= 0xe0 && byte < 0xf0 ? 2 : byte >= 0xf0 && byte < 0xf5 ? 3 : 0;
+        uint32_t more = byte < 0xc2 || byte > 0xf4 ? 0 : byte < 0xe0 ? 1 : byte < 0xf0 ? 2 : 3;
         if (more == 0 || length - i < more) return false;
-        uint8_t next = at[i], least = byte == 0xe0 ? 0xa0 : byte == 0xf0 ? 0x90 : 0x80, most = byte == 0xed ? 0x9f : byte == 0xf4 ? 0x8f : 0xbf;
-        if (next < least || next > most) return false;
+        uint8_t least = byte == 0xe0 ? 0xa0 : byte == 0xf0 ? 0x90 : 0x80;
+        uint8_t most = byte == 0xed ? 0x9f : byte == 0xf4 ? 0x8f : 0xbf;
+        if (at[i] < least || at[i] > most) return false;
         for (uint32_t j = 1; j < more; j++)
             if ((at[i + j] & 0xc0) != 0x80) return false;
         i += more;

@@ -33,7 +33,8 @@ TIMES = 5
 
 
 def compiled(program, source, *words):
-    subprocess.run(["cc", "-O2", "-std=c11", f"-I{TOP / 'include'}", f"-I{HERE}", "-o", program, source, *words], check=True)
+    flags = ("-O2", "-std=c11", f"-I{TOP / 'include'}", f"-I{HERE}")
+    subprocess.run(["cc", *flags, "-o", program, source, *words], check=True)
     return program
 
 
@@ -97,7 +98,8 @@ def measure_sizes(archive, shared):
 
 def measure_rounds(folder, archive, rounds):
     """Prints the mean round trip of each client."""
-    with subprocess.Popen([sys.executable, TOP / "tests" / "answering.py"], stdout=subprocess.PIPE, text=True) as server:
+    words = [sys.executable, TOP / "tests" / "answering.py"]
+    with subprocess.Popen(words, stdout=subprocess.PIPE, text=True) as server:
         port = server.stdout.readline().strip()
         clients = [("examples/client.c", [compiled(folder / "client", TOP / "examples" / "client.c", archive),
                                           "127.0.0.1", port, "/a", "data", str(rounds)])]

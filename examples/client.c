@@ -139,7 +139,10 @@ static const struct zk_field *field(const struct zk_read *read, uint16_t name) {
 static void show(const struct zk_read *read, uint16_t content, uint16_t number) {
     printf("%s: %s", zk_operation_name(read->operation), zk_error_name(read->err));
     const struct zk_field *text = field(read, content), *value = field(read, number);
-    if (text != NULL) printf(" %s=%.*s", zk_field_name(content), (int)text->length, (const char *)payload + text->place);
+    if (text != NULL) {
+        printf(" %s=", zk_field_name(content));
+        fwrite(payload + text->place, 1, text->length, stdout);
+    }
     if (value != NULL) printf(" %s=%" PRId64, zk_field_name(number), value->number);
     putchar('\n');
 }
@@ -192,9 +195,10 @@ static void change(const char *path, const char *data) {
     struct zk_read read = answer();
     printf("multi: %s", zk_error_name(read.err));
     for (uint32_t i = 0; i < read.count; i++) {
-        if (fields[i].kind == ZK_KIND_PART) printf(" %s", fields[i].number < 0 ? "failed" : zk_operation_name((int32_t)fields[i].number));
-        if (fields[i].name == ZK_NAME_ERR) printf("=%s", zk_error_name((int32_t)fields[i].number));
-        if (fields[i].name == ZK_NAME_VERSION) printf(" version=%" PRId64, fields[i].number);
+        int64_t number = fields[i].number;
+        if (fields[i].kind == ZK_KIND_PART) printf(" %s", number < 0 ? "failed" : zk_operation_name((int32_t)number));
+        if (fields[i].name == ZK_NAME_ERR) printf("=%s", zk_error_name((int32_t)number));
+        if (fields[i].name == ZK_NAME_VERSION) printf(" version=%" PRId64, number);
     }
     putchar('\n');
 }
@@ -205,7 +209,8 @@ static double measure(const char *path, long rounds) {
     clock_gettime(CLOCK_MONOTONIC, &begun);
     for (long i = 0; i < rounds; i++) get(path);
     clock_gettime(CLOCK_MONOTONIC, &ended);
-    return ((double)(ended.tv_sec - begun.tv_sec) * 1e6 + (double)(ended.tv_nsec - begun.tv_nsec) / 1e3) / (double)rounds;
+    double seconds = (double)(ended.tv_sec - begun.tv_sec) + (double)(ended.tv_nsec - begun.tv_nsec) / 1e9;
+    return seconds * 1e6 / (double)rounds;
 }
 
 static int connection(const char *host, const char *port) {

@@ -1,4 +1,5 @@
-//! The listing of a recording (docs/FORMATS.md, sections 9 and 12), by the proved library, in one file. rust/ has crates.
+//! The listing of a recording (docs/FORMATS.md, sections 9 and 12), by the proved library, in one file. The folder rust
+//! has crates.
 //!
 //!     listing RECORDING
 

@@ -63,7 +63,7 @@ static uint8_t *text;
 static size_t room;
 static volatile sig_atomic_t over;
 
-static void end(int number) {
+static void stop(int number) {
     (void)number;
     over = 1;
 }
@@ -221,7 +221,8 @@ static bool without_blocking(int socket) {
 /* A small piece is passed on at once, though an earlier one isn't acknowledged yet. */
 static bool ready(int socket) {
     int yes = 1;
-    return socket >= 0 && without_blocking(socket) && setsockopt(socket, IPPROTO_TCP, TCP_NODELAY, &yes, sizeof yes) == 0;
+    if (socket < 0 || !without_blocking(socket)) return false;
+    return setsockopt(socket, IPPROTO_TCP, TCP_NODELAY, &yes, sizeof yes) == 0;
 }
 
 static void give_up(size_t at) {
@@ -267,8 +268,9 @@ static void turn(int listener) {
     if (poll(waited, 1 + 2 * served, 1000) <= 0) return;
     for (size_t i = served; i-- > 0;) { /* backwards, as giving up moves the last one */
         struct connection *it = all[i];
-        const struct pollfd *client = &waited[1 + 2 * i], *other = client + 1;
-        bool good = serve(it, ZK_CLIENT, client->events, client->revents) && serve(it, ZK_SERVER, other->events, other->revents);
+        const struct pollfd *end = &waited[1 + 2 * i];
+        bool good = serve(it, ZK_CLIENT, end[ZK_CLIENT].events, end[ZK_CLIENT].revents)
+                    && serve(it, ZK_SERVER, end[ZK_SERVER].events, end[ZK_SERVER].revents);
         if (!good || (it->ways[ZK_CLIENT].shut && it->ways[ZK_SERVER].shut)) give_up(i);
     }
     if (waited[0].revents & POLLIN) {
@@ -300,7 +302,7 @@ int main(int given, char **words) {
     }
     wanted.ai_socktype = SOCK_STREAM;
     if (getaddrinfo(words[2], words[3], &wanted, &server) != 0) fail(words[2]);
-    ending.sa_handler = end;
+    ending.sa_handler = stop;
     if (sigaction(SIGINT, &ending, NULL) != 0 || sigaction(SIGTERM, &ending, NULL) != 0) fail("a signal");
     setvbuf(stdout, NULL, _IOLBF, BUFSIZ);
     room = 4096;

@@ -85,11 +85,13 @@ static int32_t any_operation(void) {
 /* A limit that is mostly enough for the recordings, and seldom in need of much memory. */
 static uint32_t any_limit(void) {
     if (one_in(300)) return (uint32_t)PICK(1 << 24, (1 << 24) - 1);
-    return (uint32_t)PICK(64, 100, 4096, 65536, 65536, 262144, 262144, 262144, one_in(9) ? PICK(0, 63, 16777217, UINT32_MAX) : 65536);
+    if (one_in(60)) return (uint32_t)PICK(0, 63, 16777217, UINT32_MAX);
+    return (uint32_t)PICK(64, 100, 4096, 65536, 65536, 262144, 262144, 262144);
 }
 
 static uint32_t any_waiting(void) {
-    return one_in(300) ? 1 << 20 : (uint32_t)PICK(1, 2, 16, 1000, 1000, 1000, one_in(9) ? PICK(0, 1048577, UINT32_MAX) : 1000);
+    if (one_in(60)) return (uint32_t)PICK(0, 1048577, UINT32_MAX);
+    return one_in(300) ? 1 << 20 : (uint32_t)PICK(1, 2, 16, 1000, 1000, 1000);
 }
 
 static size_t any_room(void) {

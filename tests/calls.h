@@ -39,7 +39,8 @@ static bool one_in(uint64_t number) {
 
 static uint8_t *guarded(void) {
     uint8_t *at = mmap(NULL, SIZE + 2 * PAGE, PROT_READ | PROT_WRITE, MAP_PRIVATE | MAP_ANONYMOUS, -1, 0);
-    if (at == MAP_FAILED || mprotect(at, PAGE, PROT_NONE) != 0 || mprotect(at + PAGE + SIZE, PAGE, PROT_NONE) != 0) exit(2);
+    if (at == MAP_FAILED || mprotect(at, PAGE, PROT_NONE) != 0) exit(2);
+    if (mprotect(at + PAGE + SIZE, PAGE, PROT_NONE) != 0) exit(2);
     return at + PAGE;
 }
 

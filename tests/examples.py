@@ -1,8 +1,8 @@
 """Compiles and runs the examples of examples/, and the tests in C.
 
 tests/library.py calls it. Each program in C is compiled as C11 without a warning, and with the address sanitizer where
-the compiler has it. The examples print the listing of every recording of captures/. The proxy passes on every recording of captures/, and many connections at once; what it prints is
-compared with the listings. The client speaks to tests/answering.py.
+the compiler has it. The examples print the listing of every recording of captures/. The proxy passes on each of them,
+and many connections at once; what it prints is compared with the listings. The client speaks to answering.py.
 """
 
 import os
@@ -141,7 +141,7 @@ def pass_recordings(program):
     for number, path in enumerate(paths, 1):
         listing = next(path.with_suffix(suffix) for suffix in (".show35", ".show") if path.with_suffix(suffix).exists())
         good = whole[path] and proxy.of(number) == listing.read_text().splitlines()
-        yield path.stem, good, f"proxy {path.stem}: {whole[path]}, {len(proxy.of(number))} lines, {proxy.of(number)[-1:]}"
+        yield path.stem, good, f"proxy {path.stem}: {whole[path]}, {proxy.of(number)[-1:]}"
     waited = [(waited, line) for _, waited, line in proxy.lines]
     good = all(waited.isdigit() == bool(re.match(r"S (connect|-?\d+) ", line)) for waited, line in waited)
     yield "latency", good, "proxy: a reply without its time, or a time of another message"
@@ -222,17 +222,19 @@ def run_client(program):
         threading.Thread(target=server.serve_forever, daemon=True).start()
         found = subprocess.run([program, "127.0.0.1", str(server.port), "/a", '"hü"'], capture_output=True, text=True)
         server.shutdown()
-    yield "client", (found.returncode, found.stdout) == (0, SAID), f"client: {found.returncode}, {found.stdout}{found.stderr}"
+    good = (found.returncode, found.stdout) == (0, SAID)
+    yield "client", good, f"client: {found.returncode}, {found.stdout}{found.stderr}"
     asked = [bytes.fromhex(digits) for digits in ASKED]
     yield "client, bytes", server.heard[1:] == asked, f"client: it says {[heard.hex() for heard in server.heard[1:]]}"
     with socket.create_server(("127.0.0.1", 0)) as listener:
-        refused = threading.Thread(target=lambda: listener.accept()[0].sendall(answering.framed(b"nothing")))
-        refused.start()
         words = [program, "127.0.0.1", str(listener.getsockname()[1]), "/a", ""]
-        found = subprocess.run(words, capture_output=True, text=True)
-        refused.join()
-    good = (found.returncode, found.stderr) == (1, "client: SHORT\n")
-    yield "client, refused", good, f"client: {found.returncode}, {found.stderr}"
+        with subprocess.Popen(words, stderr=subprocess.PIPE, text=True) as found:
+            with undelayed(listener.accept()[0]) as server:
+                came(server, 48)
+                server.sendall(answering.framed(b"nothing"))
+                told = found.stderr.read()
+    good = (found.returncode, told) == (1, "client: SHORT\n")
+    yield "client, refused", good, f"client: {found.returncode}, {told}"
 
 
 # ---- Listings and fields

@@ -9,8 +9,8 @@
 
 enum { THREADS = 8, TALKS = 5, ROUNDS = 20000 };
 
-static const uint8_t hello[] = {0, 0, 0, 44, 0, 0, 0, 0, 0, 0, 0, 0, 0, 0, 0, 0, 0, 0, 117, 48, 0, 0, 0, 0, 0, 0, 0, 0, 0, 0, 0, 16,
-                                0, 0, 0, 0, 0, 0, 0, 0, 0, 0, 0, 0, 0, 0, 0, 0};
+static const uint8_t hello[] = {0, 0, 0, 44, 0, 0, 0, 0, 0, 0, 0, 0, 0, 0, 0, 0, 0, 0, 117, 48, 0, 0, 0, 0,
+                                0, 0, 0, 0, 0, 0, 0, 16, 0, 0, 0, 0, 0, 0, 0, 0, 0, 0, 0, 0, 0, 0, 0, 0};
 static const uint8_t welcome[] = {0, 0, 0, 36, 0, 0, 0, 0, 0, 0, 117, 48, 0, 0, 0, 0, 0, 0, 0, 1, 0, 0, 0, 16,
                                   0, 0, 0, 0, 0, 0, 0, 0, 0, 0, 0, 0, 0, 0, 0, 0};
 static const uint8_t ping[] = {0, 0, 0, 8, 255, 255, 255, 254, 0, 0, 0, 11};
@@ -43,8 +43,9 @@ static bool next(struct shared *it) {
                && zk_speaker_new(&it->speaker, 4096, 4096, 4, ZK_PROFILE_34) == ZK_WELL;
     case 1: return step(it, ZK_CLIENT, hello, sizeof hello);
     case 2: return step(it, ZK_SERVER, welcome, sizeof welcome);
-    default: return it->pieces % 2 == 0 ? step(it, ZK_CLIENT, ping, sizeof ping) : step(it, ZK_SERVER, pong, sizeof pong);
+    default: break;
     }
+    return it->pieces % 2 == 0 ? step(it, ZK_CLIENT, ping, sizeof ping) : step(it, ZK_SERVER, pong, sizeof pong);
 }
 
 static void *serve(void *own) {

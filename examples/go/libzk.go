@@ -59,8 +59,8 @@ const (
 )
 
 // Field is a field of a message. Number is that of an int, a long or a boolean (1: true), a list's count, or the
-// operation of a part (-1: a result that is an error). Content are the bytes of the payload from Place on: of a text or a
-// blob those after its length.
+// operation of a part (-1: a result that is an error). Content are the bytes of the payload from Place on: of a text or
+// a blob those after its length.
 type Field struct {
 	Name    string
 	Kind    FieldKind

@@ -38,8 +38,8 @@ pub struct Field<'p> {
     pub value: Value<'p>,
 }
 
-/// A message. The operation of a reply is that of its request; `err` and `zxid` are those of a reply or an event; `frame`
-/// is the number of its frame among those of its side in a talk, from 0.
+/// A message. The operation of a reply is that of its request; `err` and `zxid` are those of a reply or an event;
+/// `frame` is the number of its frame among those of its side in a talk, from 0.
 #[derive(Clone, Copy, Debug)]
 pub struct Message<'p> {
     pub kind: Kind,
