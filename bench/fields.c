@@ -4,7 +4,7 @@
  *
  * `step` judges the recording (format ZKR1) by zk_talk_step, `fields` also writes each message's fields by
  * zk_talk_fields, and `hand` does the same by hand.h. It prints the messages, the fields, a sum of all that is in them,
- * the CPU seconds, and the number of allocations between the first message and the last. */
+ * the CPU seconds, the number of allocations between the first message and the last, and the bytes of a talk. */
 #define _POSIX_C_SOURCE 200809L
 #include "hand.h"
 
@@ -16,6 +16,7 @@
 enum { FIELDS = 1 << 16 };
 
 static long growths;
+static size_t allocated; /* bytes that were asked for */
 void *__real_malloc(size_t size);
 void *__real_realloc(void *block, size_t size);
 void *__wrap_malloc(size_t size);
@@ -23,11 +24,13 @@ void *__wrap_realloc(void *block, size_t size);
 
 void *__wrap_malloc(size_t size) {
     growths++;
+    allocated += size;
     return __real_malloc(size);
 }
 
 void *__wrap_realloc(void *block, size_t size) {
     growths++;
+    allocated += size;
     return __real_realloc(block, size);
 }
 
@@ -82,7 +85,9 @@ int main(int count, char **words) {
     uint8_t *recording = __real_malloc(room);
     if (count != 2 || recording == NULL) return 2;
     size_t size = fread(recording, 1, room, stdin);
+    allocated = 0;
     if (zk_talk_new(&talk, 4194304, 4194304, 65536, ZK_PROFILE_34) != ZK_WELL) return 2;
+    size_t made = allocated;
     hand.out = fields;
     struct timespec begun, ended;
     long before = growths;
@@ -90,7 +95,8 @@ int main(int count, char **words) {
     bool good = run(words[1][0], recording, size);
     clock_gettime(CLOCK_PROCESS_CPUTIME_ID, &ended);
     double seconds = (double)(ended.tv_sec - begun.tv_sec) + (double)(ended.tv_nsec - begun.tv_nsec) / 1e9;
-    printf("%" PRIu64 " %" PRIu64 " %" PRIu64 " %.4f %ld\n", messages, field_count, sum, seconds, growths - before);
+    printf("%" PRIu64 " %" PRIu64 " %" PRIu64 " %.4f", messages, field_count, sum, seconds);
+    printf(" %ld %zu\n", growths - before, made);
     zk_talk_free(&talk);
     free(recording);
     return good ? 0 : 1;

@@ -12,6 +12,7 @@ A client reads a node --rounds times (20,000), one request at a time: examples/c
 libzookeeper-mt-dev is there. The server is tests/answering.py.
 """
 
+import os
 import pathlib
 import re
 import shutil
@@ -87,12 +88,13 @@ def measure_fields(folder, archive, program, wanted):
         seconds = min(timing.run(command, recording).cpu for _ in range(TIMES))
         growths = answers[name][4] if name in answers else ""
         print(f"| {name} | {counted:.0f} | {counted / (first or 1):.2f} | {seconds:.3f} | {growths} |", flush=True)
+    print(f"\na talk of the usual limits asks for {int(answers['step'][5]):,} bytes when it is made")
 
 
 def measure_sizes(archive, shared):
     """Prints what the library takes of a disk, and of a program."""
     found = subprocess.run(["size", shared], capture_output=True, text=True, check=True).stdout.splitlines()[-1].split()
-    print(f"\nlibzk.a {archive.stat().st_size:,} bytes; libzk.so.1 {shared.stat().st_size:,} bytes, "
+    print(f"libzk.a {archive.stat().st_size:,} bytes; libzk.so.1 {shared.stat().st_size:,} bytes, "
           f"of these {int(found[0]):,} of code and constants")
 
 
@@ -123,6 +125,7 @@ def main():
     parser.add_argument("--library", type=pathlib.Path, default=LIBRARY, help="the proved library")
     parser.add_argument("--messages", type=int, default=1_000_000)
     parser.add_argument("--rounds", type=int, default=20_000)
+    cores = os.sched_getaffinity(0)
     words = timing.parsed(parser)
     before = timing.load()
     with tempfile.TemporaryDirectory() as name:
@@ -130,6 +133,7 @@ def main():
         archive, shared = make_library.make(folder, words.library)
         measure_fields(folder, archive, words.program, words.messages)
         measure_sizes(archive, shared)
+        os.sched_setaffinity(0, cores)
         measure_rounds(folder, archive, words.rounds)
     print(f"\nThe load was {before} before, and {timing.load()} at the end")
     return 0

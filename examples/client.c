@@ -141,7 +141,10 @@ static void show(const struct zk_read *read, uint16_t content, uint16_t number) 
     const struct zk_field *text = field(read, content), *value = field(read, number);
     if (text != NULL) {
         printf(" %s=", zk_field_name(content));
-        fwrite(payload + text->place, 1, text->length, stdout);
+        for (uint32_t i = 0; i < text->length; i++) { /* a peer chose these bytes */
+            uint8_t byte = payload[text->place + i];
+            putchar(byte >= ' ' && byte <= '~' ? byte : '?');
+        }
     }
     if (value != NULL) printf(" %s=%" PRId64, zk_field_name(number), value->number);
     putchar('\n');
