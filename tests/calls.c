@@ -386,6 +386,9 @@ int main(int given, char **words) {
     while (counted < strtoul(words[2], NULL, 10)) call();
     for (size_t i = 0; i < TALKS; i++) zk_talk_free(&talks[i].talk);
     for (size_t i = 0; i < SPEAKERS; i++) zk_speaker_free(&speakers[i].speaker);
+    while (kept_count > 0) free(kept[--kept_count]);
+    free(pieces), free(lines), free(payloads);
+    free(bytes.copy), free(numbers.copy), free(cuts.copy);
     printf("%lu calls from the seed %lu:", counted, seed);
     for (uint32_t i = 0; i < 128; i++)
         if (statuses[i] > 0) printf(" %s %lu", zk_status_name(i), statuses[i]);

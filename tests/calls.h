@@ -18,7 +18,8 @@ static unsigned long seed, counted;
 static void must(bool good, const char *what) {
     if (good) return;
     printf("seed %lu, call %lu: %s\n", seed, counted, what);
-    exit(1);
+    fflush(stdout);
+    _Exit(1);
 }
 
 static uint64_t chance(uint64_t below) { /* splitmix64 */

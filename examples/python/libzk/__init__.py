@@ -195,7 +195,7 @@ class _Held:
     """What holds a handle: it is freed once, when it is closed or collected, and can't be copied."""
 
     def __init__(self, new: Callable[..., int], free: Callable[..., None], limits: Tuple[int, int, int, int]):
-        self._handle, self._free = _calls.Handle(), free
+        self._free, self._handle = free, _calls.Handle()
         status = new(self._handle, *limits) if all(0 <= limit < 1 << 32 for limit in limits) else _RANGE
         if status:
             raise Refused(status)
@@ -210,7 +210,8 @@ class _Held:
         self.close()
 
     def __del__(self) -> None:
-        self.close()
+        if hasattr(self, "_handle"):  # it has none if its limits were refused before it was made
+            self.close()
 
     def __reduce__(self):
         raise TypeError("a handle can't be copied")

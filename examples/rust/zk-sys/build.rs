@@ -7,6 +7,7 @@ fn main() {
     if let Ok(folder) = std::env::var("LIBZK_DIR") {
         println!("cargo:rustc-link-search=native={folder}");
         println!("cargo:rustc-link-lib=static=zk");
+        println!("cargo:rerun-if-changed={folder}/libzk.a");
         return;
     }
     println!("cargo:rustc-link-lib=zk");
