@@ -52,8 +52,11 @@ def check_python(folder, shared):
         result, said = run(f"tests of examples/python by {each}", *words, **tested)
         yield result
         yield "some", "Ran 0 tests" not in said, "examples/python has no tests"
-    result, _ = run("types of examples/python", python, "-c", "import libzk, typing as t; [t.get_type_hints(getattr("
-                    "libzk, name)) for name in libzk.__all__ if callable(getattr(libzk, name))]", **tested)
+    if not shutil.which("mypy"):
+        print("skipped: there is no mypy for the types of examples/python")
+        return
+    result, _ = run("types of examples/python", "mypy", "--strict", "--cache-dir", folder / "mypy", source / "libzk",
+                    folder=folder)
     yield result
 
 

@@ -12,7 +12,7 @@ What comes may be any bytes: what is no message raises Refused. A talk or a spea
 import ctypes
 import enum
 from dataclasses import dataclass
-from typing import Callable, List, NamedTuple, Optional, Sequence, Tuple, Union
+from typing import Callable, List, NamedTuple, NoReturn, Optional, Sequence, Tuple, TypeVar, Union
 
 from . import _calls
 from ._calls import library
@@ -191,6 +191,9 @@ def _written(write: Callable[..., _calls.Line], room: int = 4096) -> bytes:
     return out.raw[:line.length]
 
 
+_Self = TypeVar("_Self", bound="_Held")
+
+
 class _Held:
     """What holds a handle: it is freed once, when it is closed or collected, and can't be copied."""
 
@@ -203,7 +206,7 @@ class _Held:
     def close(self) -> None:
         self._free(self._handle)
 
-    def __enter__(self):
+    def __enter__(self: _Self) -> _Self:
         return self
 
     def __exit__(self, *_: object) -> None:
@@ -213,7 +216,7 @@ class _Held:
         if hasattr(self, "_handle"):  # it has none if its limits were refused before it was made
             self.close()
 
-    def __reduce__(self):
+    def __reduce__(self) -> NoReturn:
         raise TypeError("a handle can't be copied")
 
 
