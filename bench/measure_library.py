@@ -98,26 +98,29 @@ def measure_sizes(archive, shared):
           f"of these {int(found[0]):,} of code and constants")
 
 
+def clients(folder, archive, port, rounds):
+    """The clients that can be run here: names, and words."""
+    made = compiled(folder / "client", TOP / "examples" / "client.c", archive)
+    yield "examples/client.c", [made, "127.0.0.1", port, "/a", "data", str(rounds)]
+    if not pathlib.Path("/usr/include/zookeeper/zookeeper.h").exists():
+        print("apache.c is left out: Debian's libzookeeper-mt-dev isn't there")
+        return
+    made = compiled(folder / "apache", HERE / "apache.c", "-lzookeeper_mt")
+    yield "the Apache client for C", [made, f"127.0.0.1:{port}", "/a", str(rounds)]
+
+
 def measure_rounds(folder, archive, rounds):
     """Prints the mean round trip of each client."""
-    words = [sys.executable, TOP / "tests" / "answering.py"]
-    with subprocess.Popen(words, stdout=subprocess.PIPE, text=True) as server:
+    server = subprocess.Popen([sys.executable, TOP / "tests" / "answering.py"], stdout=subprocess.PIPE, text=True)
+    try:
         port = server.stdout.readline().strip()
-        clients = [("examples/client.c", [compiled(folder / "client", TOP / "examples" / "client.c", archive),
-                                          "127.0.0.1", port, "/a", "data", str(rounds)])]
-        if pathlib.Path("/usr/include/zookeeper/zookeeper.h").exists():
-            made = compiled(folder / "apache", HERE / "apache.c", "-lzookeeper_mt")
-            clients.append(("the Apache client for C", [made, f"127.0.0.1:{port}", "/a", str(rounds)]))
-        else:
-            print("apache.c is left out: Debian's libzookeeper-mt-dev isn't there")
-        for name, words in clients:
-            best = None
-            for _ in range(TIMES):
-                found = subprocess.run(words, capture_output=True, text=True, check=True).stdout
-                taken = float(re.search(r"getData: ([\d.]+) microseconds", found)[1])
-                best = taken if best is None else min(best, taken)
-            print(f"{name}: {best:.1f} microseconds a round trip, the least mean of {TIMES} runs of {rounds:,}")
+        for name, words in clients(folder, archive, port, rounds):
+            said = [subprocess.run(words, capture_output=True, text=True, check=True).stdout for _ in range(TIMES)]
+            taken = min(float(re.search(r"getData: ([\d.]+) microseconds", each)[1]) for each in said)
+            print(f"{name}: {taken:.1f} microseconds a round trip, the least mean of {TIMES} runs of {rounds:,}")
+    finally:
         server.terminate()
+        server.wait()
 
 
 def main():
