@@ -22,8 +22,8 @@ the stored run, or the one that a line `<!-- played: FILE -->` before the block 
 - port.pcap in the folder is what tcpdump would have captured of the stored run.
 
 What isn't run is marked with a line `<!-- not run: WHY -->` before its block. Any other block of four blanks that
-does not begin with a command fails, and so does any block of code but for those of Rust: a block that begins with
-"```rust FILE" must be in that file, line for line, but for how far it is indented.
+does not begin with a command fails, and so does any block of code but for those of Rust and C: a block that begins with
+"```rust FILE" or "```c FILE" must be in that file, line for line, but for how far it is indented.
 
 It prints what differs, what is marked, and one last line, N passed, M failed. The status is 0 if nothing differs, 1
 if something does, 2 for wrong arguments or if a page cannot be read.
@@ -43,7 +43,7 @@ import time
 
 TOP = pathlib.Path(__file__).resolve().parent.parent
 INDENT = "    "
-FENCE = re.compile(r"^```(rust \S)?.*?^```$", re.M | re.S)
+FENCE = re.compile(r"^```((?:rust|c) \S)?.*?^```$", re.M | re.S)
 MARK = re.compile(r"<!-- (not run|played): (.*) -->")
 STORED_RUN = "crates/zkdump/stdin"
 PLAYER = TOP / "tools" / "zkplay.py"
@@ -233,7 +233,7 @@ def are_in(lines, others):
 def compare_code(page, text):
     """Looks for the page's code in the files that it names."""
     passed = failed = 0
-    for block in re.finditer(r"^```rust (\S+)\n(.*?)^```$", text, re.M | re.S):
+    for block in re.finditer(r"^```(?:rust|c) (\S+)\n(.*?)^```$", text, re.M | re.S):
         if are_in(plain(block[2]), plain((TOP / block[1]).read_text())):
             passed += 1
         else:

@@ -1,4 +1,5 @@
-//! The listing of a recording (docs/FORMATS.md, sections 9 and 12), by the proved library.
+//! The listing of a recording (docs/FORMATS.md, sections 9 and 12), by the proved library, in one file. The folder rust
+//! has crates.
 //!
 //!     listing RECORDING
 
@@ -52,8 +53,11 @@ mod zk {
         Server,
     }
 
-    /// A conversation as it comes. It stays on its thread, as a pointer does.
+    /// A conversation as it comes.
     pub struct Talk(Handle);
+
+    // The library has no variables of a thread, and `&mut self` lets one call at a time use the handle.
+    unsafe impl Send for Talk {}
 
     impl Talk {
         /// A status where a limit is out of its range, or memory runs out.

@@ -1,9 +1,8 @@
 #!/usr/bin/env python3
-"""The proved library by ctypes: the listing of a recording, and a check of what a client library writes.
+"""The proved library by ctypes, in one file: the listing of a recording, and back. python/ has a package.
 
     talk.py LIBRARY RECORDING     the listing
     talk.py LIBRARY --say LISTING the recording of a listing's messages, a piece a frame
-    talk.py LIBRARY --kazoo       judges the requests that kazoo's own serializers make, where kazoo is installed
 
 LIBRARY is libzk.so.1 (docs/LIBRARY.md).
 """
@@ -198,27 +197,8 @@ def said(library, listing):
                 yield line[:1] + len(frame).to_bytes(4, "big") + frame
 
 
-def judge_kazoo(library):
-    """As a unit test of a client library would: each of its requests is accepted, and refused once it is damaged."""
-    from kazoo.protocol.serialization import Create, Exists, GetChildren, GetData, SetData, Transaction, int_struct
-    from kazoo.security import OPEN_ACL_UNSAFE
-
-    create = Create("/a", b"v", OPEN_ACL_UNSAFE, 0)
-    requests = [create, GetData("/a", None), Exists("/ünï", None), SetData("/a", b"", 3), GetChildren("/", None),
-                Transaction([create, SetData("/a", b"w", -1)])]
-    for xid, request in enumerate(requests, 1):
-        payload = bytes(int_struct.pack(xid) + int_struct.pack(request.type) + request.serialize())
-        for damage, statuses in (payload, {0}), (payload[:-1], {1}), (payload + b"\0", {6}):
-            answer = library.zk_judge_request(34, damage, len(damage))
-            assert answer.status in statuses, (request, damage, answer.status, answer.place)
-    print(f"{len(requests)} requests")
-
-
 def main():
     library = Library(sys.argv[1])
-    if sys.argv[2] == "--kazoo":
-        judge_kazoo(library)
-        return
     with open(sys.argv[-1], "rb") as file:
         content = file.read()
     if sys.argv[2] == "--say":

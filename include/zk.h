@@ -3,11 +3,13 @@
  * docs/LIBRARY.md says how to link a program with it, and what each call promises. tests/library.py checks this header
  * against the library's source (crates/zk_c/src).
  *
- * The caller's duties: a pointer points to as much as the call says. A handle is all zeros before its first
- * zk_talk_new (`struct zk_talk talk = ZK_ZEROS;`), only these calls write it, one call at a time uses it, on any
- * thread, and it is never copied and then used twice. Everything else is refused by a status. The functions at the end
- * of this header, which are called in place of the library's own, also refuse a null pointer and a length above
- * PTRDIFF_MAX. A null pointer with the length 0 is no bytes, and accepted. */
+ * The caller's duties: a pointer points to as much as the call says; nothing else writes there during the call, and
+ * what the call writes overlaps nothing that it reads. A handle is all zeros before its first zk_talk_new
+ * (`struct zk_talk talk = ZK_ZEROS;`), only these calls write it, and it is never copied and then used twice. One call
+ * at a time uses a handle: another thread may use it once that call has ended, as under a lock. Calls on different
+ * handles, and without one, may run at once. Everything else is refused by a status. The functions at the end of this
+ * header, which are called in place of the library's own, also refuse a null pointer and a length above PTRDIFF_MAX.
+ * A null pointer with the length 0 is no bytes, and accepted. */
 #ifndef ZK_H
 #define ZK_H
 

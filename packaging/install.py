@@ -48,7 +48,7 @@ def commands():
 def folder_files(name, pattern):
     """The files of a folder of the repository that users need."""
     for path in sorted((TOP / name).rglob(pattern)):
-        if path.is_file() and not {"tests", "__pycache__", "out"} & set(path.relative_to(TOP).parts):
+        if path.is_file() and not {"tests", "__pycache__", "out", "target", "build"} & set(path.relative_to(TOP).parts):
             yield path
 
 

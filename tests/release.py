@@ -4,7 +4,7 @@
     release.py
 
 The number in VERSION is that of zk.h and of CHANGELOG.md. The header compiles without a warning as C11 and as C++17. The
-archive is unpacked: its program prints the listing of a recording, and examples/proxy.c, linked with each of its
+archive is unpacked: its program prints the listing of a recording, and examples/listing.c, linked with each of its
 libraries, too. The libraries export the header's functions and no other name. The Debian packages are installed below a
 folder, used and removed. A second release has the same bytes. What is skipped, since a tool is missing, is reported.
 
@@ -129,7 +129,7 @@ def header(top, work):
 def libraries(top, work):
     """Programs over both libraries of a prefix, and the names that these show."""
     archive, shared = top / "lib" / "libzk.a", top / "lib" / "libzk.so.1"
-    example, loaded = TOP / "examples" / "proxy.c", {"LD_LIBRARY_PATH": str(top / "lib")}
+    example, loaded = TOP / "examples" / "listing.c", {"LD_LIBRARY_PATH": str(top / "lib")}
     for name, words in (("libzk.a", ("-g", "--defined-only", archive)), ("libzk.so.1", ("-D", "--defined-only", shared))):
         shown = {line.split()[2].split("@")[0] for line in run("nm", *words).stdout.decode().splitlines()
                  if len(line.split()) == 3 and line.split()[1] != "A"}
@@ -145,13 +145,13 @@ def libraries(top, work):
     yield "needed", good, f"libzk.so.1: {needed}"
     stack = re.search(r"GNU_STACK.*", run("readelf", "-lW", shared).stdout.decode())
     yield "stack", stack is not None and "E" not in stack[0].split()[-2], f"libzk.so.1: {stack and stack[0]}"
-    yield ends_well("cc with libzk.a", "cc", *STRICT, f"-I{top / 'include'}", "-o", work / "proxy", example, archive)
-    yield lists("proxy.c over libzk.a", work / "proxy", RECORDING)
+    yield ends_well("cc with libzk.a", "cc", *STRICT, f"-I{top / 'include'}", "-o", work / "listing", example, archive)
+    yield lists("listing.c over libzk.a", work / "listing", RECORDING)
     if not skip("zk.pc", "pkg-config"):
         found = run("pkg-config", "--cflags", "--libs", "zk", env={**os.environ, "PKG_CONFIG_PATH": str(top / "lib/pkgconfig")})
         words = found.stdout.decode().split()
-        yield ends_well("cc with zk.pc", "cc", *STRICT, "-o", work / "proxy", example, *words)
-        yield lists("proxy.c over libzk.so.1", work / "proxy", RECORDING, **loaded)
+        yield ends_well("cc with zk.pc", "cc", *STRICT, "-o", work / "listing", example, *words)
+        yield lists("listing.c over libzk.so.1", work / "listing", RECORDING, **loaded)
     if not skip("the CMake files", "cmake"):
         (work / "CMakeLists.txt").write_text(CMAKE.replace("@VERSION@", install.VERSION))
         yield ends_well("cmake", "cmake", "-S", work, "-B", work / "made", f"-DCMAKE_PREFIX_PATH={top}")

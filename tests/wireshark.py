@@ -22,6 +22,7 @@ import tempfile
 
 import dissected
 from dissected import LIBRARY, SOURCES, TOP, capture_of, joined, lossy, mutated, pieces_of, wire, zkr
+import judged
 import library
 import resync
 import wanted
@@ -223,10 +224,10 @@ class Tests:
         yield not wrong, f"{len(wrong)} of 40,000 differ: {wrong[:1]}"
 
     def test_payloads(self):
-        """fields.c judges the payloads of docs/EXAMPLES.md, as tests/library.py has them."""
+        """fields.c judges the payloads of docs/EXAMPLES.md, as tests/judged.py has them."""
         numbers = library.declared()[2]
         read = wanted.fields_of(self.folder)
-        for call, digits, status, place in library.JUDGED:
+        for call, digits, status, place in judged.JUDGED:
             if status not in ("RANGE", "MISFIT"):
                 found = read(call, bytes.fromhex(digits))
                 yield found == (numbers[status], place), f"{call} {digits}: {found}, not {status} at {place}"

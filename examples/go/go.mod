@@ -1,0 +1,3 @@
+module libzk
+
+go 1.19

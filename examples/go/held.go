@@ -1,0 +1,180 @@
+package libzk
+
+// #include <zk.h>
+import "C"
+
+import (
+	"runtime"
+	"sync"
+)
+
+// Limits are the greatest payloads of the sides in bytes, how many requests may wait, and the operations.
+type Limits struct {
+	Client  uint32
+	Server  uint32
+	Waiting uint32
+	Profile Profile
+}
+
+// Usual are limits that are enough for most conversations.
+var Usual = Limits{4194304, 4194304, 65536, Profile34}
+
+// talk is what a Talk points to, so that a copy of the Talk has the same handle. One call at a time uses it.
+type talk struct {
+	sync.Mutex
+	handle C.struct_zk_talk
+}
+
+// Talk is a conversation as it comes. Its zero value is a closed one.
+type Talk struct{ it *talk }
+
+// NewTalk makes a talk of which nothing has come. It is freed when it is closed or collected.
+func NewTalk(limits Limits) (Talk, error) {
+	it := &talk{}
+	status := C.zk_safe_talk_new(&it.handle, C.uint32_t(limits.Client), C.uint32_t(limits.Server),
+		C.uint32_t(limits.Waiting), C.uint32_t(limits.Profile))
+	if err := fault(status, 0); err != nil {
+		return Talk{}, err
+	}
+	runtime.SetFinalizer(it, func(it *talk) { Talk{it}.Close() })
+	return Talk{it}, nil
+}
+
+// Close frees the talk, whose calls are then refused.
+func (t Talk) Close() {
+	if t.it != nil {
+		t.it.Lock()
+		defer t.it.Unlock()
+		C.zk_safe_talk_free(&t.it.handle)
+	}
+}
+
+// Feed returns the messages that these bytes of a side complete, and the first fault.
+func (t Talk) Feed(side Side, piece []byte) ([]*Message, error) {
+	if t.it == nil {
+		return nil, Fault{C.ZK_EMPTY, 0}
+	}
+	t.it.Lock()
+	defer t.it.Unlock()
+	var messages []*Message
+	for {
+		step := C.zk_safe_talk_step(&t.it.handle, C.uint32_t(side), start(piece), C.size_t(len(piece)))
+		if err := fault(step.status, step.fault.place); err != nil {
+			return messages, err
+		}
+		if step.whole {
+			message, err := t.it.newest(C.uint32_t(side))
+			if err != nil {
+				return messages, err
+			}
+			messages = append(messages, message)
+		}
+		if piece = piece[step.used:]; len(piece) == 0 {
+			return messages, nil
+		}
+	}
+}
+
+// newest returns the message of the side's kept frame.
+func (it *talk) newest(side C.uint32_t) (*Message, error) {
+	view := C.zk_safe_talk_view(&it.handle, side)
+	payload, err := written(int(view.size), func(out *C.uint8_t, room C.size_t) C.struct_zk_line {
+		return C.zk_safe_talk_payload(&it.handle, side, out, room)
+	})
+	if err != nil {
+		return nil, err
+	}
+	message, err := read(payload, func(out *C.struct_zk_field, room C.size_t) C.struct_zk_read {
+		return C.zk_safe_talk_fields(&it.handle, side, out, room)
+	})
+	if err == nil {
+		message.Frame = uint64(view.frame)
+	}
+	return message, err
+}
+
+// Line returns the line of the side's newest message.
+func (t Talk) Line(side Side) (string, error) {
+	return t.text(func(out *C.uint8_t, room C.size_t) C.struct_zk_line {
+		return C.zk_safe_talk_line(&t.it.handle, C.uint32_t(side), out, room)
+	})
+}
+
+// EndingLine returns the line of how the conversation ends if nothing more comes.
+func (t Talk) EndingLine() (string, error) {
+	return t.text(func(out *C.uint8_t, room C.size_t) C.struct_zk_line {
+		return C.zk_safe_talk_ending_line(&t.it.handle, out, room)
+	})
+}
+
+func (t Talk) text(write func(*C.uint8_t, C.size_t) C.struct_zk_line) (string, error) {
+	if t.it == nil {
+		return "", Fault{C.ZK_EMPTY, 0}
+	}
+	t.it.Lock()
+	defer t.it.Unlock()
+	line, err := written(512, write)
+	return string(line), err
+}
+
+// written returns what a call writes, in a room that is large enough.
+func written(room int, write func(*C.uint8_t, C.size_t) C.struct_zk_line) ([]byte, error) {
+	out := make([]byte, room)
+	line := write(start(out), C.size_t(len(out)))
+	if line.status == C.ZK_ROOM {
+		out = make([]byte, line.length)
+		line = write(start(out), C.size_t(len(out)))
+	}
+	if err := fault(line.status, 0); err != nil {
+		return nil, err
+	}
+	return out[:line.length:line.length], nil
+}
+
+// speaker is what a Speaker points to.
+type speaker struct {
+	sync.Mutex
+	handle C.struct_zk_speaker
+}
+
+// Speaker makes the frames of what may be said next. Each message of both sides has to be said, so that replies free the
+// places of their requests. Its zero value is a closed one.
+type Speaker struct{ it *speaker }
+
+// NewSpeaker makes a speaker that has said nothing. It is freed when it is closed or collected.
+func NewSpeaker(limits Limits) (Speaker, error) {
+	it := &speaker{}
+	status := C.zk_safe_speaker_new(&it.handle, C.uint32_t(limits.Client), C.uint32_t(limits.Server),
+		C.uint32_t(limits.Waiting), C.uint32_t(limits.Profile))
+	if err := fault(status, 0); err != nil {
+		return Speaker{}, err
+	}
+	runtime.SetFinalizer(it, func(it *speaker) { Speaker{it}.Close() })
+	return Speaker{it}, nil
+}
+
+// Close frees the speaker, whose calls are then refused.
+func (s Speaker) Close() {
+	if s.it != nil {
+		s.it.Lock()
+		defer s.it.Unlock()
+		C.zk_safe_speaker_free(&s.it.handle)
+	}
+}
+
+// Say returns the frame of the line's message, which may come next.
+func (s Speaker) Say(line string) ([]byte, error) {
+	if s.it == nil {
+		return nil, Fault{C.ZK_EMPTY, 0}
+	}
+	s.it.Lock()
+	defer s.it.Unlock()
+	text := []byte(line)
+	said := C.zk_safe_speaker_say(&s.it.handle, start(text), C.size_t(len(text)))
+	if err := fault(said.status, said.column); err != nil {
+		return nil, err
+	}
+	return written(int(said.length), func(out *C.uint8_t, room C.size_t) C.struct_zk_line {
+		return C.zk_safe_speaker_frame(&s.it.handle, out, room)
+	})
+}

@@ -1,0 +1,203 @@
+// Package libzk reads ZooKeeper's client protocol by the proved library libzk: the fields of payloads, conversations,
+// and requests.
+//
+// It is built where the compiler finds zk.h and libzk, as with CGO_CFLAGS and CGO_LDFLAGS or an installed library.
+// Messages are copies: they have no memory of the library's. Talks and speakers may be used by any goroutine.
+package libzk
+
+// #cgo LDFLAGS: -lzk
+// #include <zk.h>
+import "C"
+
+import (
+	"fmt"
+	"unsafe"
+)
+
+// Side is who speaks.
+type Side uint32
+
+// The sides.
+const (
+	Client Side = C.ZK_CLIENT
+	Server Side = C.ZK_SERVER
+)
+
+// Profile is a release, whose operations are known.
+type Profile uint32
+
+// The profiles.
+const (
+	Profile34 Profile = C.ZK_PROFILE_34
+	Profile35 Profile = C.ZK_PROFILE_35
+)
+
+// Kind is a kind of messages.
+type Kind uint32
+
+// The kinds of messages.
+const (
+	Connect   Kind = C.ZK_CONNECT
+	Request   Kind = C.ZK_REQUEST
+	Connected Kind = C.ZK_CONNECTED
+	Reply     Kind = C.ZK_REPLY
+	Event     Kind = C.ZK_EVENT
+)
+
+// FieldKind is a kind of fields. The elements of a list follow it, and so does the record of a part of a multi.
+type FieldKind uint8
+
+// The kinds of fields.
+const (
+	Int  FieldKind = C.ZK_KIND_INT
+	Long FieldKind = C.ZK_KIND_LONG
+	Bool FieldKind = C.ZK_KIND_BOOL
+	Text FieldKind = C.ZK_KIND_TEXT
+	Blob FieldKind = C.ZK_KIND_BLOB
+	List FieldKind = C.ZK_KIND_LIST
+	Part FieldKind = C.ZK_KIND_PART
+)
+
+// Field is a field of a message. Number is that of an int, a long or a boolean (1: true), a list's count, or the
+// operation of a part (-1: a result that is an error). Content are the bytes of the payload from Place on: of a text or
+// a blob those after its length.
+type Field struct {
+	Name    string
+	Kind    FieldKind
+	Null    bool
+	Number  int64
+	Place   int
+	Content []byte
+}
+
+// Message is a message. The operation of a reply is that of its request. Frame is the number of its frame among those of
+// its side in a talk, from 0.
+type Message struct {
+	Kind      Kind
+	Xid       int32
+	Operation int32
+	Err       int32
+	Zxid      int64
+	Frame     uint64
+	Payload   []byte
+	Fields    []Field
+}
+
+// Get returns the first field of this name.
+func (message *Message) Get(name string) (Field, bool) {
+	for _, field := range message.Fields {
+		if field.Name == name {
+			return field, true
+		}
+	}
+	return Field{}, false
+}
+
+// Fault is why bytes are no message, or a call can't be made, and the place in the payload or the column in a line.
+type Fault struct {
+	Status uint32
+	Place  uint32
+}
+
+func (fault Fault) Error() string {
+	return fmt.Sprintf("%s at %d", StatusName(fault.Status), fault.Place)
+}
+
+// StatusName returns a status's name, or "".
+func StatusName(number uint32) string { return C.GoString(C.zk_status_name(C.uint32_t(number))) }
+
+// OperationName returns an operation's name, or "".
+func OperationName(number int32) string { return C.GoString(C.zk_operation_name(C.int32_t(number))) }
+
+// ErrorName returns the name of a reply's err, or "".
+func ErrorName(number int32) string { return C.GoString(C.zk_error_name(C.int32_t(number))) }
+
+// EventName returns the name of an event's type, or "".
+func EventName(number int64) string { return C.GoString(C.zk_event_name(C.int64_t(number))) }
+
+// fault returns nil for a call that did what it is for.
+func fault(status, place C.uint32_t) error {
+	if status == C.ZK_WELL {
+		return nil
+	}
+	return Fault{uint32(status), uint32(place)}
+}
+
+// start returns a pointer to the bytes, or nil for none, which the header's calls take.
+func start(bytes []byte) *C.uint8_t {
+	if len(bytes) == 0 {
+		return nil
+	}
+	return (*C.uint8_t)(unsafe.Pointer(&bytes[0]))
+}
+
+// read reads fields into a room that is large enough. The message has the payload, which is not copied.
+func read(payload []byte, call func(*C.struct_zk_field, C.size_t) C.struct_zk_read) (*Message, error) {
+	room := make([]C.struct_zk_field, 32)
+	answer := call(&room[0], C.size_t(len(room)))
+	if answer.status == C.ZK_ROOM {
+		room = make([]C.struct_zk_field, answer.count)
+		answer = call(&room[0], C.size_t(len(room)))
+	}
+	if err := fault(answer.status, answer.place); err != nil {
+		return nil, err
+	}
+	message := &Message{Kind(answer.kind), int32(answer.xid), int32(answer.operation), int32(answer.err),
+		int64(answer.zxid), 0, payload, make([]Field, 0, answer.count)}
+	for _, field := range room[:answer.count] {
+		place := int(field.place)
+		message.Fields = append(message.Fields, Field{C.GoString(C.zk_field_name(field.name)), FieldKind(field.kind),
+			field.null != 0, int64(field.number), place, payload[place : place+int(field.length)]})
+	}
+	return message, nil
+}
+
+// copied returns bytes that the caller can't change.
+func copied(payload []byte) []byte {
+	return append([]byte(nil), payload...)
+}
+
+// ReadFirst reads the payload of a connect request.
+func ReadFirst(payload []byte) (*Message, error) {
+	payload = copied(payload)
+	return read(payload, func(out *C.struct_zk_field, room C.size_t) C.struct_zk_read {
+		return C.zk_safe_read_first(start(payload), C.size_t(len(payload)), out, room)
+	})
+}
+
+// ReadRequest reads the payload of a request.
+func ReadRequest(profile Profile, payload []byte) (*Message, error) {
+	payload = copied(payload)
+	return read(payload, func(out *C.struct_zk_field, room C.size_t) C.struct_zk_read {
+		return C.zk_safe_read_request(C.uint32_t(profile), start(payload), C.size_t(len(payload)), out, room)
+	})
+}
+
+// ReadConnected reads the payload of the answer to a connect request.
+func ReadConnected(payload []byte) (*Message, error) {
+	payload = copied(payload)
+	return read(payload, func(out *C.struct_zk_field, room C.size_t) C.struct_zk_read {
+		return C.zk_safe_read_connected(start(payload), C.size_t(len(payload)), out, room)
+	})
+}
+
+// ReadReply reads the payload of a reply to a request of this operation, for a multi of these parts.
+func ReadReply(operation int32, parts []int32, payload []byte) (*Message, error) {
+	payload = copied(payload)
+	var first *C.int32_t
+	if len(parts) > 0 {
+		first = (*C.int32_t)(unsafe.Pointer(&parts[0]))
+	}
+	return read(payload, func(out *C.struct_zk_field, room C.size_t) C.struct_zk_read {
+		return C.zk_safe_read_reply(C.int32_t(operation), first, C.size_t(len(parts)), start(payload),
+			C.size_t(len(payload)), out, room)
+	})
+}
+
+// ReadEvent reads the payload of an event.
+func ReadEvent(payload []byte) (*Message, error) {
+	payload = copied(payload)
+	return read(payload, func(out *C.struct_zk_field, room C.size_t) C.struct_zk_read {
+		return C.zk_safe_read_event(start(payload), C.size_t(len(payload)), out, room)
+	})
+}

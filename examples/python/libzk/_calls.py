@@ -1,0 +1,87 @@
+"""The calls of libzk.so.1, as include/zk.h declares them.
+
+The library is the one that the variable LIBZK names, or the installed one. No call lets another thread of Python run,
+so a handle is never used twice at once.
+"""
+
+import ctypes
+import os
+
+U8, U16, U32, U64 = ctypes.c_uint8, ctypes.c_uint16, ctypes.c_uint32, ctypes.c_uint64
+I32, I64, SIZE, BYTES = ctypes.c_int32, ctypes.c_int64, ctypes.c_size_t, ctypes.c_char_p
+
+
+class Handle(ctypes.Structure):
+    """A talk or a speaker; all zeros where there is none."""
+    _fields_ = [("held", ctypes.c_void_p), ("live", ctypes.c_bool)]
+
+
+class Fault(ctypes.Structure):
+    _fields_ = [("frame", U64), ("offset", U64), ("side", U32), ("place", U32), ("reason", U32), ("expected", I32),
+                ("got", I32)]
+
+
+class Step(ctypes.Structure):
+    _fields_ = [("used", SIZE), ("status", U32), ("whole", ctypes.c_bool), ("fault", Fault)]
+
+
+class Message(ctypes.Structure):
+    _fields_ = [("status", U32), ("kind", U32), ("xid", I32), ("operation", I32), ("size", U32), ("err", I32),
+                ("zxid", I64), ("frame", U64)]
+
+
+class Ending(ctypes.Structure):
+    _fields_ = [("status", U32), ("kind", U32), ("unanswered", U32), ("side", U32), ("got", U32), ("frame", U64),
+                ("fault", Fault)]
+
+
+class Line(ctypes.Structure):
+    _fields_ = [("status", U32), ("length", SIZE)]
+
+
+class Say(ctypes.Structure):
+    _fields_ = [("status", U32), ("length", SIZE), ("column", U32)]
+
+
+class Field(ctypes.Structure):
+    _fields_ = [("place", U32), ("length", U32), ("number", I64), ("name", U16), ("kind", U8), ("null", U8)]
+
+
+class Read(ctypes.Structure):
+    _fields_ = [("status", U32), ("place", U32), ("count", U32), ("kind", U32), ("xid", I32), ("operation", I32),
+                ("err", I32), ("zxid", I64)]
+
+
+HANDLE, FIELDS, PARTS = ctypes.POINTER(Handle), ctypes.POINTER(Field), ctypes.POINTER(I32)
+CALLS = {
+    "zk_talk_new": (U32, HANDLE, U32, U32, U32, U32),
+    "zk_talk_step": (Step, HANDLE, U32, BYTES, SIZE),
+    "zk_talk_view": (Message, HANDLE, U32),
+    "zk_talk_line": (Line, HANDLE, U32, BYTES, SIZE),
+    "zk_talk_payload": (Line, HANDLE, U32, BYTES, SIZE),
+    "zk_talk_fields": (Read, HANDLE, U32, FIELDS, SIZE),
+    "zk_talk_finish": (Ending, HANDLE),
+    "zk_talk_ending_line": (Line, HANDLE, BYTES, SIZE),
+    "zk_talk_free": (None, HANDLE),
+    "zk_speaker_new": (U32, HANDLE, U32, U32, U32, U32),
+    "zk_speaker_say": (Say, HANDLE, BYTES, SIZE),
+    "zk_speaker_frame": (Line, HANDLE, BYTES, SIZE),
+    "zk_speaker_free": (None, HANDLE),
+    "zk_read_first": (Read, BYTES, SIZE, FIELDS, SIZE),
+    "zk_read_request": (Read, U32, BYTES, SIZE, FIELDS, SIZE),
+    "zk_read_connected": (Read, BYTES, SIZE, FIELDS, SIZE),
+    "zk_read_reply": (Read, I32, PARTS, SIZE, BYTES, SIZE, FIELDS, SIZE),
+    "zk_read_event": (Read, BYTES, SIZE, FIELDS, SIZE),
+}
+
+
+
+def _typed(calls: ctypes.PyDLL) -> ctypes.PyDLL:
+    for name, (result, *words) in CALLS.items():
+        call = getattr(calls, name)
+        call.restype, call.argtypes = result, words
+    return calls
+
+
+# A PyDLL keeps Python's lock while it calls.
+library = _typed(ctypes.PyDLL(os.environ.get("LIBZK", "libzk.so.1")))

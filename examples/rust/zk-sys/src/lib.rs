@@ -1,0 +1,159 @@
+//! The calls of libzk as `include/zk.h` declares them. The crate `zk` has safe ones.
+//!
+//! A caller owes what that header says: no pointer is null, and a handle is all zeros at first, is never copied, and is
+//! used by one call at a time.
+#![no_std]
+#![allow(non_camel_case_types)]
+
+/// A talk, or none.
+#[repr(C)]
+pub struct zk_talk {
+    pub held: *mut u8,
+    pub live: bool,
+}
+
+/// A speaker, or none.
+#[repr(C)]
+pub struct zk_speaker {
+    pub held: *mut u8,
+    pub live: bool,
+}
+
+#[repr(C)]
+#[derive(Clone, Copy, Debug)]
+pub struct zk_fault {
+    pub frame: u64,
+    pub offset: u64,
+    pub side: u32,
+    pub place: u32,
+    pub reason: u32,
+    pub expected: i32,
+    pub got: i32,
+}
+
+#[repr(C)]
+#[derive(Clone, Copy, Debug)]
+pub struct zk_step {
+    pub used: usize,
+    pub status: u32,
+    pub whole: bool,
+    pub fault: zk_fault,
+}
+
+#[repr(C)]
+#[derive(Clone, Copy, Debug)]
+pub struct zk_message {
+    pub status: u32,
+    pub kind: u32,
+    pub xid: i32,
+    pub operation: i32,
+    pub size: u32,
+    pub err: i32,
+    pub zxid: i64,
+    pub frame: u64,
+}
+
+#[repr(C)]
+#[derive(Clone, Copy, Debug)]
+pub struct zk_line {
+    pub status: u32,
+    pub length: usize,
+}
+
+#[repr(C)]
+#[derive(Clone, Copy, Debug)]
+pub struct zk_say {
+    pub status: u32,
+    pub length: usize,
+    pub column: u32,
+}
+
+#[repr(C)]
+#[derive(Clone, Copy, Debug, Default)]
+pub struct zk_field {
+    pub place: u32,
+    pub length: u32,
+    pub number: i64,
+    pub name: u16,
+    pub kind: u8,
+    pub null: u8,
+}
+
+#[repr(C)]
+#[derive(Clone, Copy, Debug)]
+pub struct zk_read {
+    pub status: u32,
+    pub place: u32,
+    pub count: u32,
+    pub kind: u32,
+    pub xid: i32,
+    pub operation: i32,
+    pub err: i32,
+    pub zxid: i64,
+}
+
+extern "C" {
+    pub fn zk_talk_new(
+        talk: *mut zk_talk,
+        client: u32,
+        server: u32,
+        waiting: u32,
+        profile: u32,
+    ) -> u32;
+    pub fn zk_talk_step(talk: *mut zk_talk, side: u32, piece: *const u8, length: usize) -> zk_step;
+    pub fn zk_talk_view(talk: *mut zk_talk, side: u32) -> zk_message;
+    pub fn zk_talk_line(talk: *mut zk_talk, side: u32, out: *mut u8, room: usize) -> zk_line;
+    pub fn zk_talk_payload(talk: *mut zk_talk, side: u32, out: *mut u8, room: usize) -> zk_line;
+    pub fn zk_talk_fields(
+        talk: *mut zk_talk,
+        side: u32,
+        out: *mut zk_field,
+        room: usize,
+    ) -> zk_read;
+    pub fn zk_talk_ending_line(talk: *mut zk_talk, out: *mut u8, room: usize) -> zk_line;
+    pub fn zk_talk_free(talk: *mut zk_talk);
+    pub fn zk_speaker_new(
+        speaker: *mut zk_speaker,
+        client: u32,
+        server: u32,
+        waiting: u32,
+        profile: u32,
+    ) -> u32;
+    pub fn zk_speaker_say(speaker: *mut zk_speaker, line: *const u8, length: usize) -> zk_say;
+    pub fn zk_speaker_frame(speaker: *mut zk_speaker, out: *mut u8, room: usize) -> zk_line;
+    pub fn zk_speaker_free(speaker: *mut zk_speaker);
+    pub fn zk_read_first(
+        payload: *const u8,
+        length: usize,
+        out: *mut zk_field,
+        room: usize,
+    ) -> zk_read;
+    pub fn zk_read_request(
+        profile: u32,
+        payload: *const u8,
+        length: usize,
+        out: *mut zk_field,
+        room: usize,
+    ) -> zk_read;
+    pub fn zk_read_connected(
+        payload: *const u8,
+        length: usize,
+        out: *mut zk_field,
+        room: usize,
+    ) -> zk_read;
+    pub fn zk_read_reply(
+        operation: i32,
+        parts: *const i32,
+        count: usize,
+        payload: *const u8,
+        length: usize,
+        out: *mut zk_field,
+        room: usize,
+    ) -> zk_read;
+    pub fn zk_read_event(
+        payload: *const u8,
+        length: usize,
+        out: *mut zk_field,
+        room: usize,
+    ) -> zk_read;
+}

@@ -1,0 +1,174 @@
+//! Talks and speakers: what holds a handle.
+
+use crate::message::{Message, Reader};
+use crate::{well, Fault, Profile, Side, ROOM};
+use std::ptr::null_mut;
+use zk_sys::{zk_line, zk_speaker, zk_talk};
+
+/// The greatest payloads of the sides in bytes, how many requests may wait, and the operations.
+#[derive(Clone, Copy, Debug)]
+pub struct Limits {
+    pub client: u32,
+    pub server: u32,
+    pub waiting: u32,
+    pub profile: Profile,
+}
+
+impl Default for Limits {
+    fn default() -> Limits {
+        Limits {
+            client: 4_194_304,
+            server: 4_194_304,
+            waiting: 65_536,
+            profile: Profile::V34,
+        }
+    }
+}
+
+/// A conversation as it comes.
+pub struct Talk {
+    handle: zk_talk,
+    payload: Vec<u8>,
+    reader: Reader,
+}
+
+// The library has no variables of a thread, and `&mut self` lets one call at a time use the handle.
+unsafe impl Send for Talk {}
+
+impl Talk {
+    pub fn new(limits: Limits) -> Result<Talk, Fault> {
+        let handle = zk_talk {
+            held: null_mut(),
+            live: false,
+        };
+        let mut talk = Talk {
+            handle,
+            payload: Vec::new(),
+            reader: Reader::new(),
+        };
+        let Limits {
+            client,
+            server,
+            waiting,
+            profile,
+        } = limits;
+        // The handle is all zeros, and stays in the talk, which nothing copies.
+        let status = unsafe {
+            zk_sys::zk_talk_new(&mut talk.handle, client, server, waiting, profile as u32)
+        };
+        well(status, 0).map(|()| talk)
+    }
+
+    /// Takes bytes of a side away from the front of `piece`, up to the end of the first message. Returns that message.
+    pub fn step<'t>(
+        &'t mut self,
+        side: Side,
+        piece: &mut &[u8],
+    ) -> Result<Option<Message<'t>>, Fault> {
+        let Talk {
+            handle,
+            payload,
+            reader,
+        } = self;
+        let side = side as u32;
+        let step = unsafe { zk_sys::zk_talk_step(handle, side, piece.as_ptr(), piece.len()) };
+        well(step.status, step.fault.place)?;
+        *piece = piece.get(step.used..).unwrap_or_default();
+        if !step.whole {
+            return Ok(None);
+        }
+        let view = unsafe { zk_sys::zk_talk_view(handle, side) };
+        written(payload, |out, room| unsafe {
+            zk_sys::zk_talk_payload(handle, side, out, room)
+        })?;
+        let mut message = reader.read(payload, |out, room| unsafe {
+            zk_sys::zk_talk_fields(handle, side, out, room)
+        })?;
+        message.frame = view.frame;
+        Ok(Some(message))
+    }
+
+    /// Writes the line of the side's newest message into `text`, in place of what is there.
+    pub fn line(&mut self, side: Side, text: &mut Vec<u8>) -> Result<(), Fault> {
+        written(text, |out, room| unsafe {
+            zk_sys::zk_talk_line(&mut self.handle, side as u32, out, room)
+        })
+    }
+
+    /// Writes the line of how the conversation ends if nothing more comes.
+    pub fn ending_line(&mut self, text: &mut Vec<u8>) -> Result<(), Fault> {
+        written(text, |out, room| unsafe {
+            zk_sys::zk_talk_ending_line(&mut self.handle, out, room)
+        })
+    }
+}
+
+impl Drop for Talk {
+    fn drop(&mut self) {
+        unsafe { zk_sys::zk_talk_free(&mut self.handle) }
+    }
+}
+
+/// Makes the frames of what may be said next. Each message of both sides has to be said, so that replies free the places
+/// of their requests.
+pub struct Speaker {
+    handle: zk_speaker,
+    frame: Vec<u8>,
+}
+
+// As for a talk.
+unsafe impl Send for Speaker {}
+
+impl Speaker {
+    pub fn new(limits: Limits) -> Result<Speaker, Fault> {
+        let mut speaker = Speaker {
+            handle: zk_speaker {
+                held: null_mut(),
+                live: false,
+            },
+            frame: Vec::new(),
+        };
+        let Limits {
+            client,
+            server,
+            waiting,
+            profile,
+        } = limits;
+        let status = unsafe {
+            zk_sys::zk_speaker_new(&mut speaker.handle, client, server, waiting, profile as u32)
+        };
+        well(status, 0).map(|()| speaker)
+    }
+
+    /// The frame of the line's message, which may come next.
+    pub fn say(&mut self, line: &str) -> Result<&[u8], Fault> {
+        let Speaker { handle, frame } = self;
+        let said = unsafe { zk_sys::zk_speaker_say(handle, line.as_ptr(), line.len()) };
+        well(said.status, said.column)?;
+        written(frame, |out, room| unsafe {
+            zk_sys::zk_speaker_frame(handle, out, room)
+        })?;
+        Ok(frame)
+    }
+}
+
+impl Drop for Speaker {
+    fn drop(&mut self) {
+        unsafe { zk_sys::zk_speaker_free(&mut self.handle) }
+    }
+}
+
+/// Has a text written into the room that it has, and once more if that is too small.
+fn written(
+    text: &mut Vec<u8>,
+    mut write: impl FnMut(*mut u8, usize) -> zk_line,
+) -> Result<(), Fault> {
+    text.resize(text.capacity().max(256), 0);
+    let mut line = write(text.as_mut_ptr(), text.len());
+    if line.status == ROOM {
+        text.resize(line.length, 0);
+        line = write(text.as_mut_ptr(), text.len());
+    }
+    text.truncate(if line.status == 0 { line.length } else { 0 });
+    well(line.status, 0)
+}

@@ -1,0 +1,134 @@
+"""Builds the packages of examples/ and runs their own tests, where their tools are: Python, Rust and Go.
+
+tests/library.py calls it. Nothing is taken from a network. The names of numbers that a package has are compared with the
+header's, and the calls that it declares with the header's by their parameters' number.
+"""
+
+import os
+import pathlib
+import re
+import shutil
+import subprocess
+import sys
+
+TOP = pathlib.Path(__file__).resolve().parent.parent
+HEADER, EXAMPLES = TOP / "include" / "zk.h", TOP / "examples"
+PYTHON, RUST, GO = (EXAMPLES / name for name in ("python", "rust", "go"))
+
+
+def run(name, *words, **environment):
+    """Whether a command ends with the status 0, and its output."""
+    folder = environment.pop("folder")
+    found = subprocess.run(words, cwd=folder, env={**os.environ, **environment}, capture_output=True, text=True)
+    said = found.stdout + found.stderr
+    return (name, found.returncode == 0, f"{name}: status {found.returncode}, {said[-2000:]}"), said
+
+
+def pythons(*modules):
+    """The interpreters of Python that have these modules."""
+    find = "import importlib.util as util, sys; sys.exit(not all(map(util.find_spec, sys.argv[1:])))"
+    for path in (sys.executable, "/usr/bin/python3"):
+        if shutil.which(path) and subprocess.run([path, "-c", find, *modules]).returncode == 0:
+            yield path
+
+
+def check_python(folder, shared):
+    """The wheel is made and installed in a folder, and the tests run over it."""
+    python = next(pythons("pip", "setuptools", "wheel"), None)
+    if python is None:
+        print("skipped: no Python here has pip, setuptools and wheel for examples/python")
+        return
+    source, into = folder / "python", folder / "site"
+    shutil.copytree(PYTHON, source)
+    result, _ = run("pip install", python, "-m", "pip", "install", "--quiet", "--no-index", "--no-build-isolation",
+                    "--no-deps", "--disable-pip-version-check", "--target", into, ".", folder=source)
+    yield result
+    tested = {"folder": folder, "PYTHONPATH": str(into), "LIBZK": str(shared)}
+    with_kazoo = next(pythons("kazoo"), None)
+    if with_kazoo is None:
+        print("skipped: kazoo is not installed, whose serializers examples/python/tests judges")
+    for each in sorted({python, with_kazoo or python}):
+        words = (each, "-m", "unittest", "discover", PYTHON / "tests")
+        result, said = run(f"tests of examples/python by {each}", *words, **tested)
+        yield result
+        yield "some", "Ran 0 tests" not in said, "examples/python has no tests"
+    if not shutil.which("mypy"):
+        print("skipped: there is no mypy for the types of examples/python")
+        return
+    result, _ = run("types of examples/python", "mypy", "--strict", "--cache-dir", folder / "mypy", source / "libzk",
+                    folder=folder)
+    yield result
+
+
+def check_rust(folder, archive):
+    """Both crates are built, and the tests and the examples of their documentation run."""
+    if not shutil.which("cargo"):
+        print("skipped: there is no cargo for examples/rust")
+        return
+    made = {"CARGO_TARGET_DIR": str(folder / "target"), "LIBZK_DIR": str(archive.parent), "CARGO_NET_OFFLINE": "true",
+            "RUSTFLAGS": "-D warnings"}
+    words = ("cargo", "test", "--offline", "--locked", "--workspace")
+    result, said = run("tests of examples/rust", *words, folder=RUST, **made)
+    yield result
+    yield "some", len(re.findall(r"^test .* ok$", said, re.M)) > 8, f"examples/rust has few tests: {said[-500:]}"
+
+
+def check_go(folder, archive):
+    """The package is built and vetted, and its tests run."""
+    if not shutil.which("go"):
+        print("skipped: there is no go for examples/go")
+        return
+    made = {"CGO_CFLAGS": f"-I{HEADER.parent} -O2", "CGO_LDFLAGS": f"-L{archive.parent}", "GOFLAGS": "-mod=mod",
+            "GOPROXY": "off", "GOCACHE": str(folder / "cache"), "GODEBUG": "cgocheck=1",
+            "LD_LIBRARY_PATH": str(archive.parent)}
+    result, said = run("tests of examples/go", "go", "test", "-count=1", "-v", "./...", folder=GO, **made)
+    yield result
+    yield "some", said.count("--- PASS") > 4, f"examples/go has few tests: {said[-500:]}"
+
+
+def pairs(text):
+    """Numbers and names as Python and Rust have them."""
+    return {int(number): name for number, name in re.findall(r'(-?\d+)(?::| =>) "(\w+)"', text)}
+
+
+def compare_names(names):
+    """Whether each package has the header's names; Go's are the header's functions."""
+    python = (PYTHON / "libzk" / "_names.py").read_text()
+    rust = (RUST / "zk" / "src" / "names.rs").read_text()
+    tables = dict(re.findall(r"^(\w+): Dict\[int, str\] = \{(.*?)^\}", python, re.M | re.S))
+    words = {"operation": "OPERATIONS", "error": "ERRORS", "event": "EVENTS", "field": "FIELDS", "status": "STATUSES"}
+    functions = dict(re.findall(r"^pub fn (\w+)_name\(.*?\n(.*?)^\}", rust, re.M | re.S))
+    for kind, wanted in names.items():
+        for package, text in (("python", tables[words[kind]]), ("rust", functions[kind])):
+            yield kind, pairs(text) == wanted, f"examples/{package}: names of {kind}: {pairs(text)}, not {wanted}"
+
+
+def compare_calls(calls):
+    """Whether each call that a package declares has as many parameters as in the header."""
+    python = re.findall(r'"(zk_\w+)": \((.*)\),$', (PYTHON / "libzk" / "_calls.py").read_text(), re.M)
+    rust = re.findall(r"pub fn (zk_\w+)\((.*?)\)(?: ->|;)", (RUST / "zk-sys" / "src" / "lib.rs").read_text(), re.S)
+    found = [("python", name, words.count(",")) for name, words in python]
+    found += [("rust", name, words.count(":")) for name, words in rust]
+    for package, name, count in found:
+        wanted = len(calls[name][1]) if name in calls else None
+        yield name, count == wanted, f"examples/{package}: {name} has {count} parameters, and {wanted} in the header"
+    for package, declared in (("python", python), ("rust", rust)):
+        yield package, len(declared) > 10, f"examples/{package} declares {len(declared)} calls"
+
+
+def compare_versions():
+    """Whether each package has the version of the release."""
+    wanted = (TOP / "VERSION").read_text().strip()
+    for path in (PYTHON / "pyproject.toml", RUST / "zk-sys" / "Cargo.toml", RUST / "zk" / "Cargo.toml"):
+        found = re.findall(r'^version = "(.*)"', path.read_text(), re.M)
+        yield path.name, found == [wanted], f"{path.relative_to(TOP)}: the version {found}, not {wanted}"
+
+
+def check(folder, archive, shared, calls, names):
+    """What is wrong with the packages, and what isn't."""
+    yield from compare_versions()
+    yield from compare_names(names)
+    yield from compare_calls(calls)
+    yield from check_python(folder, shared)
+    yield from check_rust(folder, archive)
+    yield from check_go(folder, archive)
