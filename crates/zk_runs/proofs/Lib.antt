@@ -8,5 +8,6 @@ pub mod Taken
 pub mod Answered
 pub mod Spared
 pub mod Moves
+pub mod Paid
 pub mod Migrates
 pub mod Chosen

@@ -1,13 +1,14 @@
 -- What one step of the reader adds to what is written of a recording that is migrated.
-use Rattle.std.proofs.Common.{◌≡◌, ℕ, ◌+◌, ◌<◌, zero, suc, List, [], ◌∷◌, ◌++◌, length, take, drop, Bool, true, false, cond, nat_lt, Option, Some, inl, inr, refl, sym, ap, ◌∙◌, subst, append_assoc, append-nil, arith, length-append}
+use Rattle.std.proofs.Common.{◌≡◌, ℕ, ◌+◌, ◌<◌, ◌≤◌, zero, suc, List, [], ◌∷◌, ◌++◌, length, take, drop, Bool, true, false, cond, nat_lt, Option, None, Some, refl, sym, ap, ◌∙◌, subst, append_assoc, append-nil, arith, length-append}
+use Rattle.std.specs.Prelude.{MatchOption}
 use Rattle.std.specs.List.{All, flat_map}
-use Rattle.std.specs.Io.KnownBytes.{Appends, Consumes, IsAtEnd}
-use Rattle.std.proofs.Math.Seq.{take-add}
+use Rattle.std.specs.Io.KnownBytes.{Appends}
+use Rattle.std.proofs.Math.Seq.{take-add, take-length, drop-length}
+use Rattle.std.proofs.lemmas.List.{take-append-le, drop-append-le}
 use Rattle.std.proofs.lemmas.Grind.{flat_map-append}
 use Rattle.std.proofs.lemmas.List.Elements.{All-head, All-tail}
 use Rattle.zk_talk.specs.declared.limits.Limits.{Limits}
 use Rattle.zk_talk.specs.declared.message.Side.{Side}
-use Rattle.zk_runs.specs.declared.migrate.Migrated.{Migrated}
 use Rattle.zk_recordings.specs.declared.parts.DamageAt.{DamageAt}
 use Rattle.zk_recordings.specs.declared.parts.Format.{Format}
 use Rattle.zk_recordings.specs.declared.parts.Format.TheVariants.{Zkr1, Zkr2}
@@ -15,15 +16,13 @@ use Rattle.zk_recordings.specs.declared.parts.Part.{Part}
 use Rattle.zk_recordings.specs.declared.parts.Part.TheVariants.{SideByte}
 use Rattle.zk_recordings.specs.Reader.{ReaderState}
 use Rattle.zk_recordings.specs.Parts.{number, piece_parts}
-use Rattle.zk_recordings.specs.Recording.{spelled, End, Cut, Bad, end_bytes, Break, IsBreakIn, Head, First, Second, format_of, head_bytes, Piece, IsPiece, piece_bytes, Place, AtLetters, InHead, InPieces, IsPlace, front, Recording, Breaks, Ends, IsRecording, Spells, place_of, begun_of, damage_of, nothing}
-use Rattle.zk_recordings.specs.Reading.{IsAt, IsDecidedBy, IsHeaded, IsBetween, GoesOn, in_head, within, ends, ReadsOn, format_at}
-use Rattle.zk_listings.specs.Outcome.{IsBroken, HasGrownIn}
-use Rattle.zk_runs.specs.Migrating.{head_of, second, migrated_at, migrated, sent, kept_at, kept, IsHeadedIf, HasMoved, HasMovedIn, HasMovedTo, HasMigrated, HasMigratedSoFar, HasBegunMigrating, answered}
-use Rattle.zk_listings.proofs.Bytes.{Appends-then, Consumes-then}
+use Rattle.zk_recordings.specs.Recording.{no_time, spelled, End, Cut, Bad, end_bytes, Break, IsBreakIn, Head, First, Second, format_of, head_bytes, Piece, IsPiece, piece_bytes, Place, AtLetters, InHead, InPieces, IsPlace, front, Recording, Breaks, Ends, IsRecording, Spells, place_of, begun_of, nothing}
+use Rattle.zk_recordings.specs.Reading.{IsAt, IsDecidedBy, IsHeaded, IsBetween, IsBetweenOf, IsNeverBetween, GoesOn, in_head, within, ends, ReadsOn, format_at}
+use Rattle.zk_listings.specs.Outcome.{HasGrownIn}
+use Rattle.zk_runs.specs.Migrating.{head_of, second, migrated_at, migrated, timed, taken, sent, kept_at, kept, IsHeadedIf, HasMoved, HasMovedTo}
 use Rattle.zk_recordings.proofs.Walks.{Walk, Walked, Broke, walk}
 use Rattle.zk_recordings.proofs.Once.{with_content, piece_with, choose, parse, piece-some, spells-once, recorded}
 use Rattle.zk_recordings.proofs.Any.{any, goes}
-use Rattle.zk_listings.proofs.Found.{reads as reads-by, grown-further}
 use Rattle.zk_listings.proofs.Feeding.{grown-whole}
 use Rattle.zk_recordings.proofs.Stages.{damaged-more}
 use Rattle.zk_listings.proofs.Stops.{rejoined}
@@ -56,10 +55,46 @@ kept-bare AtLetters begun none = refl
 kept-bare (InHead f) begun none = refl
 kept-bare (InPieces head ps) begun none = absurd (none tt)
 
-kept-more : (place : Place) (begun more : List ℕ) → kept_at place (begun ++ more) ≡ kept_at place begun ++ more
-kept-more AtLetters begun more = refl
-kept-more (InHead f) begun more = sym (append_assoc (front (InHead f)) begun more)
-kept-more (InPieces head ps) begun more = refl
+timed-none : (f : Format) → timed f [] ≡ []
+timed-none Zkr1 = refl
+timed-none Zkr2 = refl
+
+timed-more : (f : Format) (begun more : List ℕ) → (begun ≡ [] → ⊥) → timed f (begun ++ more) ≡ timed f begun ++ more
+timed-more Zkr1 [] more some = absurd (some refl)
+timed-more Zkr1 (b ∷ bs) more some = ap (λ l. b ∷ l) (sym (append_assoc no_time bs more))
+timed-more Zkr2 begun more some = refl
+
+kept-more : (place : Place) (begun more : List ℕ) → (IsHeaded place → begun ≡ [] → ⊥) → kept_at place (begun ++ more) ≡ kept_at place begun ++ more
+kept-more AtLetters begun more some = refl
+kept-more (InHead f) begun more some = sym (append_assoc (front (InHead f)) begun more)
+kept-more (InPieces head ps) begun more some = timed-more (format_of head) begun more (some tt)
+
+-- a head or a piece of this format has just ended; or none has
+abbrev pub StartsAt : Option Format → Recording → Type 0
+StartsAt None r = IsBetween r → ⊥
+StartsAt (Some f) r = IsBetween r × (format_at (place_of r) ≡ Some f)
+
+pub starts-at : (after : Option Format) (s : ReaderState) (x : List ℕ) (r : Recording) → MatchOption after (IsNeverBetween s) (IsBetweenOf s) → IsAt s x r → StartsAt after r
+starts-at None s x r is at' = is x r at'
+starts-at (Some f) s x r is at' = is x r at'
+
+starting : (head : Head) (ps : List Piece) (used : List ℕ) (f : Format) → format_of head ≡ f →
+    kept_at (InPieces head ps) ([] ++ used) ≡ kept (Breaks (InPieces head ps) nothing) ++ timed f used
+starting head ps used f e = ap (λ g. timed g used) e ∙ ap (λ l. l ++ timed f used) (sym (timed-none (format_of head)))
+
+-- what is held grows by what is taken
+kept-taken : (after : Option Format) (old : Recording) (used : List ℕ) → IsRecording old → StartsAt after old → kept_at (place_of old) (begun_of old ++ used) ≡ kept old ++ taken after used
+kept-taken None old used is never = kept-more (place_of old) (begun_of old) used (λ h none. never (between old is h none))
+kept-taken (Some f) old used is starts =
+    let b = starts.0 in
+    let e : Some (format_of b.0) ≡ Some f = sym (ap (λ r. format_at (place_of r)) b.2) ∙ starts.1 in
+    let same : format_of b.0 ≡ f = cc in
+    subst (λ r. kept_at (place_of r) (begun_of r ++ used) ≡ kept r ++ timed f used) (sym b.2) (starting b.0 b.1 used f same)
+
+-- no piece begins before the head is whole
+plain-taken : (after : Option Format) (old : Recording) (used : List ℕ) → (IsHeaded (place_of old) → ⊥) → StartsAt after old → taken after used ≡ used
+plain-taken None old used none starts = refl
+plain-taken (Some f) old used none starts = absurd (none (subst (λ r. IsHeaded (place_of r)) (sym starts.0.2) tt))
 
 none-written : (options : Limits) (place : Place) → (IsHeaded place → ⊥) → migrated_at options place ≡ []
 none-written options AtLetters none = refl
@@ -84,26 +119,26 @@ kept-all x used old i none = ap (λ l. l ++ used) (kept-bare (place_of old) (beg
 
 -- ---- a step behind which something is begun
 
-pub record Keeps (options : Limits) (head_written : Bool) (old new : Recording) (used : List ℕ) : Type 0 where
-  pub head_is : IsHeadedIf head_written (place_of new)
-  pub kept_is : kept new ≡ kept old ++ used
+pub record Keeps (options : Limits) (head_whole : Bool) (after : Option Format) (old new : Recording) (used : List ℕ) : Type 0 where
+  pub head_is : IsHeadedIf head_whole (place_of new)
+  pub kept_is : kept new ≡ kept old ++ taken after used
   pub written_is : migrated options new ≡ migrated options old
 
-pub keeps : (options : Limits) (head_written : Bool) (x used : List ℕ) (old new : Recording) (side : Option Side) → Spells x old → Spells (x ++ used) new → GoesOn old used side new →
-    (IsBetween new → ⊥) → IsHeadedIf head_written (place_of old) → Keeps options head_written old new used
-keeps options head_written x used old new side i j (in_head none bare empty no_history no_side) begins is =
+pub keeps : (options : Limits) (head_whole : Bool) (after : Option Format) (x used : List ℕ) (old new : Recording) (side : Option Side) → Spells x old → Spells (x ++ used) new → GoesOn old used side new →
+    StartsAt after old → (IsBetween new → ⊥) → IsHeadedIf head_whole (place_of old) → Keeps options head_whole after old new used
+keeps options head_whole after x used old new side i j (in_head none bare empty no_history no_side) starts begins is =
     let no_head : IsHeaded (place_of new) → ⊥ = λ h. begins (between new j.sound h empty) in
     record {
-      head_is = headed-if head_written (place_of old) (place_of new) none no_head is;
-      kept_is = kept-bare (place_of new) (begun_of new) no_head ∙ sym j.is ∙ sym (kept-all x used old i none);
+      head_is = headed-if head_whole (place_of old) (place_of new) none no_head is;
+      kept_is = kept-bare (place_of new) (begun_of new) no_head ∙ sym j.is ∙ sym (kept-all x used old i none) ∙ ap (λ l. kept old ++ l) (sym (plain-taken after old used none starts));
       written_is = none-written options (place_of new) no_head ∙ sym (none-written options (place_of old) none);
     }
-keeps options head_written x used old new side i j (within e more history may) begins is = record {
-  head_is = subst (IsHeadedIf head_written) (sym e) is;
-  kept_is = ap (λ p. kept_at p (begun_of new)) e ∙ ap (kept_at (place_of old)) more ∙ kept-more (place_of old) (begun_of old) used;
+keeps options head_whole after x used old new side i j (within e more history may) starts begins is = record {
+  head_is = subst (IsHeadedIf head_whole) (sym e) is;
+  kept_is = ap (λ p. kept_at p (begun_of new)) e ∙ ap (kept_at (place_of old)) more ∙ kept-taken after old used i.sound starts;
   written_is = ap (migrated_at options) e;
 }
-keeps options head_written x used old new side i j (ends head ps piece e is' bytes history) begins is = absurd (begins (head, ps ++ piece ∷ [], is'))
+keeps options head_whole after x used old new side i j (ends head ps piece e is' bytes history) starts begins is = absurd (begins (head, ps ++ piece ∷ [], is'))
 
 -- ---- a step with which a head or a piece becomes whole
 
@@ -112,7 +147,7 @@ last-piece f [] p each = All-head (IsPiece f) p [] each
 last-piece f (q ∷ ps) p each = last-piece f ps p (All-tail (IsPiece f) q (ps ++ p ∷ []) each)
 
 -- a piece of either format in the second one
-timed-piece : (options : Limits) (head : Head) (p : Piece) → IsPiece (format_of head) p → sent options (format_of head) true (piece_bytes (format_of head) p) ≡ piece_bytes (format_of (second options head)) p
+timed-piece : (options : Limits) (head : Head) (p : Piece) → IsPiece (format_of head) p → timed (format_of head) (piece_bytes (format_of head) p) ≡ piece_bytes (format_of (second options head)) p
 timed-piece options First p is = ap (λ t. piece_bytes Zkr2 (record { side = p.side; time = t; size = p.size; content = p.content })) (sym is.begun.timed)
 timed-piece options (Second c s w f) p is = refl
 
@@ -129,59 +164,69 @@ headed-whole : (options : Limits) (head : Head) (bytes : List ℕ) → bytes ≡
 headed-whole options First bytes e = append-nil (head_bytes (head_of options))
 headed-whole options (Second c s w p) bytes e = sym e
 
-module _ (options : Limits) (head_written : Bool) (x used : List ℕ) (old : Recording) (side : Option Side) (head : Head) (ps : List Piece) where
+sent-piece : (options : Limits) (f : Format) (held : List ℕ) → sent options f true held ≡ held
+sent-piece options Zkr1 held = refl
+sent-piece options Zkr2 held = refl
+
+module _ (options : Limits) (head_whole : Bool) (after : Option Format) (x used : List ℕ) (old : Recording) (side : Option Side) (head : Head) (ps : List Piece) where
   abbrev new : Recording
   new = Breaks (InPieces head ps) nothing
 
-  sends-head : Spells x old → Spells (x ++ used) new → (IsHeaded (place_of old) → ⊥) → ps ≡ [] → head_written ≡ false →
-      migrated options new ≡ migrated options old ++ sent options (format_of head) head_written (kept old ++ used)
-  sends-head i j none bare not =
-      let bytes : kept old ++ used ≡ front (InPieces head []) = kept-all x used old i none ∙ j.is ∙ append-nil (front (InPieces head ps)) ∙ ap (λ l. front (InPieces head l)) bare in
-      ap (λ l. front (InPieces (second options head) l)) bare
-      ∙ headed-whole options head (kept old ++ used) bytes
-      ∙ ap (λ w. sent options (format_of head) w (kept old ++ used)) (sym not)
-      ∙ ap (λ l. l ++ sent options (format_of head) head_written (kept old ++ used)) (sym (none-written options (place_of old) none))
+  abbrev held : List ℕ
+  held = kept old ++ taken after used
 
-  sends-piece : (before : List Piece) (piece : Piece) → Spells (x ++ used) new → place_of old ≡ InPieces head before → ps ≡ before ++ piece ∷ [] →
-      piece_bytes (format_of head) piece ≡ begun_of old ++ used → head_written ≡ true →
-      migrated options new ≡ migrated options old ++ sent options (format_of head) head_written (kept old ++ used)
-  sends-piece before piece j e last bytes is =
+  sends-head : Spells x old → Spells (x ++ used) new → (IsHeaded (place_of old) → ⊥) → StartsAt after old → ps ≡ [] → head_whole ≡ false →
+      migrated options new ≡ migrated options old ++ sent options (format_of head) head_whole held
+  sends-head i j none starts bare not =
+      let bytes : held ≡ front (InPieces head []) =
+      ap (λ l. kept old ++ l) (plain-taken after old used none starts) ∙ kept-all x used old i none ∙ j.is ∙ append-nil (front (InPieces head ps)) ∙ ap (λ l. front (InPieces head l)) bare in
+      ap (λ l. front (InPieces (second options head) l)) bare
+      ∙ headed-whole options head held bytes
+      ∙ ap (λ w. sent options (format_of head) w held) (sym not)
+      ∙ ap (λ l. l ++ sent options (format_of head) head_whole held) (sym (none-written options (place_of old) none))
+
+  sends-piece : (before : List Piece) (piece : Piece) → Spells x old → Spells (x ++ used) new → StartsAt after old → place_of old ≡ InPieces head before → ps ≡ before ++ piece ∷ [] →
+      piece_bytes (format_of head) piece ≡ begun_of old ++ used → head_whole ≡ true →
+      migrated options new ≡ migrated options old ++ sent options (format_of head) head_whole held
+  sends-piece before piece i j starts e last bytes is =
       let f = format_of head in
       let sound : IsPiece f piece = last-piece f before piece (subst (All (IsPiece f)) last j.sound.stands.each) in
-      let mine : kept old ++ used ≡ piece_bytes f piece = ap (λ q. kept_at q (begun_of old) ++ used) e ∙ sym bytes in
+      let mine : held ≡ timed f (piece_bytes f piece) =
+      sym (kept-taken after old used i.sound starts) ∙ ap (λ q. kept_at q (begun_of old ++ used)) e ∙ ap (timed f) (sym bytes) in
       ap (λ l. front (InPieces (second options head) l)) last
       ∙ front-last (second options head) before piece
       ∙ ap (λ l. front (InPieces (second options head) before) ++ l) (sym (timed-piece options head piece sound))
-      ∙ ap (λ l. front (InPieces (second options head) before) ++ sent options f true l) (sym mine)
-      ∙ ap (λ w. front (InPieces (second options head) before) ++ sent options f w (kept old ++ used)) (sym is)
-      ∙ ap (λ q. migrated_at options q ++ sent options f head_written (kept old ++ used)) (sym e)
+      ∙ ap (λ l. front (InPieces (second options head) before) ++ l) (sym mine ∙ sym (sent-piece options f held))
+      ∙ ap (λ w. front (InPieces (second options head) before) ++ sent options f w held) (sym is)
+      ∙ ap (λ q. migrated_at options q ++ sent options f head_whole held) (sym e)
 
-  sends-in : Spells x old → Spells (x ++ used) new → 0 < length used → IsHeadedIf head_written (place_of old) → GoesOn old used side new →
-      migrated options new ≡ migrated options old ++ sent options (format_of head) head_written (kept old ++ used)
-  sends-in i j some is (in_head none bare empty no_history no_side) = sends-head i j none bare (unwritten head_written (place_of old) none is)
-  sends-in i j some is (within e more history may) = absurd (omega (arith, some, ap length more, length-append (begun_of old) used))
-  sends-in i j some is (ends other before piece e is' bytes history) =
+  sends-in : Spells x old → Spells (x ++ used) new → 0 < length used → IsHeadedIf head_whole (place_of old) → StartsAt after old → GoesOn old used side new →
+      migrated options new ≡ migrated options old ++ sent options (format_of head) head_whole held
+  sends-in i j some is starts (in_head none bare empty no_history no_side) = sends-head i j none starts bare (unwritten head_whole (place_of old) none is)
+  sends-in i j some is starts (within e more history may) = absurd (omega (arith, some, ap length more, length-append (begun_of old) used))
+  sends-in i j some is starts (ends other before piece e is' bytes history) =
       let same : head ≡ other = cc in
       let last : ps ≡ before ++ piece ∷ [] = cc in
       let at' : place_of old ≡ InPieces head before = e ∙ ap (λ h. InPieces h before) (sym same) in
-      sends-piece before piece j at' last (ap (λ h. piece_bytes (format_of h) piece) same ∙ bytes) (written head_written (place_of old) (subst IsHeaded (sym e) tt) is)
+      sends-piece before piece i j starts at' last (ap (λ h. piece_bytes (format_of h) piece) same ∙ bytes) (written head_whole (place_of old) (subst IsHeaded (sym e) tt) is)
 
-pub record Sends (options : Limits) (head_written : Bool) (format : Format) (old new : Recording) (used : List ℕ) : Type 0 where
+pub record Sends (options : Limits) (head_whole : Bool) (after : Option Format) (format : Format) (old new : Recording) (used : List ℕ) : Type 0 where
   pub head_is : IsHeaded (place_of new)
   pub kept_is : [] ≡ kept new
-  pub written_is : migrated options new ≡ migrated options old ++ sent options format head_written (kept old ++ used)
+  pub written_is : migrated options new ≡ migrated options old ++ sent options format head_whole (kept old ++ taken after used)
 
-pub sends : (options : Limits) (head_written : Bool) (format : Format) (x used : List ℕ) (old new : Recording) (side : Option Side) → Spells x old → Spells (x ++ used) new → GoesOn old used side new →
-    IsBetween new → format_at (place_of new) ≡ Some format → 0 < length used → IsHeadedIf head_written (place_of old) → Sends options head_written format old new used
-sends options head_written format x used old new side i j goes_on b f some is =
+pub sends : (options : Limits) (head_whole : Bool) (after : Option Format) (format : Format) (x used : List ℕ) (old new : Recording) (side : Option Side) → Spells x old → Spells (x ++ used) new →
+    GoesOn old used side new → StartsAt after old → IsBetween new → format_at (place_of new) ≡ Some format → 0 < length used → IsHeadedIf head_whole (place_of old) →
+    Sends options head_whole after format old new used
+sends options head_whole after format x used old new side i j goes_on starts b f some is =
     let there = Breaks (InPieces b.0 b.1) nothing in
     let format_is : Some (format_of b.0) ≡ Some format = sym (ap (λ r. format_at (place_of r)) b.2) ∙ f in
     let same : format_of b.0 ≡ format = cc in
-    let all = sends-in options head_written x used old side b.0 b.1 i (subst (Spells (x ++ used)) b.2 j) some is (subst (GoesOn old used side) b.2 goes_on) in
+    let all = sends-in options head_whole after x used old side b.0 b.1 i (subst (Spells (x ++ used)) b.2 j) some is starts (subst (GoesOn old used side) b.2 goes_on) in
     record {
       head_is = subst (λ r. IsHeaded (place_of r)) (sym b.2) tt;
-      kept_is = ap kept (sym b.2);
-      written_is = ap (migrated options) b.2 ∙ all ∙ ap (λ q. migrated options old ++ sent options q head_written (kept old ++ used)) same;
+      kept_is = sym (timed-none (format_of b.0)) ∙ ap kept (sym b.2);
+      written_is = ap (migrated options) b.2 ∙ all ∙ ap (λ q. migrated options old ++ sent options q head_whole (kept old ++ taken after used)) same;
     }
 
 -- ---- whatever follows, what was written stays a front
@@ -222,6 +267,12 @@ further-in options x more r new (InPieces head ps) e i j =
           ∙ ap (λ q. migrated_at options q ++ flat_map (piece_bytes (format_of (second options head))) m.0) (sym e),
     )
 
+-- a front of what these bytes are migrated to was written
+pub record HasMovedIn (options : Limits) (x : List ℕ) (before now : Option (List ℕ)) : Type 0 where
+  pub recording : Recording
+  pub spells : Spells x recording
+  pub written : HasGrownIn before now (migrated options recording)
+
 -- a front of what some bytes are migrated to is one of what longer bytes are
 pub moved-further : (options : Limits) (x more : List ℕ) (r : Recording) (before now : Option (List ℕ)) → Spells x r → HasGrownIn before now (migrated options r) → HasMovedIn options (x ++ more) before now
 moved-further options x more r before now i grown =
@@ -229,105 +280,91 @@ moved-further options x more r before now i grown =
     let f = further-in options x more r (recorded (x ++ more)) (place_of r) refl i j in
     record { recording = recorded (x ++ more); spells = j; written = subst (HasGrownIn before now) (sym f.1) (grown-in before now (migrated options r) f.0 grown) }
 
+-- before what is due is written
+pub moved-before : (options : Limits) (x : List ℕ) (head_whole : Bool) (due begun : List ℕ) (s : ReaderState) (before now : Option (List ℕ)) →
+    (t : HasMoved options x head_whole due begun s before now) → HasGrownIn before now (migrated options t.recording)
+moved-before options x head_whole due begun s before now t =
+    subst (HasGrownIn before now) (sym t.is) (grown-in before now t.written due (grown-whole before now t.written t.appended))
+
 -- ---- one step
 
-pub stop-here : (options : Limits) (x block : List ℕ) (head_written : Bool) (begun : List ℕ) (s : ReaderState) (before now : Option (List ℕ)) →
-    HasMoved options x head_written begun s before now → HasMovedIn options (x ++ block) before now
-stop-here options x block head_written begun s before now t =
-    moved-further options x block t.recording before now t.at.spells (grown-whole before now (migrated options t.recording) t.written)
-
-module _ (options : Limits) (x block : List ℕ) (n : ℕ) (head_written : Bool) (begun : List ℕ) (s : ReaderState) (before mid : Option (List ℕ)) (t : HasMoved options x head_written begun s before mid)
-    (state : ReaderState) (side : Option Side) (reads : (y : List ℕ) (r : Recording) → IsAt s y r → ReadsOn state y r (take n block) side) where
+module _ (options : Limits) (x block : List ℕ) (n : ℕ) (head_whole : Bool) (due begun : List ℕ) (s : ReaderState) (before now : Option (List ℕ)) (t : HasMoved options x head_whole due begun s before now)
+    (state : ReaderState) (side : Option Side) (reads : (y : List ℕ) (r : Recording) → IsAt s y r → ReadsOn state y r (take n block) side)
+    (after : Option Format) (starts : MatchOption after (IsNeverBetween s) (IsBetweenOf s)) where
   on : ReadsOn state x t.recording (take n block) side
   on = reads x t.recording t.at
 
-  pub moved-on : ((y : List ℕ) (r : Recording) → IsAt state y r → IsBetween r → ⊥) → (now_begun : List ℕ) → now_begun ≡ begun ++ take n block →
-      HasMoved options (x ++ take n block) head_written now_begun state before mid
-  moved-on none now_begun e =
-      let k = keeps options head_written x (take n block) t.recording on.new side t.at.spells on.is.spells on.goes_on (none _ on.new on.is) t.head_is in
+  start : StartsAt after t.recording
+  start = starts-at after s x t.recording starts t.at
+
+  moved-on : IsNeverBetween state → (due_now begun_now : List ℕ) → due_now ≡ due → begun_now ≡ begun ++ taken after (take n block) →
+      HasMoved options (x ++ take n block) head_whole due_now begun_now state before now
+  moved-on none due_now begun_now d e =
+      let k = keeps options head_whole after x (take n block) t.recording on.new side t.at.spells on.is.spells on.goes_on start (none _ on.new on.is) t.head_is in
       record {
         recording = on.new;
         at = on.is;
         head_is = k.head_is;
-        begun_is = e ∙ ap (λ l. l ++ take n block) t.begun_is ∙ sym k.kept_is;
-        written = subst (Appends before mid) (sym k.written_is) t.written;
+        begun_is = e ∙ ap (λ l. l ++ taken after (take n block)) t.begun_is ∙ sym k.kept_is;
+        written = t.written;
+        is = k.written_is ∙ t.is ∙ ap (λ l. t.written ++ l) (sym d);
+        appended = t.appended;
       }
 
-  module _ (format : Format) (whole : (y : List ℕ) (r : Recording) → IsAt state y r → IsBetween r × (format_at (place_of r) ≡ Some format)) (some : 0 < length (take n block))
-      (text : List ℕ) (text_is : text ≡ sent options format head_written (begun ++ take n block)) where
-    sending : Sends options head_written format t.recording on.new (take n block)
-    sending =
-        let w = whole _ on.new on.is in
-        sends options head_written format x (take n block) t.recording on.new side t.at.spells on.is.spells on.goes_on w.0 w.1 some t.head_is
+  moved-all : (format : Format) → IsBetweenOf state format → 0 < length (take n block) → (due_now begun_now : List ℕ) →
+      due_now ≡ due ++ sent options format head_whole (begun ++ taken after (take n block)) → begun_now ≡ [] →
+      HasMoved options (x ++ take n block) true due_now begun_now state before now
+  moved-all format whole some due_now begun_now d e =
+      let w = whole _ on.new on.is in
+      let k = sends options head_whole after format x (take n block) t.recording on.new side t.at.spells on.is.spells on.goes_on start w.0 w.1 some t.head_is in
+      let text : List ℕ → List ℕ = λ l. sent options format head_whole (l ++ taken after (take n block)) in
+      record {
+        recording = on.new;
+        at = on.is;
+        head_is = k.head_is;
+        begun_is = e ∙ k.kept_is;
+        written = t.written;
+        is = k.written_is ∙ ap (λ l. l ++ text (kept t.recording)) t.is ∙ append_assoc t.written due (text (kept t.recording))
+            ∙ ap (λ l. t.written ++ (due ++ text l)) (sym t.begun_is) ∙ ap (λ l. t.written ++ l) (sym d);
+        appended = t.appended;
+      }
 
-    adds : migrated options on.new ≡ migrated options t.recording ++ text
-    adds = sending.written_is ∙ ap (λ l. migrated options t.recording ++ l) (ap (λ l. sent options format head_written (l ++ take n block)) (sym t.begun_is) ∙ sym text_is)
+-- the same, of what is held in one list up to a mark and behind it
+module _ (options : Limits) (x block : List ℕ) (n : ℕ) (head_whole : Bool) (mark : ℕ) (held : List ℕ) (within_held : mark ≤ length held) (s : ReaderState) (before now : Option (List ℕ))
+    (t : HasMoved options x head_whole (take mark held) (drop mark held) s before now)
+    (state : ReaderState) (side : Option Side) (reads : (y : List ℕ) (r : Recording) → IsAt s y r → ReadsOn state y r (take n block) side)
+    (after : Option Format) (starts : MatchOption after (IsNeverBetween s) (IsBetweenOf s))
+    (more : List ℕ) (more_is : more ≡ held ++ taken after (take n block)) where
+  before-mark : take mark more ≡ take mark held
+  before-mark = ap (take mark) more_is ∙ take-append-le mark held (taken after (take n block)) within_held
 
-    pub moved-all : (none : List ℕ) → none ≡ [] → (now : Option (List ℕ)) → Appends mid now text → HasMoved options (x ++ take n block) true none state before now
-    moved-all none e now p = record {
-      recording = on.new;
-      at = on.is;
-      head_is = sending.head_is;
-      begun_is = e ∙ sending.kept_is;
-      written = subst (Appends before now) (sym adds) (Appends-then before mid now _ _ t.written p);
-    }
+  behind-mark : drop mark more ≡ drop mark held ++ taken after (take n block)
+  behind-mark = ap (drop mark) more_is ∙ drop-append-le mark held (taken after (take n block)) within_held
 
-    pub moved-part : (now : Option (List ℕ)) → HasGrownIn mid now text → HasMovedIn options (x ++ block) before now
-    moved-part now p = subst (λ y. HasMovedIn options y before now) (rejoined x block n)
-        (moved-further options (x ++ take n block) (drop n block) on.new before now on.is.spells (subst (HasGrownIn before now) (sym adds) (grown-further before mid now _ _ t.written p)))
+  pub held-on : IsNeverBetween state → HasMoved options (x ++ take n block) head_whole (take mark more) (drop mark more) state before now
+  held-on none = moved-on options x block n head_whole (take mark held) (drop mark held) s before now t state side reads after starts none (take mark more) (drop mark more) before-mark behind-mark
+
+  pub held-all : (format : Format) → IsBetweenOf state format → 0 < length (take n block) → (all : List ℕ) → all ≡ take mark more ++ sent options format head_whole (drop mark more) →
+      (end : ℕ) → end ≡ length all → HasMoved options (x ++ take n block) true (take end all) (drop end all) state before now
+  held-all format whole some all all_is end end_is =
+      moved-all options x block n head_whole (take mark held) (drop mark held) s before now t state side reads after starts format whole some (take end all) (drop end all)
+      (ap (λ i. take i all) end_is ∙ take-length all ∙ all_is ∙ ap (λ l. l ++ sent options format head_whole (drop mark more)) before-mark ∙ ap (λ l. take mark held ++ sent options format head_whole l) behind-mark)
+      (ap (λ i. drop i all) end_is ∙ drop-length all)
 
 -- ---- one step after another
 
 pub joined : (x block : List ℕ) (at' used : ℕ) → (x ++ take at' block) ++ take used (drop at' block) ≡ x ++ take (at' + used) block
 joined x block at' used = append_assoc x (take at' block) (take used (drop at' block)) ∙ ap (λ l. x ++ l) (sym (take-add at' used block))
 
-pub found-damage : (options : Limits) (x block : List ℕ) (n : ℕ) (d : DamageAt) (head_written : Bool) (begun : List ℕ) (s : ReaderState) (before now : Option (List ℕ)) →
-    HasMoved options (x ++ take n block) head_written begun s before now → ((y : List ℕ) (r : Recording) → IsAt s y r → IsDecidedBy d y r) → HasMovedTo options (x ++ block) d before now
-found-damage options x block n d head_written begun s before now t decided =
+pub found-damage : (options : Limits) (x block : List ℕ) (n : ℕ) (d : DamageAt) (head_whole : Bool) (due begun : List ℕ) (s : ReaderState) (before now : Option (List ℕ)) →
+    HasMoved options (x ++ take n block) head_whole due begun s before now → ((y : List ℕ) (r : Recording) → IsAt s y r → IsDecidedBy d y r) → HasMovedTo options (x ++ block) d due before now
+found-damage options x block n d head_whole due begun s before now t decided =
     let m = damaged-more d (x ++ take n block) (drop n block) t.recording t.at.spells (decided _ t.recording t.at) in
     record {
       recording = m.0;
       spells = subst (λ y. Spells y m.0) (rejoined x block n) m.1;
       decided = subst (λ y. IsDecidedBy d y m.0) (rejoined x block n) m.2;
-      written = subst (Appends before now) (ap (migrated_at options) (sym m.3)) t.written;
+      written = t.written;
+      is = ap (migrated_at options) m.3 ∙ t.is;
+      appended = t.appended;
     }
-
--- ---- what a run has read and written
-
-pub migrated-so_far : (options : Limits) (unread unread_now : Option (List ℕ)) (x : List ℕ) (head_written : Bool) (begun : List ℕ) (s : ReaderState) (before now : Option (List ℕ)) →
-    Consumes unread unread_now x → (t : HasMoved options x head_written begun s before now) → (IsBroken x t.recording → ⊥) → HasMigratedSoFar options unread unread_now before now
-migrated-so_far options unread unread_now x head_written begun s before now p t unbroken =
-    record { bytes = x; recording = t.recording; reads = reads-by unread unread_now x t.recording p t.at.spells; unbroken = unbroken; written = t.written }
-
-pub begun-in : (options : Limits) (unread unread_now : Option (List ℕ)) (x : List ℕ) (before now : Option (List ℕ)) →
-    Consumes unread unread_now x → HasMovedIn options x before now → HasBegunMigrating options unread unread_now before now
-begun-in options unread unread_now x before now p t =
-    record { bytes = x; recording = t.recording; reads = reads-by unread unread_now x t.recording p t.spells; written = t.written }
-
-pub begun-so_far : (options : Limits) (unread unread_now : Option (List ℕ)) (x : List ℕ) (head_written : Bool) (begun : List ℕ) (s : ReaderState) (before now : Option (List ℕ)) →
-    Consumes unread unread_now x → HasMoved options x head_written begun s before now → HasBegunMigrating options unread unread_now before now
-begun-so_far options unread unread_now x head_written begun s before now p t =
-    record { bytes = x; recording = t.recording; reads = reads-by unread unread_now x t.recording p t.at.spells; written = grown-whole before now (migrated options t.recording) t.written }
-
-pub migrated-at_end : (options : Limits) (unread mid unread_now : Option (List ℕ)) (x none : List ℕ) (head_written : Bool) (begun : List ℕ) (s : ReaderState) (before now : Option (List ℕ)) (damage : Option DamageAt) →
-    Consumes unread mid x → Consumes mid unread_now none → none ≡ [] → IsAtEnd unread_now → HasMoved options x head_written begun s before now →
-    ((y : List ℕ) (r : Recording) → IsAt s y r → damage_of r ≡ damage) → (answer : Migrated) → answer ≡ answered damage → HasMigrated options unread unread_now before now answer
-migrated-at_end options unread mid unread_now x none head_written begun s before now damage p q nothing end t is answer e = record {
-  bytes = x;
-  recording = t.recording;
-  reads = reads-by unread unread_now x t.recording (subst (Consumes unread unread_now) (ap (λ b. x ++ b) nothing ∙ append-nil x) (Consumes-then unread mid unread_now x none p q)) t.at.spells;
-  answer_is = e ∙ ap answered (sym (is x t.recording t.at));
-  written = t.written;
-  enough = inl end;
-}
-
-pub migrated-damaged : (options : Limits) (unread unread_now : Option (List ℕ)) (x : List ℕ) (d : DamageAt) (before now : Option (List ℕ)) →
-    Consumes unread unread_now x → HasMovedTo options x d before now → (answer : Migrated) → answer ≡ answered (Some d) → HasMigrated options unread unread_now before now answer
-migrated-damaged options unread unread_now x d before now p t answer e = record {
-  bytes = x;
-  recording = t.recording;
-  reads = reads-by unread unread_now x t.recording p t.spells;
-  answer_is = e ∙ ap answered (sym t.decided.damage);
-  written = t.written;
-  enough = inr (record { damage = d; is = t.decided.damage; decided = t.decided.decided; head_read = t.decided.head_read });
-}

@@ -1,5 +1,5 @@
 -- What `migrate` makes of a recording: the ZKR2 recording of its whole pieces.
-use Rattle.std.specs.Prelude.{◌≡◌, ℕ, ◌⊎◌, List, [], ◌++◌, take, drop, Bool, true, false, Option, None, Some}
+use Rattle.std.specs.Prelude.{◌≡◌, ℕ, ◌⊎◌, List, [], ◌∷◌, ◌++◌, take, drop, Bool, true, false, Option, None, Some}
 use Rattle.std.specs.Int.{w32, to_be_bytes}
 use Rattle.std.specs.Io.KnownBytes.{IsAtEnd, Appends}
 use Rattle.zk_records.specs.Codes.{profile_number}
@@ -70,19 +70,26 @@ pub record HasBegunMigrating (options : Limits) (unread unread_now contents cont
 
 -- ---- how far a recording was migrated
 
--- a head without limits gets those of the options, and a piece without a time the time 0 after its side's byte
-abbrev pub sent_of_first : Limits → Bool → List ℕ → List ℕ
-sent_of_first options false head = head_bytes (head_of options)
-sent_of_first options true piece = take 1 piece ++ (no_time ++ drop 1 piece)
+-- a piece that has no time gets the time 0 behind its side's byte
+abbrev pub timed : Format → List ℕ → List ℕ
+timed Zkr1 [] = []
+timed Zkr1 (side ∷ rest) = side ∷ no_time ++ rest
+timed Zkr2 piece = piece
 
--- what is written for what has become whole in this format: the head, or, if that is written, a piece
+-- what is held of bytes that are taken: with the first ones after a head or a piece of a format a piece begins
+abbrev pub taken : Option Format → List ℕ → List ℕ
+taken (Some format) bytes = timed format bytes
+taken None bytes = bytes
+
+-- what is written for what has become whole in this format: a head without limits gets those of the options
 abbrev pub sent : Limits → Format → Bool → List ℕ → List ℕ
-sent options Zkr1 head_written bytes = sent_of_first options head_written bytes
-sent options Zkr2 head_written bytes = bytes
+sent options Zkr1 false held = head_bytes (head_of options)
+sent options Zkr1 true held = held
+sent options Zkr2 headed held = held
 
--- what was read and isn't written yet: all before the head is whole, then the piece that is begun
+-- what is held of what was read and isn't whole yet: all before the head is whole, then the piece that is begun
 abbrev pub kept_at : Place → List ℕ → List ℕ
-kept_at (InPieces head pieces) begun = begun
+kept_at (InPieces head pieces) begun = timed (format_of head) begun
 kept_at place begun = front place ++ begun
 
 abbrev pub kept : Recording → List ℕ
@@ -92,31 +99,29 @@ abbrev pub IsHeadedIf : Bool → Place → Type 0
 IsHeadedIf true place = IsHeaded place
 IsHeadedIf false place = IsHeaded place → ⊥
 
--- the bytes x were read, and the whole pieces in them were written
-pub record HasMoved (options : Limits) (x : List ℕ) (head_written : Bool) (begun : List ℕ) (s : ReaderState) (before now : Option (List ℕ)) : Type 0 where
+-- the bytes x were read, and the whole pieces in them were written, or are due
+pub record HasMoved (options : Limits) (x : List ℕ) (head_whole : Bool) (due begun : List ℕ) (s : ReaderState) (before now : Option (List ℕ)) : Type 0 where
   pub recording : Recording
   pub at : IsAt s x recording
-  pub head_is : IsHeadedIf head_written (place_of recording)
+  pub head_is : IsHeadedIf head_whole (place_of recording)
   pub begun_is : begun ≡ kept recording
-  pub written : Appends before now (migrated options recording)
+  pub written : List ℕ
+  pub is : migrated options recording ≡ written ++ due
+  pub appended : Appends before now written
 
--- a front of what these bytes are migrated to was written
-pub record HasMovedIn (options : Limits) (x : List ℕ) (before now : Option (List ℕ)) : Type 0 where
-  pub recording : Recording
-  pub spells : Spells x recording
-  pub written : HasGrownIn before now (migrated options recording)
-
--- these bytes were migrated, and have this damage whatever follows
-pub record HasMovedTo (options : Limits) (x : List ℕ) (d : DamageAt) (before now : Option (List ℕ)) : Type 0 where
+-- these bytes were migrated but for what is due, and have this damage whatever follows
+pub record HasMovedTo (options : Limits) (x : List ℕ) (d : DamageAt) (due : List ℕ) (before now : Option (List ℕ)) : Type 0 where
   pub recording : Recording
   pub spells : Spells x recording
   pub decided : IsDecidedBy d x recording
-  pub written : Appends before now (migrated options recording)
+  pub written : List ℕ
+  pub is : migrated options recording ≡ written ++ due
+  pub appended : Appends before now written
 
 -- these bytes were read, and there is no damage in them, or this one
-abbrev pub HasMovedBy : Limits → List ℕ → Bool → List ℕ → ReaderState → Option (List ℕ) → Option (List ℕ) → Option DamageAt → Type 0
-HasMovedBy options x head_written begun s before now None = HasMoved options x head_written begun s before now
-HasMovedBy options x head_written begun s before now (Some d) = HasMovedTo options x d before now
+abbrev pub HasMovedBy : Limits → List ℕ → Bool → List ℕ → List ℕ → ReaderState → Option (List ℕ) → Option (List ℕ) → Option DamageAt → Type 0
+HasMovedBy options x head_whole due begun s before now None = HasMoved options x head_whole due begun s before now
+HasMovedBy options x head_whole due begun s before now (Some d) = HasMovedTo options x d due before now
 
 -- ---- the law
 
@@ -147,21 +152,22 @@ pub record IsWhole (format : Format) (x : List ℕ) (r : Recording) : Type 0 whe
 
 -- ---- what a migrator's calls add to what was moved before, whatever that was
 
--- the bytes x were read, and the whole pieces in them were written
-abbrev pub HasMigratedTo : Limits → List ℕ → Option (List ℕ) → Option (List ℕ) → Migrator → Type 0
-HasMigratedTo options x before now m = HasMoved options x m.headed m.begun.items m.reader before now
+abbrev pub due_of : Migrator → List ℕ
+due_of m = take m.due m.held.items
 
--- the bytes are read too, and the pieces that end in them are written
-abbrev pub MovesOn : Limits → Migrator → Migrator → List ℕ → Option (List ℕ) → Option (List ℕ) → Type 0
-MovesOn options old new bytes was now = (x : List ℕ) (before : Option (List ℕ)) →
-    HasMigratedTo options x before was old → HasMigratedTo options (x ++ bytes) before now new
+abbrev pub begun_in : Migrator → List ℕ
+begun_in m = drop m.due m.held.items
+
+-- the bytes x were read, and the whole pieces in them were written, or are due
+abbrev pub HasMigratedTo : Limits → List ℕ → Option (List ℕ) → Option (List ℕ) → Migrator → Type 0
+HasMigratedTo options x before now m = HasMoved options x m.headed (due_of m) (begun_in m) m.reader before now
+
+-- the bytes are read too, and the pieces that end in them are due
+abbrev pub MovesOn : Limits → Migrator → Migrator → List ℕ → Type 0
+MovesOn options old new bytes = (x : List ℕ) (before now : Option (List ℕ)) →
+    HasMigratedTo options x before now old → HasMigratedTo options (x ++ bytes) before now new
 
 -- the bytes are read too, and there is no damage in them, or this one
-abbrev pub MovesBy : Limits → Migrator → Migrator → List ℕ → Option (List ℕ) → Option (List ℕ) → Option DamageAt → Type 0
-MovesBy options old new bytes was now found = (x : List ℕ) (before : Option (List ℕ)) →
-    HasMigratedTo options x before was old → HasMovedBy options (x ++ bytes) new.headed new.begun.items new.reader before now found
-
--- a front of what they are migrated to is written
-abbrev pub MovesIn : Limits → Migrator → List ℕ → Option (List ℕ) → Option (List ℕ) → Type 0
-MovesIn options old bytes was now = (x : List ℕ) (before : Option (List ℕ)) →
-    HasMigratedTo options x before was old → HasMovedIn options (x ++ bytes) before now
+abbrev pub MovesBy : Limits → Migrator → Migrator → List ℕ → Option DamageAt → Type 0
+MovesBy options old new bytes found = (x : List ℕ) (before now : Option (List ℕ)) →
+    HasMigratedTo options x before now old → HasMovedBy options (x ++ bytes) new.headed (due_of new) (begun_in new) new.reader before now found

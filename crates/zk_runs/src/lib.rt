@@ -27,6 +27,10 @@
 //! memory and written at once. A builder's contract holds for every list of lines that it may have taken, so its calls
 //! compose.
 //!
+//! **`migrate` holds one buffer**: what a block made whole, which is written before the next read, and then the piece
+//! that is begun. A piece without a time gets it with its first byte, so nothing is moved. If memory runs out within a
+//! block, its pieces are not written.
+//!
 //! **`Limits::new` judges the numbers of the command line**, so a number out of range cannot reach a command. Words
 //! that the system cannot give as texts `main` refuses by itself (`refuse`). These are three crates and not one, so
 //! each is proved beside others, and its edits are tried while the crates above are proved.

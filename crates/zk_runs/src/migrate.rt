@@ -2,14 +2,14 @@
 ghost use Rattle.std.specs.Prelude.{◌≡◌, ◌+◌, ◌^◌, ◌<◌, ◌≤◌, ◌++◌, ℕ, List, [], ◌≢◌, Option, None, Some, Err, false, true, IfOk, OnOk, OnErr, IsErrOf, length, take, drop};
 ghost use Rattle.zk_talk.specs.declared.limits.Limits.{Limits};
 ghost use Rattle.zk_runs.specs.Migrating as migrating;
-ghost use Rattle.zk_runs.specs.Migrating.{HasBegunMigrating, HasMigrated, HasMigratedSoFar, HasMoved, MovesOn, MovesBy, MovesIn};
+ghost use Rattle.zk_runs.specs.Migrating.{HasBegunMigrating, HasMigrated, HasMigratedSoFar, HasMigratedTo, MovesOn, MovesBy};
 ghost use Rattle.zk_recordings.specs.Reading.{IsAt, IsUndamaged, place_in};
-ghost use Rattle.zk_recordings.specs.Recording.{Recording, damage_of, head_bytes, no_time};
+ghost use Rattle.zk_recordings.specs.Recording.{Recording, damage_of, head_bytes};
 ghost use Rattle.zk_listings.specs.Running.{IsSpent, OnRead};
 
 use std::alloc::{AllocError, Global};
-use std::fmt;
 use std::fmt::Display;
+use std::{fmt, mem};
 use zk_listings::{BLOCK, MOST_READS, RunFault, Sink, Source, damage_name, rest, write_whole};
 use zk_recordings::{Damage, DamageAt, Format, RecordingReader};
 use zk_records::Profile;
@@ -58,35 +58,39 @@ fn put_head(limits: Limits, head: &mut Vec<u8>) -> Result<(), AllocError>
     Ok(())
 }
 
-/// Gives a piece that has none the time 0, behind its side's byte.
-fn add_time(piece: &mut Vec<u8>) -> Result<(), AllocError>
-    requires { 1 ≤ length piece.old.items }
-    ensures { OnOk result (piece.new.items ≡ take 1 piece.old.items ++ (no_time ++ drop 1 piece.old.items)) }
+/// Appends the first bytes after a head or a piece of this format, or more bytes of what is begun. A piece that has no
+/// time gets the time 0 behind its side's byte.
+fn put_taken(after: Option<Format>, bytes: &[u8], held: &mut Vec<u8>) -> Result<(), AllocError>
+    requires { 0 < length bytes.now }
+    ensures { OnOk result (held.new.items ≡ held.old.items ++ migrating.taken after bytes.now) }
 {
-    piece.extend_from_slice(&[0; 8])?;
-    piece[1..].rotate_right(8);
-    Ok(())
+    match after {
+        Some(Format::Zkr1) => {
+            held.extend_from_slice(&bytes[..1])?;
+            held.extend_from_slice(&[0; 8])?;
+            held.extend_from_slice(&bytes[1..])
+        }
+        Some(Format::Zkr2) | None => held.extend_from_slice(bytes),
+    }
 }
 
-/// Turns a whole head or piece of this format into what is written for it.
+/// Turns a whole head or piece of this format, which is held from `due` on, into what is written for it.
 fn convert(
     limits: Limits,
     headed: bool,
     format: Format,
-    begun: &mut Vec<u8>,
+    due: usize,
+    held: &mut Vec<u8>,
 ) -> Result<(), AllocError>
-    requires { 1 ≤ length begun.old.items }
-    ensures { OnOk result (begun.new.items ≡ migrating.sent limits format headed begun.old.items) }
+    requires { due ≤ length held.old.items }
+    ensures { OnOk result (held.new.items ≡ take due held.old.items ++ migrating.sent limits format headed (drop due held.old.items)) }
 {
     match format {
-        Format::Zkr2 => Ok(()),
-        Format::Zkr1 => {
-            if headed {
-                return add_time(begun);
-            }
-            begun.clear();
-            put_head(limits, begun)
+        Format::Zkr1 if !headed => {
+            held.truncate(due);
+            put_head(limits, held)
         }
+        Format::Zkr1 | Format::Zkr2 => Ok(()),
     }
 }
 
@@ -94,84 +98,98 @@ fn convert(
 #[derive(Drop)]
 struct Migrator {
     reader: RecordingReader,
-    /// Whether the head is written.
+    /// Whether the head is whole.
     headed: bool,
-    /// What isn't written yet: all before the head is whole, then the piece that is begun.
-    begun: Vec<u8>,
+    /// What isn't written yet: what is due, then all before the head is whole, or the piece that is begun.
+    held: Vec<u8>,
+    /// The number of bytes that are due.
+    due: usize,
+    /// Where what is begun is copied to, when what is due was written.
+    spare: Vec<u8>,
 }
 
 impl Migrator {
     /// A migrator that has read nothing.
     fn new(alloc: Global) -> Migrator
-        ensures start { (limits : Limits) (now : Option (List ℕ)) → HasMoved limits [] result.headed result.begun.items result.reader now now }
+        ensures start { (limits : Limits) (now : Option (List ℕ)) → HasMigratedTo limits [] now now result }
+        ensures due { result.due ≡ 0 }
         ensures place { place_in result.reader ≡ 0 }
     {
         Migrator {
             reader: RecordingReader::new(),
             headed: false,
-            begun: Vec::new(alloc),
+            held: Vec::new(alloc),
+            due: 0,
+            spare: Vec::new(alloc),
         }
     }
 
-    /// Takes the first bytes of a block, and returns how many; what becomes whole with them is written. A recording that has
-    /// no limits gets `limits`.
-    fn advance<W: Sink>(
-        &mut self,
-        limits: Limits,
-        block: &[u8],
-        writer: &mut W,
-    ) -> Result<usize, RunFault>
+    /// Takes the first bytes of a block, and returns how many; what becomes whole with them is due. A recording that
+    /// has no limits gets `limits`.
+    fn advance(&mut self, limits: Limits, block: &[u8]) -> Result<usize, AllocError>
         requires some { 0 < length block.now }
         requires room { place_in self.old.reader + length block.now < 2 ^ 64 }
-        requires live { W.has_failed writer.old ≡ false }
+        requires marked { self.old.due ≤ length self.old.held.items }
+        ensures marked { OnOk result (self.new.due ≤ length self.new.held.items) }
         ensures progress { IfOk result (λ n. 0 < n) }
         ensures used { IfOk result (λ n. n ≤ length block.now) }
         ensures place { IfOk result (λ n. place_in self.new.reader ≤ place_in self.old.reader + n) }
-        ensures goes_on { IfOk result (λ n. MovesOn limits self.old self.new (take n block.now) (W.contents writer.old) (W.contents writer.new)) }
-        ensures stops { OnErr result (MovesIn limits self.old block.now (W.contents writer.old) (W.contents writer.new)) }
-        ensures live { IfOk result (λ _. W.has_failed writer.new ≡ false) }
-        ensures spared { IsErrOf result RunFault.Memory → W.has_failed writer.new ≡ false }
-        ensures failed { IsErrOf result RunFault.Write → W.has_failed writer.new ≡ true }
-        ensures no_read { result ≢ Err RunFault.Read }
+        ensures goes_on { IfOk result (λ n. MovesOn limits self.old self.new (take n block.now)) }
     {
+        let after = self.reader.between();
         let run = self.reader.next(block);
-        self.begun.extend_from_slice(&block[..run.used])?;
+        put_taken(after, &block[..run.used], &mut self.held)?;
         if let Some(format) = self.reader.between() {
-            convert(limits, self.headed, format, &mut self.begun)?;
-            write_whole(writer, &self.begun)?;
-            self.begun.clear();
+            convert(limits, self.headed, format, self.due, &mut self.held)?;
+            self.due = self.held.len();
             self.headed = true;
         }
         Ok(run.used)
     }
 
-    /// Takes a block, and writes what becomes whole in it. Returns the damage in it, if there is one whatever follows.
-    fn feed<W: Sink>(
-        &mut self,
-        limits: Limits,
-        block: &[u8],
-        writer: &mut W,
-    ) -> Result<Option<DamageAt>, RunFault>
+    /// Takes a block; what becomes whole in it is due. Returns the damage in it, if there is one whatever follows.
+    fn feed(&mut self, limits: Limits, block: &[u8]) -> Result<Option<DamageAt>, AllocError>
         requires some { 0 < length block.now }
         requires room { place_in self.old.reader + length block.now < 2 ^ 64 }
-        requires live { W.has_failed writer.old ≡ false }
+        requires marked { self.old.due ≤ length self.old.held.items }
+        ensures marked { OnOk result (self.new.due ≤ length self.new.held.items) }
         ensures place { IfOk result (λ found. found ≡ None → place_in self.new.reader ≤ place_in self.old.reader + length block.now) }
         ensures undamaged { IfOk result (λ found. found ≡ None → IsUndamaged self.new.reader) }
-        ensures goes_on { IfOk result (MovesBy limits self.old self.new block.now (W.contents writer.old) (W.contents writer.new)) }
-        ensures stops { OnErr result (MovesIn limits self.old block.now (W.contents writer.old) (W.contents writer.new)) }
-        ensures live { IfOk result (λ _. W.has_failed writer.new ≡ false) }
-        ensures spared { IsErrOf result RunFault.Memory → W.has_failed writer.new ≡ false }
-        ensures failed { IsErrOf result RunFault.Write → W.has_failed writer.new ≡ true }
-        ensures no_read { result ≢ Err RunFault.Read }
+        ensures goes_on { IfOk result (MovesBy limits self.old self.new block.now) }
     {
         let mut at = 0;
         while at < block.len() {
-            at += self.advance(limits, rest(block, at), writer)?;
+            at += self.advance(limits, rest(block, at))?;
             if let Some(damage) = self.reader.damage() {
                 return Ok(Some(damage));
             }
         }
         Ok(None)
+    }
+
+    /// What is due to be written.
+    fn due(&self) -> &[u8]
+        requires { self.now.due ≤ length self.now.held.items }
+        ensures { result.now ≡ take self.now.due self.now.held.items }
+    {
+        &self.held[..self.due]
+    }
+
+    /// Lets go of what was due.
+    fn let_go(&mut self) -> Result<(), AllocError>
+        requires { self.old.due ≤ length self.old.held.items }
+        ensures reader { OnOk result (self.new.reader ≡ self.old.reader) }
+        ensures headed { OnOk result (self.new.headed ≡ self.old.headed) }
+        ensures due { OnOk result (self.new.due ≡ 0) }
+        ensures held { OnOk result (self.new.held.items ≡ drop self.old.due self.old.held.items) }
+    {
+        if self.due > 0 {
+            self.spare.clear();
+            self.spare.extend_from_slice(&self.held[self.due..])?;
+            mem::swap(&mut self.held, &mut self.spare);
+            self.due = 0;
+        }
+        Ok(())
     }
 
     /// The damage of the recording if it ends here.
@@ -182,9 +200,10 @@ impl Migrator {
     }
 }
 
-/// Reads a recording of either format, and writes one of the second format: a head, of `limits` if the recording has none,
-/// and each piece once it is whole, with the time 0 if it has none. The frames in it are not read. A piece that is cut is
-/// not written, and nothing if the head is damaged. It holds one piece at most, as far as it came.
+/// Reads a recording of either format, and writes one of the second format: a head, of `limits` if the recording has
+/// none, and each piece once it is whole, with the time 0 if it has none, those of each read before the next one. The
+/// frames in it are not read. A piece that is cut is not written, and nothing if the head is damaged. It holds one piece
+/// at most, as far as it came, and what a block makes whole.
 ///
 /// # Errors
 ///
@@ -229,9 +248,12 @@ pub fn migrate_run<R: Source, W: Sink>(
         if count == 0 {
             return Ok(answered(migrator.finish()));
         }
-        if let Some(damage) = migrator.feed(limits, &buf[..count], writer)? {
+        let found = migrator.feed(limits, &buf[..count])?;
+        write_whole(writer, migrator.due())?;
+        if let Some(damage) = found {
             return Ok(answered(Some(damage)));
         }
+        migrator.let_go()?;
     }
     Err(RunFault::Read)
 }

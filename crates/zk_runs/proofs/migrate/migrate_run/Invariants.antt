@@ -2,7 +2,7 @@ use Rattle.std.proofs.Common.{◌≡◌, ◌+◌, ◌*◌, ◌≤◌, List, ℕ,
 use Rattle.std.specs.Io.KnownBytes.{Consumes}
 use Rattle.zk_recordings.specs.Reading.{place_in}
 use Rattle.zk_listings.specs.Outcome.{IsBroken}
-use Rattle.zk_runs.specs.Migrating.{HasMoved}
+use Rattle.zk_runs.specs.Migrating.{HasMigratedTo}
 use Rattle.zk_runs.proofs.migrate.migrate_run.Given as goal
 
 abbrev pub invariant-loop-turn : goal.invariant-loop-turn
@@ -12,6 +12,7 @@ invariant-loop-turn g l = record {
   writer_live : g.W.Sink.has_failed l.writer ≡ false;
   count : g.R.Source.read_count l.reader ≡ g.R.Source.read_count l.initial.reader + l._turn;
   place : place_in l.migrator.reader ≤ 65536 * l._turn;
+  due : l.migrator.due ≡ 0;
   moved : (x : List ℕ) × Consumes (g.R.Source.remaining l.initial.reader) (g.R.Source.remaining l.reader) x
-      × (m : HasMoved l.fn.limits x l.migrator.headed l.migrator.begun.items l.migrator.reader (g.W.Sink.contents l.initial.writer) (g.W.Sink.contents l.writer)) × (IsBroken x m.recording → ⊥);
+      × (m : HasMigratedTo l.fn.limits x (g.W.Sink.contents l.initial.writer) (g.W.Sink.contents l.writer) l.migrator) × (IsBroken x m.recording → ⊥);
 }
