@@ -21,7 +21,8 @@ check has to print the last line of the listing, and show all of it. build, give
 that shows the same messages; where the conversation is whole, it has one piece for each message and the bytes of each
 side. migrate has to make a recording that shows the same listing without options, and that it migrates to itself. The
 status of check and show is 0 where the listing ends in ". whole", else 1. With build, the listings of the cases of show
-are built and shown again, too.
+are built and shown again, too, and two lines of four megabytes; and each line of build/refused_lines.txt is refused at
+the column and for the reason that its row begins with.
 """
 
 import argparse
@@ -137,6 +138,24 @@ def run_listings(runner, folder):
             build_again(runner, f"{folder.name}/{args.stem}", args.read_text().splitlines()[1:], listing)
 
 
+def run_long_lines(runner):
+    """A path and data of four megabytes of a line, built and shown again."""
+    first = (HERE / "cases" / "show" / "auth_answered.out").read_bytes()
+    connected = b"".join(first.splitlines(keepends=True)[:2])
+    for name, front, byte, back in (("path", b'C 1 sync path="', b"a", b'"'),
+                                    ("data", b"C 1 setData path=~ blob=#", b"7", b" version=0")):
+        line = front + byte * 4_000_000 + back + b"\n"
+        build_again(runner, f"a line of four megabytes ({name})", [], connected + line + b". whole unanswered=1\n")
+
+
+def run_refused_lines(runner, path):
+    """Lines that are refused, each after the column and the reason, and a blank."""
+    for row in path.read_text().splitlines():
+        column, reason, line = row.split(" ", 2)
+        wanted = (b"ZKR1", f"line 1: column {column}: {reason}\n".encode(), 1)
+        runner.expect(f"build: {line}", ["build"], line.encode() + b"\n", wanted)
+
+
 def migrate_again(runner, name, options, recording, listing, status):
     """Migrates an undamaged recording: it is listed as it was, and migrated to itself, whatever the options."""
     made = runner.run(["migrate", *options], recording)
@@ -183,6 +202,8 @@ def main():
         run_captures(runner, TOP / "captures", word)
         if word == "build":
             run_listings(runner, HERE / "cases" / "show")
+            run_long_lines(runner)
+            run_refused_lines(runner, HERE / "cases" / "build" / "refused_lines.txt")
     print(f"{runner.total - runner.differing} passed, {runner.differing} failed")
     return 1 if runner.differing else 0
 

@@ -154,24 +154,34 @@ fn payloads(rt: HostRuntime) -> Result<(), Fail> {
 #[test]
 fn xids_of_operations(rt: HostRuntime) {
     let pair = (allowed(-2, Op::Ping), allowed(-1, Op::Exists));
-    assert_eq!(rt; pair, (true, false));
+    assert!(rt; pair == (true, false));
 }
 
 /// A multi of a deletion and a check of `/a`.
 const TWO: &str =
     "000000010000000e0000000200ffffffff000000022f61ffffffff0000000d00ffffffff000000022f6100000003ffffffff01ffffffff";
 
+/// The xid and the operation that `front_ask` returns.
+fn front_of(payload: &[u8]) -> Option<(i32, Op)> {
+    let (xid, front) = front_ask(Profile::V34, payload)?;
+    Some((xid, front.op))
+}
+
+/// The xid, the operation and the parts that `front_multi` returns.
+fn front_parts(payload: &[u8]) -> Option<(i32, Op, u32, [Option<PartOp>; 3])> {
+    let (xid, multi) = front_multi(Profile::V34, payload)?;
+    let parts = [multi.part(0), multi.part(1), multi.part(2)];
+    Some((xid, multi.op(), multi.parts(), parts))
+}
+
 /// `front_ask` and `front_multi` decide.
 #[test]
 fn fronts(rt: HostRuntime) -> Result<(), Fail> {
-    let exists = hex(rt.alloc(), "0000000100000003000000022f6101")?;
-    let front = front_ask(Profile::V34, &exists).ok_or("no request")?;
-    assert_eq!(rt; (front.0, front.1.op), (1, Op::Exists));
+    let exists = front_of(b"\0\0\0\x01\0\0\0\x03\0\0\0\x02/a\x01");
+    assert!(rt; exists == Some((1, Op::Exists)));
     let two = hex(rt.alloc(), TWO)?;
-    let (xid, multi) = front_multi(Profile::V34, &two).ok_or("no multi")?;
-    assert_eq!(rt; (xid, multi.op(), multi.parts()), (1, Op::Multi, 2));
-    let parts = (multi.part(0), multi.part(1), multi.part(2));
-    assert_eq!(rt; parts, (Some(PartOp::Delete), Some(PartOp::Check), None));
+    let parts = [Some(PartOp::Delete), Some(PartOp::Check), None];
+    assert!(rt; front_parts(&two) == Some((1, Op::Multi, 2, parts)));
     Ok(())
 }
 
@@ -206,24 +216,30 @@ fn part_of<T: Asked>(asked: &T) -> (Op, u32, Option<PartOp>) {
 
 #[test]
 fn what_was_asked(rt: HostRuntime) {
-    assert_eq!(rt; part_of(&Wanted { op: Op::Sync }), (Op::Sync, 0, None));
+    assert!(rt; part_of(&Wanted { op: Op::Sync }) == (Op::Sync, 0, None));
 }
 
-/// What is kept of a scanned request: an exists, and a multi of one delete.
+/// What is kept of a scanned request: its xid, its operation, and its parts.
+fn scan_told(payload: &[u8]) -> Option<(i32, (Op, u32, Option<PartOp>))> {
+    if payload.len() > 1_000 {
+        return None;
+    }
+    match scan_ask(Profile::V34, payload) {
+        Ok(scan) => Some((scan.xid(), part_of(&scan))),
+        Err(_) => None,
+    }
+}
+
+/// An exists, and a multi of one delete.
 #[test]
-fn what_was_scanned(rt: HostRuntime) -> Result<(), Fail> {
-    let exists = scan_ask(Profile::V34, b"\0\0\0\x07\0\0\0\x03\0\0\0\x02/a\x01")?;
-    assert_eq!(rt;
-        (exists.xid(), part_of(&exists)),
-        (7, (Op::Exists, 0, None))
-    );
-    let multi = scan_ask(
-        Profile::V34,
+fn what_was_scanned(rt: HostRuntime) {
+    let exists = scan_told(b"\0\0\0\x07\0\0\0\x03\0\0\0\x02/a\x01");
+    assert!(rt; exists == Some((7, (Op::Exists, 0, None))));
+    let multi = scan_told(
         b"\0\0\0\x08\0\0\0\x0e\0\0\0\x02\0\xff\xff\xff\xff\0\0\0\x02/a\0\0\0\0\xff\xff\xff\xff\x01\xff\xff\xff\xff",
-    )?;
+    );
     let delete = (Op::Multi, 1, Some(PartOp::Delete));
-    assert_eq!(rt; (multi.xid(), part_of(&multi)), (8, delete));
-    Ok(())
+    assert!(rt; multi == Some((8, delete)));
 }
 
 #[test]

@@ -17,6 +17,4 @@ mod library;
 #[cfg(test)]
 mod lines;
 #[cfg(test)]
-mod samples;
-#[cfg(test)]
 mod speaker;

@@ -1,12 +1,11 @@
-//! Tests of lines of messages and of endings, and back; and of lines that are refused.
-use crate::samples::{FAULTS, LINES};
+//! Tests of the lines of messages and of endings, and of faults in words. Other lines, and those that are refused, are
+//! stored cases of the program.
 use std::alloc::Global;
-use std::process::Abort;
 use std::test::Fail;
 use zk_jute::Reason;
 use zk_lines::{
-    LineFault, LineReason, ending_laws, ending_line, line_laws, line_of, line_reason_name,
-    put_line, read_line,
+    LineFault, LineReason, ending_laws, ending_line, line_laws, line_reason_name, put_line,
+    read_line,
 };
 use zk_talk::{Ending, Fault, SayFault, Side};
 
@@ -18,70 +17,11 @@ fn put_again(lines: &mut Vec<u8>, alloc: Global, line: &[u8]) -> Result<(), Fail
     }
 }
 
-/// The same line by `line_of`.
-fn again(alloc: Global, line: &[u8]) -> Result<Vec<u8>, Fail> {
-    match read_line(alloc, line) {
-        Ok(message) => Ok(line_of(alloc, &message)?),
-        Err(_) => Err("not read")?,
-    }
-}
-
-fn back_and_forth(rt: &impl Abort, alloc: Global, line: &[u8]) -> Result<(), Fail> {
-    let told = again(alloc, line)?;
-    assert_eq!(rt; told.as_slice(), line);
-    Ok(())
-}
-
-#[test]
-fn lines(rt: HostRuntime) -> Result<(), Fail> {
-    for line in LINES.lines() {
-        back_and_forth(&rt, rt.alloc(), line.as_bytes())?;
-    }
-    Ok(())
-}
-
 #[test]
 fn line_behind_another(rt: HostRuntime) -> Result<(), Fail> {
     let mut lines = Vec::from_slice(rt.alloc(), b"one\n")?;
     put_again(&mut lines, rt.alloc(), b"C 1 sync path=\"/a\"")?;
     assert_eq!(rt; lines.as_slice(), b"one\nC 1 sync path=\"/a\"".as_slice());
-    Ok(())
-}
-
-/// The column and the reason of what is wrong with the line.
-fn fault_of(alloc: Global, line: &[u8]) -> Option<(u32, LineReason)> {
-    match read_line(alloc, line) {
-        Ok(_) => None,
-        Err(fault) => Some((fault.column, fault.reason)),
-    }
-}
-
-#[test]
-fn faults(rt: HostRuntime) -> Result<(), Fail> {
-    for row in FAULTS.lines() {
-        let (column, rest) = row.split_once(' ').ok_or("no column")?;
-        let (name, line) = rest.split_once(' ').ok_or("no reason")?;
-        let want = format!(in rt.alloc(); "{column} {name}")?;
-        let (at, reason) = fault_of(rt.alloc(), line.as_bytes()).ok_or("read")?;
-        let told = format!(in rt.alloc(); "{at} {reason}")?;
-        assert_eq!(rt; told.as_str(), want.as_str(), "of {line}");
-    }
-    Ok(())
-}
-
-/// Lines of four megabytes: a path and data.
-#[test]
-fn long_lines(rt: HostRuntime) -> Result<(), Fail> {
-    let rows: [(&[u8], u8, &[u8]); 2] = [
-        (b"C 1 sync path=\"", b'a', b"\""),
-        (b"C 1 setData path=~ blob=#", b'7', b" version=0"),
-    ];
-    for (front, byte, back) in rows {
-        let mut line = Vec::from_slice(rt.alloc(), front)?;
-        line.resize(front.len() + 4_000_000, byte)?;
-        line.extend_from_slice(back)?;
-        back_and_forth(&rt, rt.alloc(), line.as_slice())?;
-    }
     Ok(())
 }
 
