@@ -29,6 +29,7 @@ import tempfile
 
 import fields
 import messages
+import written
 
 TOP = pathlib.Path(__file__).resolve().parent.parent
 sys.path.append(str(TOP / "packaging"))
@@ -43,7 +44,7 @@ C_TYPES = {"u8": "uint8_t", "u16": "uint16_t", "u32": "uint32_t", "u64": "uint64
            "SpeakerHandle": "struct zk_speaker", "SayAnswer": "struct zk_say", "FaultNumbers": "struct zk_fault",
            "StepAnswer": "struct zk_step", "EndingAnswer": "struct zk_ending", "MessageAnswer": "struct zk_message",
            "LineAnswer": "struct zk_line", "Piece": "struct zk_piece", "PayloadAnswer": "struct zk_payload",
-           "Field": "struct zk_field", "ReadAnswer": "struct zk_read"}
+           "Field": "struct zk_field", "ReadAnswer": "struct zk_read", "WriteAnswer": "struct zk_written"}
 INSIDE = {"TalkBox", "VoiceBox"}
 FIELDS, RECORDS = (TOP / "crates" / name / "src" for name in ("zk_fields", "zk_records"))
 
@@ -234,17 +235,19 @@ def made(folder, library):
     or None where it can't be made."""
     c = next(filter(shutil.which, filter(None, (os.environ.get("CC"), "cc"))), None)
     c = None if make_library.missing() else c
-    proxy, nulls, shown, listing = (os.path.join(folder, name) for name in ("proxy", "nulls", "fields", "listing"))
+    proxy, nulls, shown, said, listing = (os.path.join(folder, name)
+                                          for name in ("proxy", "nulls", "fields", "client_frames", "listing"))
     if c:
         archive, shared = make_library.make(folder, library)
         warned = [c, "-O2", "-Wall", "-Wextra", "-Werror", f"-I{HEADER.parent}"]
         for program, source in ((proxy, EXAMPLES / "proxy.c"), (nulls, TOP / "tests" / "nulls.c"),
-                                (shown, EXAMPLES / "fields.c")):
+                                (shown, EXAMPLES / "fields.c"), (said, EXAMPLES / "client_frames.c")):
             words = [*warned, "-o", program, source, archive]
             if subprocess.run([*words, "-fsanitize=address"], stderr=subprocess.DEVNULL).returncode != 0:
                 print(f"skipped: {source.name} is not looked at for memory that isn't given up")
                 subprocess.run(words, check=True)
     yield "null pointers", [nulls] if c else None
+    yield "client frames", [said] if c else None
     yield "fields", [shown] if c else None
     yield "C", [proxy] if c else None
     rust = c and shutil.which("rustc")
@@ -333,7 +336,9 @@ def compare_fields(shared):
     """Whether the fields of payloads, and of the messages of recordings, are those of the two tests."""
     talk, names = importlib.import_module("talk"), {name.lower(): number for name, number in field_names().items()}
     yield from fields.compare(talk, talk.Library(shared), names, exported()[2])
-    yield from messages.compare(talk, talk.Library(shared), names, sorted((TOP / "captures").glob("*.zkr")))
+    recordings = sorted((TOP / "captures").glob("*.zkr"))
+    yield from messages.compare(talk, talk.Library(shared), names, recordings)
+    yield from written.compare(talk, talk.Library(shared), names, exported()[2], recordings)
 
 
 def list_whole(shared):
@@ -365,7 +370,7 @@ def main():
             if words is None:
                 print(f"skipped: there is no compiler for the example in {name}")
                 continue
-            if name == "null pointers":
+            if name in ("null pointers", "client frames"):
                 found = subprocess.run(words, capture_output=True, text=True)
                 results.append((name, found.returncode == 0, f"{name}: status {found.returncode}, {found.stdout}"))
                 continue
