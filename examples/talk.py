@@ -61,6 +61,10 @@ class Read(ctypes.Structure):
                 ("zxid", ctypes.c_int64)]
 
 
+class Written(ctypes.Structure):
+    _fields_ = [("status", ctypes.c_uint32), ("length", ctypes.c_size_t), ("index", ctypes.c_size_t)]
+
+
 class Refused(Exception):
     """A status, and the fault where there is one."""
 
@@ -95,6 +99,8 @@ class Library:
             ("zk_read_connected", Read, (*payload, *room)),
             ("zk_read_reply", Read, (ctypes.c_int32, ctypes.POINTER(ctypes.c_int32), size, *payload, *room)),
             ("zk_read_event", Read, (*payload, *room)),
+            ("zk_write_request", Written, (ctypes.c_int32, ctypes.c_int32, *room, *payload, *payload)),
+            ("zk_write_first", Written, (*room, *payload, *payload)),
             ("zk_listing", Line, (ctypes.POINTER(Piece), size, ctypes.c_char_p, size, number, number, number, number,
                                   ctypes.c_char_p, size)),
         ):

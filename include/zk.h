@@ -234,6 +234,16 @@ struct zk_read {
     int64_t zxid;
 };
 
+/* Whether a frame was written. ZK_WELL: `length` bytes of the room. ZK_ROOM: the frame has `length` bytes, more than the
+ * room. ZK_RANGE: the field of this index says nothing, since its kind is none, its number doesn't fit its kind, its
+ * content isn't in the content, or its text isn't UTF-8. ZK_TOO_LONG: with the field of this index the payload has more
+ * than 2147483647 bytes. */
+struct zk_written {
+    uint32_t status;
+    size_t length;
+    size_t index;
+};
+
 /* A number of bytes of a side, for zk_listing. */
 struct zk_piece {
     uint32_t side;
@@ -311,6 +321,20 @@ struct zk_read zk_read_reply(int32_t operation, const int32_t *parts, size_t cou
 
 /* The same for an event; ZK_MISFIT as for zk_judge_event. */
 struct zk_read zk_read_event(const uint8_t *payload, size_t length, struct zk_field *out, size_t room);
+
+/* Writes the frame of a request: its length, xid and operation, what the fields say, and a multi's end marker. The fields
+ * are those that zk_read_request returns for such a request, in the same order. A text or a blob has its bytes in
+ * `content`, at its place and length, and a list its count; a part of a multi has its operation. Names are not read. Of
+ * the fields that were read of a payload, and that payload as content, its frame is written again. Nothing is allocated,
+ * and where the status isn't ZK_WELL the room is unchanged; it doesn't overlap the content.
+ *
+ * Whether a frame may come next is judged by a talk: give it to zk_talk_step as the client's bytes, send it if the step
+ * is ZK_WELL, and give the talk all that the server sends. So one talk judges both sides, names the request of each
+ * reply, and its queue empties as replies come. examples/client_frames.c does this. */
+struct zk_written zk_write_request(int32_t xid, int32_t operation, const struct zk_field *fields, size_t count, const uint8_t *content, size_t length, uint8_t *out, size_t room);
+
+/* The same for a connect request, which has no header. */
+struct zk_written zk_write_first(const struct zk_field *fields, size_t count, const uint8_t *content, size_t length, uint8_t *out, size_t room);
 
 /* Writes the listing of a whole conversation: the line of each message and of the ending, each with a line feed. The
  * pieces are in the order in which they came, and bytes are those of all, one after the other; the numbers are those of
@@ -637,6 +661,18 @@ static inline struct zk_read zk_safe_read_event(const uint8_t *payload, size_t l
     return answer.status != ZK_WELL ? answer : zk_read_event((const uint8_t *)zk_from(payload), length, (struct zk_field *)zk_into(out), room);
 }
 
+static inline struct zk_written zk_safe_write_request(int32_t xid, int32_t operation, const struct zk_field *fields, size_t count, const uint8_t *content, size_t length, uint8_t *out, size_t room) {
+    struct zk_written answer = ZK_ZEROS;
+    answer.status = zk_first_of(zk_fault_of(fields, count, sizeof *fields), zk_first_of(zk_fault_of(content, length, sizeof *content), zk_fault_of(out, room, sizeof *out)));
+    return answer.status != ZK_WELL ? answer : zk_write_request(xid, operation, (const struct zk_field *)zk_from(fields), count, (const uint8_t *)zk_from(content), length, (uint8_t *)zk_into(out), room);
+}
+
+static inline struct zk_written zk_safe_write_first(const struct zk_field *fields, size_t count, const uint8_t *content, size_t length, uint8_t *out, size_t room) {
+    struct zk_written answer = ZK_ZEROS;
+    answer.status = zk_first_of(zk_fault_of(fields, count, sizeof *fields), zk_first_of(zk_fault_of(content, length, sizeof *content), zk_fault_of(out, room, sizeof *out)));
+    return answer.status != ZK_WELL ? answer : zk_write_first((const struct zk_field *)zk_from(fields), count, (const uint8_t *)zk_from(content), length, (uint8_t *)zk_into(out), room);
+}
+
 static inline struct zk_line zk_safe_listing(const struct zk_piece *pieces, size_t count, const uint8_t *bytes, size_t length, uint32_t client, uint32_t server, uint32_t waiting, uint32_t profile, uint8_t *out, size_t room) {
     struct zk_line answer = ZK_ZEROS;
     answer.status = zk_first_of(zk_fault_of(pieces, count, sizeof *pieces), zk_first_of(zk_fault_of(bytes, length, sizeof *bytes), zk_fault_of(out, room, sizeof *out)));
@@ -666,6 +702,8 @@ static inline struct zk_line zk_safe_listing(const struct zk_piece *pieces, size
 #define zk_read_connected zk_safe_read_connected
 #define zk_read_reply zk_safe_read_reply
 #define zk_read_event zk_safe_read_event
+#define zk_write_request zk_safe_write_request
+#define zk_write_first zk_safe_write_first
 #define zk_listing zk_safe_listing
 
 #ifdef __cplusplus

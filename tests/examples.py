@@ -301,6 +301,7 @@ def check(folder, archive, shared, cc):
     yield from half_closed(programs["proxy"])
     yield from backpressure(programs["proxy"])
     yield from run_client(programs["client"])
+    yield ends_well("client frames", programs["client_frames"])
     yield ends_well("null pointers", programs["nulls"])
     yield ends_well("handles that go from thread to thread", programs["threads"])
 

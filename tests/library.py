@@ -27,6 +27,7 @@ import fields
 import judged
 import messages
 import packages
+import written
 
 TOP = pathlib.Path(__file__).resolve().parent.parent
 sys.path += [str(TOP / "packaging"), str(TOP / "examples")]
@@ -40,7 +41,7 @@ C_TYPES = {"u8": "uint8_t", "u16": "uint16_t", "u32": "uint32_t", "u64": "uint64
            "SpeakerHandle": "struct zk_speaker", "SayAnswer": "struct zk_say", "FaultNumbers": "struct zk_fault",
            "StepAnswer": "struct zk_step", "EndingAnswer": "struct zk_ending", "MessageAnswer": "struct zk_message",
            "LineAnswer": "struct zk_line", "Piece": "struct zk_piece", "PayloadAnswer": "struct zk_payload",
-           "Field": "struct zk_field", "ReadAnswer": "struct zk_read"}
+           "Field": "struct zk_field", "ReadAnswer": "struct zk_read", "WriteAnswer": "struct zk_written"}
 INSIDE = {"TalkBox", "VoiceBox"}
 FIELDS, RECORDS = (TOP / "crates" / name / "src" for name in ("zk_fields", "zk_records"))
 
@@ -152,7 +153,9 @@ def compare_calls(shared):
     library = talk.Library(str(shared))
     yield from judged.compare(talk, library, declared()[2])
     yield from fields.compare(talk, library, names, exported()[2])
-    yield from messages.compare(talk, library, names, sorted((TOP / "captures").glob("*.zkr")))
+    recordings = sorted((TOP / "captures").glob("*.zkr"))
+    yield from messages.compare(talk, library, names, recordings)
+    yield from written.compare(talk, library, names, exported()[2], recordings)
 
 
 def check(folder, options):

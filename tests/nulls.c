@@ -108,6 +108,13 @@ int main(void) {
     expect("zk_read_reply, null", zk_read_reply(14, &part, 1, NULL, 1, &field, 1).status, ZK_NULL);
     expect("zk_read_event, no byte", zk_read_event(&byte, 0, &field, 1).status, ZK_SHORT);
     expect("the field", field.place, 7);
+    expect("zk_write_first, null fields", zk_write_first(NULL, 1, &byte, 1, out, room).status, ZK_NULL);
+    expect("zk_write_first, null", zk_write_first(&field, 1, NULL, 1, out, room).status, ZK_NULL);
+    expect("zk_write_first, null room", zk_write_first(&field, 1, &byte, 1, NULL, 1).status, ZK_NULL);
+    expect("zk_write_first, too long", zk_write_first(&field, 1, &byte, more, out, room).status, ZK_RANGE);
+    expect("zk_write_request, nothing", zk_write_request(1, 11, NULL, 0, NULL, 0, NULL, 0).status, ZK_ROOM);
+    expect("zk_write_request, nothing, length", (uint32_t)zk_write_request(1, 11, NULL, 0, NULL, 0, NULL, 0).length, 12);
+    expect("zk_write_request, too many fields", zk_write_request(1, 3, &field, most / sizeof field + 1, &byte, 1, out, room).status, ZK_RANGE);
     expect("zk_listing, null pieces", zk_listing(NULL, 1, &byte, 1, 64, 64, 1, 34, out, room).status, ZK_NULL);
     expect("zk_listing, null", zk_listing(&piece, 1, NULL, 1, 64, 64, 1, 34, out, room).status, ZK_NULL);
     expect("zk_listing, null room", zk_listing(&piece, 1, &byte, 1, 64, 64, 1, 34, NULL, 1).status, ZK_NULL);

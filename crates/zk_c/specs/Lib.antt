@@ -9,3 +9,4 @@ pub mod Cut
 pub mod Listing
 pub mod Voice
 pub mod Saying
+pub mod Write

@@ -2,7 +2,8 @@
 //!
 //! `zk_talk_new`, `zk_talk_step` and their like wrap a `Talk` (`zk_talk`), `zk_speaker_new` and `zk_speaker_say` a
 //! `Speaker`; each is in a box behind a handle, which is all zeros while it holds nothing. `zk_judge_first` and its like
-//! judge single payloads without a handle. `zk_listing` lists a conversation that is there whole.
+//! judge single payloads without a handle, and `zk_write_request` writes a frame from its fields. `zk_listing` lists a
+//! conversation that is there whole.
 //!
 //! Each call returns numbers: a status, 0 if the call did what it is for, and a struct that include/zk.h declares too.
 //! The contracts repeat those of `Talk` and `Speaker` over these numbers. What a caller owes, the header says; its safe
@@ -50,6 +51,7 @@ mod talk;
 mod talk_box;
 mod voice;
 mod voice_box;
+mod write;
 
 pub use listing::zk_listing;
 pub use payload::{
@@ -61,3 +63,4 @@ pub use talk::{
     zk_talk_ending_line, zk_talk_fields, zk_talk_finish, zk_talk_free, zk_talk_line, zk_talk_new,
     zk_talk_payload, zk_talk_step, zk_talk_view,
 };
+pub use write::{zk_write_first, zk_write_request};

@@ -31,6 +31,9 @@ pub const NO_MESSAGE: u32 = 69;
 /// The xid is another kind's, or what is said doesn't fit.
 pub const MISFIT: u32 = 82;
 
+/// The payload is too long.
+pub const TOO_LONG: u32 = 83;
+
 /// The side of this number, 0 for the client and 1 for the server; `None` for others.
 pub fn side_of(number: u32) -> Option<Side>
     ensures { result ≡ side_of number }

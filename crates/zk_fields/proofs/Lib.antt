@@ -5,3 +5,6 @@ pub mod Marks
 pub mod Stood
 pub mod Wholes
 pub mod Contents
+pub mod Filling
+pub mod Saying
+pub mod Again

@@ -8,3 +8,5 @@ pub mod Frames
 pub mod Contents
 pub mod Room
 pub mod Walks
+pub mod Written
+pub mod Values

@@ -5,6 +5,9 @@
 //! payload that end before a place, such as that of a fault. `field_laws` says that the fields are the message's items,
 //! all and in order, and that each one's place and length are those of its content. Nothing is allocated.
 //!
+//! `write_request` and `write_first` are the inverse: they write the frame of a client's message from its fields. Of the
+//! fields that were read of a message, and its payload, they write its frame again.
+//!
 //! The names are those of docs/FORMATS.md, sections 3 and 4. A list is a field with its count, and then its elements'
 //! fields; a multi is, for each part or result, a field for the header and then the fields of its record. The numbers of
 //! a frame's own header (xid, operation, zxid, err) are no fields: `zk_c` returns them beside these.
@@ -42,7 +45,9 @@ mod name;
 mod opened;
 mod record;
 mod show;
+mod value;
 mod walk;
+mod write;
 
 pub use field::{At, Field};
 pub use frame::{client_fields, server_fields};
@@ -50,3 +55,4 @@ pub use laws::field_laws;
 pub use opened::{Opened, opened_fields};
 pub use show::Show;
 pub use walk::Walked;
+pub use write::{Unwritten, write_first, write_request};

@@ -1,0 +1,214 @@
+//! `Value`: what a field says, as the bytes that are written of it.
+ghost use Rattle.std.specs.Prelude.{◌≡◌, ◌<◌, ◌^◌, ◌∷◌, ◌++◌, [], pos, Some, None, IfSome, option_copied, length};
+ghost use Rattle.std.specs.Option.{option_map, option_and_then};
+ghost use Rattle.zk_jute.specs.Item.{AnInt, ALong, ABoolean, AUstring, ABuffer, ACount, bytes_of, int_bytes};
+ghost use Rattle.zk_records.specs.Records.{multi_header};
+ghost use Rattle.zk_fields.specs.Values.{value_bytes, IsSaid, Fills};
+ghost use Rattle.zk_fields.specs.Written.{int_said, bool_said, count_said, stretch_said, run_said, utf8_said, list_said, part_head, said};
+
+use crate::field::Field;
+use std::str::from_utf8;
+
+/// What a field says.
+#[derive(Clone, Copy)]
+pub(crate) enum Value<'a> {
+    /// An int, a list's count, or the -1 of what is null.
+    Int(i32),
+    Long(i64),
+    Boolean(bool),
+    /// A length and the bytes.
+    Run { length: i32, bytes: &'a [u8] },
+    /// The header of a part of this operation.
+    Part(i32),
+}
+
+/// The number, if an int can say it.
+fn int_of(number: i64) -> Option<i32>
+    ensures { result ≡ int_said number }
+{
+    i32::try_from(number).ok()
+}
+
+fn int_value<'a>(number: i64) -> Option<Value<'a>>
+    ensures { IsSaid (option_map (λ n. AnInt n ∷ []) (int_said number)) result }
+{
+    Some(Value::Int(int_of(number)?))
+}
+
+fn bool_value<'a>(number: i64) -> Option<Value<'a>>
+    ensures { IsSaid (option_map (λ b. ABoolean b ∷ []) (bool_said number)) result }
+{
+    match number {
+        0 => Some(Value::Boolean(false)),
+        1 => Some(Value::Boolean(true)),
+        _ => None,
+    }
+}
+
+/// The content of a field, if it is there.
+fn stretch<'a>(field: &Field, content: &'a [u8]) -> Option<&'a [u8]>
+    ensures said { option_copied result ≡ stretch_said content.now field.now }
+    ensures short { IfSome result (λ bytes. length bytes.now < 2 ^ 31) }
+{
+    let place = field.place as usize;
+    let length = field.length as usize;
+    if place > content.len() || length > content.len() - place {
+        return None;
+    }
+    if length > i32::MAX as usize {
+        return None;
+    }
+    Some(&content[place..place + length])
+}
+
+/// A length and the bytes, if an int can say the length.
+fn run_value<'a>(bytes: &'a [u8]) -> Option<Value<'a>>
+    ensures { length bytes.now < 2 ^ 31 → IsSaid (Some (ABuffer (Some bytes.now) ∷ [])) result }
+{
+    let length = i32::try_from(bytes.len()).ok()?;
+    Some(Value::Run { length, bytes })
+}
+
+/// The content of a text.
+fn text<'a>(field: &Field, content: &'a [u8]) -> Option<Value<'a>>
+    ensures { IsSaid (option_map (λ t. AUstring t ∷ []) (option_and_then utf8_said (option_map Some (stretch_said content.now field.now)))) result }
+{
+    let bytes = stretch(field, content)?;
+    match from_utf8(bytes) {
+        Ok(_) => run_value(bytes),
+        Err(_) => None,
+    }
+}
+
+/// The bytes of a text, a blob or a list that is null.
+fn null_value<'a>() -> Option<Value<'a>>
+    ensures { IsSaid (Some (ABuffer None ∷ [])) result }
+{
+    Some(Value::Int(-1))
+}
+
+fn text_value<'a>(field: &Field, content: &'a [u8]) -> Option<Value<'a>>
+    ensures { IsSaid (option_map (λ t. AUstring t ∷ []) (option_and_then utf8_said (run_said content.now field.now))) result }
+{
+    if field.null == 0 {
+        text(field, content)
+    } else {
+        null_value()
+    }
+}
+
+fn blob_value<'a>(field: &Field, content: &'a [u8]) -> Option<Value<'a>>
+    ensures { IsSaid (option_map (λ b. ABuffer b ∷ []) (run_said content.now field.now)) result }
+{
+    if field.null == 0 {
+        run_value(stretch(field, content)?)
+    } else {
+        null_value()
+    }
+}
+
+/// The number, if a list can have so many elements.
+fn count_of(number: i64) -> Option<i32>
+    ensures { result ≡ option_map pos (count_said number) }
+{
+    if number < 0 {
+        return None;
+    }
+    int_of(number)
+}
+
+fn list_value<'a>(field: &Field) -> Option<Value<'a>>
+    ensures { IsSaid (option_map (λ n. ACount n ∷ []) (list_said field.now)) result }
+{
+    if field.null == 0 {
+        Some(Value::Int(count_of(field.number)?))
+    } else {
+        null_value()
+    }
+}
+
+fn part_value<'a>(number: i64) -> Option<Value<'a>>
+    ensures { IsSaid (option_map (λ n. multi_header.items (part_head n)) (int_said number)) result }
+{
+    Some(Value::Part(int_of(number)?))
+}
+
+/// What the field says; `None` if that is nothing.
+pub(crate) fn value_of<'a>(field: &Field, content: &'a [u8]) -> Option<Value<'a>>
+    ensures { IsSaid (said content.now field.now) result }
+{
+    match field.kind {
+        1 => int_value(field.number),
+        2 => Some(Value::Long(field.number)),
+        3 => bool_value(field.number),
+        4 => text_value(field, content),
+        5 => blob_value(field, content),
+        6 => list_value(field),
+        7 => part_value(field.number),
+        _ => None,
+    }
+}
+
+impl<'a> Value<'a> {
+    /// The number of its bytes.
+    pub(crate) fn size(&self) -> u64
+        ensures { result ≡ length (value_bytes self.now) }
+    {
+        match self {
+            Value::Int(_) => 4,
+            Value::Long(_) => 8,
+            Value::Boolean(_) => 1,
+            Value::Run { bytes, .. } => bytes.len() as u64 + 4,
+            Value::Part(_) => 9,
+        }
+    }
+
+    /// Writes its bytes, if `room` has place for them there, and returns the place after them.
+    pub(crate) fn fill(&self, room: &mut [u8], at: usize) -> usize
+        ensures { Fills (value_bytes self.now) at room.old result room.new }
+    {
+        match self {
+            Value::Int(n) => fill_int(*n, room, at),
+            Value::Long(n) => fill(&n.to_be_bytes(), room, at),
+            Value::Boolean(b) => fill(&[u8::from(*b)], room, at),
+            Value::Run { length, bytes } => fill_run(*length, bytes, room, at),
+            Value::Part(n) => fill_part(*n, room, at),
+        }
+    }
+}
+
+/// Writes the bytes, if `room` has place for them there, and returns the place after them.
+pub(crate) fn fill(bytes: &[u8], room: &mut [u8], at: usize) -> usize
+    ensures { Fills bytes.now at room.old result room.new }
+{
+    if at > room.len() {
+        return at;
+    }
+    if bytes.len() > room.len() - at {
+        return at;
+    }
+    let end = at + bytes.len();
+    room[at..end].copy_from_slice(bytes);
+    end
+}
+
+pub(crate) fn fill_int(n: i32, room: &mut [u8], at: usize) -> usize
+    ensures { Fills (int_bytes n) at room.old result room.new }
+{
+    fill(&n.to_be_bytes(), room, at)
+}
+
+fn fill_run(length: i32, bytes: &[u8], room: &mut [u8], at: usize) -> usize
+    ensures { Fills (int_bytes length ++ bytes.now) at room.old result room.new }
+{
+    let at = fill_int(length, room, at);
+    fill(bytes, room, at)
+}
+
+/// Writes a part's operation, false, and -1.
+fn fill_part(n: i32, room: &mut [u8], at: usize) -> usize
+    ensures { Fills (int_bytes n ++ (0 ∷ 255 ∷ 255 ∷ 255 ∷ 255 ∷ [])) at room.old result room.new }
+{
+    let at = fill_int(n, room, at);
+    fill(&[0, 255, 255, 255, 255], room, at)
+}
