@@ -151,8 +151,8 @@ pub type ServerFrame = ServerFrameOf<Text, Blob, Body>;
 pub type ServerRef<'a> = ServerFrameOf<TextRef<'a>, BlobRef<'a>, BodyRef<'a>>;
 
 /// `body_rows!(row)` is `row!(..; ..; ..)` with the operations whose replies have one field, by what borrows it and its
-/// name; those that have one and a `Stat`, by the record of both and the name of the first; and those that have nothing. A
-/// multi has its results.
+/// name; those that have one and a `Stat`, by the record of both and the name of the first; and those that have
+/// nothing. A multi has its results.
 macro_rules! body_rows {
     ($row:ident) => {
         $row!(
