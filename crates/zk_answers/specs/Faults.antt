@@ -45,7 +45,8 @@ IsShapeFault (Results parts) bytes place reason = IsDoneFault parts bytes place 
 -- where and why bytes are not just those of the shape
 pub data IsRestFault (shape : Shape) : List ℕ → ℕ → Reason → Type 0 where
   in_shape : (bytes : List ℕ) (place : ℕ) (reason : Reason) → IsShapeFault shape bytes place reason → IsRestFault shape bytes place reason
-  past_shape : (bytes rest : List ℕ) (whole : List Item) → IsOfShape shape whole → Opens bytes whole rest → rest ≢ [] → IsRestFault shape bytes (length (bytes_of whole)) Trailing
+  past_shape : (bytes rest : List ℕ) (whole : List Item) → IsOfShape shape whole → Opens bytes whole rest → rest ≢ []
+      → IsRestFault shape bytes (length (bytes_of whole)) Trailing
 
 -- ---- a reply
 
@@ -67,7 +68,8 @@ rest_shape op parts (negsuc n) = Fields End
 -- the header, and then what its err and the request fix
 pub data IsReplyFault (op : Op) (parts : List PartOp) : List ℕ → ℕ → Reason → Type 0 where
   in_head : (bytes : List ℕ) (place : ℕ) (reason : Reason) → IsHeadFault bytes place reason → IsReplyFault op parts bytes place reason
-  in_rest : (bytes rest : List ℕ) (header : ReplyHeader) (behind : ℕ) (reason : Reason) → IsHead bytes header rest → IsRestFault (rest_shape op parts header.err) rest behind reason → IsReplyFault op parts bytes (16 + behind) reason
+  in_rest : (bytes rest : List ℕ) (header : ReplyHeader) (behind : ℕ) (reason : Reason) → IsHead bytes header rest
+      → IsRestFault (rest_shape op parts header.err) rest behind reason → IsReplyFault op parts bytes (16 + behind) reason
 
 -- ---- an event
 
@@ -75,4 +77,5 @@ pub data IsReplyFault (op : Op) (parts : List PartOp) : List ℕ → ℕ → Rea
 pub data IsEventFault : List ℕ → ℕ → Reason → Type 0 where
   in_header : (bytes : List ℕ) (place : ℕ) (reason : Reason) → IsHeadFault bytes place reason → IsEventFault bytes place reason
   bad_err : (bytes rest : List ℕ) (header : ReplyHeader) → IsHead bytes header rest → header.err ≢ pos 0 → IsEventFault bytes 12 EventErr
-  in_event : (bytes rest : List ℕ) (header : ReplyHeader) (behind : ℕ) (reason : Reason) → IsHead bytes header rest → header.err ≡ pos 0 → IsRestFault (Fields watcher_event.layout) rest behind reason → IsEventFault bytes (16 + behind) reason
+  in_event : (bytes rest : List ℕ) (header : ReplyHeader) (behind : ℕ) (reason : Reason) → IsHead bytes header rest → header.err ≡ pos 0
+      → IsRestFault (Fields watcher_event.layout) rest behind reason → IsEventFault bytes (16 + behind) reason

@@ -13,7 +13,8 @@ use Rattle.zk_answers.specs.Frames.{BodyFits, Fits, IsSent, payload}
 
 -- a body of this operation, which fits the request whatever parts that has, is at the place, and ends there
 abbrev pub IsBodyAlone : Op → List ℕ → ℕ → ℕ → Type 0
-IsBodyAlone op src place end = (b : Body) × (op_of_body b ≡ op) × ((parts : List PartOp) → BodyFits parts b) × HaveBytes (body_items b) × StandsAt (body_items b) src place end
+IsBodyAlone op src place end =
+    (b : Body) × (op_of_body b ≡ op) × ((parts : List PartOp) → BodyFits parts b) × HaveBytes (body_items b) × StandsAt (body_items b) src place end
 
 -- a part's own result is at the place, and ends there
 abbrev pub IsResultAt : PartOp → List ℕ → ℕ → ℕ → Type 0

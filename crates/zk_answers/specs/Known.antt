@@ -27,4 +27,5 @@ IsBehind (d ∷ ds) src place end answer = (next : ℕ) × (answer ≡ Some next
 
 -- whatever results are at the place: None if there is none, else the place after the first
 abbrev pub IsBehindFirst : List ℕ → ℕ → Option ℕ → Type 0
-IsBehindFirst src place answer = (ds : List PartDone) (end : ℕ) → HaveBytes (multi_items ds) → StandsAt (multi_items ds) src place end → IsBehind ds src place end answer
+IsBehindFirst src place answer =
+    (ds : List PartDone) (end : ℕ) → HaveBytes (multi_items ds) → StandsAt (multi_items ds) src place end → IsBehind ds src place end answer

@@ -11,7 +11,7 @@ use Rattle.zk_records.specs.declared.op.Op.{Op}
 use Rattle.zk_records.specs.declared.op.PartOp.{PartOp}
 use Rattle.zk_records.specs.Records.{reply_header, watcher_event}
 use Rattle.zk_asks.specs.Parts.{marked}
-use Rattle.zk_answers.specs.Results.{result_header, error_header, result_layout, MayAnswer}
+use Rattle.zk_answers.specs.Results.{result_header, error_header, error_items, result_layout, MayAnswer}
 use Rattle.zk_answers.specs.Faults.{Shape, Fields, Results, IsOfShape, rest_shape, IsHead, IsHeadFault}
 
 -- ---- the results of a multi
@@ -23,8 +23,10 @@ number_items e = AnInt e ∷ []
 -- results of just these parts, or errors, each after its header
 pub data AreResults : List PartOp → List Item → Type 0 where
   no_result : AreResults [] []
-  a_result : (op : PartOp) (ops : List PartOp) (result others : List Item) → IsValueOf (result_layout op) result → AreResults ops others → AreResults (op ∷ ops) (marked (result_header op) ++ (result ++ others))
-  an_error : (op : PartOp) (ops : List PartOp) (e : ℤ) (others : List Item) → HaveBytes (marked (error_header e) ++ number_items e) → AreResults ops others → AreResults (op ∷ ops) (marked (error_header e) ++ (number_items e ++ others))
+  a_result : (op : PartOp) (ops : List PartOp) (result others : List Item) → IsValueOf (result_layout op) result → AreResults ops others
+      → AreResults (op ∷ ops) (marked (result_header op) ++ (result ++ others))
+  an_error : (op : PartOp) (ops : List PartOp) (e : ℤ) (others : List Item) → HaveBytes (error_items e e) → AreResults ops others
+      → AreResults (op ∷ ops) (marked (error_header e) ++ (number_items e ++ others))
 
 -- after the header comes no result of the next part, and no error
 abbrev pub Ends : List PartOp → MultiHeader → Type 0
@@ -35,17 +37,22 @@ Ends (op ∷ ops) header = (header ≢ result_header op) × ((e : ℤ) → heade
 -- So an opening may end within a header, whatever its first numbers are.
 pub data AreMarked : List PartOp → List Item → Type 0 where
   last : (ops : List PartOp) (header : MultiHeader) → HaveBytes (marked header) → Ends ops header → AreMarked ops (marked header)
-  result_before : (op : PartOp) (ops : List PartOp) (result others : List Item) → IsValueOf (result_layout op) result → AreMarked ops others → AreMarked (op ∷ ops) (marked (result_header op) ++ (result ++ others))
-  error_before : (op : PartOp) (ops : List PartOp) (e : ℤ) (others : List Item) → HaveBytes (marked (error_header e) ++ number_items e) → AreMarked ops others → AreMarked (op ∷ ops) (marked (error_header e) ++ (number_items e ++ others))
+  result_before : (op : PartOp) (ops : List PartOp) (result others : List Item) → IsValueOf (result_layout op) result → AreMarked ops others
+      → AreMarked (op ∷ ops) (marked (result_header op) ++ (result ++ others))
+  error_before : (op : PartOp) (ops : List PartOp) (e : ℤ) (others : List Item) → HaveBytes (error_items e e) → AreMarked ops others
+      → AreMarked (op ∷ ops) (marked (error_header e) ++ (number_items e ++ others))
 
 -- a whole header that can't come next, or an error whose int differs from its header's
 pub data IsBadMark : List PartOp → List ℕ → Type 0 where
-  no_mark : (ops : List PartOp) (bytes rest : List ℕ) (header : MultiHeader) → HaveBytes (marked header) → (MayAnswer ops header → ⊥) → Opens bytes (marked header) rest → IsBadMark ops bytes
-  no_number : (op : PartOp) (ops : List PartOp) (bytes rest : List ℕ) (e d : ℤ) → HaveBytes (marked (error_header e) ++ number_items d) → d ≢ e → Opens bytes (marked (error_header e) ++ number_items d) rest → IsBadMark (op ∷ ops) bytes
+  no_mark : (ops : List PartOp) (bytes rest : List ℕ) (header : MultiHeader) → HaveBytes (marked header) → (MayAnswer ops header → ⊥)
+      → Opens bytes (marked header) rest → IsBadMark ops bytes
+  no_number : (op : PartOp) (ops : List PartOp) (bytes rest : List ℕ) (e d : ℤ) → HaveBytes (error_items e d) → d ≢ e → Opens bytes (error_items e d) rest
+      → IsBadMark (op ∷ ops) bytes
 
 -- such a header or error comes after the results of the parts before
 pub data IsBadPart (ops : List PartOp) (bytes : List ℕ) : ℕ → Type 0 where
-  bad_part : (before after : List PartOp) (results : List Item) (rest : List ℕ) → ops ≡ before ++ after → AreResults before results → Opens bytes results rest → IsBadMark after rest → IsBadPart ops bytes (length (bytes_of results))
+  bad_part : (before after : List PartOp) (results : List Item) (rest : List ℕ) → ops ≡ before ++ after → AreResults before results → Opens bytes results rest
+      → IsBadMark after rest → IsBadPart ops bytes (length (bytes_of results))
 
 -- ---- what follows a header
 
@@ -73,9 +80,11 @@ pub data IsOpeningBehind (header : ReplyHeader) (shape : Shape) (bytes rest : Li
 
 pub data IsReplyOpening (op : Op) (parts : List PartOp) (bytes : List ℕ) : ℕ → Reason → Type 0 where
   reply_header_of : (place : ℕ) (reason : Reason) → IsHeadFault bytes place reason → IsReplyOpening op parts bytes place reason
-  reply_rest_of : (header : ReplyHeader) (rest : List ℕ) (place : ℕ) (reason : Reason) → IsHead bytes header rest → IsOpeningBehind header (rest_shape op parts header.err) bytes rest place reason → IsReplyOpening op parts bytes place reason
+  reply_rest_of : (header : ReplyHeader) (rest : List ℕ) (place : ℕ) (reason : Reason) → IsHead bytes header rest
+      → IsOpeningBehind header (rest_shape op parts header.err) bytes rest place reason → IsReplyOpening op parts bytes place reason
 
 pub data IsEventOpening (bytes : List ℕ) : ℕ → Reason → Type 0 where
   event_header_of : (place : ℕ) (reason : Reason) → IsHeadFault bytes place reason → IsEventOpening bytes place reason
   event_err_of : (header : ReplyHeader) (rest : List ℕ) → IsHead bytes header rest → header.err ≢ pos 0 → IsEventOpening bytes 12 EventErr
-  event_rest_of : (header : ReplyHeader) (rest : List ℕ) (place : ℕ) (reason : Reason) → IsHead bytes header rest → header.err ≡ pos 0 → IsOpeningBehind header (Fields watcher_event.layout) bytes rest place reason → IsEventOpening bytes place reason
+  event_rest_of : (header : ReplyHeader) (rest : List ℕ) (place : ℕ) (reason : Reason) → IsHead bytes header rest → header.err ≡ pos 0
+      → IsOpeningBehind header (Fields watcher_event.layout) bytes rest place reason → IsEventOpening bytes place reason

@@ -25,6 +25,16 @@ result_header op = record { kind = part_number op; done = false; err = pos 0 }
 abbrev pub error_header : ℤ → MultiHeader
 error_header e = record { kind = negsuc 0; done = false; err = e }
 
+-- their items, and those of an error: its header, and an int after it
+abbrev pub before_result : PartOp → List Item
+before_result op = marked (result_header op)
+
+abbrev pub before_error : ℤ → List Item
+before_error e = marked (error_header e)
+
+abbrev pub error_items : ℤ → ℤ → List Item
+error_items e d = before_error e ++ (AnInt d ∷ [])
+
 abbrev pub done_items : PartDone → List Item
 done_items (done.Created path) = marked (result_header parts.Create) ++ text_items path
 done_items done.Deleted = marked (result_header parts.Delete)
@@ -87,19 +97,24 @@ result_layout parts.Check = End
 -- where and why bytes are not the results of these parts and the end marker: the first case, from left to right
 pub data IsDoneFault : List PartOp → List ℕ → ℕ → Reason → Type 0 where
   -- whatever the header's first numbers are, its next item follows
-  in_mark : (ops : List PartOp) (bytes : List ℕ) (place : ℕ) (reason : Reason) → IsFault (IsValueOf multi_header.layout) bytes place reason → IsDoneFault ops bytes place reason
-  bad_mark : (ops : List PartOp) (bytes rest : List ℕ) (header : MultiHeader) → HaveBytes (marked header) → Opens bytes (marked header) rest → (MayAnswer ops header → ⊥) → IsDoneFault ops bytes 0 BadPart
-  in_result : (op : PartOp) (ops : List PartOp) (bytes rest : List ℕ) (behind : ℕ) (reason : Reason) → Opens bytes (marked (result_header op)) rest → IsFault (IsValueOf (result_layout op)) rest behind reason
-      → IsDoneFault (op ∷ ops) bytes (length (bytes_of (marked (result_header op))) + behind) reason
-  in_error : (op : PartOp) (ops : List PartOp) (e : ℤ) (bytes rest : List ℕ) (behind : ℕ) (reason : Reason) → HaveBytes (marked (error_header e)) → Opens bytes (marked (error_header e)) rest
-      → IsFault (IsValueOf (One Int End)) rest behind reason → IsDoneFault (op ∷ ops) bytes (length (bytes_of (marked (error_header e))) + behind) reason
+  in_mark : (ops : List PartOp) (bytes : List ℕ) (place : ℕ) (reason : Reason) → IsFault (IsValueOf multi_header.layout) bytes place reason
+      → IsDoneFault ops bytes place reason
+  bad_mark : (ops : List PartOp) (bytes rest : List ℕ) (header : MultiHeader) → HaveBytes (marked header) → Opens bytes (marked header) rest
+      → (MayAnswer ops header → ⊥) → IsDoneFault ops bytes 0 BadPart
+  in_result : (op : PartOp) (ops : List PartOp) (bytes rest : List ℕ) (behind : ℕ) (reason : Reason) → Opens bytes (before_result op) rest
+      → IsFault (IsValueOf (result_layout op)) rest behind reason → IsDoneFault (op ∷ ops) bytes (length (bytes_of (before_result op)) + behind) reason
+  in_error : (op : PartOp) (ops : List PartOp) (e : ℤ) (bytes rest : List ℕ) (behind : ℕ) (reason : Reason) → HaveBytes (before_error e)
+      → Opens bytes (before_error e) rest → IsFault (IsValueOf (One Int End)) rest behind reason
+      → IsDoneFault (op ∷ ops) bytes (length (bytes_of (before_error e)) + behind) reason
   -- an error result whose int differs from its header's
-  other_error : (op : PartOp) (ops : List PartOp) (e d : ℤ) (bytes rest : List ℕ) → HaveBytes (marked (error_header e) ++ (AnInt d ∷ [])) → Opens bytes (marked (error_header e) ++ (AnInt d ∷ [])) rest → d ≢ e
-      → IsDoneFault (op ∷ ops) bytes 0 BadPart
-  behind_result : (op : PartOp) (ops : List PartOp) (result : List Item) (bytes rest : List ℕ) (behind : ℕ) (reason : Reason) → IsValueOf (result_layout op) result → Opens bytes (marked (result_header op) ++ result) rest
-      → IsDoneFault ops rest behind reason → IsDoneFault (op ∷ ops) bytes (length (bytes_of (marked (result_header op) ++ result)) + behind) reason
-  behind_error : (op : PartOp) (ops : List PartOp) (e : ℤ) (bytes rest : List ℕ) (behind : ℕ) (reason : Reason) → HaveBytes (marked (error_header e) ++ (AnInt e ∷ [])) → Opens bytes (marked (error_header e) ++ (AnInt e ∷ [])) rest
-      → IsDoneFault ops rest behind reason → IsDoneFault (op ∷ ops) bytes (length (bytes_of (marked (error_header e) ++ (AnInt e ∷ []))) + behind) reason
+  other_error : (op : PartOp) (ops : List PartOp) (e d : ℤ) (bytes rest : List ℕ) → HaveBytes (error_items e d) → Opens bytes (error_items e d) rest
+      → d ≢ e → IsDoneFault (op ∷ ops) bytes 0 BadPart
+  behind_result : (op : PartOp) (ops : List PartOp) (result : List Item) (bytes rest : List ℕ) (behind : ℕ) (reason : Reason)
+      → IsValueOf (result_layout op) result → Opens bytes (before_result op ++ result) rest → IsDoneFault ops rest behind reason
+      → IsDoneFault (op ∷ ops) bytes (length (bytes_of (before_result op ++ result)) + behind) reason
+  behind_error : (op : PartOp) (ops : List PartOp) (e : ℤ) (bytes rest : List ℕ) (behind : ℕ) (reason : Reason) → HaveBytes (error_items e e)
+      → Opens bytes (error_items e e) rest → IsDoneFault ops rest behind reason
+      → IsDoneFault (op ∷ ops) bytes (length (bytes_of (error_items e e)) + behind) reason
 
 -- what comes after a header, while a part is left
 abbrev pub ItsPlace : PartOp → MultiHeader → Mark → Type 0

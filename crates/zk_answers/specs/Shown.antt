@@ -30,7 +30,8 @@ stat_of p = record {
 }
 
 abbrev pub counts_value : List ℕ → ℕ → Read Counts
-counts_value src = both_at (int_at src) (both_at (int_at src) (both_at (int_at src) (both_at (long_at src) (both_at (int_at src) (both_at (int_at src) (long_at src))))))
+counts_value src =
+    both_at (int_at src) (both_at (int_at src) (both_at (int_at src) (both_at (long_at src) (both_at (int_at src) (both_at (int_at src) (long_at src))))))
 
 abbrev pub stat_value : List ℕ → ℕ → Read Stat
 stat_value src place = read_map stat_of (both_at (long_at src) (both_at (long_at src) (both_at (long_at src) (both_at (long_at src) (counts_value src)))) place)

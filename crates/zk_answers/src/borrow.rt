@@ -13,14 +13,14 @@ ghost use Rattle.zk_answers.specs.Faults.{IsShapeFault, body_shape, rest_shape, 
 
 use crate::done_list::results_ref;
 use crate::frame::{
-    BodyOf, BodyRef, Failure, OutcomeOf, OutcomeRef, ReplyOf, ServerFrameOf, ServerRef,
+    BodyOf, BodyRef, Failure, OutcomeOf, OutcomeRef, ReplyOf, ServerFrameOf, ServerRef, body_rows,
 };
 use crate::front::HEADER;
 use zk_asks::Asked;
 use zk_jute::{ItemFault, Payload, PayloadOf, Reason, TextList, TextRef, read_ref, scan_flagged};
 use zk_records::{
-    AclBodyOf, AclBodyRef, ChildrenBodyOf, ChildrenBodyRef, ConnectResponseRef, CreateBodyOf,
-    CreateBodyRef, DataBodyOf, DataBodyRef, Op, ReplyHeader, Stat, WatcherEventRef,
+    AclBodyRef, ChildrenBodyRef, ConnectResponseRef, CreateBodyRef, DataBodyRef, Op, ReplyHeader,
+    Stat, WatcherEventRef,
 };
 
 /// The body at `place` of a reply to `form`, and the place after it; judged, or known to be there.
@@ -36,41 +36,27 @@ pub(crate) fn body_ref<'a, F: Asked, const KNOWN: bool>(
     ensures fault { IfErr result (IsSurelyToldAt (IsShapeFault (body_shape (F.operation form.now) (F.part_ops form.now))) src.now.bytes.now place) }
     ensures within { IfOk result (λ x. x.1 ≤ length src.now.bytes.now) }
 {
-    macro_rules! body {
-        ($read:ty, $value:pat => $body:expr) => {
-            match read_ref::<_, $read>(src, place) {
-                Ok(($value, end)) => Ok(($body, end)),
-                Err(fault) => Err(fault),
+    macro_rules! row {
+        ($($($one:ident)|+: $field:ident $only:ident),+;
+         $($both:ident: $pair:ident $first:ident),+; $($bare:ident)|+) => {
+            match form.op() {
+                $($(Op::$one => match read_ref::<_, $field>(src, place) {
+                    Ok(($only, end)) => Ok((BodyOf::$one { $only }, end)),
+                    Err(fault) => Err(fault),
+                },)+)+
+                $(Op::$both => match read_ref::<_, $pair>(src, place) {
+                    Ok(($pair { $first, stat }, end)) => Ok((BodyOf::$both { $first, stat }, end)),
+                    Err(fault) => Err(fault),
+                },)+
+                $(Op::$bare => Ok((BodyOf::$bare, place)),)+
+                Op::Multi => match results_ref(&Payload { bytes: src.bytes }, place, form) {
+                    Ok((dones, end)) => Ok((BodyOf::Multi(dones), end)),
+                    Err(fault) => Err(fault),
+                },
             }
         };
     }
-    match form.op() {
-        Op::Create => body!(TextRef, path => BodyOf::Create { path }),
-        Op::Delete => Ok((BodyOf::Delete, place)),
-        Op::Exists => body!(Stat, stat => BodyOf::Exists { stat }),
-        Op::GetData => {
-            body!(DataBodyRef, DataBodyOf { blob, stat } => BodyOf::GetData { blob, stat })
-        }
-        Op::SetData => body!(Stat, stat => BodyOf::SetData { stat }),
-        Op::GetAcl => body!(AclBodyRef, AclBodyOf { acl, stat } => BodyOf::GetAcl { acl, stat }),
-        Op::SetAcl => body!(Stat, stat => BodyOf::SetAcl { stat }),
-        Op::GetChildren => body!(TextList, names => BodyOf::GetChildren { names }),
-        Op::Sync => body!(TextRef, path => BodyOf::Sync { path }),
-        Op::Ping => Ok((BodyOf::Ping, place)),
-        Op::GetChildren2 => {
-            body!(ChildrenBodyRef, ChildrenBodyOf { names, stat } => BodyOf::GetChildren2 { names, stat })
-        }
-        Op::Multi => match results_ref(&Payload { bytes: src.bytes }, place, form) {
-            Ok((dones, end)) => Ok((BodyOf::Multi(dones), end)),
-            Err(fault) => Err(fault),
-        },
-        Op::Create2 => {
-            body!(CreateBodyRef, CreateBodyOf { path, stat } => BodyOf::Create2 { path, stat })
-        }
-        Op::Auth => Ok((BodyOf::Auth, place)),
-        Op::SetWatches => Ok((BodyOf::SetWatches, place)),
-        Op::CloseSession => Ok((BodyOf::CloseSession, place)),
-    }
+    body_rows!(row)
 }
 
 /// What follows a header with the error `err`: nothing if it isn't 0, else the body.

@@ -150,27 +150,41 @@ pub type ServerFrame = ServerFrameOf<Text, Blob, Body>;
 /// A borrowed `ServerFrame`.
 pub type ServerRef<'a> = ServerFrameOf<TextRef<'a>, BlobRef<'a>, BodyRef<'a>>;
 
+/// `body_rows!(row)` is `row!(..; ..; ..)` with the operations whose replies have one field, by what borrows it and its
+/// name; those that have one and a `Stat`, by the record of both and the name of the first; and those that have
+/// nothing. A multi has its results.
+macro_rules! body_rows {
+    ($row:ident) => {
+        $row!(
+            Create | Sync: TextRef path,
+            Exists | SetData | SetAcl: Stat stat,
+            GetChildren: TextList names;
+            GetData: DataBodyRef blob,
+            GetAcl: AclBodyRef acl,
+            GetChildren2: ChildrenBodyRef names,
+            Create2: CreateBodyRef path;
+            Delete | Ping | Auth | SetWatches | CloseSession
+        )
+    };
+}
+
+pub(crate) use body_rows;
+
 fn op_of<T, B, L, A, M>(body: &BodyOf<T, B, L, A, M>) -> Op
     ensures { result ≡ op_of_body body.now }
 {
-    match body {
-        BodyOf::Create { .. } => Op::Create,
-        BodyOf::Delete => Op::Delete,
-        BodyOf::Exists { .. } => Op::Exists,
-        BodyOf::GetData { .. } => Op::GetData,
-        BodyOf::SetData { .. } => Op::SetData,
-        BodyOf::GetAcl { .. } => Op::GetAcl,
-        BodyOf::SetAcl { .. } => Op::SetAcl,
-        BodyOf::GetChildren { .. } => Op::GetChildren,
-        BodyOf::Sync { .. } => Op::Sync,
-        BodyOf::Ping => Op::Ping,
-        BodyOf::GetChildren2 { .. } => Op::GetChildren2,
-        BodyOf::Multi(_) => Op::Multi,
-        BodyOf::Create2 { .. } => Op::Create2,
-        BodyOf::Auth => Op::Auth,
-        BodyOf::SetWatches => Op::SetWatches,
-        BodyOf::CloseSession => Op::CloseSession,
+    macro_rules! row {
+        ($($($one:ident)|+: $field:ident $only:ident),+;
+         $($both:ident: $pair:ident $first:ident),+; $($bare:ident)|+) => {
+            match body {
+                $($(BodyOf::$one { .. } => Op::$one,)+)+
+                $(BodyOf::$both { .. } => Op::$both,)+
+                $(BodyOf::$bare => Op::$bare,)+
+                BodyOf::Multi(_) => Op::Multi,
+            }
+        };
     }
+    body_rows!(row)
 }
 
 impl<T, B, L, A, M> ReplyOf<BodyOf<T, B, L, A, M>> {

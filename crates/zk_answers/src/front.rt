@@ -6,6 +6,7 @@ ghost use Rattle.zk_answers.specs.Scanned.{IsBodyAt};
 ghost use Rattle.zk_answers.specs.Fronts.{IsBodyAlone, IsReplyUnder};
 
 use crate::done_list::results_ref;
+use crate::frame::body_rows;
 use zk_asks::Asked;
 use zk_jute::{Payload, TextList, TextRef, end_of};
 use zk_records::{AclBodyRef, ChildrenBodyRef, CreateBodyRef, DataBodyRef, Op, ReplyHeader, Stat};
@@ -19,17 +20,18 @@ fn body_end(payload: &[u8], place: usize, op: Op) -> Option<usize>
     requires { place ≤ length payload.now }
     ensures { IfSome result (λ end. IsBodyAlone op payload.now place end) }
 {
-    match op {
-        Op::Create | Op::Sync => end_of::<TextRef>(payload, place),
-        Op::Exists | Op::SetData | Op::SetAcl => end_of::<Stat>(payload, place),
-        Op::GetData => end_of::<DataBodyRef>(payload, place),
-        Op::GetAcl => end_of::<AclBodyRef>(payload, place),
-        Op::GetChildren => end_of::<TextList>(payload, place),
-        Op::GetChildren2 => end_of::<ChildrenBodyRef>(payload, place),
-        Op::Create2 => end_of::<CreateBodyRef>(payload, place),
-        Op::Delete | Op::Ping | Op::Auth | Op::SetWatches | Op::CloseSession => Some(place),
-        Op::Multi => None,
+    macro_rules! row {
+        ($($($one:ident)|+: $field:ident $only:ident),+;
+         $($both:ident: $pair:ident $first:ident),+; $($bare:ident)|+) => {
+            match op {
+                $($(Op::$one)|+ => end_of::<$field>(payload, place),)+
+                $(Op::$both => end_of::<$pair>(payload, place),)+
+                $(Op::$bare)|+ => Some(place),
+                Op::Multi => None,
+            }
+        };
     }
+    body_rows!(row)
 }
 
 /// Whether the results of the parts of `form` begin at `place` and end the payload; false: undecided.

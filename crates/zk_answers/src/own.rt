@@ -4,7 +4,7 @@ ghost use Rattle.std.specs.Prelude.{◌≡◌};
 use crate::done_list::DoneList;
 use crate::frame::{
     Body, BodyOf, BodyRef, Outcome, OutcomeOf, OutcomeRef, PartDone, PartDoneOf, PartDoneRef,
-    Reply, ReplyOf, ReplyRef, ServerFrame, ServerFrameOf, ServerRef,
+    Reply, ReplyOf, ReplyRef, ServerFrame, ServerFrameOf, ServerRef, body_rows,
 };
 use std::alloc::{AllocError, Global};
 use zk_jute::Items;
@@ -42,42 +42,21 @@ impl<'a> Own for BodyRef<'a> {
     ghost same = { λ x. x };
 
     fn own(&self, alloc: Global) -> Result<Body, AllocError> {
-        match self {
-            BodyOf::Create { path } => Ok(BodyOf::Create {
-                path: path.own(alloc)?,
-            }),
-            BodyOf::Delete => Ok(BodyOf::Delete),
-            BodyOf::Exists { stat } => Ok(BodyOf::Exists { stat: *stat }),
-            BodyOf::GetData { blob, stat } => Ok(BodyOf::GetData {
-                blob: blob.own(alloc)?,
-                stat: *stat,
-            }),
-            BodyOf::SetData { stat } => Ok(BodyOf::SetData { stat: *stat }),
-            BodyOf::GetAcl { acl, stat } => Ok(BodyOf::GetAcl {
-                acl: acl.own(alloc)?,
-                stat: *stat,
-            }),
-            BodyOf::SetAcl { stat } => Ok(BodyOf::SetAcl { stat: *stat }),
-            BodyOf::GetChildren { names } => Ok(BodyOf::GetChildren {
-                names: names.own(alloc)?,
-            }),
-            BodyOf::Sync { path } => Ok(BodyOf::Sync {
-                path: path.own(alloc)?,
-            }),
-            BodyOf::Ping => Ok(BodyOf::Ping),
-            BodyOf::GetChildren2 { names, stat } => Ok(BodyOf::GetChildren2 {
-                names: names.own(alloc)?,
-                stat: *stat,
-            }),
-            BodyOf::Multi(dones) => Ok(BodyOf::Multi(dones.own(alloc)?)),
-            BodyOf::Create2 { path, stat } => Ok(BodyOf::Create2 {
-                path: path.own(alloc)?,
-                stat: *stat,
-            }),
-            BodyOf::Auth => Ok(BodyOf::Auth),
-            BodyOf::SetWatches => Ok(BodyOf::SetWatches),
-            BodyOf::CloseSession => Ok(BodyOf::CloseSession),
+        macro_rules! row {
+            ($($($one:ident)|+: $field:ident $only:ident),+;
+             $($both:ident: $pair:ident $first:ident),+; $($bare:ident)|+) => {
+                match self {
+                    $($(BodyOf::$one { $only } => Ok(BodyOf::$one { $only: $only.own(alloc)? }),)+)+
+                    $(BodyOf::$both { $first, stat } => Ok(BodyOf::$both {
+                        $first: $first.own(alloc)?,
+                        stat: *stat,
+                    }),)+
+                    $(BodyOf::$bare => Ok(BodyOf::$bare),)+
+                    BodyOf::Multi(dones) => Ok(BodyOf::Multi(dones.own(alloc)?)),
+                }
+            };
         }
+        body_rows!(row)
     }
 }
 

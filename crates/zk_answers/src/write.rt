@@ -6,7 +6,7 @@ ghost use Rattle.zk_answers.specs.Results as results;
 ghost use Rattle.zk_answers.specs.Rows as rows;
 ghost use Rattle.zk_answers.specs.Frames as frames;
 
-use crate::frame::{Body, Outcome, PartDone, Reply, ServerFrame};
+use crate::frame::{Body, Outcome, PartDone, Reply, ServerFrame, body_rows};
 use std::alloc::AllocError;
 use zk_jute::{Output, Spell};
 use zk_records::{MultiHeader, PartOp, ReplyHeader, part_number};
@@ -62,22 +62,18 @@ impl Spell for Body {
     ghost items = { rows.body_items };
 
     fn put<O: Output>(&self, out: &mut O) -> Result<(), O::Error> {
-        match self {
-            Body::Create { path } => path.put(out),
-            Body::Exists { stat } => stat.put(out),
-            Body::GetData { blob, stat } => (blob, stat).put(out),
-            Body::SetData { stat } => stat.put(out),
-            Body::GetAcl { acl, stat } => (acl, stat).put(out),
-            Body::SetAcl { stat } => stat.put(out),
-            Body::GetChildren { names } => names.put(out),
-            Body::Sync { path } => path.put(out),
-            Body::GetChildren2 { names, stat } => (names, stat).put(out),
-            Body::Multi(dones) => (dones, &end_header()).put(out),
-            Body::Create2 { path, stat } => (path, stat).put(out),
-            Body::Delete | Body::Ping | Body::Auth | Body::SetWatches | Body::CloseSession => {
-                Ok(())
-            }
+        macro_rules! row {
+            ($($($one:ident)|+: $field:ident $only:ident),+;
+             $($both:ident: $pair:ident $first:ident),+; $($bare:ident)|+) => {
+                match self {
+                    $($(Body::$one { $only } => $only.put(out),)+)+
+                    $(Body::$both { $first, stat } => ($first, stat).put(out),)+
+                    $(Body::$bare)|+ => Ok(()),
+                    Body::Multi(dones) => (dones, &end_header()).put(out),
+                }
+            };
         }
+        body_rows!(row)
     }
 }
 

@@ -37,19 +37,19 @@ body_is a have =
 
 pub refused_header : (profile : Profile) (src : List ℕ) (e : ItemFault) → IsToldFault (IsValueOf request_header.layout) src 0 e → IsTold (IsAskFault profile src) e
 unfolding IsTold
-refused_header profile src e h = elim h [ inl m ↦ inl m | inr f ↦ let same : 0 + f.0 ≡ f.0 = omega arith in inr (f.0, in_header src f.0 e.reason f.1, f.2 ∙ ap told_place same) ]
+refused_header profile src e h = elim h [ inl m ↦ inl m | inr f ↦ let same : 0 + f.0 ≡ f.0 = omega arith in inr (f.0, in_header f.0 e.reason f.1, f.2 ∙ ap told_place same) ]
 
 module _ (profile : Profile) (src : List ℕ) (xid kind : ℤ) (after : ℕ) (v : IsValueOf request_header.layout (header_items xid kind)) (s : StandsAt (header_items xid kind) src 0 after) where
   pub refused_op : IsNoOp profile kind → IsTold (IsAskFault profile src) (record { place = 4; reason = UnknownOp })
   unfolding IsTold
-  refused_op unknown = inr (4, unknown_op src (drop after src) xid kind v.1 s.0 unknown, refl)
+  refused_op unknown = inr (4, unknown_op xid kind (record { rest = drop after src; have = v.1; splits = s.0 }) unknown, refl)
 
   pub refused_xid : (op : Op) → HasOp profile op → kind ≡ op_number op → (IsAllowed xid op → ⊥) → IsTold (IsAskFault profile src) (record { place = 4; reason = XidOp })
   unfolding IsTold
   refused_xid op has is not =
       let have : HaveBytes (header_items xid (op_number op)) = subst (λ (k : ℤ). HaveBytes (header_items xid k)) is v.1 in
       let opens : src ≡ bytes_of (header_items xid (op_number op)) ++ drop after src = subst (λ (k : ℤ). src ≡ bytes_of (header_items xid k) ++ drop after src) is s.0 in
-      inr (4, bad_xid src (drop after src) xid op have opens has not, refl)
+      inr (4, bad_xid xid op (record { rest = drop after src; have = have; splits = opens }) has not, refl)
 
   pub refused_body : (op : Op) (e : ItemFault) → HasOp profile op → kind ≡ op_number op → IsAllowed xid op → IsToldAt (IsBodyFault op) src after e → IsTold (IsAskFault profile src) e
   unfolding IsTold IsToldAt
@@ -61,7 +61,7 @@ module _ (profile : Profile) (src : List ℕ) (xid kind : ℤ) (after : ℕ) (v 
         | inl m ↦ inl m
         | inr f ↦
             let told : after + f.0 ≡ 8 + f.0 = omega arith in
-            inr (8 + f.0, in_body src (drop after src) xid op f.0 e.reason have opens has may f.1, f.2 ∙ ap told_place told)
+            inr (8 + f.0, in_body xid op f.0 e.reason (record { header = record { rest = drop after src; have = have; splits = opens }; has = has; may = may }) f.1, f.2 ∙ ap told_place told)
       ]
 
   pub refused_rest : (a : Ask) (end : ℕ) → HasOp profile (op_of_ask a) → kind ≡ op_number (op_of_ask a) → IsAllowed xid (op_of_ask a) → HaveBytes (body_items a) → StandsAt (body_items a) src after end → end < length src
@@ -76,7 +76,7 @@ module _ (profile : Profile) (src : List ℕ) (xid kind : ℤ) (after : ℕ) (v 
       let place : end ≡ length (bytes_of (header_items xid (op_number op) ++ body_items a)) = omega arith in
       inr (
         end,
-        behind_body src end (record {
+        behind_body end (record {
           whole = header_items xid (op_number op) ++ body_items a;
           rest = drop end src;
           value = asks xid op (body_items a) head has may (body_is a have);

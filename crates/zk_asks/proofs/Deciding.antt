@@ -31,7 +31,7 @@ use Rattle.zk_asks.specs.declared.frame.ClientFrameOf.TheVariants as frame
 use Rattle.zk_asks.specs.Codes.{IsAllowed}
 use Rattle.zk_asks.specs.Parts.{part_layout, part_header, end_header, marked, op_of_part, record_of, part_items, multi_items}
 use Rattle.zk_asks.specs.Rows.{op_of_ask, body_items, body_of}
-use Rattle.zk_asks.specs.Forms.{header_items, IsAsk}
+use Rattle.zk_asks.specs.Forms.{header_items, IsAsk, HasHeader}
 use Rattle.zk_asks.specs.Faults.{IsFirstFault, IsMultiFault, in_mark, bad_mark, in_part, behind_part, IsBodyFault, IsAskFault, in_header, unknown_op, bad_xid, in_body, behind_body}
 use Rattle.zk_asks.specs.Frames.{frame_items, IsFirst, IsLater, IsOfProfile, IsSent, payload}
 use Rattle.zk_asks.proofs.Choices.{number_decided, allowed_decided, header_may}
@@ -221,6 +221,9 @@ module _ (profile : Profile) (bytes : List ℕ) (s : Starts request_header.layou
     opens_op : bytes ≡ bytes_of (header_items h.xid (op_number op)) ++ s.rest
     opens_op = opens_front ∙ ap (λ (z : ℤ). bytes_of (header_items h.xid z) ++ s.rest) is
 
+    abbrev op_front : HasHeader h.xid (op_number op) bytes
+    op_front = record { rest = s.rest; have = have_op; splits = opens_op }
+
     module _ (allowed : IsAllowed h.xid op) (a : Asks op s.rest) where
       abbrev made : ClientFrame
       made = frame.Ask h.xid a.ask
@@ -247,26 +250,26 @@ module _ (profile : Profile) (bytes : List ℕ) (s : Starts request_header.layou
       finished (inr some) = inr (
         length (bytes_of (frame_items made)),
         Trailing,
-        behind_body bytes (length (bytes_of (frame_items made))) (record { whole = frame_items made; rest = a.rest; value = is_ask profile made tt has_made sent_made; splits = opens_made; some = some; at = refl }),
+        behind_body (length (bytes_of (frame_items made))) (record { whole = frame_items made; rest = a.rest; value = is_ask profile made tt has_made sent_made; splits = opens_made; some = some; at = refl }),
       )
 
     with_op : AskDecided
     with_op = elim (allowed_decided h.xid op) [
       | inl allowed ↦ elim (body_decided op s.rest s.fits) [
         | inl a ↦ finished allowed a (left a.rest)
-        | inr f ↦ inr (8 + f.0, f.1, in_body bytes s.rest h.xid op f.0 f.1 have_op opens_op has allowed f.2)
+        | inr f ↦ inr (8 + f.0, f.1, in_body h.xid op f.0 f.1 (record { header = op_front; has = has; may = allowed }) f.2)
       ]
-      | inr not ↦ inr (4, XidOp, bad_xid bytes s.rest h.xid op have_op opens_op has not)
+      | inr not ↦ inr (4, XidOp, bad_xid h.xid op op_front has not)
     ]
 
   with_header : AskDecided
   with_header = elim (number_decided profile h.kind) [
     | inl o ↦ with_op o.0 o.1 o.2
-    | inr none ↦ inr (4, UnknownOp, unknown_op bytes s.rest h.xid h.kind have_front opens_front none)
+    | inr none ↦ inr (4, UnknownOp, unknown_op h.xid h.kind (record { rest = s.rest; have = have_front; splits = opens_front }) none)
   ]
 
 pub ask_decided : (profile : Profile) (bytes : List ℕ) → IsBytes bytes → LaterIs profile bytes ⊎ HasFault (IsAskFault profile) bytes
 ask_decided profile bytes fits = elim (layout_decided request_header.layout bytes fits) [
   | inl s ↦ let h = request_header_covered s.items s.value.0 in with_header profile bytes s h.0 h.1
-  | inr f ↦ inr (f.0, f.1, in_header bytes f.0 f.1 f.2)
+  | inr f ↦ inr (f.0, f.1, in_header f.0 f.1 f.2)
 ]

@@ -18,7 +18,7 @@ use Rattle.zk_asks.specs.declared.frame.ClientFrameOf.TheVariants as frame
 use Rattle.zk_records.specs.declared.profile.Profile.{Profile}
 use Rattle.zk_records.specs.Codes.{op_number, HasOp, IsNoOp}
 use Rattle.zk_asks.specs.Codes.{IsAllowed}
-use Rattle.zk_asks.specs.Forms.{header_items, IsOf, IsBody, IsAsk, asks}
+use Rattle.zk_asks.specs.Forms.{header_items, op_header, IsOf, IsBody, IsAsk, asks}
 use Rattle.zk_asks.specs.Rows.{Row, holds, bare, multi, row_of, Content, remake, items_in, Body, Fields, Parts, body_of, op_of_ask, body_items}
 use Rattle.zk_asks.specs.Faults.{IsFaultOf, IsBodyFault, IsAskFault, in_header, unknown_op, bad_xid, in_body, behind_body}
 use Rattle.zk_asks.specs.Frames.{frame_items, IsSent, IsLater, IsOfProfile, payload}
@@ -85,11 +85,13 @@ trailing profile (asks xid op body have has may v) bytes rest p e some at =
     inr (header, bytes_of body ++ rest, header_is xid (op_number op) have, header_split header body bytes rest e, (xid, op_number op, refl, inr (op, has, refl, inr (may, inr (body, rest, v, refl, some, place, refl)))))
 
 sequel : (profile : Profile) {bytes : List ℕ} {p : ℕ} {r : Reason} → IsAskFault profile bytes p r → Sequel request_header.layout (AfterHeader profile) bytes p r
-sequel profile (in_header bytes place reason f) = inl f
-sequel profile (unknown_op bytes rest xid kind have e unknown) = inr (header_items xid kind, rest, header_is xid kind have, e, (xid, kind, refl, inl (unknown, refl, refl)))
-sequel profile (bad_xid bytes rest xid op have e has not) = inr (header_items xid (op_number op), rest, header_is xid (op_number op) have, e, (xid, op_number op, refl, inr (op, has, refl, inl (not, refl, refl))))
-sequel profile (in_body bytes rest xid op behind reason have e has may f) = inr (header_items xid (op_number op), rest, header_is xid (op_number op) have, e, (xid, op_number op, refl, inr (op, has, refl, inr (may, inl (behind, refl, f)))))
-sequel profile (behind_body bytes place t) = trailing profile t.value bytes t.rest place t.splits t.some t.at
+sequel profile (in_header place reason f) = inl f
+sequel profile (unknown_op xid kind h unknown) = inr (header_items xid kind, h.rest, header_is xid kind h.have, h.splits, (xid, kind, refl, inl (unknown, refl, refl)))
+sequel profile (bad_xid xid op h has not) = inr (op_header xid op, h.rest, header_is xid (op_number op) h.have, h.splits, (xid, op_number op, refl, inr (op, has, refl, inl (not, refl, refl))))
+sequel profile (in_body xid op behind reason a f) =
+    let h = a.header in
+    inr (op_header xid op, h.rest, header_is xid (op_number op) h.have, h.splits, (xid, op_number op, refl, inr (op, a.has, refl, inr (a.may, inl (behind, refl, f)))))
+sequel profile {bytes} (behind_body place t) = trailing profile t.value bytes t.rest place t.splits t.some t.at
 
 -- ---- one fault
 

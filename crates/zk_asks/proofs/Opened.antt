@@ -19,9 +19,9 @@ use Rattle.zk_records.specs.declared.profile.Profile.{Profile}
 use Rattle.zk_records.specs.Codes.{op_number}
 use Rattle.zk_asks.specs.Parts.{part_layout, part_header, end_header, MayStand, marked}
 use Rattle.zk_asks.specs.Rows.{Body, Fields, Parts, body_of}
-use Rattle.zk_asks.specs.Forms.{header_items}
+use Rattle.zk_asks.specs.Forms.{header_items, IsRequested}
 use Rattle.zk_asks.specs.Faults.{IsMultiFault, in_mark, bad_mark, in_part, behind_part, IsFaultOf, IsAskFault, in_header, unknown_op, bad_xid, in_body, behind_body}
-use Rattle.zk_asks.specs.Openings.{AreParts, no_part, one_more, AreHeaded, last, a_part_before, IsHeaded, IsRequest, IsRequested, IsOpeningFault, of_header, of_type, of_xid, of_item, of_part, of_rest}
+use Rattle.zk_asks.specs.Openings.{AreParts, no_part, one_more, AreHeaded, last, a_part_before, IsHeaded, IsRequest, IsOpeningFault, of_header, of_type, of_xid, of_item, of_part, of_rest}
 use Rattle.zk_asks.proofs.Openings.{cut, NextIs, next_follows, goes_on, behind_front, drop_front}
 use Rattle.zk_asks.proofs.Parts.{mark_is}
 use Rattle.zk_asks.proofs.Parted.{op_same, not_end, end_bytes, mark_bytes, part_mark}
@@ -312,37 +312,41 @@ part_opened profile xid bytes rest q r requested e b =
     let at = b.7 in
     let place : length (bytes_of (front ++ parts)) ≡ 8 + q = omega (arith, ap length (bytes_both front parts), length-append (bytes_of front) (bytes_of parts)) in
     let split : bytes ≡ bytes_of (front ++ (parts ++ marked h)) ++ b.2 = e ∙ ap (λ (x : List ℕ). bytes_of front ++ x) b.6 ∙ sym (append_assoc (bytes_of front) (bytes_of (parts ++ marked h)) b.2) ∙ ap (λ (x : List ℕ). x ++ b.2) (sym (bytes_both front (parts ++ marked h))) in
-    let one = of_part bytes b.2 xid parts h requested b.3 b.4 b.5 split in
+    let one = of_part b.2 xid parts h requested b.3 b.4 b.5 split in
     let two : IsOpeningFault profile bytes (8 + q) BadPart = subst (λ (p : ℕ). IsOpeningFault profile bytes p BadPart) place one in
     subst (λ (x : Reason). IsOpeningFault profile bytes (8 + q) x) (sym b.8) two
 
 pub opened : (profile : Profile) {bytes : List ℕ} {p : ℕ} {r : Reason} → IsAskFault profile bytes p r → IsOpeningFault profile bytes p r
-opened profile (in_header bytes p r f) = of_header bytes p r f
-opened profile (unknown_op bytes rest xid kind have e unknown) = of_type bytes rest xid kind have e unknown
-opened profile (bad_xid bytes rest xid op have e has not) = of_xid bytes rest xid op have e has not
-opened profile (in_body bytes rest xid op q r have e has may f) =
+opened profile (in_header p r f) = of_header p r f
+opened profile (unknown_op xid kind h unknown) = of_type xid kind h unknown
+opened profile (bad_xid xid op h has not) = of_xid xid op h has not
+opened profile {bytes} (in_body xid op q r a f) =
+    let rest = a.header.rest in
+    let e = a.header.splits in
     elim (body_opened (body_of op) rest q r f) [
-      | inl g ↦ of_item bytes xid op (8 + q) r (rest, have, e, has, may) (request_opened xid op bytes rest q r e g)
+      | inl g ↦ of_item xid op (8 + q) r a (request_opened xid op bytes rest q r e g)
       | inr g ↦
           let multi = of_multi op g.0 in
-          let requested : IsRequested profile xid ops.Multi bytes = subst (λ (o : Op). IsRequested profile xid o bytes) multi (rest, have, e, has, may) in
+          let requested : IsRequested profile xid ops.Multi bytes = subst (λ (o : Op). IsRequested profile xid o bytes) multi a in
           part_opened profile xid bytes rest q r requested (subst (λ (o : Op). Opens bytes (header_items xid (op_number o)) rest) multi e) g.1
     ]
-opened profile (behind_body bytes p t) = of_rest bytes p t
+opened profile (behind_body p t) = of_rest p t
 
 pub cased : (profile : Profile) {bytes : List ℕ} {p : ℕ} {r : Reason} → IsOpeningFault profile bytes p r → IsAskFault profile bytes p r
-cased profile (of_header bytes p r f) = in_header bytes p r f
-cased profile (of_type bytes rest xid kind have e unknown) = unknown_op bytes rest xid kind have e unknown
-cased profile (of_xid bytes rest xid op have e has not) = bad_xid bytes rest xid op have e has not
-cased profile (of_item bytes xid op p r q f) =
+cased profile (of_header p r f) = in_header p r f
+cased profile (of_type xid kind h unknown) = unknown_op xid kind h unknown
+cased profile (of_xid xid op h has not) = bad_xid xid op h has not
+cased profile {bytes} (of_item xid op p r a f) =
     let front = header_items xid (op_number op) in
-    let d = drop_front (IsHeaded (body_of op)) front q.1 bytes q.0 p r q.2 f in
-    subst (λ (x : ℕ). IsAskFault profile bytes x r) (sym d.1) (in_body bytes q.0 xid op d.0 r q.1 q.2 q.3 q.4 (body_cased (body_of op) q.0 d.0 r d.2))
-cased profile (of_part bytes rest xid parts h q are have not e) =
+    let q = a.header in
+    let d = drop_front (IsHeaded (body_of op)) front q.have bytes q.rest p r q.splits f in
+    subst (λ (x : ℕ). IsAskFault profile bytes x r) (sym d.1) (in_body xid op d.0 r a (body_cased (body_of op) q.rest d.0 r d.2))
+cased profile {bytes} (of_part rest xid parts h a are have not e) =
+    let q = a.header in
     let front = header_items xid (op_number ops.Multi) in
     let split : bytes_of (front ++ (parts ++ marked h)) ++ rest ≡ bytes_of front ++ (bytes_of (parts ++ marked h) ++ rest) = ap (λ (x : List ℕ). x ++ rest) (bytes_both front (parts ++ marked h)) ∙ append_assoc (bytes_of front) (bytes_of (parts ++ marked h)) rest in
-    let left : q.0 ≡ bytes_of (parts ++ marked h) ++ rest = append_cancel_left (bytes_of front) q.0 (bytes_of (parts ++ marked h) ++ rest) (sym q.2 ∙ e ∙ split) in
-    let inner = bad_cased are h have not q.0 rest left in
+    let left : q.rest ≡ bytes_of (parts ++ marked h) ++ rest = append_cancel_left (bytes_of front) q.rest (bytes_of (parts ++ marked h) ++ rest) (sym q.splits ∙ e ∙ split) in
+    let inner = bad_cased are h have not q.rest rest left in
     let place : 8 + length (bytes_of parts) ≡ length (bytes_of (front ++ parts)) = omega (arith, ap length (bytes_both front parts), length-append (bytes_of front) (bytes_of parts)) in
-    subst (λ (x : ℕ). IsAskFault profile bytes x BadPart) place (in_body bytes q.0 xid ops.Multi (length (bytes_of parts)) BadPart q.1 q.2 q.3 q.4 inner)
-cased profile (of_rest bytes p t) = behind_body bytes p t
+    subst (λ (x : ℕ). IsAskFault profile bytes x BadPart) place (in_body xid ops.Multi (length (bytes_of parts)) BadPart a inner)
+cased profile (of_rest p t) = behind_body p t

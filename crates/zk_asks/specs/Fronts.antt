@@ -6,9 +6,9 @@ use Rattle.zk_jute.specs.Told.{StandsAt}
 use Rattle.zk_records.specs.declared.op.Op.{Op}
 use Rattle.zk_records.specs.declared.op.PartOp.{PartOp}
 use Rattle.zk_records.specs.declared.profile.Profile.{Profile}
-use Rattle.zk_records.specs.Codes.{op_number, HasOp}
+use Rattle.zk_records.specs.Codes.{HasOp}
 use Rattle.zk_asks.specs.Codes.{IsAllowed}
-use Rattle.zk_asks.specs.Forms.{header_items}
+use Rattle.zk_asks.specs.Forms.{op_header}
 use Rattle.zk_asks.specs.Held.{Ask, Part}
 use Rattle.zk_asks.specs.declared.frame.ClientFrameOf.TheVariants as frame
 use Rattle.zk_asks.specs.Parts.{part_layout, op_of_part, record_of}
@@ -25,11 +25,12 @@ IsRecordAt op src place end = (p : Part) × (op_of_part p ≡ op) × IsValueOf (
 
 -- the header of a request of the profile, with this operation and this xid, which it may have, is in front, and ends there
 abbrev pub IsHeadAt : Profile → ℤ → Op → List ℕ → ℕ → Type 0
-IsHeadAt profile xid op src end = HasOp profile op × IsAllowed xid op × HaveBytes (header_items xid (op_number op)) × StandsAt (header_items xid (op_number op)) src 0 end
+IsHeadAt profile xid op src end = HasOp profile op × IsAllowed xid op × HaveBytes (op_header xid op) × StandsAt (op_header xid op) src 0 end
 
 -- the payload is that of a request of the profile under this xid, of this operation, and its parts are of these
 abbrev pub IsAsked : Profile → ℤ → Op → List PartOp → List ℕ → Type 0
-IsAsked profile xid op parts bytes = HasOp profile op × ((a : Ask) × (op_of_ask a ≡ op) × (ops_of_ask a ≡ parts) × IsSent (frame.Ask xid a) × (bytes ≡ payload (frame.Ask xid a)))
+IsAsked profile xid op parts bytes =
+    HasOp profile op × ((a : Ask) × (op_of_ask a ≡ op) × (ops_of_ask a ≡ parts) × IsSent (frame.Ask xid a) × (bytes ≡ payload (frame.Ask xid a)))
 
 -- the payload is that of a request of the profile under this xid, of this operation, and it has no parts
 abbrev pub IsAlone : Profile → ℤ → Op → List ℕ → Type 0

@@ -59,6 +59,10 @@ MayStand header = ((op : PartOp) × (header ≡ part_header op)) ⊎ (header ≡
 abbrev pub marked : MultiHeader → List Item
 marked header = multi_header.items header
 
+-- the items of the header before a part
+abbrev pub before_part : PartOp → List Item
+before_part op = marked (part_header op)
+
 pub data IsMulti : List Item → Type 0 where
   no_more : IsMulti (marked end_header)
   a_part : (op : PartOp) (part others : List Item) → IsValueOf (part_layout op) part → IsMulti others → IsMulti (marked (part_header op) ++ (part ++ others))

@@ -11,7 +11,7 @@ ghost use Rattle.zk_asks.specs.Frames as frames;
 ghost use Rattle.zk_asks.specs.Faults.{IsAskFault, IsBodyFault, IsFirstFault};
 
 use crate::codes::allowed;
-use crate::frame::{AskOf, AskRef, ClientFrameOf, ClientRef};
+use crate::frame::{AskOf, AskRef, ClientFrameOf, ClientRef, ask_rows};
 use crate::part_list::multi_ref;
 use zk_jute::{ItemFault, Payload, PayloadOf, Reason, read_ref, scan_flagged};
 use zk_records::{
@@ -33,35 +33,22 @@ pub(crate) fn body_ref<'a, const KNOWN: bool>(
     ensures fault { IfErr result (IsSurelyToldAt (IsBodyFault op) src.now.bytes.now place) }
     ensures within { IfOk result (λ x. x.1 ≤ length src.now.bytes.now) }
 {
-    macro_rules! read {
-        ($record:ty, $ask:path) => {
-            match read_ref::<_, $record>(src, place) {
-                Ok((body, end)) => Ok(($ask(body), end)),
-                Err(fault) => Err(fault),
+    macro_rules! row {
+        ($($($held:ident)|+: $record:ident),+; $($bare:ident)|+) => {
+            match op {
+                $($(Op::$held => match read_ref::<_, $record>(src, place) {
+                    Ok((body, end)) => Ok((AskOf::$held(body), end)),
+                    Err(fault) => Err(fault),
+                },)+)+
+                $(Op::$bare => Ok((AskOf::$bare, place)),)+
+                Op::Multi => match multi_ref(src, place) {
+                    Ok((parts, end)) => Ok((AskOf::Multi(parts), end)),
+                    Err(fault) => Err(fault),
+                },
             }
         };
     }
-    match op {
-        Op::Create => read!(CreateAskRef, AskOf::Create),
-        Op::Delete => read!(DeleteAskRef, AskOf::Delete),
-        Op::Exists => read!(WatchAskRef, AskOf::Exists),
-        Op::GetData => read!(WatchAskRef, AskOf::GetData),
-        Op::SetData => read!(SetDataAskRef, AskOf::SetData),
-        Op::GetAcl => read!(PathAskRef, AskOf::GetAcl),
-        Op::SetAcl => read!(SetAclAskRef, AskOf::SetAcl),
-        Op::GetChildren => read!(WatchAskRef, AskOf::GetChildren),
-        Op::Sync => read!(PathAskRef, AskOf::Sync),
-        Op::Ping => Ok((AskOf::Ping, place)),
-        Op::GetChildren2 => read!(WatchAskRef, AskOf::GetChildren2),
-        Op::Multi => match multi_ref(src, place) {
-            Ok((parts, end)) => Ok((AskOf::Multi(parts), end)),
-            Err(fault) => Err(fault),
-        },
-        Op::Create2 => read!(CreateAskRef, AskOf::Create2),
-        Op::Auth => read!(AuthAskRef, AskOf::Auth),
-        Op::SetWatches => read!(SetWatchesAskRef, AskOf::SetWatches),
-        Op::CloseSession => Ok((AskOf::CloseSession, place)),
-    }
+    ask_rows!(row)
 }
 
 fn ask_ref<'a>(profile: Profile, src: &Payload<'a>) -> Result<ClientRef<'a>, ItemFault>

@@ -67,29 +67,41 @@ pub type Ask = AskOf<Text, Blob, List<Text>, List<Acl>, Items<Part>>;
 /// A borrowed `Ask`.
 pub type AskRef<'a> = AskOf<TextRef<'a>, BlobRef<'a>, TextList<'a>, AclList<'a>, PartList<'a>>;
 
+/// `ask_rows!(row)` is `row!(..; ..)` with the operations whose requests have a record, by that record where it is
+/// borrowed, and those whose requests have nothing. A multi has its parts.
+macro_rules! ask_rows {
+    ($row:ident) => {
+        $row!(
+            Create | Create2: CreateAskRef,
+            Delete: DeleteAskRef,
+            Exists | GetData | GetChildren | GetChildren2: WatchAskRef,
+            SetData: SetDataAskRef,
+            GetAcl | Sync: PathAskRef,
+            SetAcl: SetAclAskRef,
+            Auth: AuthAskRef,
+            SetWatches: SetWatchesAskRef;
+            Ping | CloseSession
+        )
+    };
+}
+
+pub(crate) use ask_rows;
+
 impl<T, B, L, A, M> AskOf<T, B, L, A, M> {
     /// The request's operation.
     pub fn op(&self) -> Op
         ensures { result ≡ op_of_ask self.now }
     {
-        match self {
-            AskOf::Create(_) => Op::Create,
-            AskOf::Delete(_) => Op::Delete,
-            AskOf::Exists(_) => Op::Exists,
-            AskOf::GetData(_) => Op::GetData,
-            AskOf::SetData(_) => Op::SetData,
-            AskOf::GetAcl(_) => Op::GetAcl,
-            AskOf::SetAcl(_) => Op::SetAcl,
-            AskOf::GetChildren(_) => Op::GetChildren,
-            AskOf::Sync(_) => Op::Sync,
-            AskOf::Ping => Op::Ping,
-            AskOf::GetChildren2(_) => Op::GetChildren2,
-            AskOf::Multi(_) => Op::Multi,
-            AskOf::Create2(_) => Op::Create2,
-            AskOf::Auth(_) => Op::Auth,
-            AskOf::SetWatches(_) => Op::SetWatches,
-            AskOf::CloseSession => Op::CloseSession,
+        macro_rules! row {
+            ($($($held:ident)|+: $record:ident),+; $($bare:ident)|+) => {
+                match self {
+                    $($(AskOf::$held(_) => Op::$held,)+)+
+                    $(AskOf::$bare => Op::$bare,)+
+                    AskOf::Multi(_) => Op::Multi,
+                }
+            };
         }
+        ask_rows!(row)
     }
 }
 

@@ -6,6 +6,7 @@ ghost use Rattle.zk_asks.specs.Fronts.{IsBodyAlone, IsHeadAt, IsAsked, IsAlone};
 
 use crate::alone::Alone;
 use crate::codes::allowed;
+use crate::frame::ask_rows;
 use crate::part_list::multi_ref;
 use crate::request::MultiRef;
 use zk_jute::{Payload, end_of, read_ref};
@@ -21,20 +22,16 @@ fn body_end(payload: &[u8], place: usize, op: Op) -> Option<usize>
     ensures some { IfSome result (λ end. IsBodyAlone op payload.now place end) }
     ensures within { IfSome result (λ end. end ≤ length payload.now) }
 {
-    match op {
-        Op::Create | Op::Create2 => end_of::<CreateAskRef>(payload, place),
-        Op::Delete => end_of::<DeleteAskRef>(payload, place),
-        Op::Exists | Op::GetData | Op::GetChildren | Op::GetChildren2 => {
-            end_of::<WatchAskRef>(payload, place)
-        }
-        Op::SetData => end_of::<SetDataAskRef>(payload, place),
-        Op::GetAcl | Op::Sync => end_of::<PathAskRef>(payload, place),
-        Op::SetAcl => end_of::<SetAclAskRef>(payload, place),
-        Op::Auth => end_of::<AuthAskRef>(payload, place),
-        Op::SetWatches => end_of::<SetWatchesAskRef>(payload, place),
-        Op::Ping | Op::CloseSession => Some(place),
-        Op::Multi => None,
+    macro_rules! row {
+        ($($($held:ident)|+: $record:ident),+; $($bare:ident)|+) => {
+            match op {
+                $($(Op::$held)|+ => end_of::<$record>(payload, place),)+
+                $(Op::$bare)|+ => Some(place),
+                Op::Multi => None,
+            }
+        };
     }
+    ask_rows!(row)
 }
 
 /// The xid and the operation that a later payload of a client begins with, if they may go together, and the place after

@@ -2,7 +2,7 @@
 ghost use Rattle.std.specs.Prelude.{◌≡◌};
 
 use crate::frame::{
-    Ask, AskOf, AskRef, ClientFrame, ClientFrameOf, ClientRef, Part, PartOf, PartRef,
+    Ask, AskOf, AskRef, ClientFrame, ClientFrameOf, ClientRef, Part, PartOf, PartRef, ask_rows,
 };
 use crate::part_list::PartList;
 use std::alloc::{AllocError, Global};
@@ -40,24 +40,16 @@ impl<'a> Own for AskRef<'a> {
     ghost same = { λ x. x };
 
     fn own(&self, alloc: Global) -> Result<Ask, AllocError> {
-        match self {
-            AskOf::Create(body) => Ok(AskOf::Create(body.own(alloc)?)),
-            AskOf::Delete(body) => Ok(AskOf::Delete(body.own(alloc)?)),
-            AskOf::Exists(body) => Ok(AskOf::Exists(body.own(alloc)?)),
-            AskOf::GetData(body) => Ok(AskOf::GetData(body.own(alloc)?)),
-            AskOf::SetData(body) => Ok(AskOf::SetData(body.own(alloc)?)),
-            AskOf::GetAcl(body) => Ok(AskOf::GetAcl(body.own(alloc)?)),
-            AskOf::SetAcl(body) => Ok(AskOf::SetAcl(body.own(alloc)?)),
-            AskOf::GetChildren(body) => Ok(AskOf::GetChildren(body.own(alloc)?)),
-            AskOf::Sync(body) => Ok(AskOf::Sync(body.own(alloc)?)),
-            AskOf::Ping => Ok(AskOf::Ping),
-            AskOf::GetChildren2(body) => Ok(AskOf::GetChildren2(body.own(alloc)?)),
-            AskOf::Multi(parts) => Ok(AskOf::Multi(parts.own(alloc)?)),
-            AskOf::Create2(body) => Ok(AskOf::Create2(body.own(alloc)?)),
-            AskOf::Auth(body) => Ok(AskOf::Auth(body.own(alloc)?)),
-            AskOf::SetWatches(body) => Ok(AskOf::SetWatches(body.own(alloc)?)),
-            AskOf::CloseSession => Ok(AskOf::CloseSession),
+        macro_rules! row {
+            ($($($held:ident)|+: $record:ident),+; $($bare:ident)|+) => {
+                match self {
+                    $($(AskOf::$held(body) => Ok(AskOf::$held(body.own(alloc)?)),)+)+
+                    $(AskOf::$bare => Ok(AskOf::$bare),)+
+                    AskOf::Multi(parts) => Ok(AskOf::Multi(parts.own(alloc)?)),
+                }
+            };
         }
+        ask_rows!(row)
     }
 }
 

@@ -7,7 +7,7 @@ ghost use Rattle.zk_asks.specs.Parts.{part_items};
 ghost use Rattle.zk_asks.specs.Rows.{body_items};
 ghost use Rattle.zk_asks.specs.Frames.{frame_items, MaySend, payload};
 
-use crate::frame::{Ask, ClientFrame, Part};
+use crate::frame::{Ask, ClientFrame, Part, ask_rows};
 use std::alloc::AllocError;
 use zk_jute::{Output, Spell};
 use zk_records::{MultiHeader, Op, PartOp, RequestHeader, op_number, part_number};
@@ -55,35 +55,6 @@ macro_rules! match_part {
     };
 }
 
-/// A match over the variants of an ask: `$body` is the arm's value, over what follows the header.
-macro_rules! match_ask {
-    ($ask:expr, $body:ident => $each:expr) => {
-        match $ask {
-            Ask::Create($body) => $each,
-            Ask::Delete($body) => $each,
-            Ask::Exists($body) => $each,
-            Ask::GetData($body) => $each,
-            Ask::SetData($body) => $each,
-            Ask::GetAcl($body) => $each,
-            Ask::SetAcl($body) => $each,
-            Ask::GetChildren($body) => $each,
-            Ask::Sync($body) => $each,
-            Ask::GetChildren2($body) => $each,
-            Ask::Multi(parts) => {
-                let $body = (parts, &end_header());
-                $each
-            }
-            Ask::Create2($body) => $each,
-            Ask::Auth($body) => $each,
-            Ask::SetWatches($body) => $each,
-            Ask::Ping | Ask::CloseSession => {
-                let $body = None::<bool>;
-                $each
-            }
-        }
-    };
-}
-
 impl Spell for Part {
     ghost items = { part_items };
 
@@ -97,7 +68,16 @@ impl Spell for Ask {
     ghost items = { body_items };
 
     fn put<O: Output>(&self, out: &mut O) -> Result<(), O::Error> {
-        match_ask!(self, body => body.put(out))
+        macro_rules! row {
+            ($($($held:ident)|+: $record:ident),+; $($bare:ident)|+) => {
+                match self {
+                    $($(Ask::$held(body) => body.put(out),)+)+
+                    $(Ask::$bare)|+ => Ok(()),
+                    Ask::Multi(parts) => (parts, &end_header()).put(out),
+                }
+            };
+        }
+        ask_rows!(row)
     }
 }
 
