@@ -5,15 +5,15 @@ use Rattle.zk_talk.specs.declared.message.Side.TheVariants.{Client, Server}
 use Rattle.zk_talk.specs.declared.message.Fault.{Fault}
 use Rattle.zk_talk.specs.Held.{Message}
 use Rattle.zk_talk.specs.History.{History}
-use Rattle.zk_talk.specs.Stands.{TalkState, Stands}
-use Rattle.zk_talk.specs.Taking.{GoesOn, Steps, IsRefused, Fails, given_up, lacks_memory}
+use Rattle.zk_talk.specs.Stands.{TalkState, Stands, Refuses, held_on}
+use Rattle.zk_talk.specs.Taking.{GoesOn, Steps, Passes, IsRefused, Fails, given_up, lacks_memory}
 use Rattle.zk_talk.proofs.Answering.{rekept}
 
 stands_given : (side : Side) (t : TalkState) (h : History) (M : List Message) → Stands t h M → Stands (given_up side t) h M
 stands_given Client t h M st = rekept t [] t.server_kept h M st
 stands_given Server t h M st = rekept t t.client_kept [] h M st
 
-given_twice : (side : Side) (t : TalkState) → given_up side (given_up side t) ≡ given_up side t
+pub given_twice : (side : Side) (t : TalkState) → given_up side (given_up side t) ≡ given_up side t
 given_twice Client t = refl
 given_twice Server t = refl
 
@@ -33,6 +33,10 @@ module _ (side : Side) (t new : TalkState) where
   steps_first used true s = (s.0, goes_first used (s.0 ∷ []) s.1, s.2, s.3)
   steps_first used false s = (goes_first used [] s.0, s.1)
 
+  pub passes_first : (used : List ℕ) (whole : Bool) → Passes (given_up side t) side used whole new → Passes t side used whole new
+  passes_first used true s = (s.0, goes_first used (s.0 ∷ []) s.1, s.2)
+  passes_first used false s = goes_first used [] s
+
   pub refused_first : (piece : List ℕ) (fault : Fault) → IsRefused (given_up side t) side piece fault new → IsRefused t side piece fault new
   refused_first piece fault r h M st = r h M (stands_given side t h M st)
 
@@ -47,6 +51,39 @@ module _ (side : Side) (t new : TalkState) where
     goes = λ h M st. k.goes h M (stands_given side t h M st);
   })
   fails_first piece fault (inr r) = inr (refused_first piece fault r)
+
+held_given : (side other : Side) (t : TalkState) → held_on other (given_up side t) ≡ held_on other t
+held_given Client Client t = refl
+held_given Client Server t = refl
+held_given Server Client t = refl
+held_given Server Server t = refl
+
+refuses_given : (side : Side) (t : TalkState) (h : History) (M : List Message) (f : Fault) → Refuses t h M f → Refuses (given_up side t) h M f
+refuses_given Client t h M f r = record {
+  kept = r.kept;
+  is = r.is;
+  order = r.order;
+  queues = r.queues;
+  load = r.load;
+  held = λ items. held_given Client f.side t ∙ r.held items;
+}
+refuses_given Server t h M f r = record {
+  kept = r.kept;
+  is = r.is;
+  order = r.order;
+  queues = r.queues;
+  load = r.load;
+  held = λ items. held_given Server f.side t ∙ r.held items;
+}
+
+-- what a step did, whose frame is given up then
+module _ (side : Side) (t new : TalkState) where
+  pub passes_after : (used : List ℕ) (whole : Bool) → Steps t side used whole new → Passes t side used whole (given_up side new)
+  passes_after used true s = (s.0, (λ h M st. stands_given side new _ _ (s.1 h M st)), held_given side side new ∙ s.3)
+  passes_after used false s = λ h M st. stands_given side new _ _ (s.0 h M st)
+
+  pub refused_after : (piece : List ℕ) (fault : Fault) → IsRefused t side piece fault new → IsRefused t side piece fault (given_up side new)
+  refused_after piece fault r h M st = refuses_given side new _ M fault (r h M st)
 
 -- a fault is never want of memory where none was
 pub known_fault : (t : TalkState) (f : Fault) (side : Side) → t.fault ≡ Some f → (new : TalkState) (piece : List ℕ) → IsRefused t side piece f new

@@ -95,6 +95,10 @@ abbrev pub sum_waiting : (ClientFrame → ℕ) → List ClientFrame → List Cli
 sum_waiting of asked [] sent = 0
 sum_waiting of asked (f ∷ fs) sent = (if is_unanswered sent asked f then of f else 0) + sum_waiting of (asked ++ f ∷ []) fs sent
 
+-- the number of the asks that wait
+abbrev pub number_waiting : List ClientFrame → List ServerFrame → ℕ
+number_waiting client server = sum_waiting (λ f. 1) [] client server
+
 -- the weight of the asks that wait
 abbrev pub load : List ClientFrame → List ServerFrame → ℕ
 load client server = sum_waiting weight [] client server

@@ -8,7 +8,7 @@ use Rattle.zk_talk.specs.declared.limits.Limits.{Limits}
 use Rattle.zk_talk.specs.declared.message.Ending.{Ending}
 use Rattle.zk_talk.specs.declared.message.Ending.TheVariants.{Whole, Cut, Refused}
 use Rattle.zk_talk.specs.History.{History}
-use Rattle.zk_talk.specs.Conversation.{Conversation, sum_waiting}
+use Rattle.zk_talk.specs.Conversation.{Conversation, number_waiting}
 use Rattle.zk_talk.specs.Good.{Good}
 use Rattle.zk_talk.specs.Fault.{IsFaultOf}
 
@@ -20,7 +20,7 @@ unwelcomed (f ∷ fs) (s ∷ ss) = 0
 
 -- the number of the client's frames that nothing of the server answers
 abbrev pub unanswered : Conversation → ℕ
-unanswered v = unwelcomed v.client v.server + sum_waiting (λ f. 1) [] v.client v.server
+unanswered v = unwelcomed v.client v.server + number_waiting v.client v.server
 
 -- the first side that ends in part of a frame, the client's first
 abbrev pub IsCutAt : Conversation → List ℕ → List ℕ → Side → ℕ → ℕ → Type 0

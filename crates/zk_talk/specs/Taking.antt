@@ -36,6 +36,15 @@ TakesOn old side piece used messages new = (used ≤ length piece) × (0 < lengt
 abbrev pub StepsOn : TalkState → Side → List ℕ → ℕ → Bool → TalkState → Type 0
 StepsOn old side piece used whole new = (used ≤ length piece) × (0 < length piece → 0 < used) × Steps old side (take used piece) whole new
 
+-- these bytes of the piece were used; if they made a frame whole it is one message's, and isn't kept
+abbrev pub Passes : TalkState → Side → List ℕ → Bool → TalkState → Type 0
+Passes old side used false new = GoesOn old side used [] new
+Passes old side used true new = (m : Message) × GoesOn old side used (m ∷ []) new × (held_on side new ≡ [])
+
+-- the first `used` bytes of the piece were used, at least one if it has any, and nothing is kept of them but a beginning
+abbrev pub PassesOn : TalkState → Side → List ℕ → ℕ → Bool → TalkState → Type 0
+PassesOn old side piece used whole new = (used ≤ length piece) × (0 < length piece → 0 < used) × Passes old side (take used piece) whole new
+
 -- Memory was refused for a message that bytes of the piece make whole, and nothing is changed.
 pub record Lacks (old : TalkState) (side : Side) (piece : List ℕ) (fault : Fault) (new : TalkState) : Type 0 where
   pub told : fault ≡ lacks_memory old side

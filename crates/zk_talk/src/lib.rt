@@ -2,7 +2,8 @@
 //!
 //! A `Talk` is fed the bytes of both sides, piece by piece, in the order in which they came. `Talk::step` is the main
 //! call: it takes a piece up to the end of the first frame that becomes whole, judges the frame, and keeps it until the
-//! side's next call; `Talk::view` shows its message, borrowed. `Talk::take` returns an owned message instead.
+//! side's next call; `Talk::view` shows its message, borrowed. `Talk::pass` keeps no frame, and `Talk::take` returns an
+//! owned message.
 //! `Talk::finish` says how the bytes so far end: whole, within a frame, or refused with a `Fault`. `read_all` is all of
 //! it for a list of pieces.
 //!
@@ -44,12 +45,14 @@
 //! said; only a reader refuses a byte too many.
 #![tactic(auto)]
 
+mod counts;
 mod frame;
 mod fronts;
 mod judge;
 mod laws;
 mod limits;
 mod message;
+mod pass;
 mod read;
 mod receive;
 mod refused;

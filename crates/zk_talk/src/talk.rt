@@ -57,9 +57,9 @@ pub struct Stepped {
 pub struct Talk {
     alloc: Global,
     limits: Limits,
-    client: Stream,
-    server: Stream,
-    waiting: Waiting,
+    pub(crate) client: Stream,
+    pub(crate) server: Stream,
+    pub(crate) waiting: Waiting,
     /// The operation of the request that the server's kept frame replies to; `None` if that is no reply.
     answered: Option<Op>,
     fault: Option<Fault>,
@@ -193,11 +193,12 @@ impl Talk {
     /// Passes the side's whole frame at the front of `piece` if none is begun and it may come next, and returns the number of
     /// its bytes; `None`: undecided, and nothing changed. Copies nothing.
     #[inline(always)]
-    fn pass(&mut self, side: Side, piece: &[u8]) -> Option<usize>
+    fn pass_whole(&mut self, side: Side, piece: &[u8]) -> Option<usize>
         requires good { self.old.fault ≡ None }
         requires given_up { kept_on side self.old ≡ [] }
         ensures limits { self.new.limits ≡ self.old.limits }
         ensures some { IfSome result (λ used. (m : Message) × TakesOn self.old side piece.now used (m ∷ []) self.new) }
+        ensures whole { IfSome result (λ used. held_on side self.new ≡ []) }
         ensures other { Leaves (other_side side) self.old self.new }
         ensures given_up { kept_on side self.new ≡ [] }
         ensures none { IfNone result (self.new ≡ self.old) }
@@ -264,7 +265,7 @@ impl Talk {
 
     /// Drops the side's kept frame.
     #[inline(always)]
-    fn give_up(&mut self, side: Side)
+    pub(crate) fn give_up(&mut self, side: Side)
         ensures { self.new ≡ given_up side self.old }
     {
         match side {
@@ -306,13 +307,15 @@ impl Talk {
         ensures other { Leaves (other_side side) self.old self.new }
         // What was kept on the side is dropped.
         ensures given_up { kept_on side self.new ≡ [] }
+        // Nothing is held on after a frame, and none passes after a fault.
+        ensures whole { IfSome result (λ used. (held_on side self.new ≡ []) × (self.old.fault ≡ None)) }
         // Otherwise no byte is used, and nothing else changes.
         ensures none { IfNone result ((h : History) (M : List Message) → Stands self.old h M → Stands self.new h M) }
         ensures same { IfNone result (self.new ≡ given_up side self.old) }
     {
         self.give_up(side);
         match self.fault {
-            None => self.pass(side, piece),
+            None => self.pass_whole(side, piece),
             Some(_) => None,
         }
     }

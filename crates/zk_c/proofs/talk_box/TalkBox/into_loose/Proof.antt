@@ -9,7 +9,7 @@ use prog.Wp.{WpFn}
 use types.Logic.{sem}
 use contract.Monad.{fact, fact_i}
 use contract.Running.{tables}
-use types.Kit.{‵, raw, ◌⊛◌, prop, ◌$◌, ◌∵◌, !, qed, by, move, keep, drop, use0, split, fsplit, fjoin, rewrite, regoal}
+use types.Kit.{‵, raw, ◌⊛◌, prop, ◌$◌, ◌∵◌, !, qed, by, move, keep, drop, use0, split, fsplit, fjoin, fpick, rewrite, regoal}
 use types.Part.{agg, sub, whole}
 use types.Run.{stop, fld, of_opd, no_more, and_then, returns, enter}
 use types.ByLocal.{alloc_all, pass_all, free_all, look_at, get, get_in, sets}
@@ -26,7 +26,7 @@ use Rattle.std.proofs.raw_atomic.Walks.{proved_at, leaves}
 use Rattle.std_heap.specs.contracts.Global as heap
 use Rattle.std_heap.proofs.Global.TheLaws as heap_laws
 use Rattle.std_heap.specs.contracts.GlobalAllocator.TheImpl.{ghosts}
-use Rattle.zk_c.specs.Owned.{owned, heap as the_heap}
+use Rattle.zk_c.specs.Owned.{owned}
 use Rattle.zk_c.proofs.Values.{both, loose_good, loose_in, Loose, al}
 use Rattle.zk_c.proofs.Walks.{slot_at, value_of, word, word_told}
 use Rattle.zk_c.specs.contracts.conversation.Conversation as talk
@@ -45,7 +45,7 @@ into_loose_spec 𝓤 𝓛 𝓜 𝓡 wired =
     let Asked : Type 0 = IsSome a.0.value in let told = word_told at vss.0 are.0.0 in
     qed 𝓛 ((raw (alive 𝓛 En.signature z.0.0 z.0.1) ⊛ ‵ (owns (types_at En.signature.params z.0.0) a vss)) ∷ raw (fact 𝓤 Asked) ∷ []) ∵ move ! (1 ∷ []) $ heard ! Asked (λ asked. let had = value_of a.0.value asked in let v = had.0 in let held = had.1 in split ! $ move ! (1 ∷ []) $ fsplit ! $ fsplit ! $ drop ! $
     rewrite ! 0 (λ (s : Option R.Denot). ‵ (owned R at s)) held refl $
-    in_a_block ! at (λ p. box_owns (ghosts.dealloc_token the_heap) R p v) (fst∗ 𝓤 (never 𝓤) (sem 𝓛 (ghosts.dealloc_token the_heap (bare (lone R.mir)) null_ptr))) (λ b o e.
+    fpick ! (λ alloc. in_a_block ! at (λ p. box_owns (ghosts.dealloc_token alloc) R p v) (fst∗ 𝓤 (never 𝓤) (sem 𝓛 (ghosts.dealloc_token alloc (bare (lone R.mir)) null_ptr))) (λ b o e.
     move ! (1 ∷ []) $ fsplit ! $ handle_tells (al R Z LZ ghosts) ! given vss.1.0 (λ h ea fits.
     let p = block_ptr b o in let w : Val = both (vptr b o) h in let x : (Loose R Z LZ ghosts).Denot = record { at = p; alloc = given; value = v } in let Told : Type 0 = a.0.value ≡ Some v in
     -- [the allocator; nothing; the value with the right to free it; the tokens]
@@ -58,4 +58,4 @@ into_loose_spec 𝓤 𝓛 𝓜 𝓡 wired =
     returns ! (look_at ! 0 refl) $ free_all ! refl $
     loose_in R Z LZ ghosts ! b o h given v $
     use0 𝓛 (raw (fact 𝓤 Told)) (fact_i 𝓤 Told (emp 𝓤) held) $ nothing ! $ nothing ! $ fjoin ! $ nothing ! $ fjoin ! $ move ! (3 ∷ 0 ∷ 2 ∷ 1 ∷ []) $
-    by ! (leaves 𝓛 En hs c z w x (tt, (tt, tt)) (tt, (tt, tt))))))))
+    by ! (leaves 𝓛 En hs c z w x (tt, (tt, tt)) (tt, (tt, tt)))))))))

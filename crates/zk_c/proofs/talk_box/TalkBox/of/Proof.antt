@@ -8,7 +8,7 @@ use base.Fml.{ftrue}
 use prog.Wp.{WpFn}
 use contract.Monad.{fact, fact_i}
 use contract.Running.{tables}
-use types.Kit.{‵, raw, ◌⊛◌, ◌$◌, ◌∵◌, !, qed, by, move, keep, use0, split, fsplit, fjoin, suffices}
+use types.Kit.{‵, raw, ◌⊛◌, ◌$◌, ◌∵◌, !, qed, by, move, keep, use0, split, fsplit, fjoin, fpack, suffices}
 use types.Part.{agg, sub, whole}
 use types.Run.{stop, fld, of_opd, no_more, and_then, returns, enter}
 use types.ByLocal.{alloc_all, pass_all, free_all, look_at, get, get_in, sets}
@@ -22,7 +22,9 @@ use Rattle.core.proofs.alloc.Calls.{Goes-blank}
 use Rattle.std.proofs.raw_atomic.Walks.{proved_at, leaves}
 use Rattle.std_heap.specs.contracts.Global as heap
 use Rattle.std_heap.proofs.Global.TheLaws as heap_laws
+use Rattle.std_heap.specs.declared.Global.{Global}
 use Rattle.std_heap.specs.contracts.GlobalAllocator.TheImpl.{ghosts}
+use Rattle.std.specs.Box.Ownership.{box_owns}
 use Rattle.zk_c.proofs.Values.{both, loose_good, loose_out}
 use Rattle.zk_c.proofs.Walks.{slot_at, word, word_own, word_made}
 use Rattle.zk_c.specs.contracts.talk_box.TalkBox as inner
@@ -43,7 +45,7 @@ of_spec 𝓤 𝓛 𝓜 𝓡 wired =
     loose_out R Z LZ ghosts ! v z.0.4.0 (λ b o h e ws fits.
     let w : Val = both (vptr b o) h in let p = block_ptr b o in let x : (inner.the_row).Denot = record { at = p; value = Some v.value } in let Told : Type 0 = x.value ≡ Some v.value in
     -- [the value with the right to free it; the handle; nothing; the tokens]
-    keep ! (0 ∷ 3 ∷ []) $
+    keep ! (0 ∷ 3 ∷ []) $ fpack ! Global (λ alloc. box_owns (ghosts.dealloc_token alloc) R p v.value) v.alloc $
     suffices ! (Run (w ∷ [])) (subst (λ (us : List Val). ent 𝓤 (Run (w ∷ [])) (Run us)) (sym (λ i. ws i ++ [])) (id⊢ 𝓤 (Run (w ∷ [])))) $
     enter ! 𝓣.C 𝓣.Λ fn (w ∷ []) Post $ alloc_all ! (λ l. pass_all ! refl (loose_good R Z LZ ghosts b o h fits, tt) $
     sets ! (of_opd ! (get_in ! (fld ! refl (stop !)) (sub ! 0 refl (whole !)))) refl (tt, tt) $

@@ -1,29 +1,40 @@
-use Rattle.std.proofs.Common.{drop, refl, subst, take}
-use Rattle.zk_talk.specs.contracts.talk.Talk.{the_view}
-use Rattle.zk_talk.specs.declared.message.Side.TheVariants.{Client, Server}
-use Rattle.zk_talk.specs.declared.message.MessageOf.TheVariants.{Client as FromClient, Server as FromServer}
-use Rattle.zk_talk.specs.Streams.{held_in}
-use Rattle.zk_talk.specs.Judged.{IsNextClient}
-use Rattle.zk_talk.proofs.Answering.{makes}
+use Rattle.std.proofs.Common.{take, sym, ap, ◌∙◌}
+use Rattle.std.proofs.lemmas.Result.{IfErr-weaker, IfOk-weaker}
+use Rattle.zk_talk.specs.Stands.{TalkState}
+use Rattle.zk_talk.specs.Taking.{given_up}
+use Rattle.zk_talk.proofs.Stepping.{passes_first, passes_after, refused_first, refused_after, fault_stays, given_twice}
 use Rattle.zk_talk.proofs.talk.Talk.pass.Goals as goal
 
-pub returns-else-not-pass_client-clause-some : goal.returns-else-not-pass_client-clause-some
-returns-else-not-pass_client-clause-some c =
-    let T = the_view c.self.inside in
-    let used = c.in_ok-used-in-Client.used in
-    let s = held_in c.self.inside.client (take used c.args.piece.now) in
-    let k = c.pass_client.ensures in
-    let f = k.found c.if-not-pass_client.false in
-    let a = c.in_ok-used-in-Client.ensures.1 in
-    let next = subst (λ z. IsNextClient z s.count T.waiting (drop 4 s.held) f.0) c.profile-profile.ensures f.1.0 in
-    rw (c.in-Client.is, ← c.self.view_is) (FromClient f.0, (a.1, (λ l. a.0), makes Client T c.args.piece.now s c.pass_client.new.stream c.self.invariant.0.same refl used a c.self.invariant.2 (FromClient f.0) c.pass_client.new.waiting (next, f.1.1) (k.passed c.if-not-pass_client.false)))
+pub returns-in-Some-clause-ok : goal.returns-in-Some-clause-ok
+returns-in-Some-clause-ok c =
+    let x = c.in-Some.ensures.some in
+    (x.1.0, x.1.1, (x.0, x.1.2, c.in-Some.ensures.whole.0))
 
-pub returns-in_ok-pass_server-in-Server-clause-some : goal.returns-in_ok-pass_server-in-Server-clause-some
-returns-in_ok-pass_server-in-Server-clause-some c =
-    let T = the_view c.self.inside in
-    let used = c.in_ok-used-in-Server.used in
-    let s = held_in c.self.inside.server (take used c.args.piece.now) in
-    let k = c.in_ok-pass_server-in-Server.ensures in
-    let f = k.found T.client_frames in
-    let a = c.in_ok-used-in-Server.ensures.1 in
-    rw (c.in-Server.is, ← c.self.view_is) (FromServer f.0, (a.1, (λ l. a.0), makes Server T c.args.piece.now s c.pass_server.new.stream c.self.invariant.1.same refl used a c.self.invariant.2 (FromServer f.0) c.pass_server.new.waiting (f.1.0, f.1.1) k.passed))
+pub returns-clause-ok : goal.returns-clause-ok
+returns-clause-ok c =
+    let side = c.args.side in
+    let old = c.args.self.now in
+    let new = c.step-stepped.new.self in
+    IfOk-weaker c.step-stepped.result _ _ (λ s x.
+    let used = take s.used c.args.piece.now in
+    let steps = passes_after side (given_up side old) new used s.whole (rw (← c.in_default.ensures.same) x.2) in
+    (x.0, x.1, rw (c.give_up.ensures) (passes_first side old (given_up side new) used s.whole steps))) c.step-stepped.ensures.ok
+
+pub returns-clause-err : goal.returns-clause-err
+returns-clause-err c =
+    let side = c.args.side in
+    let old = c.args.self.now in
+    let new = c.step-stepped.new.self in
+    let piece = c.args.piece.now in
+    IfErr-weaker c.step-stepped.result _ _ (λ e x.
+    let refused = refused_after side (given_up side old) new piece e (rw (← c.in_default.ensures.same) x.1) in
+    (x.0, rw (c.give_up.ensures) (refused_first side old (given_up side new) piece e refused))) c.step-stepped.ensures.err
+
+pub returns-clause-kept : goal.returns-clause-kept
+returns-clause-kept c f e =
+    let side = c.args.side in
+    let old = c.args.self.now in
+    let same = c.in_default.ensures.same in
+    let k = c.step-stepped.ensures.kept f (ap (λ (t : TalkState). t.fault) same ∙ sym (fault_stays side old) ∙ e) in
+    let twice = given_twice side old in
+    (k.0, c.give_up.ensures ∙ ap (given_up side) (k.1 ∙ ap (given_up side) same ∙ twice) ∙ twice)

@@ -5,4 +5,4 @@ use Rattle.zk_talk.proofs.talk.Talk.pass_front.Goals as goal
 
 pub returns-in-None-clause-some : goal.returns-in-None-clause-some
 returns-in-None-clause-some c =
-    IfSome_then c.pass.result c.pass.ensures.some (λ used x. (x.0, (x.1.0, x.1.1, goes_first c.args.side c.args.self.now c.pass.new.self (take used c.args.piece.now) (x.0 ∷ []) (rw (← c.give_up.ensures) x.1.2))))
+    IfSome_then c.pass_whole.result c.pass_whole.ensures.some (λ used x. (x.0, (x.1.0, x.1.1, goes_first c.args.side c.args.self.now c.pass_whole.new.self (take used c.args.piece.now) (x.0 ∷ []) (rw (← c.give_up.ensures) x.1.2))))
