@@ -1,8 +1,8 @@
-"""Compares the frames that the library for C writes from fields with the stored payloads.
+"""Compares the frames that the library for C writes of fields with the stored payloads.
 
 tests/library.py calls it. The requests are those of the table of tests/fields.py and of the stored recordings. Their
 fields are read by the reader there. They are written over the payload, and over a content that has the texts and blobs
-alone: each time the frame has to be the payload's. With less room nothing is written. Fields that say nothing are told
+alone: each time the frame has to be the payload's. With less room nothing is written. Fields that say nothing are reported
 by their index.
 """
 

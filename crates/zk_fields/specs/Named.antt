@@ -61,7 +61,9 @@ list_entries f name (nullable.Full xs) = Under name (ACount (Some (length xs))) 
 
 each_same : {X : Type 0} (k : Named X) (name : ℕ) (xs : List X) → items_of (flat_map (k.entries name) xs) ≡ flat_map k.items xs
 each_same k name [] = refl
-each_same k name (x ∷ xs) = items_both (k.entries name x) (flat_map (k.entries name) xs) ∙ ap (λ (z : List Item). z ++ items_of (flat_map (k.entries name) xs)) (k.is name x) ∙ ap (λ (z : List Item). k.items x ++ z) (each_same k name xs)
+each_same k name (x ∷ xs) = items_both (k.entries name x) (flat_map (k.entries name) xs) ∙
+    ap (λ (z : List Item). z ++ items_of (flat_map (k.entries name) xs)) (k.is name x) ∙
+    ap (λ (z : List Item). k.items x ++ z) (each_same k name xs)
 
 pub list_same : {X : Type 0} (k : Named X) (name : ℕ) (v : Vector X) → items_of (list_entries k.entries name v) ≡ list_items k.items v
 list_same k name nullable.Null = refl
@@ -76,8 +78,14 @@ abbrev pub ◌of◌ : {X Y : Type 0} → Named Y → ℕ × (X → Y) → Named 
 k of f = record { items = λ x. k.items (f.1 x); entries = λ _ x. k.entries f.0 (f.1 x); is = λ _ x. k.is f.0 (f.1 x); shape = λ _. k.shape f.0 }
 
 pub both_same : {X : Type 0} (v w : Named X) (name : ℕ) (x : X) → items_of (v.entries name x ++ w.entries name x) ≡ v.items x ++ w.items x
-both_same v w name x = items_both (v.entries name x) (w.entries name x) ∙ ap (λ (z : List Item). z ++ items_of (w.entries name x)) (v.is name x) ∙ ap (λ (z : List Item). v.items x ++ z) (w.is name x)
+both_same v w name x = items_both (v.entries name x) (w.entries name x) ∙
+    ap (λ (z : List Item). z ++ items_of (w.entries name x)) (v.is name x) ∙ ap (λ (z : List Item). v.items x ++ z) (w.is name x)
 
 infixr 20 ◌and◌
 abbrev pub ◌and◌ : {X : Type 0} → Named X → Named X → Named X
-v and w = record { items = λ x. v.items x ++ w.items x; entries = λ name x. v.entries name x ++ w.entries name x; is = both_same v w; shape = λ name. Both (v.shape name) (w.shape name) }
+v and w = record {
+  items = λ x. v.items x ++ w.items x;
+  entries = λ name x. v.entries name x ++ w.entries name x;
+  is = both_same v w;
+  shape = λ name. Both (v.shape name) (w.shape name);
+}

@@ -1,8 +1,14 @@
 -- The records, by their fields: each with its kind and its name, in order.
 use Rattle.zk_jute.specs.Held.{Text, Vector}
 use Rattle.zk_records.specs.declared.stat.Stat.{Stat}
-use Rattle.zk_records.specs.Held.{Id, Acl, ConnectRequest, ConnectResponse, WatcherEvent, CreateAsk, DeleteAsk, SetDataAsk, SetAclAsk, CheckAsk, WatchAsk, PathAsk, AuthAsk, SetWatchesAsk}
-use Rattle.zk_fields.specs.Names.{the_path, the_data, the_acl, the_flags, the_version, the_watch, the_perms, the_scheme, the_id, the_type, the_state, the_auth, the_czxid, the_mzxid, the_ctime, the_mtime, the_cversion, the_aversion, the_ephemeral_owner, the_data_length, the_num_children, the_pzxid, the_zxid, the_data_watches, the_exist_watches, the_child_watches, the_protocol_version, the_last_zxid_seen, the_time_out, the_session_id, the_passwd}
+use Rattle.zk_records.specs.Held.{Id, Acl, ConnectRequest, ConnectResponse, WatcherEvent, CreateAsk, DeleteAsk}
+use Rattle.zk_records.specs.Held.{SetDataAsk, SetAclAsk, CheckAsk, WatchAsk, PathAsk, AuthAsk, SetWatchesAsk}
+use Rattle.zk_fields.specs.Names.{the_path, the_data, the_acl, the_flags, the_version, the_watch, the_perms}
+use Rattle.zk_fields.specs.Names.{the_scheme, the_id, the_type, the_state, the_auth, the_czxid, the_mzxid, the_ctime}
+use Rattle.zk_fields.specs.Names.{the_mtime, the_cversion, the_aversion, the_ephemeral_owner, the_data_length}
+use Rattle.zk_fields.specs.Names.{the_num_children, the_pzxid, the_zxid, the_data_watches, the_exist_watches}
+use Rattle.zk_fields.specs.Names.{the_child_watches, the_protocol_version, the_last_zxid_seen, the_time_out}
+use Rattle.zk_fields.specs.Names.{the_session_id, the_passwd}
 use Rattle.zk_fields.specs.Named.{Named, an_int, a_long, a_boolean, a_text, a_blob, many, ◌of◌, ◌and◌}
 
 abbrev pub texts : Named (Vector Text)

@@ -27,13 +27,18 @@ IsFilled before done at room = (at ≡ length done) × (room ≡ done ++ drop (l
 
 -- these bytes come behind those, if there is room for them
 unfoldable pub Fills : List ℕ → ℕ → List ℕ → ℕ → List ℕ → Type 0
-Fills bytes at room next new = (before done : List ℕ) → IsFilled before done at room → length done + length bytes ≤ length before → IsFilled before (done ++ bytes) next new
+Fills bytes at room next new = (before done : List ℕ) → IsFilled before done at room →
+    length done + length bytes ≤ length before → IsFilled before (done ++ bytes) next new
 
 -- the number of a payload's bytes, with as many as `start` besides those that the fields say; or why there is no payload
 abbrev pub Measures : List ℕ → List Field → ℕ → Result ℕ Unwritten → Type 0
-Measures content fields start (Ok size) = (items : List Item) × (all_said content fields ≡ Some items) × (size ≡ start + length (bytes_of items)) × (size < 2 ^ 31)
+Measures content fields start (Ok size) = (items : List Item) × (all_said content fields ≡ Some items) ×
+    (size ≡ start + length (bytes_of items)) × (size < 2 ^ 31)
 Measures content fields start (Err (unwritten.Wrong i)) =
-    (items : List Item) × (f : Field) × (all_said content (take i fields) ≡ Some items) × (start + length (bytes_of items) < 2 ^ 31) × (slice_get fields i ≡ Some f) × (said content f ≡ None)
+    (items : List Item) × (f : Field) × (all_said content (take i fields) ≡ Some items) ×
+    (start + length (bytes_of items) < 2 ^ 31) × (slice_get fields i ≡ Some f) × (said content f ≡ None)
 Measures content fields start (Err (unwritten.Long i)) =
-    (items : List Item) × (more : List Item) × (all_said content (take i fields) ≡ Some items) × (start + length (bytes_of items) < 2 ^ 31) × (all_said content (take (i + 1) fields) ≡ Some more) × (2 ^ 31 ≤ start + length (bytes_of more))
+    (items : List Item) × (more : List Item) × (all_said content (take i fields) ≡ Some items) ×
+    (start + length (bytes_of items) < 2 ^ 31) × (all_said content (take (i + 1) fields) ≡ Some more) ×
+    (2 ^ 31 ≤ start + length (bytes_of more))
 Measures content fields start (Err (unwritten.Room size)) = ⊥

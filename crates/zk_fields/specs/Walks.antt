@@ -19,7 +19,9 @@ use Rattle.zk_fields.specs.declared.opened.Opened.TheVariants as opened
 use Rattle.zk_fields.specs.Names.{the_path, the_data, the_acl, the_children, the_read_only, the_err}
 use Rattle.zk_fields.specs.Fields.{Entry, Under, Head, named, fields_from}
 use Rattle.zk_fields.specs.Named.{Shape, Nothing, An, Both, Many}
-use Rattle.zk_fields.specs.Records.{texts, rights, stat, connect_request, connect_response, watcher_event, create_ask, delete_ask, set_data_ask, set_acl_ask, check_ask, watch_ask, path_ask, auth_ask, set_watches_ask}
+use Rattle.zk_fields.specs.Records.{texts, rights, stat, connect_request, connect_response, watcher_event, create_ask}
+use Rattle.zk_fields.specs.Records.{delete_ask, set_data_ask, set_acl_ask, check_ask, watch_ask, path_ask, auth_ask}
+use Rattle.zk_fields.specs.Records.{set_watches_ask}
 use Rattle.zk_fields.specs.Room.{Takes}
 
 -- the entries that are whole there, and the place after them if all are
@@ -64,11 +66,13 @@ walk (Many name s) src place = list_met name (walk s src) (size_at src place)
 -- ---- the parts and the results of a multi: each begins with a header, which says what follows
 
 abbrev pub header_at : List ℕ → ℕ → Read MultiHeader
-header_at src place = int_at src place >>= λ kind. bool_at src kind.1 >>= λ done. int_at src done.1 >>= λ err. Ok (record { kind = kind.0; done = done.0; err = err.0 }, err.1)
+header_at src place = int_at src place >>= λ kind. bool_at src kind.1 >>= λ done. int_at src done.1
+    >>= λ err. Ok (record { kind = kind.0; done = done.0; err = err.0 }, err.1)
 
 -- the part that has the number, if one has
 abbrev pub part_with : ℕ → Option PartOp
-part_with n = if n == 1 then Some parts.Create else if n == 2 then Some parts.Delete else if n == 5 then Some parts.SetData else if n == 13 then Some parts.Check else None
+part_with n = if n == 1 then Some parts.Create else if n == 2 then Some parts.Delete else if n == 5
+    then Some parts.SetData else if n == 13 then Some parts.Check else None
 
 abbrev pub part_of : ℤ → Option PartOp
 part_of (pos n) = part_with n
@@ -175,7 +179,9 @@ opened_start opened.Event = 16
 
 -- the fields of all items that end before the place, in order
 abbrev pub opened_fields : Opened → List ℕ → ℕ → List Field
-opened_fields o payload place = if nat_le (opened_start o) (length (take place payload)) then fields_from (opened_start o) (content_met (opened_content o) (take place payload) (opened_start o)).entries else []
+opened_fields o payload place =
+    if nat_le (opened_start o) (length (take place payload))
+    then fields_from (opened_start o) (content_met (opened_content o) (take place payload) (opened_start o)).entries else []
 
 -- ---- what a walk does
 

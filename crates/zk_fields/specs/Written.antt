@@ -1,5 +1,7 @@
 -- The frame that is written of fields: for each field the bytes of the items that it says.
-use Rattle.std.specs.Prelude.{◌≡◌, ℕ, zero, suc, ◌+◌, ◌<◌, ◌≤◌, ◌^◌, ℤ, pos, negsuc, ◌==◌, if◌then◌else◌, nat_lt, nat_le, Bool, true, false, List, [], ◌∷◌, ◌++◌, length, take, drop, Option, Some, None, Result, Ok, Err}
+use Rattle.std.specs.Prelude.{◌≡◌, ℕ, zero, suc, ◌+◌, ◌<◌, ◌≤◌, ◌^◌, ℤ, pos, negsuc, ◌==◌, if◌then◌else◌, nat_lt}
+use Rattle.std.specs.Prelude.{nat_le, Bool, true, false, List, [], ◌∷◌, ◌++◌, length, take, drop, Option, Some, None}
+use Rattle.std.specs.Prelude.{Result, Ok, Err}
 use Rattle.std.specs.Option.{option_map, option_and_then}
 use Rattle.std.specs.List.{slice_get}
 use Rattle.std.specs.Str.Lossy.{utf8_valid_len}
@@ -31,7 +33,8 @@ count_said (negsuc n) = None
 
 -- the bytes of the content, if they are all there and an int can count them
 abbrev pub stretch_said : List ℕ → Field → Option (List ℕ)
-stretch_said content f = if nat_le (f.place + f.length) (length content) then (if nat_lt f.length 2147483648 then Some (take f.length (drop f.place content)) else None) else None
+stretch_said content f = if nat_le (f.place + f.length) (length content)
+    then (if nat_lt f.length 2147483648 then Some (take f.length (drop f.place content)) else None) else None
 
 -- null, or these
 abbrev pub run_said : List ℕ → Field → Option (Option (List ℕ))
@@ -97,18 +100,26 @@ Holds bytes before after = after ≡ bytes ++ drop (length bytes) before
 -- the frame of what the fields say between these items is at the front of the room, or it is unchanged, and this is why
 abbrev pub IsUnwritten : List Item → List Item → List ℕ → List Field → ℕ → Unwritten → Type 0
 IsUnwritten front behind content fields room (unwritten.Wrong i) =
-    (items : List Item) × (f : Field) × (all_said content (take i fields) ≡ Some items) × MayBe (payload_items front items behind) × (slice_get fields i ≡ Some f) × (said content f ≡ None)
+    (items : List Item) × (f : Field) × (all_said content (take i fields) ≡ Some items) ×
+    MayBe (payload_items front items behind) × (slice_get fields i ≡ Some f) × (said content f ≡ None)
 IsUnwritten front behind content fields room (unwritten.Long i) =
-    (items : List Item) × (more : List Item) × (all_said content (take i fields) ≡ Some items) × MayBe (payload_items front items behind) × (all_said content (take (i + 1) fields) ≡ Some more) × (2 ^ 31 ≤ length (bytes_of (payload_items front more behind)))
+    (items : List Item) × (more : List Item) × (all_said content (take i fields) ≡ Some items) ×
+    MayBe (payload_items front items behind) × (all_said content (take (i + 1) fields) ≡ Some more) ×
+    (2 ^ 31 ≤ length (bytes_of (payload_items front more behind)))
 IsUnwritten front behind content fields room (unwritten.Room size) =
-    (items : List Item) × (all_said content fields ≡ Some items) × MayBe (payload_items front items behind) × (size ≡ length (frame (payload_items front items behind))) × (room < size)
+    (items : List Item) × (all_said content fields ≡ Some items) × MayBe (payload_items front items behind) ×
+    (size ≡ length (frame (payload_items front items behind))) × (room < size)
 
 abbrev pub Writes : List Item → List Item → List ℕ → List Field → List ℕ → Result ℕ Unwritten → List ℕ → Type 0
 Writes front behind content fields before (Ok size) after =
-    (items : List Item) × (all_said content fields ≡ Some items) × MayBe (payload_items front items behind) × (size ≡ length (frame (payload_items front items behind))) × (size ≤ length before) × Holds (frame (payload_items front items behind)) before after
+    (items : List Item) × (all_said content fields ≡ Some items) × MayBe (payload_items front items behind) ×
+    (size ≡ length (frame (payload_items front items behind))) × (size ≤ length before) ×
+    Holds (frame (payload_items front items behind)) before after
 Writes front behind content fields before (Err why) after = IsUnwritten front behind content fields (length before) why × (after ≡ before)
 
 -- what is written of a sent message's own fields, over its payload, is its frame, if there is room for it
 abbrev pub WritesAgain : ClientFrame → List ℕ → List Field → List ℕ → Result ℕ Unwritten → List ℕ → Type 0
 WritesAgain f content fields before result after =
-    IsSent f → content ≡ payload f → fields ≡ client_fields f → MayBe (frame_items f) → length (frame (frame_items f)) ≤ length before → (result ≡ Ok (length (frame (frame_items f)))) × Holds (frame (frame_items f)) before after
+    IsSent f → content ≡ payload f → fields ≡ client_fields f → MayBe (frame_items f) →
+    length (frame (frame_items f)) ≤ length before →
+    (result ≡ Ok (length (frame (frame_items f)))) × Holds (frame (frame_items f)) before after

@@ -34,7 +34,15 @@ use Rattle.zk_lines.specs.Asks.{op_named}
 abbrev pub connected_of : {B : Type 0} → Form B → Form (ConnectResponseOf B × Option Bool)
 connected_of b = fields (field words.Version int and field words.Timeout int and field words.Session long and field words.Passwd b and field words.ReadOnly ro)
     (λ (hello, read_only). (hello.protocol_version, (hello.time_out, (hello.session_id, (hello.passwd, read_only)))))
-    (λ (version, (time_out, (session, (passwd, read_only)))). (record { protocol_version = version; time_out = time_out; session_id = session; passwd = passwd }, read_only))
+    (λ (version, (time_out, (session, (passwd, read_only)))). (
+      record {
+        protocol_version = version;
+        time_out = time_out;
+        session_id = session;
+        passwd = passwd;
+      },
+      read_only,
+    ))
 
 abbrev pub connected : Form (ConnectResponse × Option Bool)
 connected = connected_of blob
@@ -94,7 +102,8 @@ done_line_of names.Check = bare done.Checked
 done_line_of names.Fail = holds done.PartFailed (field words.Err error_code)
 
 -- a result is what its row makes: what is given for each row is given for each result
-abbrev pub by_done {ℓ} : (P : PartDone → Type ℓ) → ((name : DoneName) (x : Content (done_line_of name)) → P (remake (done_line_of name) x)) → (d : PartDone) → P d
+abbrev pub by_done {ℓ} : (P : PartDone → Type ℓ) →
+    ((name : DoneName) (x : Content (done_line_of name)) → P (remake (done_line_of name) x)) → (d : PartDone) → P d
 by_done P f (done.Created p) = f names.Create p
 by_done P f done.Deleted = f names.Delete tt
 by_done P f (done.DataSet s) = f names.SetData s
@@ -137,7 +146,8 @@ line_of ops.Create = holds (answered.remake (row_of ops.Create)) (body_line ops.
 line_of op = holds (answered.remake (row_of op)) (body_line op)
 
 -- what is given for each line is given for each row
-abbrev by_row {ℓ} : (P : Body → Type ℓ) → ((op : Op) (x : Content (line_of op)) → P (remake (line_of op) x)) → (op : Op) (x : answered.Content (row_of op)) → P (answered.remake (row_of op) x)
+abbrev by_row {ℓ} : (P : Body → Type ℓ) → ((op : Op) (x : Content (line_of op)) → P (remake (line_of op) x)) →
+    (op : Op) (x : answered.Content (row_of op)) → P (answered.remake (row_of op) x)
 by_row P f ops.Create x = f ops.Create x
 by_row P f op x = f op x
 
@@ -158,7 +168,8 @@ outcome_fits (outcome.Done b) = (body_written b).fits
 outcome_fits (outcome.Failed op e) = failure_code.fits e
 
 abbrev pub outcome_at : Op → List ℕ → Read Outcome
-outcome_at op bytes = if_passed (word_at (word_of words.Err) bytes) (λ rest. read_map (outcome.Failed op) (failure_code.at rest)) (read_map outcome.Done (row_at (line_of op) bytes))
+outcome_at op bytes = if_passed (word_at (word_of words.Err) bytes)
+    (λ rest. read_map (outcome.Failed op) (failure_code.at rest)) (read_map outcome.Done (row_at (line_of op) bytes))
 
 -- after the name the zxid, and then the outcome
 abbrev pub outcome_bodies : Bodies Op (ℤ × Outcome)
@@ -180,4 +191,5 @@ abbrev pub reply_to : Op → ℤ → ℤ → List ℕ → List ℕ
 reply_to op xid zxid outcome = signed_decimal xid ++ (word_of words.Blank ++ (op_name op ++ ((word_of words.Zxid ++ signed_decimal zxid) ++ outcome)))
 
 abbrev pub reply : Form Reply
-reply = fields (int and field words.Blank named_outcome) (λ r. (r.xid, (r.zxid, r.outcome))) (λ (xid, (zxid, outcome)). record { xid = xid; zxid = zxid; outcome = outcome })
+reply = fields (int and field words.Blank named_outcome) (λ r. (r.xid, (r.zxid, r.outcome)))
+    (λ (xid, (zxid, outcome)). record { xid = xid; zxid = zxid; outcome = outcome })

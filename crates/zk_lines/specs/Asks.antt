@@ -34,9 +34,19 @@ use Rattle.zk_lines.specs.Rows.{Row, holds, nothing, Content, remake, Written, w
 -- ---- records, owned or borrowed
 
 abbrev pub connect_of : {B : Type 0} → Form B → Form (ConnectRequestOf B × Option Bool)
-connect_of b = fields (field words.Version int and field words.Zxid long and field words.Timeout int and field words.Session long and field words.Passwd b and field words.ReadOnly ro)
+connect_of b = fields (field words.Version int and field words.Zxid long and field words.Timeout int and
+    field words.Session long and field words.Passwd b and field words.ReadOnly ro)
     (λ (hello, read_only). (hello.protocol_version, (hello.last_zxid_seen, (hello.time_out, (hello.session_id, (hello.passwd, read_only))))))
-    (λ (version, (zxid, (time_out, (session, (passwd, read_only))))). (record { protocol_version = version; last_zxid_seen = zxid; time_out = time_out; session_id = session; passwd = passwd }, read_only))
+    (λ (version, (zxid, (time_out, (session, (passwd, read_only))))). (
+      record {
+        protocol_version = version;
+        last_zxid_seen = zxid;
+        time_out = time_out;
+        session_id = session;
+        passwd = passwd;
+      },
+      read_only,
+    ))
 
 abbrev pub create_of : {T B A : Type 0} → Form T → Form B → Form A → Form (CreateAskOf T B A)
 create_of t b a = fields (field words.Path t and field words.Blob b and field words.Acl a and field words.Flags int)
@@ -171,7 +181,8 @@ line_of ops.Create = holds (asked.remake (row_of ops.Create)) (ask_line ops.Crea
 line_of op = holds (asked.remake (row_of op)) (ask_line op)
 
 -- what is given for each line is given for each row
-abbrev by_row {ℓ} : (P : Ask → Type ℓ) → ((op : Op) (x : Content (line_of op)) → P (remake (line_of op) x)) → (op : Op) (x : asked.Content (row_of op)) → P (asked.remake (row_of op) x)
+abbrev by_row {ℓ} : (P : Ask → Type ℓ) → ((op : Op) (x : Content (line_of op)) → P (remake (line_of op) x)) →
+    (op : Op) (x : asked.Content (row_of op)) → P (asked.remake (row_of op) x)
 by_row P f ops.Create x = f ops.Create x
 by_row P f op x = f op x
 

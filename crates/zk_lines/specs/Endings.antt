@@ -42,7 +42,8 @@ unfoldable pub count : List ℕ → ℕ → List ℕ
 count word n = word ++ decimal n
 
 abbrev pub place_text : Fault → List ℕ
-place_text f = sided (codes ". refused side=") f.side ++ (count (codes " frame=") f.frame ++ (count (codes " offset=") f.offset ++ count (codes " place=") f.place))
+place_text f = sided (codes ". refused side=") f.side ++
+    (count (codes " frame=") f.frame ++ (count (codes " offset=") f.offset ++ count (codes " place=") f.place))
 
 abbrev pub reason_text : Reason → List ℕ
 reason_text r = codes " reason=" ++ (reason_name r ++ order_text r)

@@ -46,13 +46,15 @@ letters bytes = take (prefix_len in_word bytes) bytes
 -- what comes after `C `
 abbrev pub client_at : List ℕ → Read ClientFrame
 client_at bytes =
-    if bytes_eq (letters bytes) (codes "connect") then read_map (λ (hello, read_only). client.Connect hello read_only) ((led (codes "connect") connect).at bytes)
+    if bytes_eq (letters bytes) (codes "connect")
+    then read_map (λ (hello, read_only). client.Connect hello read_only) ((led (codes "connect") connect).at bytes)
     else read_map (λ (xid, ask). client.Ask xid ask) (request.at bytes)
 
 -- what comes after `S `
 abbrev pub server_at : List ℕ → Read ServerFrame
 server_at bytes =
-    if bytes_eq (letters bytes) (codes "connect") then read_map (λ (hello, read_only). server.Connected hello read_only) ((led (codes "connect") connected).at bytes)
+    if bytes_eq (letters bytes) (codes "connect")
+    then read_map (λ (hello, read_only). server.Connected hello read_only) ((led (codes "connect") connected).at bytes)
     else if bytes_eq (letters bytes) (codes "event") then read_map (λ (zxid, e). server.Event zxid e) ((led (codes "event") event).at bytes)
     else read_map server.Answered (reply.at bytes)
 

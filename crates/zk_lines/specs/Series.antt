@@ -18,10 +18,13 @@ if_passed None f other = other
 
 -- the sign that parts and the next item, or the end
 unfoldable pub element_at : {X : Type 0} → ℕ → ℕ → (List ℕ → Read X) → List ℕ → Read (Option X)
-element_at sep close at bytes = if_passed (word_at (close ∷ []) bytes) (λ rest. Some (None, rest)) (word_at (sep ∷ []) bytes >>= λ rest. at rest >>= λ q. Some (Some q.0, q.1))
+element_at sep close at bytes =
+    if_passed (word_at (close ∷ []) bytes)
+    (λ rest. Some (None, rest)) (word_at (sep ∷ []) bytes >>= λ rest. at rest >>= λ q. Some (Some q.0, q.1))
 
 unfoldable pub series_at : {X : Type 0} → ℕ → ℕ → (List ℕ → Read X) → List ℕ → Read (List X)
-series_at sep close at bytes = if_passed (word_at (close ∷ []) bytes) (λ rest. Some ([], rest)) (at bytes >>= λ q. with_first q.0 (many_at (element_at sep close at) (length q.1) q.1))
+series_at sep close at bytes = if_passed (word_at (close ∷ []) bytes)
+    (λ rest. Some ([], rest)) (at bytes >>= λ q. with_first q.0 (many_at (element_at sep close at) (length q.1) q.1))
 
 abbrev pub series : {X : Type 0} → ℕ → ℕ → Form X → Form (List X)
 series sep close f = record {
@@ -41,7 +44,8 @@ list_fits fits nullable.Null = Unit {0}
 list_fits fits (nullable.Full xs) = AllByRecursion fits xs
 
 unfoldable pub list_at : {X : Type 0} → (List ℕ → Read X) → List ℕ → Read (Vector X)
-list_at at bytes = if_passed (word_at (codes "~") bytes) (λ rest. Some (nullable.Null, rest)) (word_at (codes "[") bytes >>= λ rest. read_map nullable.Full (series_at 44 93 at rest))
+list_at at bytes = if_passed (word_at (codes "~") bytes)
+    (λ rest. Some (nullable.Null, rest)) (word_at (codes "[") bytes >>= λ rest. read_map nullable.Full (series_at 44 93 at rest))
 
 abbrev pub list_of : {X : Type 0} → Form X → Form (Vector X)
 list_of f = record { fits = list_fits f.fits; spell = list_spell f.spell; at = list_at f.at }

@@ -60,7 +60,8 @@ pub record HasToldEarliest (limits : Limits) (unread unread_now contents content
 -- a run that stopped early: as a check without that line, or a front of both lines was written
 pub data HasStoppedEarliest (limits : Limits) (unread unread_now contents contents_now : Option (List ℕ)) : Type 0 where
   before_lines : HasStopped limits Last unread unread_now contents contents_now → HasStoppedEarliest limits unread unread_now contents contents_now
-  in_lines : (summary : Summary) (tail : List ℕ) → IsFoundWith limits unread unread_now summary tail → HasGrownIn contents contents_now (last_line summary ++ tail) →
+  in_lines : (summary : Summary) (tail : List ℕ) → IsFoundWith limits unread unread_now summary tail →
+      HasGrownIn contents contents_now (last_line summary ++ tail) →
       HasStoppedEarliest limits unread unread_now contents contents_now
 
 -- ---- what the talk returns
@@ -68,7 +69,8 @@ pub data HasStoppedEarliest (limits : Limits) (unread unread_now contents conten
 -- the body in which the fault of a history is found, if it is in one
 abbrev pub TellsBody : Limits → History → Fault → Option (Layout × Bor (List ℕ)) → Type 0
 TellsBody limits h fault body = (is : IsFaultOf limits h fault)
-    × MatchOption body ((layout : Layout) (bytes : List ℕ) → IsRefusedBody limits h fault is layout bytes → ⊥) (λ b. IsRefusedBody limits h fault is b.0 b.1.now)
+    × MatchOption body ((layout : Layout) (bytes : List ℕ) → IsRefusedBody limits h fault is layout bytes → ⊥)
+    (λ b. IsRefusedBody limits h fault is b.0 b.1.now)
 
 -- what is written after a last line, if the talk returns this body
 abbrev pub IsToldOf : Summary → Option (Layout × Bor (List ℕ)) → List ℕ → Type 0

@@ -100,7 +100,8 @@ HasGrownIn old new text = (k : ℕ) × Appends old new (take k text)
 
 -- the recording has one list of messages and one summary at most
 abbrev pub HasOneOutcome : Limits → Recording → Type 0
-HasOneOutcome limits r = (messages others : List Message) (summary other : Summary) → IsOutcome limits r messages summary → IsOutcome limits r others other → (others ≡ messages) × (other ≡ summary)
+HasOneOutcome limits r = (messages others : List Message) (summary other : Summary) →
+    IsOutcome limits r messages summary → IsOutcome limits r others other → (others ≡ messages) × (other ≡ summary)
 
 -- what holds of the one recording's messages and summary holds of the other's
 abbrev pub KeepsOutcome : Limits → Recording → Recording → Type 0

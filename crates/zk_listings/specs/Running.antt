@@ -31,13 +31,15 @@ pub record HasFound (limits : Limits) (listing : Listing) (unread unread_now con
   pub written : Appends contents contents_now (text_of listing messages)
 
 -- the lines of all messages in what was read were written, it has this summary, and if it is refused, the talk has refused it
-pub record HasFoundBy (limits : Limits) (listing : Listing) (unread unread_now contents contents_now : Option (List ℕ)) (talk : Option TalkState) (summary : Summary) : Type 0 where
+pub record HasFoundBy (limits : Limits) (listing : Listing) (unread unread_now contents contents_now : Option (List ℕ))
+    (talk : Option TalkState) (summary : Summary) : Type 0 where
   pub all : HasFound limits listing unread unread_now contents contents_now summary
   pub kept : IsKept (limits_of limits all.found.recording) talk (history_of all.found.recording) all.messages summary
 
 -- the same, of the summary and the progress that a run returns
 abbrev pub HasFoundWith : Limits → Listing → Option (List ℕ) → Option (List ℕ) → Option (List ℕ) → Option (List ℕ) → Summary × Progress → Type 0
-HasFoundWith limits listing unread unread_now contents contents_now found = HasFoundBy limits listing unread unread_now contents contents_now found.1.talk found.0
+HasFoundWith limits listing unread unread_now contents contents_now found =
+    HasFoundBy limits listing unread unread_now contents contents_now found.1.talk found.0
 
 -- the listing of what was read was written
 pub record HasListed (limits : Limits) (listing : Listing) (unread unread_now contents contents_now : Option (List ℕ)) (status : Status) : Type 0 where
@@ -60,11 +62,15 @@ pub record HasBegunLines (limits : Limits) (listing : Listing) (unread unread_no
   pub written : HasGrownIn contents contents_now (text_of listing messages)
 
 -- a front was written of the lines of the first messages of a recording, or of its whole listing
-pub data HasWrittenIn (limits : Limits) (listing : Listing) (bytes : List ℕ) (recording : Recording) (unread_now contents contents_now : Option (List ℕ)) : Type 0 where
-  in_messages : (messages : List Message) (front rest : History) → history_of recording ≡ front ++ rest → IsGoodWith (limits_of limits recording) front messages →
+pub data HasWrittenIn (limits : Limits) (listing : Listing) (bytes : List ℕ) (recording : Recording)
+    (unread_now contents contents_now : Option (List ℕ)) : Type 0 where
+  in_messages : (messages : List Message) (front rest : History) → history_of recording ≡ front ++ rest →
+      IsGoodWith (limits_of limits recording) front messages →
       HasGrownIn contents contents_now (text_of listing messages) → HasWrittenIn limits listing bytes recording unread_now contents contents_now
-  in_last_line : (messages : List Message) (summary : Summary) → IsOutcome limits recording messages summary → IsAtEnd unread_now ⊎ IsDecided limits bytes recording →
-      HasGrownIn contents contents_now (text_of listing messages ++ last_line summary) → HasWrittenIn limits listing bytes recording unread_now contents contents_now
+  in_last_line : (messages : List Message) (summary : Summary) → IsOutcome limits recording messages summary →
+      IsAtEnd unread_now ⊎ IsDecided limits bytes recording →
+      HasGrownIn contents contents_now (text_of listing messages ++ last_line summary) →
+      HasWrittenIn limits listing bytes recording unread_now contents contents_now
 
 -- whatever summary the bytes that were read have, a front of that listing was written
 pub record HasStopped (limits : Limits) (listing : Listing) (unread unread_now contents contents_now : Option (List ℕ)) : Type 0 where

@@ -38,7 +38,8 @@ pub record Took (limits : Limits) (lines : List (List ℕ)) (before now : Option
   pub written : Appends before now (recording_of messages)
 
 -- the bytes x were read: whole lines, which were taken, and the one that is begun
-pub record HasTaken (limits : Limits) (x : List ℕ) (before now : Option (List ℕ)) (begun : List ℕ) (count : ℕ) (ended : Bool) (speaker : SpeakerState) : Type 0 where
+pub record HasTaken (limits : Limits) (x : List ℕ) (before now : Option (List ℕ)) (begun : List ℕ) (count : ℕ)
+    (ended : Bool) (speaker : SpeakerState) : Type 0 where
   pub lines : List (List ℕ)
   pub each : AllByRecursion IsLine lines
   pub begun_is : IsLine begun

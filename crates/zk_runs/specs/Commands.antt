@@ -17,11 +17,16 @@ use Rattle.zk_runs.specs.Exits.{exit_of, exit_of_built, exit_of_migrated}
 
 -- a command that came to its end, with this exit status; a check writes the line of the first impossible byte if that is asked
 abbrev pub HasDone : Command → Bool → Limits → Option (List ℕ) → Option (List ℕ) → Option (List ℕ) → Option (List ℕ) → ℕ → Type 0
-HasDone Show earliest limits unread unread_now contents contents_now exit = (status : Status) × HasListed limits All unread unread_now contents contents_now status × (exit ≡ exit_of status)
-HasDone Check false limits unread unread_now contents contents_now exit = (status : Status) × HasListed limits Last unread unread_now contents contents_now status × (exit ≡ exit_of status)
-HasDone Check true limits unread unread_now contents contents_now exit = (status : Status) × HasToldEarliest limits unread unread_now contents contents_now status × (exit ≡ exit_of status)
-HasDone Build earliest limits unread unread_now contents contents_now exit = (built : Built) × HasBuilt limits unread unread_now contents contents_now built × (exit ≡ exit_of_built built)
-HasDone Migrate earliest limits unread unread_now contents contents_now exit = (answer : Migrated) × HasMigrated limits unread unread_now contents contents_now answer × (exit ≡ exit_of_migrated answer)
+HasDone Show earliest limits unread unread_now contents contents_now exit = (status : Status) ×
+    HasListed limits All unread unread_now contents contents_now status × (exit ≡ exit_of status)
+HasDone Check false limits unread unread_now contents contents_now exit = (status : Status) ×
+    HasListed limits Last unread unread_now contents contents_now status × (exit ≡ exit_of status)
+HasDone Check true limits unread unread_now contents contents_now exit = (status : Status) ×
+    HasToldEarliest limits unread unread_now contents contents_now status × (exit ≡ exit_of status)
+HasDone Build earliest limits unread unread_now contents contents_now exit = (built : Built) ×
+    HasBuilt limits unread unread_now contents contents_now built × (exit ≡ exit_of_built built)
+HasDone Migrate earliest limits unread unread_now contents contents_now exit = (answer : Migrated) ×
+    HasMigrated limits unread unread_now contents contents_now answer × (exit ≡ exit_of_migrated answer)
 
 -- a command that failed
 abbrev pub HasFailed : Command → Bool → Limits → Option (List ℕ) → Option (List ℕ) → Option (List ℕ) → Option (List ℕ) → Type 0

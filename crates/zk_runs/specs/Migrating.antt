@@ -14,14 +14,16 @@ use Rattle.zk_recordings.specs.declared.parts.Format.{Format}
 use Rattle.zk_recordings.specs.declared.parts.Format.TheVariants.{Zkr1, Zkr2}
 use Rattle.zk_recordings.specs.Reader.{ReaderState}
 use Rattle.zk_listings.specs.declared.summary.Summary.{Summary}
-use Rattle.zk_recordings.specs.Recording.{Head, First, Second, format_of, head_bytes, no_time, Place, AtLetters, InHead, InPieces, front, Recording, Spells, place_of, begun_of, damage_of}
+use Rattle.zk_recordings.specs.Recording.{Head, First, Second, format_of, head_bytes, no_time, Place, AtLetters}
+use Rattle.zk_recordings.specs.Recording.{InHead, InPieces, front, Recording, Spells, place_of, begun_of, damage_of}
 use Rattle.zk_recordings.specs.Reading.{IsAt, IsDecidedBy, IsHeaded}
 use Rattle.zk_listings.specs.Lines.{text_of, last_line}
 use Rattle.zk_listings.specs.Outcome.{Reads, IsOutcome, IsBroken, HasGrownIn}
 
 -- the head of the second format that has these limits
 abbrev pub head_of : Limits → Head
-head_of limits = Second (to_be_bytes w32 limits.client) (to_be_bytes w32 limits.server) (to_be_bytes w32 limits.waiting) (to_be_bytes w32 (profile_number limits.profile))
+head_of limits = Second (to_be_bytes w32 limits.client) (to_be_bytes w32 limits.server) (to_be_bytes w32 limits.waiting)
+    (to_be_bytes w32 (profile_number limits.profile))
 
 -- a head that has limits stays; the other one gets those of the options
 abbrev pub second : Limits → Head → Head

@@ -21,8 +21,10 @@ history_of pieces = flat_map (λ (p : Side × Bor (List ℕ)). on p.0 p.1.now) p
 -- the messages of the history up to its fault, if it has one
 abbrev pub AreMessages : Limits → History → List Message → Ending → Type 0
 AreMessages limits h messages (Refused fault) = (is : IsFaultOf limits h fault) × IsOrder limits is.before is.conversation messages
-AreMessages limits h messages (Cut side frame got) = (v : Conversation) × (client_rest : List ℕ) × (server_rest : List ℕ) × Good limits h v client_rest server_rest × IsOrder limits h v messages
-AreMessages limits h messages (Whole n) = (v : Conversation) × (client_rest : List ℕ) × (server_rest : List ℕ) × Good limits h v client_rest server_rest × IsOrder limits h v messages
+AreMessages limits h messages (Cut side frame got) = (v : Conversation) × (client_rest : List ℕ) ×
+    (server_rest : List ℕ) × Good limits h v client_rest server_rest × IsOrder limits h v messages
+AreMessages limits h messages (Whole n) = (v : Conversation) × (client_rest : List ℕ) × (server_rest : List ℕ) ×
+    Good limits h v client_rest server_rest × IsOrder limits h v messages
 
 -- those begin with these
 abbrev pub IsFront : List Message → List Message → Type 0
@@ -34,7 +36,8 @@ StandFirst these limits h = (all : List Message) (ending : Ending) → AreMessag
 
 -- nothing but these messages and this ending is returned for the history
 abbrev pub IsReadAs : Limits → History → List Message → Ending → Type 0
-IsReadAs limits h messages ending = (answered : List Message) (end : Ending) → AreMessages limits h answered end → IsEnding limits h end → (answered ≡ messages) × (end ≡ ending)
+IsReadAs limits h messages ending = (answered : List Message) (end : Ending) → AreMessages limits h answered end →
+    IsEnding limits h end → (answered ≡ messages) × (end ≡ ending)
 
 -- a talk after all of a piece, with the messages so far, or with the history's fault
 abbrev pub Feeds : TalkState → List Message → Side → List ℕ → Option Fault → TalkState → List Message → Type 0

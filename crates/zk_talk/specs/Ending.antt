@@ -29,5 +29,6 @@ IsCutAt v client_rest server_rest Server frame got = (client_rest ≡ []) × (se
 
 abbrev pub IsEnding : Limits → History → Ending → Type 0
 IsEnding limits h (Refused fault) = IsFaultOf limits h fault
-IsEnding limits h (Cut side frame got) = (v : Conversation) × (client_rest : List ℕ) × (server_rest : List ℕ) × Good limits h v client_rest server_rest × IsCutAt v client_rest server_rest side frame got
+IsEnding limits h (Cut side frame got) = (v : Conversation) × (client_rest : List ℕ) × (server_rest : List ℕ) ×
+    Good limits h v client_rest server_rest × IsCutAt v client_rest server_rest side frame got
 IsEnding limits h (Whole n) = (v : Conversation) × Good limits h v [] [] × (n ≡ unanswered v)

@@ -37,17 +37,26 @@ pub record IsNext (v : Conversation) (lane : Lane) (xid : ℤ) (ask : Asked) : T
 pub data IsClientFault (limits : Limits) (v : Conversation) (p : List ℕ) (place : ℕ) (reason : Reason) : Type 0 where
   connect_fault : v.client ≡ [] → IsFirstFault p place reason → IsClientFault limits v p place reason
   ask_fault : v.client ≢ [] → IsAskFault limits.profile p place reason → IsClientFault limits v p place reason
-  queue_full : v.client ≢ [] → (f : ClientFrame) → IsLater f → IsSent f → IsOfProfile limits.profile f → client_payload f ≡ p → limits.waiting < load v.client v.server + weight f → place ≡ 0 → reason ≡ QueueFull → IsClientFault limits v p place reason
+  queue_full : v.client ≢ [] → (f : ClientFrame) → IsLater f → IsSent f → IsOfProfile limits.profile f →
+      client_payload f ≡ p → limits.waiting < load v.client v.server + weight f → place ≡ 0 → reason ≡ QueueFull →
+      IsClientFault limits v p place reason
 
 -- why the payload of the server's next frame is refused, where v came before it
 pub data IsServerFault (v : Conversation) (p : List ℕ) (place : ℕ) (reason : Reason) : Type 0 where
   no_connect : v.server ≡ [] → v.client ≡ [] → place ≡ 0 → reason ≡ Unasked → IsServerFault v p place reason
   connected_fault : v.server ≡ [] → v.client ≢ [] → IsConnectedFault p place reason → IsServerFault v p place reason
   head_fault : v.server ≢ [] → IsHeadFault p place reason → IsServerFault v p place reason
-  event_fault : v.server ≢ [] → (header : ReplyHeader) (rest : List ℕ) → IsHead p header rest → header.xid ≡ event_xid → IsEventFault p place reason → IsServerFault v p place reason
-  unasked : v.server ≢ [] → (header : ReplyHeader) (rest : List ℕ) → IsHead p header rest → header.xid ≢ event_xid → asks_on (lane_of header.xid) v.client ≤ replies_on (lane_of header.xid) v.server → place ≡ 0 → reason ≡ Unasked → IsServerFault v p place reason
-  wrong_xid : v.server ≢ [] → (header : ReplyHeader) (rest : List ℕ) → IsHead p header rest → header.xid ≢ event_xid → (next : ℤ) (ask : Asked) → IsNext v (lane_of header.xid) next ask → next ≢ header.xid → place ≡ 0 → reason ≡ XidOrder next header.xid → IsServerFault v p place reason
-  reply_fault : v.server ≢ [] → (header : ReplyHeader) (rest : List ℕ) → IsHead p header rest → header.xid ≢ event_xid → (ask : Asked) → IsNext v (lane_of header.xid) header.xid ask → IsReplyFault (op_of_ask ask) (ops_of_ask ask) p place reason → IsServerFault v p place reason
+  event_fault : v.server ≢ [] → (header : ReplyHeader) (rest : List ℕ) → IsHead p header rest → header.xid ≡ event_xid →
+      IsEventFault p place reason → IsServerFault v p place reason
+  unasked : v.server ≢ [] → (header : ReplyHeader) (rest : List ℕ) → IsHead p header rest → header.xid ≢ event_xid →
+      asks_on (lane_of header.xid) v.client ≤ replies_on (lane_of header.xid) v.server → place ≡ 0 → reason ≡ Unasked →
+      IsServerFault v p place reason
+  wrong_xid : v.server ≢ [] → (header : ReplyHeader) (rest : List ℕ) → IsHead p header rest → header.xid ≢ event_xid →
+      (next : ℤ) (ask : Asked) → IsNext v (lane_of header.xid) next ask → next ≢ header.xid → place ≡ 0 →
+      reason ≡ XidOrder next header.xid → IsServerFault v p place reason
+  reply_fault : v.server ≢ [] → (header : ReplyHeader) (rest : List ℕ) → IsHead p header rest → header.xid ≢ event_xid →
+      (ask : Asked) → IsNext v (lane_of header.xid) header.xid ask →
+      IsReplyFault (op_of_ask ask) (ops_of_ask ask) p place reason → IsServerFault v p place reason
 
 abbrev pub IsPayloadFault : Limits → Conversation → Side → List ℕ → ℕ → Reason → Type 0
 IsPayloadFault limits v Client p place reason = IsClientFault limits v p place reason
@@ -70,8 +79,10 @@ rest_on Server client_rest server_rest = server_rest
 -- why the byte is refused: of this side `size` bytes came before it, and `rest` of its frame
 pub data IsCause (limits : Limits) (v : Conversation) (side : Side) (size : ℕ) (rest : List ℕ) (byte : ℕ) (place : ℕ) (reason : Reason) : Type 0 where
   stream_end : size + 1 ≡ 2 ^ 62 → place ≡ 0 → reason ≡ StreamEnd → IsCause limits v side size rest byte place reason
-  length_range : size + 1 < 2 ^ 62 → IsBadLength (side_limit limits side) (rest ++ byte ∷ []) → place ≡ 0 → reason ≡ LengthRange → IsCause limits v side size rest byte place reason
-  payload_fault : size + 1 < 2 ^ 62 → (p : List ℕ) → rest ++ byte ∷ [] ≡ frame p → length p ≤ side_limit limits side → IsPayloadFault limits v side p place reason → IsCause limits v side size rest byte place reason
+  length_range : size + 1 < 2 ^ 62 → IsBadLength (side_limit limits side) (rest ++ byte ∷ []) → place ≡ 0 →
+      reason ≡ LengthRange → IsCause limits v side size rest byte place reason
+  payload_fault : size + 1 < 2 ^ 62 → (p : List ℕ) → rest ++ byte ∷ [] ≡ frame p → length p ≤ side_limit limits side →
+      IsPayloadFault limits v side p place reason → IsCause limits v side size rest byte place reason
 
 -- The fault is at the first byte whose front is not good.
 pub record IsFaultOf (limits : Limits) (h : History) (fault : Fault) : Type 0 where
@@ -88,7 +99,8 @@ pub record IsFaultOf (limits : Limits) (h : History) (fault : Fault) : Type 0 wh
   pub frame : fault.frame ≡ frame_count conversation fault.side
   pub offset : fault.offset ≡ length (side_bytes fault.side before) + 1
   pub told : fault.place ≡ told_place place
-  pub cause : IsCause limits conversation fault.side (length (side_bytes fault.side before)) (rest_on fault.side client_rest server_rest) byte place fault.reason
+  pub cause : IsCause limits conversation fault.side (length (side_bytes fault.side before))
+      (rest_on fault.side client_rest server_rest) byte place fault.reason
 
 abbrev pub fault_of : Side → ℕ → ℕ → ℕ → Reason → Fault
 fault_of side frame offset place reason = record { side = side; frame = frame; offset = offset; place = place; reason = reason }

@@ -31,7 +31,8 @@ Tells IsTheFault e = (place : ℕ) × IsTheFault place e.reason × (e.place ≡ 
 
 -- the fault of the client's payload after `count` frames, and of the server's, whatever is known of the conversation
 abbrev pub TellsClient : Profile → ℕ → Lanes → List ℕ → ItemFault → Type 0
-TellsClient profile count waiting p e = (limits : Limits) (m : ℕ) (v : Conversation) → limits.waiting ≡ waiting.max → limits.profile ≡ profile → Describes count m waiting v → Tells (IsClientFault limits v p) e
+TellsClient profile count waiting p e = (limits : Limits) (m : ℕ) (v : Conversation) → limits.waiting ≡ waiting.max →
+    limits.profile ≡ profile → Describes count m waiting v → Tells (IsClientFault limits v p) e
 
 abbrev pub TellsServer : ℕ → ℕ → Lanes → List ℕ → ItemFault → Type 0
 TellsServer asked count waiting p e = (v : Conversation) → Describes asked count waiting v → Tells (IsServerFault v p) e
@@ -60,7 +61,8 @@ HasRoomFor (Ask xid ask) w = weight_of w + weight (Ask xid ask) ≤ w.max
 -- the frame waits for its reply, if it is to have one
 abbrev pub IsRemembered : ClientFrame → Lanes → Lanes → Type 0
 IsRemembered (Connect hello read_only) old new = new ≡ old
-IsRemembered (Ask xid ask) old new = (weight_of old + weight (Ask xid ask) ≤ old.max) × IsPut (lane_of xid) (record { xid = xid; op = op_of_ask ask; parts = ops_of_ask ask }) old new
+IsRemembered (Ask xid ask) old new = (weight_of old + weight (Ask xid ask) ≤ old.max) ×
+    IsPut (lane_of xid) (record { xid = xid; op = op_of_ask ask; parts = ops_of_ask ask }) old new
 
 -- a reply has an ask in its lane
 abbrev pub HasAsk : ServerFrame → Lanes → Type 0
@@ -110,8 +112,10 @@ PassesServer asked old waiting bytes s waits = IsNextServer asked old.count wait
 
 -- the client's frame that may come next is counted and kept, and waits for its reply
 abbrev pub KeepsClient : Profile → StreamState → Lanes → ClientFrame → Lanes → StreamState → Type 0
-KeepsClient profile old waiting f waits new = IsNextClient profile old.count waiting (drop 4 old.held) f × IsRemembered f waiting waits × ShowsClient new.count new.kept f
+KeepsClient profile old waiting f waits new = IsNextClient profile old.count waiting (drop 4 old.held) f ×
+    IsRemembered f waiting waits × ShowsClient new.count new.kept f
 
 -- the server's frame that may come next is counted and kept, and the ask that it answers is dropped
 abbrev pub KeepsServer : ℕ → StreamState → Lanes → Option Op → ServerFrame → Lanes → StreamState → Type 0
-KeepsServer asked old waiting answered s waits new = IsNextServer asked old.count waiting (drop 4 old.held) s × IsForgotten s waiting waits × ShowsServer new.count answered new.kept s
+KeepsServer asked old waiting answered s waits new = IsNextServer asked old.count waiting (drop 4 old.held) s ×
+    IsForgotten s waiting waits × ShowsServer new.count answered new.kept s

@@ -39,7 +39,8 @@ AnswersNone v xid = (ask : Asked) → IsNext v (lane_of xid) xid ask → op_of_a
 
 -- the payload has a header, and after it this body, of this layout: v came before it
 pub data HasBody (v : Conversation) (p : List ℕ) : Side → Layout → List ℕ → Type 0 where
-  request : (xid : ℤ) (op : Op) (body : List ℕ) → HaveBytes (header_items xid (op_number op)) → Opens p (header_items xid (op_number op)) body → HasBody v p Client (layouts.Asked op) body
+  request : (xid : ℤ) (op : Op) (body : List ℕ) → HaveBytes (header_items xid (op_number op)) →
+      Opens p (header_items xid (op_number op)) body → HasBody v p Client (layouts.Asked op) body
   event : (header : ReplyHeader) (body : List ℕ) → IsHead p header body → header.xid ≡ event_xid → HasBody v p Server layouts.Event body
   reply : (header : ReplyHeader) (body : List ℕ) → IsHead p header body → header.xid ≢ event_xid → header.err ≡ pos 0 →
       (ask : Asked) → IsNext v (lane_of header.xid) header.xid ask → op_of_ask ask ≢ ops.Multi → HasBody v p Server (layouts.Answered (op_of_ask ask)) body

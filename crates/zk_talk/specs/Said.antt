@@ -65,7 +65,8 @@ ClientMayStand limits v f = ClientMay limits.profile v.client f × (length (clie
 
 -- the frame may be said after those of v, within its side's limit and the load
 abbrev pub IsSaidClient : Limits → Conversation → ClientFrame → Type 0
-IsSaidClient limits v f = ClientMay limits.profile v.client f × (length (client_payload f) ≤ limits.client) × (load (v.client ++ f ∷ []) v.server ≤ limits.waiting)
+IsSaidClient limits v f = ClientMay limits.profile v.client f × (length (client_payload f) ≤ limits.client) ×
+    (load (v.client ++ f ∷ []) v.server ≤ limits.waiting)
 
 abbrev pub IsSaidServer : Limits → Conversation → ServerFrame → Type 0
 IsSaidServer limits v s = ServerMay v.client v.server s × (length (server_payload s) ≤ limits.server)
@@ -93,8 +94,10 @@ pub data IsClientRefusal (limits : Limits) (v : Conversation) (f : ClientFrame) 
   second_connect : v.client ≢ [] → IsFirst f → e ≡ NotFirst → IsClientRefusal limits v f e
   before_connect : v.client ≡ [] → IsLater f → e ≡ NotFirst → IsClientRefusal limits v f e
   not_allowed : v.client ≢ [] → IsLater f → (MayAsk limits f → ⊥) → e ≡ Misfit → IsClientRefusal limits v f e
-  too_long : (v.client ≡ [] → IsFirst f) → (v.client ≢ [] → IsLater f) → MayAsk limits f → (Fit limits.client (asks.frame_items f) → ⊥) → e ≡ TooLong → IsClientRefusal limits v f e
-  queue_full : v.client ≢ [] → IsLater f → MayAsk limits f → Fit limits.client (asks.frame_items f) → limits.waiting < load v.client v.server + weight f → e ≡ QueueFull → IsClientRefusal limits v f e
+  too_long : (v.client ≡ [] → IsFirst f) → (v.client ≢ [] → IsLater f) → MayAsk limits f →
+      (Fit limits.client (asks.frame_items f) → ⊥) → e ≡ TooLong → IsClientRefusal limits v f e
+  queue_full : v.client ≢ [] → IsLater f → MayAsk limits f → Fit limits.client (asks.frame_items f) →
+      limits.waiting < load v.client v.server + weight f → e ≡ QueueFull → IsClientRefusal limits v f e
 
 -- why a message of the server is refused after those of v: the first case that applies
 pub data IsServerRefusal (limits : Limits) (v : Conversation) (s : ServerFrame) (e : SayFault) : Type 0 where
@@ -104,10 +107,16 @@ pub data IsServerRefusal (limits : Limits) (v : Conversation) (s : ServerFrame) 
   long_connected : v.server ≡ [] → IsConnected s → v.client ≢ [] → (Fit limits.server (answers.frame_items s) → ⊥) → e ≡ TooLong → IsServerRefusal limits v s e
   long_event : v.server ≢ [] → IsEvent s → (Fit limits.server (answers.frame_items s) → ⊥) → e ≡ TooLong → IsServerRefusal limits v s e
   event_xid : v.server ≢ [] → (r : Reply) → s ≡ Answered r → r.xid ≡ negsuc 0 → e ≡ Misfit → IsServerRefusal limits v s e
-  unasked : v.server ≢ [] → (r : Reply) → s ≡ Answered r → r.xid ≢ negsuc 0 → asks_on (lane_of r.xid) v.client ≤ replies_on (lane_of r.xid) v.server → e ≡ Unasked → IsServerRefusal limits v s e
-  xid_order : v.server ≢ [] → (r : Reply) → s ≡ Answered r → r.xid ≢ negsuc 0 → (next : ℤ) (ask : Asked) → IsNext v (lane_of r.xid) next ask → next ≢ r.xid → e ≡ XidOrder next r.xid → IsServerRefusal limits v s e
-  misfit : v.server ≢ [] → (r : Reply) → s ≡ Answered r → r.xid ≢ negsuc 0 → (ask : Asked) → IsNext v (lane_of r.xid) r.xid ask → (Fits (op_of_ask ask) (ops_of_ask ask) r → ⊥) → e ≡ Misfit → IsServerRefusal limits v s e
-  long_reply : v.server ≢ [] → (r : Reply) → s ≡ Answered r → r.xid ≢ negsuc 0 → (ask : Asked) → IsNext v (lane_of r.xid) r.xid ask → Fits (op_of_ask ask) (ops_of_ask ask) r → (Fit limits.server (answers.frame_items s) → ⊥) → e ≡ TooLong → IsServerRefusal limits v s e
+  unasked : v.server ≢ [] → (r : Reply) → s ≡ Answered r → r.xid ≢ negsuc 0 →
+      asks_on (lane_of r.xid) v.client ≤ replies_on (lane_of r.xid) v.server → e ≡ Unasked → IsServerRefusal limits v s e
+  xid_order : v.server ≢ [] → (r : Reply) → s ≡ Answered r → r.xid ≢ negsuc 0 → (next : ℤ) (ask : Asked) →
+      IsNext v (lane_of r.xid) next ask → next ≢ r.xid → e ≡ XidOrder next r.xid → IsServerRefusal limits v s e
+  misfit : v.server ≢ [] → (r : Reply) → s ≡ Answered r → r.xid ≢ negsuc 0 → (ask : Asked) →
+      IsNext v (lane_of r.xid) r.xid ask → (Fits (op_of_ask ask) (ops_of_ask ask) r → ⊥) → e ≡ Misfit →
+      IsServerRefusal limits v s e
+  long_reply : v.server ≢ [] → (r : Reply) → s ≡ Answered r → r.xid ≢ negsuc 0 → (ask : Asked) →
+      IsNext v (lane_of r.xid) r.xid ask → Fits (op_of_ask ask) (ops_of_ask ask) r →
+      (Fit limits.server (answers.frame_items s) → ⊥) → e ≡ TooLong → IsServerRefusal limits v s e
 
 abbrev pub IsSayFault : Limits → List Message → Message → SayFault → Type 0
 IsSayFault limits before (FromClient f) e = IsClientRefusal limits (conversation_of before) f e
@@ -156,7 +165,8 @@ pub data IsUnfit (w : Lanes) (r : Reply) (e : SayFault) : Type 0 where
   not_a_reply : r.xid ≡ negsuc 0 → e ≡ Misfit → IsUnfit w r e
   none_waits : r.xid ≢ negsuc 0 → slice_get (queue_on (lane_of r.xid) w) 0 ≡ None → e ≡ Unasked → IsUnfit w r e
   other_waits : r.xid ≢ negsuc 0 → (q : Request) → slice_get (queue_on (lane_of r.xid) w) 0 ≡ Some q → q.xid ≢ r.xid → e ≡ XidOrder q.xid r.xid → IsUnfit w r e
-  unlike : r.xid ≢ negsuc 0 → (q : Request) → slice_get (queue_on (lane_of r.xid) w) 0 ≡ Some q → q.xid ≡ r.xid → (Fits q.op q.parts r → ⊥) → e ≡ Misfit → IsUnfit w r e
+  unlike : r.xid ≢ negsuc 0 → (q : Request) → slice_get (queue_on (lane_of r.xid) w) 0 ≡ Some q → q.xid ≡ r.xid →
+      (Fits q.op q.parts r → ⊥) → e ≡ Misfit → IsUnfit w r e
 
 -- what the server's message answers is there
 abbrev pub MayAnswer : Bool → Lanes → ServerFrame → Type 0
@@ -171,7 +181,8 @@ CannotAnswer asked w (Event zxid event) e = ⊥
 
 -- whatever was heard, the client may say this after it, and has said it
 abbrev pub SaysClient : Limits → Bool → Lanes → ClientFrame → Lanes → Type 0
-SaysClient limits asked old f new = (welcomed : Bool) (v : Conversation) → Heard asked welcomed old v → IsSaidClient limits v f × Heard true welcomed new (with_client v f)
+SaysClient limits asked old f new = (welcomed : Bool) (v : Conversation) → Heard asked welcomed old v →
+    IsSaidClient limits v f × Heard true welcomed new (with_client v f)
 
 -- whatever was heard, this is why the client may not say it
 abbrev pub RefusesClient : Limits → Bool → Lanes → ClientFrame → SayFault → Type 0
