@@ -1,9 +1,9 @@
 /* What the fields of a conversation's messages cost: by the library, and by a decoder by hand.
  *
- *     fields step|fields|hand < RECORDING
+ *     fields step|fields|hand [sum] < RECORDING
  *
  * `step` judges the recording (format ZKR1) by zk_talk_step, `fields` also writes each message's fields by
- * zk_talk_fields, and `hand` does the same by hand.h. It prints the messages, the fields, a sum of all that is in them,
+ * zk_talk_fields, and `hand` does the same by hand.h. It prints the messages, the fields, with `sum` a sum of all in them,
  * the CPU seconds, the number of allocations between the first message and the last, and the bytes of a talk. */
 #define _POSIX_C_SOURCE 200809L
 #include "hand.h"
@@ -38,11 +38,12 @@ static struct zk_field fields[FIELDS];
 static struct hand hand;
 static struct zk_talk talk;
 static uint64_t messages, field_count, sum;
+static bool summed;
 
 /* Adds what is in a message's fields. */
 static void add(uint32_t count) {
     field_count += count;
-    for (uint32_t i = 0; i < count; i++) {
+    for (uint32_t i = 0; summed && i < count; i++) {
         const struct zk_field *it = &fields[i];
         sum += it->place + 3u * it->length + 5u * (uint64_t)it->number;
         sum += 7u * it->name + 11u * it->kind + 13u * it->null;
@@ -83,7 +84,8 @@ static bool run(char what, const uint8_t *recording, size_t size) {
 int main(int count, char **words) {
     const size_t room = (size_t)1 << 29;
     uint8_t *recording = __real_malloc(room);
-    if (count != 2 || recording == NULL) return 2;
+    if (count < 2 || count > 3 || recording == NULL) return 2;
+    summed = count == 3;
     size_t size = fread(recording, 1, room, stdin);
     allocated = 0;
     if (zk_talk_new(&talk, 4194304, 4194304, 65536, ZK_PROFILE_34) != ZK_WELL) return 2;

@@ -75,7 +75,7 @@ def measure_fields(folder, archive, program, wanted):
     size, messages = make_recording.write(recording, "small", 5 * wanted / messages)
     wrapped = compiled(folder / "fields", HERE / "fields.c", archive, "-Wl,--wrap=malloc,--wrap=realloc")
     rows = [("zkdump check", [program, "check"])] + [(way, [wrapped, way]) for way in WAYS]
-    answers = {way: answer([wrapped, way], recording) for way in WAYS}
+    answers = {way: answer([wrapped, way, "sum"], recording) for way in WAYS}
     if answers["fields"][:3] != answers["hand"][:3] or int(answers["step"][0]) != messages:
         sys.exit(f"the decoder by hand finds {answers['hand'][:3]}, and the library {answers['fields'][:3]}")
     print(f"small, {size / 1e6:.0f} MB, {messages:,} messages, {int(answers['fields'][1]):,} fields; "

@@ -140,8 +140,9 @@ static bool goes_on(const struct played *it, uint32_t *side, const uint8_t **fro
 
 static void step(struct played *it) {
     uint32_t side = any_side();
-    const uint8_t *from = payloads[chance(payload_count)].bytes, *at;
-    size_t length = (size_t)chance(40);
+    const struct payload *any = &payloads[chance(payload_count)];
+    const uint8_t *from = any->bytes, *at;
+    size_t length = any->length;
     bool next = !one_in(60) && goes_on(it, &side, &from, &length);
     if (length > 0 && one_in(3)) length = 1 + (size_t)chance(length);
     put_bytes(from, length, next ? 400 : 2);

@@ -25,7 +25,7 @@ def numbers_of(kind, payload):
 
 def compare_message(caller, talk, side, frame, payload):
     """What is returned of a side's kept frame, and what should be."""
-    library, size = caller.library, 4096
+    library, size = caller.library, min(len(payload), 4096)  # no item has less than a byte
     message = library.zk_talk_view(talk.handle, side)
     kind = KINDS[message.kind - 1]
     xid, err, zxid = numbers_of(kind, payload)
@@ -44,17 +44,20 @@ def compare_message(caller, talk, side, frame, payload):
 
 def compare_recording(caller, content, cut):
     """What is returned of each message of a recording whose pieces are cut to at most `cut` bytes."""
-    came, frames = [b"", b""], [0, 0]
+    came, frames = [bytearray(), bytearray()], [0, 0]
     with caller.talk.Talk(caller.library, profile=35) as talk:
         for side, piece in caller.talk.pieces(content):
-            while piece:
-                step = caller.library.zk_talk_step(talk.handle, side, piece, min(cut, len(piece)))
+            at = 0
+            while at < len(piece):
+                part = piece[at:at + cut]
+                step = caller.library.zk_talk_step(talk.handle, side, part, len(part))
                 if step.status != 0:
                     return
-                came[side], piece = came[side] + piece[:step.used], piece[step.used:]
+                came[side] += part[:step.used]
+                at += step.used
                 if step.whole:
-                    yield from compare_message(caller, talk, side, frames[side], came[side][4:])
-                    came[side], frames[side] = b"", frames[side] + 1
+                    yield from compare_message(caller, talk, side, frames[side], bytes(came[side][4:]))
+                    came[side], frames[side] = bytearray(), frames[side] + 1
 
 
 def compare(talk, library, names, recordings):
