@@ -102,28 +102,6 @@ def hole_of(folder):
     return hole
 
 
-def fields_of(folder):
-    """message_read, as a function of a call of tests/library.py and a payload."""
-    class Asked(ctypes.Structure):
-        _fields_ = [("op", ctypes.c_int32), ("count", ctypes.c_uint32), ("parts", ctypes.POINTER(ctypes.c_int32))]
-
-    class Message(ctypes.Structure):
-        _fields_ = [("status", ctypes.c_uint32), ("place", ctypes.c_uint32), ("count", ctypes.c_size_t)]
-    call = shared(folder, "fields").message_read
-    call.restype = Message
-    call.argtypes = [ctypes.c_uint32, ctypes.c_uint32, ctypes.POINTER(Asked), ctypes.c_char_p, ctypes.c_size_t,
-                     ctypes.c_void_p, ctypes.c_size_t]
-    kinds = {"first": 1, "request": 2, "connected": 3, "reply": 4, "event": 5}
-
-    def read(words, payload):
-        kind, *asked = words.split()
-        op, *parts = map(int, asked or ["0"])
-        answers = Asked(op, len(parts), (ctypes.c_int32 * (len(parts) + 1))(*parts))
-        message = call(kinds[kind], 34, ctypes.byref(answers) if asked else None, payload, len(payload), None, 0)
-        return message.status, message.place
-    return read
-
-
 def golden():
     """Captures of which it is stored what is shown of them: a name, the capture, and tshark's words."""
     def of(name, *more):

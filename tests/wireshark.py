@@ -1,12 +1,12 @@
 #!/usr/bin/env python3
 """Tests of the plugin for Wireshark: what tshark shows with it.
 
-    wireshark.py [--install] [--stub] [--mutants N] [--seeds N] [--golden] [WORD ..]
+    wireshark.py [--install] [--libzk PATH] [--mutants N] [--seeds N] [--golden] [WORD ..]
 
-It builds the plugin and puts it into a home of its own, with the proved library where that is built (else, or with
---stub, with a stub of it, which is reported). With words it runs those tests whose names have one of them. --mutants
-says how many mutated connections are read under the address sanitizer, --seeds how many lossy captures there are. --golden
-writes the files of wireshark/tests/golden anew, for a person to read. --install installs Debian's packages first.
+It builds the plugin with the proved library of this repository, or with another libzk.a, and puts it into a home of its
+own. With words it runs those tests whose names have one of them. --mutants says how many mutated connections are read
+under the address sanitizer, --seeds how many lossy captures there are. --golden writes the files of
+wireshark/tests/golden anew, for a person to read. --install installs Debian's packages first.
 
 What is missing is reported in one line, and then nothing is tested. The last line is `N passed, M failed`.
 """
@@ -14,6 +14,7 @@ What is missing is reported in one line, and then nothing is tested. The last li
 import argparse
 import collections
 import json
+import pathlib
 import random
 import re
 import subprocess
@@ -21,7 +22,7 @@ import sys
 import tempfile
 
 import dissected
-from dissected import LIBRARY, SOURCES, TOP, capture_of, joined, lossy, mutated, pieces_of, wire, zkr
+from dissected import SOURCES, TOP, capture_of, joined, lossy, mutated, pieces_of, wire, zkr
 import library
 import resync
 import wanted
@@ -222,15 +223,6 @@ class Tests:
                 wrong.append((side, data.hex(), place, keep))
         yield not wrong, f"{len(wrong)} of 40,000 differ: {wrong[:1]}"
 
-    def test_payloads(self):
-        """fields.c judges the payloads of docs/EXAMPLES.md, as tests/library.py has them."""
-        numbers = library.declared()[2]
-        read = wanted.fields_of(self.folder)
-        for call, digits, status, place in library.JUDGED:
-            if status not in ("RANGE", "MISFIT"):
-                found = read(call, bytes.fromhex(digits))
-                yield found == (numbers[status], place), f"{call} {digits}: {found}, not {status} at {place}"
-
     def test_golden(self):
         if self.plugin.release != "4.0":
             print(f"left out: the stored files are what Wireshark 4.0 shows, and this is {self.plugin.release}")
@@ -274,7 +266,7 @@ class Tests:
 
     def test_mutants(self):
         """Mutated connections, many in one capture, under the address sanitizer."""
-        plugin = dissected.Plugin(self.folder, self.words.stub, sanitized=True)
+        plugin = dissected.Plugin(self.folder, self.words.libzk, sanitized=True)
         sent = [list(wire.conversation(pieces_of(path))) for path in WHOLE if path.stat().st_size < 60_000]
         for first in range(0, self.words.mutants, MUTANTS_A_RUN):
             seeds = range(first, min(first + MUTANTS_A_RUN, self.words.mutants))
@@ -287,7 +279,7 @@ class Tests:
 def main():
     parser = argparse.ArgumentParser(description="Tests of the plugin for Wireshark.")
     parser.add_argument("--install", action="store_true")
-    parser.add_argument("--stub", action="store_true")
+    parser.add_argument("--libzk", type=lambda path: pathlib.Path(path).resolve())
     parser.add_argument("--mutants", type=int, default=1000)
     parser.add_argument("--seeds", type=int, default=3)
     parser.add_argument("--golden", action="store_true")
@@ -295,15 +287,12 @@ def main():
     words = parser.parse_args()
     if words.install:
         subprocess.run(["apt-get", "install", "-y", "--no-install-recommends", *PACKAGES], check=True)
-    if missing := dissected.missing():
+    if missing := dissected.missing(words.libzk):
         print(f"left out: the plugin for Wireshark, as {', '.join(missing)} is not here\n0 passed, 0 failed")
         return 0
-    if not words.stub and not LIBRARY.exists():
-        print("the proved library is not built: a stub replaces it")
-        words.stub = True
     passed, failures = 0, []
     with tempfile.TemporaryDirectory() as folder:
-        tests = Tests(dissected.Plugin(folder, words.stub), folder, words)
+        tests = Tests(dissected.Plugin(folder, words.libzk), folder, words)
         for name in [name for name in dir(Tests) if name.startswith("test_")]:
             if words.words and not any(word in name for word in words.words):
                 continue

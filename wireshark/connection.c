@@ -71,9 +71,13 @@ static gboolean is_connect(const struct piece *piece) {
         return FALSE;
     }
     gint32 length = int_at(piece->bytes);
-    return length >= 4 && (guint32)length <= piece->there - FRAME_HEAD && int_at(piece->bytes + FRAME_HEAD) == 0 &&
-           message_read(piece->side == ZK_CLIENT ? ZK_CONNECT : ZK_CONNECTED, 0, NULL, piece->bytes + FRAME_HEAD,
-                        (size_t)length, NULL, 0).status == ZK_WELL;
+    const guint8 *payload = piece->bytes + FRAME_HEAD;
+    if (length < 4 || (guint32)length > piece->there - FRAME_HEAD || int_at(payload) != 0) {
+        return FALSE;
+    }
+    struct zk_payload judged = piece->side == ZK_CLIENT ? zk_judge_first(payload, (size_t)length)
+                                                        : zk_judge_connected(payload, (size_t)length);
+    return judged.status == ZK_WELL;
 }
 
 /* A side's first bytes. */

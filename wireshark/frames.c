@@ -96,8 +96,8 @@ struct frame *frame_new(struct connection *connection, packet_info *pinfo, const
     frame->kind = kind_of(way, piece);
     if (frame->kind == ZK_REQUEST && there >= REQUEST_HEAD) {
         call_new(connection, pinfo, frame, payload, there);
-        newer = op_is_newer(frame->call->op) && message_read(ZK_REQUEST, (guint32)pref_profile, NULL, payload, there,
-                                                             NULL, 0).status == ZK_UNKNOWN_OP;
+        newer = op_is_newer(frame->call->op) &&
+                zk_judge_request((guint32)pref_profile, payload, there).status == ZK_UNKNOWN_OP;
     } else if (frame->kind == ZK_REPLY && there >= 4) {
         frame->xid = int_at(payload);
         call_answer(connection, pinfo, frame);
