@@ -23,7 +23,7 @@ import tempfile
 
 import dissected
 from dissected import SOURCES, TOP, capture_of, joined, lossy, mutated, pieces_of, wire, zkr
-import library
+import placed
 import resync
 import wanted
 from captured import disturbed
@@ -117,6 +117,10 @@ class Tests:
             wrong = [(each, told) for each, shown in zip(objects, found) for told in wanted.differences(each, shown)]
             yield (not wrong and len(found) == len(objects),
                    f"{path.stem} under {profile}: {len(found)} of {len(objects)}, {wrong[:2]}")
+
+    def test_marked_bytes(self):
+        """Each field marks its bytes, those before a fault, too; the bytes after these are not read."""
+        yield from placed.compare(self.plugin)
 
     def test_the_recipe_back(self):
         """Each side's bytes come back by the fields `side` and `frame`, as the page has it."""
