@@ -21,29 +21,18 @@ import subprocess
 import sys
 import tempfile
 
+from connections import WHOLE, Connections, listings, objects_of
 import dissected
-from dissected import SOURCES, TOP, capture_of, joined, lossy, mutated, pieces_of, wire, zkr
+from dissected import SOURCES, TOP, capture_of, joined, mutated, pieces_of, wire, zkr
 import placed
 import resync
 import wanted
-from captured import disturbed
 
-CAPTURES = sorted((TOP / "captures").glob("*.zkr"))
-WHOLE = [path for path in CAPTURES if not path.stem.startswith("refused")]
-PACKAGES = ("tshark", "wireshark-dev", "gcc", "pkg-config")
-UNASKED_SOON = ("-o", "tcp.reassemble_out_of_order:TRUE")
+PACKAGES = ("tshark", "wireshark-dev", "gcc", "pkg-config", "cmake")
 MUTANTS_A_RUN = 50
 
 
-def listings():
-    """Each recording's path, a profile, and its listing under that."""
-    for path in CAPTURES:
-        for profile, suffix in (("3.4", ".show"), ("3.5", ".show35")):
-            if path.with_suffix(suffix).exists():
-                yield path, profile, path.with_suffix(suffix).read_text().splitlines()
-
-
-class Tests:
+class Tests(Connections):
     """Each test_ gives pairs: whether it is as it should be, and what to print otherwise."""
 
     def __init__(self, plugin, folder, words):
@@ -110,9 +99,7 @@ class Tests:
     def test_fields(self):
         """The fields of each message are those of zkjson's object."""
         for path, profile, _ in listings():
-            listing = path.with_suffix(".show35" if profile == "3.5" else ".show")
-            done = subprocess.run([TOP / "tools" / "zkjson.py", listing], capture_output=True, text=True, check=True)
-            objects = [json.loads(line) for line in done.stdout.splitlines()][:-1]
+            objects = objects_of(path, profile)
             found = self.plugin.frames(capture_of(pieces_of(path)), profile=profile)[:len(objects)]
             wrong = [(each, told) for each, shown in zip(objects, found) for told in wanted.differences(each, shown)]
             yield (not wrong and len(found) == len(objects),
@@ -137,45 +124,6 @@ class Tests:
                 whole[piece.side] += piece.data
             yield said == whole, f"{path.stem}: other bytes"
 
-    def looked_over(self, capture, name, *words):
-        """That nothing is refused, and each pair has one xid."""
-        found = self.plugin.frames(capture, *words)
-        asked = {(each["packet"], xid) for each in found if each["kind"] == ["2"] for xid in each["xid"]}
-        refused = [each["line"] or each["xid"] for each in found if each["refused"] or each["malformed"]]
-        wrong = [each["packet"] for each in found if each["response_to"] and
-                 (int(each["response_to"][0]), each["xid"][0]) not in asked]
-        pairs = sum(1 for each in found if each["response_to"])
-        yield not self.plugin.trouble(), f"{name}: {self.plugin.trouble()}"
-        yield not refused and not wrong, f"{name}: refused {refused[:3]}, wrong pairs {wrong[:3]}"
-        yield pairs > 100, f"{name}: {pairs} pairs"
-
-    def test_losses(self):
-        """Of 2% and 10% of the packets that have data."""
-        for share in (0.02, 0.1):
-            for seed in range(self.words.seeds):
-                chance = random.Random(seed)
-                capture = joined(lossy(list(wire.conversation(pieces_of(path))), chance, share) for path in WHOLE)
-                yield from self.looked_over(capture, f"{share} lost, seed {seed}")
-
-    def test_disturbed(self):
-        """Captured twice, again with other cuts, in another order within eight."""
-        for seed in range(self.words.seeds):
-            chance = random.Random(seed)
-            capture = joined(disturbed(list(wire.conversation(pieces_of(path))), chance) for path in WHOLE)
-            yield from self.looked_over(capture, f"disturbed, seed {seed}")
-            yield from self.looked_over(capture, f"disturbed, put in order, seed {seed}", *UNASKED_SOON)
-            found = self.plugin.frames(capture, "-2", *UNASKED_SOON)
-            left = [each for each in found if each["kind"] == ["4"] and not each["response_to"]]
-            yield not left, f"disturbed, seed {seed}: {len(left)} replies without their requests"
-
-    def test_begun_before_and_cut(self):
-        for share in (3, 2):
-            sent = [list(wire.conversation(pieces_of(path))) for path in WHOLE]
-            yield from self.looked_over(joined(each[len(each) // share:] for each in sent), f"from 1/{share} on")
-        packets = [packet for at, each in enumerate(sent) for packet in dissected.packed(each, client=40_000 + at)]
-        packets.sort(key=lambda each: each[0])
-        yield from self.looked_over(wire.pcap(packets, snap=96), "96 bytes of each packet")
-
     def test_preferences_of_tcp(self):
         """The numbers may be counted from 0 or not, and TCP's own analysis may be off."""
         capture = joined(list(wire.conversation(pieces_of(path))) for path in WHOLE)
@@ -185,30 +133,6 @@ class Tests:
             lines = sum(path.with_suffix(suffix).read_text().count("\n") - 1 for path in WHOLE
                         for suffix in [".show35" if path.with_suffix(".show35").exists() else ".show"])
             yield well == lines, f"without {preference}: {well} of {lines}"
-
-    def test_the_ports_are_used_again(self):
-        first, second = (list(wire.conversation(pieces_of(path), 1448, (number, 2 * number)))
-                         for path, number in zip(WHOLE[-2:], (1000, 700_000)))
-        capture = wire.pcap(dissected.packed(first) + dissected.packed(second))
-        found = self.plugin.frames(capture)
-        sessions = {each["session"][0] for each in found if each["kind"] == ["4"]}
-        alone = [each["packet"] for each in found if each["kind"] == ["4"] and not each["response_to"]]
-        yield len(sessions) == 2 and not alone, f"{sessions}, without a pair {alone}"
-
-    def test_one_pass_is_two_passes(self):
-        """But for what isn't known yet, in which packet a request will be answered, and for bytes without a frame,
-        which TCP doesn't give again."""
-        for share in (0, 0.1):
-            capture = joined(lossy(list(wire.conversation(pieces_of(path))), random.Random(1), share) for path in WHOLE)
-            one, two = ([each for each in found if each["kind"]] for found in
-                        (self.plugin.frames(capture), self.plugin.frames(capture, "-2")))
-            for each in one + two:
-                each.pop("response_in", None)
-            early = {each["packet"] for each in two if each["kind"] == ["4"] and each["response_to"]} \
-                - {each["packet"] for each in one if each["kind"] == ["4"] and each["response_to"]}
-            one, two = ([each for each in found if each["packet"] not in early] for found in (one, two))
-            other = [(a, b) for a, b in zip(one, two) if a != b]
-            yield len(one) == len(two) and not other, f"{share} lost: {len(one)} and {len(two)}, {other[:1]}"
 
     def test_holes(self):
         """hole.c says where frames begin again as resync.py does."""
