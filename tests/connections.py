@@ -40,22 +40,22 @@ class Connections:
     """Each test_ gives pairs: whether it is as it should be, and what to print otherwise."""
 
     def test_pairs(self):
-        """Each reply has its request, as zkjson pairs them, and the time since that."""
+        """Each reply has its request, as zkjson pairs them, and the time since that; each request its reply."""
         for path, profile, _ in listings():
             objects = objects_of(path, profile)
-            found = self.plugin.frames(capture_of(pieces_of(path)), "-2", profile=profile)[:len(objects)]
+            found = self.plugin.frames_of(path, profile)[:len(objects)]
             packets = {each["n"]: shown["packet"] for each, shown in zip(objects, found)}
+            replies = [each for each in objects if each["side"] == "S" and "xid" in each]
+            asked = {each["n"]: packets[each["of"]] for each in replies}
+            answered = {each["of"]: packets[each["n"]] for each in replies}
             wrong = []
             for each, shown in zip(objects, found):
-                if each["side"] == "S" and "xid" in each:
-                    asked = packets[each["of"]]
-                    told = shown["response_to"], shown["response_time"]
-                    if told != ([str(asked)], [f"{(shown['packet'] - asked) / 1000:.9f}"]):  # a millisecond a packet
-                        wrong.append((each["n"], told, asked))
-            answers = {each["of"]: packets[each["n"]] for each in objects if each["side"] == "S" and "xid" in each}
-            wrong += [(each["n"], shown["response_in"]) for each, shown in zip(objects, found)
-                      if shown["response_in"] != [str(answers[each["n"]])] * (each["n"] in answers)
-                      and (each["n"] in answers or "xid" not in each)]
+                if each["n"] in asked:  # a packet is a millisecond after the one before it
+                    took = (shown["packet"] - asked[each["n"]]) / 1000
+                    if (shown["response_to"], shown["response_time"]) != ([str(asked[each["n"]])], [f"{took:.9f}"]):
+                        wrong.append((each["n"], shown["response_to"], shown["response_time"]))
+                elif each["n"] in answered and shown["response_in"] != [str(answered[each["n"]])]:
+                    wrong.append((each["n"], shown["response_in"]))
             yield not wrong, f"{path.stem} under {profile}: {wrong[:3]}"
 
     def looked_over(self, capture, name, *words):

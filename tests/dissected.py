@@ -64,7 +64,7 @@ class Plugin:
         for path in (pathlib.Path(folder), *pathlib.Path(folder).rglob("*")):
             path.chmod(0o755 if path.is_dir() or path.suffix == ".so" else 0o644)
         self.capture = pathlib.Path(folder, "capture.pcap")
-        self.said = ""
+        self.said, self.shown = "", {}
 
     def tshark(self, *words, profile="3.5", hide=False):
         """What tshark writes with these words; its status and what it says on standard error are kept."""
@@ -109,6 +109,12 @@ class Plugin:
                         fields[name.partition(".")[2]].append(shown)
                 found.append(fields)
         return found
+
+    def frames_of(self, path, profile):
+        """The messages of a recording, by two passes; they are kept."""
+        if (path, profile) not in self.shown:
+            self.shown[path, profile] = self.frames(capture_of(pieces_of(path)), "-2", profile=profile)
+        return self.shown[path, profile]
 
 
 def pieces_of(path):

@@ -45,8 +45,7 @@ class Tests(Connections):
     def test_lines(self):
         """The line of each message is that of the listing, up to an operation that the profile lacks."""
         for path, profile, listing in listings():
-            found = [message["line"][0] for message in self.plugin.frames(capture_of(pieces_of(path)), profile=profile)
-                     if message["line"]]
+            found = [message["line"][0] for message in self.plugin.frames_of(path, profile) if message["line"]]
             *lines, ending = listing
             if "reason=UnknownOp" in ending:
                 found = found[:len(lines)]
@@ -71,7 +70,7 @@ class Tests(Connections):
         for path, profile, listing in listings():
             if not listing[-1].startswith(". refused"):
                 continue
-            found = self.plugin.frames(capture_of(pieces_of(path)), profile=profile)
+            found = self.plugin.frames_of(path, profile)
             told = self.plugin.read(capture_of(pieces_of(path)), "-O", "zookeeper", "-V", profile=profile)
             told = sorted(set(re.findall(r"Refused: (side=.*?)\]", told)))
             if "UnknownOp" in listing[-1]:
@@ -100,7 +99,7 @@ class Tests(Connections):
         """The fields of each message are those of zkjson's object."""
         for path, profile, _ in listings():
             objects = objects_of(path, profile)
-            found = self.plugin.frames(capture_of(pieces_of(path)), profile=profile)[:len(objects)]
+            found = self.plugin.frames_of(path, profile)[:len(objects)]
             wrong = [(each, told) for each, shown in zip(objects, found) for told in wanted.differences(each, shown)]
             yield (not wrong and len(found) == len(objects),
                    f"{path.stem} under {profile}: {len(found)} of {len(objects)}, {wrong[:2]}")
