@@ -131,7 +131,8 @@ def main():
         measured.take(short_connections(words.connections))
         (_, judged), (_, other) = measured.run(()), measured.run(("-o", "zookeeper.strict:FALSE"))
         each = (judged - other) * 1e3 / words.connections
-        print(f"| {words.connections:,} connections: judged, not judged | | | {judged:.0f}, {other:.0f}: {each:.1f} KB each |")
+        told = f"{judged:.0f}, {other:.0f}: {each:.1f} KB each"
+        print(f"| {words.connections:,} connections: judged, not judged | | | {told} |")
         libzk = words.libzk or pathlib.Path(folder, "libzk.a")
         print(f"| a talk | | | {talk(pathlib.Path(folder), libzk)} |")
     print(f"\nThe load was {timing.load()} at the end.")

@@ -1,4 +1,4 @@
-"""Tests of the plugin for Wireshark that are about whole connections: pairs, losses, captures in disorder and passes."""
+"""Tests of the plugin for Wireshark that are about connections: pairs, losses, captures in disorder, and passes."""
 
 import collections
 import json

@@ -49,9 +49,9 @@ class Plugin:
         self.release = ".".join(words_of_pkg("--modversion")[0].split(".")[:2])
         plugins = self.home / ".local/lib/wireshark/plugins" / self.release / "epan"
         plugins.mkdir(parents=True)
-        library = libzk or make_library.make(folder)[0]
+        self.libzk = libzk or make_library.make(folder)[0]
         subprocess.run(["cc", *FLAGS, *(SANITIZED if sanitized else ("-O2", "-Wl,-z,defs")), *words_of_pkg("--cflags"),
-                        "-o", plugins / "zookeeper.so", *sorted(SOURCES.glob("*.c")), library,
+                        "-o", plugins / "zookeeper.so", *sorted(SOURCES.glob("*.c")), self.libzk,
                         "-Wl,--exclude-libs,ALL", *words_of_pkg("--libs")], check=True)
         # Wireshark loads no plugin out of the home of root.
         self.user = {"user": NOBODY, "group": NOBODY, "extra_groups": []} if os.geteuid() == 0 else {}
@@ -66,11 +66,12 @@ class Plugin:
         self.capture = pathlib.Path(folder, "capture.pcap")
         self.said, self.shown = "", {}
 
-    def tshark(self, *words, profile="3.5", hide=False):
+    def tshark(self, *words, profile="3.5", hide=False, home=None):
         """What tshark writes with these words; its status and what it says on standard error are kept."""
         options = [] if words[0] == "-G" else ["-o", f"zookeeper.profile:{PROFILES[profile]}", "-o",
                                                f"zookeeper.hide_secrets:{str(hide).upper()}"]
-        done = subprocess.run(["tshark", *options, *map(str, words)], env=self.environment, capture_output=True, cwd="/",
+        environment = {**self.environment, "HOME": str(home or self.home)}
+        done = subprocess.run(["tshark", *options, *map(str, words)], env=environment, capture_output=True, cwd="/",
                               check=False, **self.user)
         self.status, self.said = done.returncode, done.stderr.decode(errors="replace")
         return done.stdout.decode(errors="replace")

@@ -1,5 +1,6 @@
-"""Which bytes of a payload each field of the plugin for Wireshark marks, compared with the second reading of the formats
-in tests/fields.py: of the payloads of its table, whole and truncated at each byte. tests/wireshark.py calls it."""
+"""Which bytes of a payload each field of the plugin for Wireshark marks, compared with the second reading of the
+formats in tests/fields.py: of the payloads of its table, whole and truncated at each byte. tests/wireshark.py calls
+it."""
 
 import collections
 import struct

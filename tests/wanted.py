@@ -29,9 +29,10 @@ def bit(value):
 
 # By name of zkjson's, the plugin's field, and how it spells the value; and what replaces some of these elsewhere.
 SAME = {"xid": ("xid", str), "zxid": ("zxid", hexadecimal), "version": ("version", str), "flags": ("flags", str),
-        "watch": ("watch", bit), "timeout": ("timeout", str), "kind": ("event.kind", str), "state": ("event.state", str),
-        "session": ("session", hexadecimal), "scheme": ("scheme", str), "blob": ("data", octets), "auth": ("auth", octets),
-        "passwd": ("passwd", octets), "ro": ("read_only", bit), "path": ("path", str), "err": ("err", str)}
+        "watch": ("watch", bit), "timeout": ("timeout", str), "kind": ("event.kind", str),
+        "state": ("event.state", str), "session": ("session", hexadecimal), "scheme": ("scheme", str),
+        "blob": ("data", octets), "auth": ("auth", octets), "passwd": ("passwd", octets), "ro": ("read_only", bit),
+        "path": ("path", str), "err": ("err", str)}
 OTHERWISE = {("C", "connect", "version"): "protocol_version", ("S", "connect", "version"): "protocol_version",
              ("C", "connect", "zxid"): "last_zxid", ("C", "setWatches", "zxid"): "relative_zxid",
              ("C", "auth", "kind"): "auth.type", ("S", "fail", "err"): "part.err"}
@@ -109,6 +110,18 @@ def later(pieces, ending):
     frames = [frame for piece in pieces for frame in cutter.take(piece) if frame.side == zkr.CLIENT]
     op = int.from_bytes(frames[number].payload[4:8], "big", signed=True)
     return 15 <= op <= 22 or 102 <= op <= 107
+
+
+def names_of_the_header():
+    """By the plugin's field, the names of numbers that include/zk.h has."""
+    text, found = (TOP / "include" / "zk.h").read_text(), {}
+    for field, function in (("op", "operation"), ("part.op", "operation"), ("err", "error"), ("part.err", "error"),
+                            ("event.kind", "event")):
+        body = text.partition(f"*zk_{function}_name(")[2].partition("default:")[0]
+        found[field] = {int(number): name for number, name in re.findall(r'case (-?\d+): return "(\w+)"', body)}
+    reasons = re.findall(r"ZK_([A-Z_]+) = (\d+)", text.partition("ZK_WELL = 0,")[2].partition("ZK_EMPTY")[0])
+    found["reason"] = {int(number): name.title().replace("_", "") for name, number in reasons}
+    return found
 
 
 def shared(folder, name):

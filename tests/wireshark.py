@@ -17,6 +17,7 @@ import json
 import pathlib
 import random
 import re
+import shutil
 import subprocess
 import sys
 import tempfile
@@ -29,7 +30,7 @@ import resync
 import wanted
 
 PACKAGES = ("tshark", "wireshark-dev", "gcc", "pkg-config", "cmake")
-MUTANTS_A_RUN = 50
+MUTANTS_A_RUN = 250
 
 
 class Tests(Connections):
@@ -41,6 +42,42 @@ class Tests(Connections):
     def test_it_is_loaded_by_name(self):
         plugins = self.plugin.tshark("-G", "plugins")
         yield re.search(r"^zookeeper\.so\s", plugins, re.M), "tshark -G plugins has no zookeeper.so"
+
+    def test_installed(self):
+        """The page's lines build and install it, by the compiler and by CMake."""
+        page = (SOURCES / "README.md").read_text()
+        for tool, pattern, place in (("cc", r"cc .*|install .*", "wireshark"), ("cmake", r"cmake .*", ".")):
+            if not shutil.which(tool):
+                print(f"left out: {tool} is not here")
+                continue
+            top = pathlib.Path(self.folder, f"by_{tool}")
+            for folder in (SOURCES, TOP / "include"):
+                shutil.copytree(folder, top / folder.name)
+            for line in re.findall(rf"^    \$ ({pattern})$", page, re.M):
+                line = line.replace("/tmp/libzk.a", str(self.plugin.libzk)).replace("/4.0/", f"/{self.plugin.release}/")
+                subprocess.run(["sh", "-c", line], cwd=top / place, env={**self.plugin.environment, "HOME": str(top)},
+                               check=True, capture_output=True)
+            plugins = self.plugin.tshark("-G", "plugins", home=top)
+            yield re.search(r"^zookeeper\.so\s", plugins, re.M), f"by {tool}: tshark -G plugins has no zookeeper.so"
+
+    def test_names(self):
+        """Numbers have the names that zk.h has for them."""
+        values = collections.defaultdict(dict)
+        for line in self.plugin.tshark("-G", "values").splitlines():
+            if line.startswith("V\tzookeeper."):
+                _, field, number, name = line.split("\t")
+                values[field.partition(".")[2]][(int(number, 0) + 2**31) % 2**32 - 2**31] = name
+        for field, names in wanted.names_of_the_header().items():
+            yield names and names.items() <= values[field].items(), f"{field}: {values[field]}, not {names}"
+
+    def test_preferences(self):
+        """Without the strict verdict nothing is judged; without desegmenting, what spans segments is cut, and noted."""
+        capture = joined(list(wire.conversation(pieces_of(path))) for path in WHOLE)
+        found = self.plugin.frames(capture, "-o", "zookeeper.strict:FALSE")
+        yield found and all(each["verdict"] == ["2"] and not each["line"] for each in found if each["kind"]), "judged"
+        found = self.plugin.frames(capture, "-o", "zookeeper.desegment:FALSE")
+        cut = [each for each in found if each["cut"]]
+        yield cut and not any(each["refused"] for each in found), f"{len(cut)} cut"
 
     def test_lines(self):
         """The line of each message is that of the listing, up to an operation that the profile lacks."""

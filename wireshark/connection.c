@@ -1,6 +1,6 @@
 /* connection.c
- * What is kept of a connection, and the places of its frames: found out on the first pass over the packets, looked up on
- * every later one.
+ * What is kept of a connection, and the places of its frames: found out on the first pass over the packets, looked up
+ * on every later one.
  *
  * A side's bytes have TCP's numbers, and a frame begins where the last one ended. So a loss is a number that is too
  * great, and what was captured again one that is too small, whatever TCP's own analysis says of it.
@@ -13,7 +13,7 @@
 
 #include "hole.h"
 
-/* Of TCP's conversation_completeness, whose numbers packet-tcp.c keeps to itself: the SYN of the client, of the server. */
+/* Of TCP's conversation_completeness, whose numbers packet-tcp.c keeps to itself: the client's SYN, the server's. */
 static const guint8 began[] = {[ZK_CLIENT] = 0x01, [ZK_SERVER] = 0x02};
 
 /* No more gaps of a side are kept; and bytes in which no frame is found wait for others up to here. */

@@ -112,7 +112,8 @@ static proto_tree *place_in_list(struct branches *in, tvbuff_t *tvb, const struc
 }
 
 /* The subtree of a field within its part or message. */
-static proto_tree *place_of(struct branches *in, tvbuff_t *tvb, proto_tree *tree, const struct zk_field *field, int at) {
+static proto_tree *place_of(struct branches *in, tvbuff_t *tvb, proto_tree *tree, const struct zk_field *field,
+                            int at) {
     if (field->name == ZK_NAME_CZXID) {
         in->stat.tree = proto_tree_add_subtree(tree, tvb, at, (int)field->length, ett_stat, &in->stat.item, "Stat");
     }
@@ -173,6 +174,9 @@ void tree_fields(tvbuff_t *tvb, packet_info *pinfo, proto_tree *tree, guint32 ki
         if (field->kind == ZK_KIND_PART) {
             begin_part(&in, tvb, tree, field, at);
             continue;
+        }
+        if (field->name >= array_length(field_names)) {
+            continue; /* of a later library */
         }
         if (field->kind == ZK_KIND_LIST || (field->name != in.listed && !is_of_entry(field->name))) {
             in.list = none;
