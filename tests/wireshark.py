@@ -75,6 +75,8 @@ class Tests(Connections):
         capture = joined(list(wire.conversation(pieces_of(path))) for path in WHOLE)
         found = self.plugin.frames(capture, "-o", "zookeeper.strict:FALSE")
         yield found and all(each["verdict"] == ["2"] and not each["line"] for each in found if each["kind"]), "judged"
+        told = self.plugin.read(capture_of(pieces_of(WHOLE[0])), "-o", "zookeeper.limit:16777217", "-O", "zookeeper")
+        yield "can't be judged: memory is missing" in told, "a limit that no talk has"
         found = self.plugin.frames(capture, "-o", "zookeeper.desegment:FALSE")
         cut = [each for each in found if each["cut"]]
         yield cut and not any(each["refused"] for each in found), f"{len(cut)} cut"

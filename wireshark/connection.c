@@ -54,6 +54,10 @@ struct connection *connection_of(packet_info *pinfo) {
     }
     if (pref_strict) {
         judge_begin(&connection->judge, pref_limit, (guint32)pref_profile);
+        if (!connection->judge.judges) {
+            connection->unjudged = pinfo->num;
+            connection->why = "can't be judged: memory is missing, or the greatest payload isn't 64 to 16777216";
+        }
         wmem_register_callback(wmem_file_scope(), forget, connection);
     }
     conversation_add_proto_data(conversation, proto_zookeeper, connection);
