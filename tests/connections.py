@@ -31,9 +31,9 @@ def objects_of(path, profile):
     return [json.loads(line) for line in done.stdout.splitlines()][:-1]
 
 
-def endings(profile):
+def endings():
     """What is said of each refusal that a recording of captures/ has."""
-    return {listing[-1].partition(" refused ")[2] for _, of, listing in listings() if of == profile}
+    return {listing[-1].partition(" refused ")[2] for _, _, listing in listings()}
 
 
 class Connections:
@@ -89,7 +89,7 @@ class Connections:
                     text = self.plugin.read(capture, "-Y", "zookeeper.refused", "-T", "fields", "-e",
                                             "_ws.expert.message", profile=profile)
                     told = set(re.findall(r"Refused: (side=[^,\n]*)", text))
-                    yield told and told <= endings(profile), f"{share} lost, seed {seed}, {profile}: {told}"
+                    yield told and told <= endings(), f"{share} lost, seed {seed}, {profile}: {told}"
 
     def test_disturbed(self):
         """Captured twice, again with other cuts, in another order within eight."""

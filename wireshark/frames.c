@@ -47,7 +47,9 @@ static void judge(struct connection *connection, packet_info *pinfo, const struc
         frame->verdict = VERDICT_LEFT_OUT;
         return;
     }
-    gboolean is_welcome = frame->kind == ZK_CONNECTED && (!other->begun || other->next == other->first);
+    /* The server's first bytes, which may answer four letters that were lost. */
+    gboolean is_welcome = piece->side == ZK_SERVER && (frame->kind == ZK_CONNECTED || !frame->kind) &&
+                          (!other->begun || other->next == other->first);
     if ((is_welcome || frame->unasked || frame->disordered) && may_know_more(other, piece->tcp)) {
         be_late(connection, pinfo, "lacks a request that was answered");
         return;
