@@ -27,11 +27,13 @@ BOOLEANS = ("zookeeper.watch", "zookeeper.read_only", "zookeeper.part.done")
 BAD = ("AddressSanitizer", "runtime error", "Dissector bug", "Fatal", "ASSERT")
 
 
-def missing():
+def missing(libzk=None):
     """What the tests need and isn't here."""
     found = [tool for tool in ("tshark", "cc", "pkg-config") if not shutil.which(tool)]
     if not found and subprocess.run(["pkg-config", "--exists", "wireshark"], check=False).returncode != 0:
         found = ["libwireshark-dev"]
+    if not (libzk or LIBRARY).exists():
+        found.append(f"the proved library {libzk or LIBRARY.relative_to(TOP)}")
     return found
 
 
@@ -40,17 +42,17 @@ def words_of_pkg(*words):
 
 
 class Plugin:
-    """The plugin in a home of its own below a folder, with the proved library where that is built, else with a stub."""
+    """The plugin in a home of its own below a folder, with the proved library, or with another archive of it."""
 
-    def __init__(self, folder, stub, sanitized=False):
+    def __init__(self, folder, libzk=None, sanitized=False):
         self.home = pathlib.Path(folder, "sanitized" if sanitized else "home")
         self.release = ".".join(words_of_pkg("--modversion")[0].split(".")[:2])
         plugins = self.home / ".local/lib/wireshark/plugins" / self.release / "epan"
         plugins.mkdir(parents=True)
-        library = [SOURCES / "tests" / "stub.c"] if stub else [make_library.make(folder)[0], "-Wl,--exclude-libs,ALL"]
+        self.libzk = libzk or make_library.make(folder)[0]
         subprocess.run(["cc", *FLAGS, *(SANITIZED if sanitized else ("-O2", "-Wl,-z,defs")), *words_of_pkg("--cflags"),
-                        "-o", plugins / "zookeeper.so", *sorted(SOURCES.glob("*.c")), *library,
-                        *words_of_pkg("--libs")], check=True)
+                        "-o", plugins / "zookeeper.so", *sorted(SOURCES.glob("*.c")), self.libzk,
+                        "-Wl,--exclude-libs,ALL", *words_of_pkg("--libs")], check=True)
         # Wireshark loads no plugin out of the home of root.
         self.user = {"user": NOBODY, "group": NOBODY, "extra_groups": []} if os.geteuid() == 0 else {}
         self.environment = {"PATH": os.environ["PATH"], "HOME": str(self.home), "LC_ALL": "C.UTF-8",
@@ -62,13 +64,14 @@ class Plugin:
         for path in (pathlib.Path(folder), *pathlib.Path(folder).rglob("*")):
             path.chmod(0o755 if path.is_dir() or path.suffix == ".so" else 0o644)
         self.capture = pathlib.Path(folder, "capture.pcap")
-        self.said = ""
+        self.said, self.shown = "", {}
 
-    def tshark(self, *words, profile="3.5", hide=False):
+    def tshark(self, *words, profile="3.5", hide=False, home=None):
         """What tshark writes with these words; its status and what it says on standard error are kept."""
         options = [] if words[0] == "-G" else ["-o", f"zookeeper.profile:{PROFILES[profile]}", "-o",
                                                f"zookeeper.hide_secrets:{str(hide).upper()}"]
-        done = subprocess.run(["tshark", *options, *map(str, words)], env=self.environment, capture_output=True, cwd="/",
+        environment = {**self.environment, "HOME": str(home or self.home)}
+        done = subprocess.run(["tshark", *options, *map(str, words)], env=environment, capture_output=True, cwd="/",
                               check=False, **self.user)
         self.status, self.said = done.returncode, done.stderr.decode(errors="replace")
         return done.stdout.decode(errors="replace")
@@ -107,6 +110,12 @@ class Plugin:
                         fields[name.partition(".")[2]].append(shown)
                 found.append(fields)
         return found
+
+    def frames_of(self, path, profile):
+        """The messages of a recording, by two passes; they are kept."""
+        if (path, profile) not in self.shown:
+            self.shown[path, profile] = self.frames(capture_of(pieces_of(path)), "-2", profile=profile)
+        return self.shown[path, profile]
 
 
 def pieces_of(path):

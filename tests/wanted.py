@@ -16,39 +16,70 @@ def hexadecimal(value):
     return f"0x{int(value, 16):016x}"
 
 
+def octets(value):
+    """Data of zkjson's: null, a text, or an object with hexadecimal digits."""
+    if value is None:
+        return ""
+    return value["hex"] if isinstance(value, dict) else value.encode().hex()
+
+
+def bit(value):
+    return str(int(value))
+
+
 # By name of zkjson's, the plugin's field, and how it spells the value; and what replaces some of these elsewhere.
-SAME = {"xid": ("xid", str), "path": ("path", str), "zxid": ("zxid", hexadecimal), "err": ("err", str),
-        "version": ("version", str), "flags": ("flags", str), "watch": ("watch", lambda value: str(int(value))),
-        "timeout": ("timeout", str), "kind": ("event.kind", str), "state": ("event.state", str),
-        "session": ("session", hexadecimal), "scheme": ("scheme", str)}
+SAME = {"xid": ("xid", str), "zxid": ("zxid", hexadecimal), "version": ("version", str), "flags": ("flags", str),
+        "watch": ("watch", bit), "timeout": ("timeout", str), "kind": ("event.kind", str),
+        "state": ("event.state", str), "session": ("session", hexadecimal), "scheme": ("scheme", str),
+        "blob": ("data", octets), "auth": ("auth", octets), "passwd": ("passwd", octets), "ro": ("read_only", bit),
+        "path": ("path", str), "err": ("err", str)}
 OTHERWISE = {("C", "connect", "version"): "protocol_version", ("S", "connect", "version"): "protocol_version",
              ("C", "connect", "zxid"): "last_zxid", ("C", "setWatches", "zxid"): "relative_zxid",
-             ("C", "auth", "kind"): "auth.type"}
+             ("C", "auth", "kind"): "auth.type", ("S", "fail", "err"): "part.err"}
+ENTRY = {"perms": "acl.perms", "scheme": "scheme", "id": "acl.id"}
+LISTS = {"names": ("children", "child"), "dataWatches": ("data_watches", "watched"),
+         "existWatches": ("exist_watches", "watched"), "childWatches": ("child_watches", "watched")}
 STAT = {"czxid": hexadecimal, "mzxid": hexadecimal, "version": str, "cversion": str, "aversion": str,
         "numChildren": str, "dataLength": str, "pzxid": hexadecimal, "ephemeralOwner": hexadecimal}
+PARTS = {"create": "1", "delete": "2", "setData": "5", "check": "13", "fail": "-1"}
+
+
+def add_record(found, side, record):
+    """The plugin's fields of a message or of a part of a multi."""
+    for name, (field, spelled) in SAME.items():
+        value = record.get(name, "absent")
+        if value != "absent" and (value is not None or name != "ro"):  # which older peers omit
+            found[OTHERWISE.get((side, record["op"], name), field)].append("" if value is None else spelled(value))
+    for entry in record.get("acl") or ():
+        for name, field in ENTRY.items():
+            found[field].append(str("" if entry[name] is None else entry[name]))
+    if "acl" in record:
+        found["acl"].append("-1" if record["acl"] is None else str(len(record["acl"])))
+    for name, (field, element) in LISTS.items():
+        if name in record:
+            found[field].append("-1" if record[name] is None else str(len(record[name])))
+            found[element] += [str(text or "") for text in record[name] or ()]
+    for name, spelled in STAT.items() if "stat" in record else ():
+        found["stat." + re.sub(r"(?=[A-Z])", "_", name).lower()].append(spelled(record["stat"][name]))
 
 
 def differences(wanted, found):
     """The fields of a message that aren't those of its object."""
-    for name, (field, spelled) in SAME.items():
-        field = OTHERWISE.get((wanted["side"], wanted["op"], name), field)
-        if wanted.get(name) is None or name == "path" and not wanted[name].isprintable():
-            continue
-        if spelled(wanted[name]) not in found[field]:
-            yield name, wanted[name], found[field]
-    for name, spelled in STAT.items():
-        field = "stat." + re.sub(r"(?=[A-Z])", "_", name).lower()
-        if "stat" in wanted and found[field] != [spelled(wanted["stat"][name])]:
-            yield name, wanted["stat"][name], found[field]
-    if "parts" in wanted and len(found["part.op"]) != len(wanted["parts"]) + 1:
-        yield "parts", len(wanted["parts"]), found["part.op"]
-    if wanted.get("blob") is not None and not found["part.op"]:
-        blob = wanted["blob"]
-        data = bytes.fromhex(blob["hex"]) if isinstance(blob, dict) else blob.encode()
-        if bytes.fromhex(found["data"][0].replace(":", "")) != data:
-            yield "blob", blob, found["data"]
-    if "names" in wanted and wanted["names"] and found["children"] != [str(len(wanted["names"]))]:
-        yield "names", len(wanted["names"]), found["children"]
+    fields = collections.defaultdict(list)
+    add_record(fields, wanted["side"], wanted)
+    for part in wanted.get("parts", ()):
+        fields["part.op"].append(PARTS[part["op"]])
+        add_record(fields, wanted["side"], part)
+    if "parts" in wanted:
+        fields["part.op"].append("-1")  # the last header
+    if wanted["side"] == "S" and "xid" in wanted and "err" not in wanted:
+        fields["err"].append("0")
+    if wanted["side"] == "S" and not fields["path"] and wanted.get("asked") is not None:
+        fields["path"].append(wanted["asked"])
+    for name, values in fields.items():
+        shown = [value.replace(":", "") for value in found[name]] if name in ("data", "auth", "passwd") else found[name]
+        if shown != values and all(map(str.isprintable, values)):
+            yield name, values, shown
 
 
 def cases():
@@ -81,6 +112,18 @@ def later(pieces, ending):
     return 15 <= op <= 22 or 102 <= op <= 107
 
 
+def names_of_the_header():
+    """By the plugin's field, the names of numbers that include/zk.h has."""
+    text, found = (TOP / "include" / "zk.h").read_text(), {}
+    for field, function in (("op", "operation"), ("part.op", "operation"), ("err", "error"), ("part.err", "error"),
+                            ("event.kind", "event")):
+        body = text.partition(f"*zk_{function}_name(")[2].partition("default:")[0]
+        found[field] = {int(number): name for number, name in re.findall(r'case (-?\d+): return "(\w+)"', body)}
+    reasons = re.findall(r"ZK_([A-Z_]+) = (\d+)", text.partition("ZK_WELL = 0,")[2].partition("ZK_EMPTY")[0])
+    found["reason"] = {int(number): name.title().replace("_", "") for name, number in reasons}
+    return found
+
+
 def shared(folder, name):
     """A source of the plugin as a shared library."""
     path = pathlib.Path(folder, f"{name}.so")
@@ -100,28 +143,6 @@ def hole_of(folder):
         end = call(b"CS".index(side), data, len(data), zkr.USUAL_LIMIT)
         return end.found, end.place
     return hole
-
-
-def fields_of(folder):
-    """message_read, as a function of a call of tests/library.py and a payload."""
-    class Asked(ctypes.Structure):
-        _fields_ = [("op", ctypes.c_int32), ("count", ctypes.c_uint32), ("parts", ctypes.POINTER(ctypes.c_int32))]
-
-    class Message(ctypes.Structure):
-        _fields_ = [("status", ctypes.c_uint32), ("place", ctypes.c_uint32), ("count", ctypes.c_size_t)]
-    call = shared(folder, "fields").message_read
-    call.restype = Message
-    call.argtypes = [ctypes.c_uint32, ctypes.c_uint32, ctypes.POINTER(Asked), ctypes.c_char_p, ctypes.c_size_t,
-                     ctypes.c_void_p, ctypes.c_size_t]
-    kinds = {"first": 1, "request": 2, "connected": 3, "reply": 4, "event": 5}
-
-    def read(words, payload):
-        kind, *asked = words.split()
-        op, *parts = map(int, asked or ["0"])
-        answers = Asked(op, len(parts), (ctypes.c_int32 * (len(parts) + 1))(*parts))
-        message = call(kinds[kind], 34, ctypes.byref(answers) if asked else None, payload, len(payload), None, 0)
-        return message.status, message.place
-    return read
 
 
 def golden():

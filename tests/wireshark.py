@@ -1,12 +1,12 @@
 #!/usr/bin/env python3
 """Tests of the plugin for Wireshark: what tshark shows with it.
 
-    wireshark.py [--install] [--stub] [--mutants N] [--seeds N] [--golden] [WORD ..]
+    wireshark.py [--install] [--libzk PATH] [--mutants N] [--seeds N] [--golden] [WORD ..]
 
-It builds the plugin and puts it into a home of its own, with the proved library where that is built (else, or with
---stub, with a stub of it, which is reported). With words it runs those tests whose names have one of them. --mutants
-says how many mutated connections are read under the address sanitizer, --seeds how many lossy captures there are. --golden
-writes the files of wireshark/tests/golden anew, for a person to read. --install installs Debian's packages first.
+It builds the plugin with the proved library of this repository, or with another libzk.a, and puts it into a home of its
+own. With words it runs those tests whose names have one of them. --mutants says how many mutated connections are read
+under the address sanitizer, --seeds how many lossy captures there are. --golden writes the files of
+wireshark/tests/golden anew, for a person to read. --install installs Debian's packages first.
 
 What is missing is reported in one line, and then nothing is tested. The last line is `N passed, M failed`.
 """
@@ -14,36 +14,26 @@ What is missing is reported in one line, and then nothing is tested. The last li
 import argparse
 import collections
 import json
+import pathlib
 import random
 import re
+import shutil
 import subprocess
 import sys
 import tempfile
 
+from connections import WHOLE, Connections, listings, objects_of
 import dissected
-from dissected import LIBRARY, SOURCES, TOP, capture_of, joined, lossy, mutated, pieces_of, wire, zkr
-import judged
-import library
+from dissected import SOURCES, TOP, capture_of, joined, mutated, pieces_of, wire, zkr
+import placed
 import resync
 import wanted
-from captured import disturbed
 
-CAPTURES = sorted((TOP / "captures").glob("*.zkr"))
-WHOLE = [path for path in CAPTURES if not path.stem.startswith("refused")]
-PACKAGES = ("tshark", "wireshark-dev", "gcc", "pkg-config")
-UNASKED_SOON = ("-o", "tcp.reassemble_out_of_order:TRUE")
-MUTANTS_A_RUN = 50
+PACKAGES = ("tshark", "wireshark-dev", "gcc", "pkg-config", "cmake")
+MUTANTS_A_RUN = 250
 
 
-def listings():
-    """Each recording's path, a profile, and its listing under that."""
-    for path in CAPTURES:
-        for profile, suffix in (("3.4", ".show"), ("3.5", ".show35")):
-            if path.with_suffix(suffix).exists():
-                yield path, profile, path.with_suffix(suffix).read_text().splitlines()
-
-
-class Tests:
+class Tests(Connections):
     """Each test_ gives pairs: whether it is as it should be, and what to print otherwise."""
 
     def __init__(self, plugin, folder, words):
@@ -53,11 +43,48 @@ class Tests:
         plugins = self.plugin.tshark("-G", "plugins")
         yield re.search(r"^zookeeper\.so\s", plugins, re.M), "tshark -G plugins has no zookeeper.so"
 
+    def test_installed(self):
+        """The page's lines build and install it, by the compiler and by CMake."""
+        page = (SOURCES / "README.md").read_text()
+        for tool, pattern, place in (("cc", r"cc .*|install .*", "wireshark"), ("cmake", r"cmake .*", ".")):
+            if not shutil.which(tool):
+                print(f"left out: {tool} is not here")
+                continue
+            top = pathlib.Path(self.folder, f"by_{tool}")
+            for folder in (SOURCES, TOP / "include"):
+                shutil.copytree(folder, top / folder.name)
+            for line in re.findall(rf"^    \$ ({pattern})$", page, re.M):
+                line = line.replace("/tmp/libzk.a", str(self.plugin.libzk)).replace("/4.0/", f"/{self.plugin.release}/")
+                subprocess.run(["sh", "-c", line], cwd=top / place, env={**self.plugin.environment, "HOME": str(top)},
+                               check=True, capture_output=True)
+            plugins = self.plugin.tshark("-G", "plugins", home=top)
+            yield re.search(r"^zookeeper\.so\s", plugins, re.M), f"by {tool}: tshark -G plugins has no zookeeper.so"
+
+    def test_names(self):
+        """Numbers have the names that zk.h has for them."""
+        values = collections.defaultdict(dict)
+        for line in self.plugin.tshark("-G", "values").splitlines():
+            if line.startswith("V\tzookeeper."):
+                _, field, number, name = line.split("\t")
+                values[field.partition(".")[2]][(int(number, 0) + 2**31) % 2**32 - 2**31] = name
+        for field, names in wanted.names_of_the_header().items():
+            yield names and names.items() <= values[field].items(), f"{field}: {values[field]}, not {names}"
+
+    def test_preferences(self):
+        """Without the strict verdict nothing is judged; without desegmenting, what spans segments is cut, and noted."""
+        capture = joined(list(wire.conversation(pieces_of(path))) for path in WHOLE)
+        found = self.plugin.frames(capture, "-o", "zookeeper.strict:FALSE")
+        yield found and all(each["verdict"] == ["2"] and not each["line"] for each in found if each["kind"]), "judged"
+        told = self.plugin.read(capture_of(pieces_of(WHOLE[0])), "-o", "zookeeper.limit:16777217", "-O", "zookeeper")
+        yield "can't be judged: memory is missing" in told, "a limit that no talk has"
+        found = self.plugin.frames(capture, "-o", "zookeeper.desegment:FALSE")
+        cut = [each for each in found if each["cut"]]
+        yield cut and not any(each["refused"] for each in found), f"{len(cut)} cut"
+
     def test_lines(self):
         """The line of each message is that of the listing, up to an operation that the profile lacks."""
         for path, profile, listing in listings():
-            found = [message["line"][0] for message in self.plugin.frames(capture_of(pieces_of(path)), profile=profile)
-                     if message["line"]]
+            found = [message["line"][0] for message in self.plugin.frames_of(path, profile) if message["line"]]
             *lines, ending = listing
             if "reason=UnknownOp" in ending:
                 found = found[:len(lines)]
@@ -82,7 +109,7 @@ class Tests:
         for path, profile, listing in listings():
             if not listing[-1].startswith(". refused"):
                 continue
-            found = self.plugin.frames(capture_of(pieces_of(path)), profile=profile)
+            found = self.plugin.frames_of(path, profile)
             told = self.plugin.read(capture_of(pieces_of(path)), "-O", "zookeeper", "-V", profile=profile)
             told = sorted(set(re.findall(r"Refused: (side=.*?)\]", told)))
             if "UnknownOp" in listing[-1]:
@@ -110,13 +137,15 @@ class Tests:
     def test_fields(self):
         """The fields of each message are those of zkjson's object."""
         for path, profile, _ in listings():
-            listing = path.with_suffix(".show35" if profile == "3.5" else ".show")
-            done = subprocess.run([TOP / "tools" / "zkjson.py", listing], capture_output=True, text=True, check=True)
-            objects = [json.loads(line) for line in done.stdout.splitlines()][:-1]
-            found = self.plugin.frames(capture_of(pieces_of(path)), profile=profile)[:len(objects)]
+            objects = objects_of(path, profile)
+            found = self.plugin.frames_of(path, profile)[:len(objects)]
             wrong = [(each, told) for each, shown in zip(objects, found) for told in wanted.differences(each, shown)]
             yield (not wrong and len(found) == len(objects),
                    f"{path.stem} under {profile}: {len(found)} of {len(objects)}, {wrong[:2]}")
+
+    def test_marked_bytes(self):
+        """Each field marks its bytes, those before a fault, too; the bytes after these are not read."""
+        yield from placed.compare(self.plugin)
 
     def test_the_recipe_back(self):
         """Each side's bytes come back by the fields `side` and `frame`, as the page has it."""
@@ -133,45 +162,6 @@ class Tests:
                 whole[piece.side] += piece.data
             yield said == whole, f"{path.stem}: other bytes"
 
-    def looked_over(self, capture, name, *words):
-        """That nothing is refused, and each pair has one xid."""
-        found = self.plugin.frames(capture, *words)
-        asked = {(each["packet"], xid) for each in found if each["kind"] == ["2"] for xid in each["xid"]}
-        refused = [each["line"] or each["xid"] for each in found if each["refused"] or each["malformed"]]
-        wrong = [each["packet"] for each in found if each["response_to"] and
-                 (int(each["response_to"][0]), each["xid"][0]) not in asked]
-        pairs = sum(1 for each in found if each["response_to"])
-        yield not self.plugin.trouble(), f"{name}: {self.plugin.trouble()}"
-        yield not refused and not wrong, f"{name}: refused {refused[:3]}, wrong pairs {wrong[:3]}"
-        yield pairs > 100, f"{name}: {pairs} pairs"
-
-    def test_losses(self):
-        """Of 2% and 10% of the packets that have data."""
-        for share in (0.02, 0.1):
-            for seed in range(self.words.seeds):
-                chance = random.Random(seed)
-                capture = joined(lossy(list(wire.conversation(pieces_of(path))), chance, share) for path in WHOLE)
-                yield from self.looked_over(capture, f"{share} lost, seed {seed}")
-
-    def test_disturbed(self):
-        """Captured twice, again with other cuts, in another order within eight."""
-        for seed in range(self.words.seeds):
-            chance = random.Random(seed)
-            capture = joined(disturbed(list(wire.conversation(pieces_of(path))), chance) for path in WHOLE)
-            yield from self.looked_over(capture, f"disturbed, seed {seed}")
-            yield from self.looked_over(capture, f"disturbed, put in order, seed {seed}", *UNASKED_SOON)
-            found = self.plugin.frames(capture, "-2", *UNASKED_SOON)
-            left = [each for each in found if each["kind"] == ["4"] and not each["response_to"]]
-            yield not left, f"disturbed, seed {seed}: {len(left)} replies without their requests"
-
-    def test_begun_before_and_cut(self):
-        for share in (3, 2):
-            sent = [list(wire.conversation(pieces_of(path))) for path in WHOLE]
-            yield from self.looked_over(joined(each[len(each) // share:] for each in sent), f"from 1/{share} on")
-        packets = [packet for at, each in enumerate(sent) for packet in dissected.packed(each, client=40_000 + at)]
-        packets.sort(key=lambda each: each[0])
-        yield from self.looked_over(wire.pcap(packets, snap=96), "96 bytes of each packet")
-
     def test_preferences_of_tcp(self):
         """The numbers may be counted from 0 or not, and TCP's own analysis may be off."""
         capture = joined(list(wire.conversation(pieces_of(path))) for path in WHOLE)
@@ -181,30 +171,6 @@ class Tests:
             lines = sum(path.with_suffix(suffix).read_text().count("\n") - 1 for path in WHOLE
                         for suffix in [".show35" if path.with_suffix(".show35").exists() else ".show"])
             yield well == lines, f"without {preference}: {well} of {lines}"
-
-    def test_the_ports_are_used_again(self):
-        first, second = (list(wire.conversation(pieces_of(path), 1448, (number, 2 * number)))
-                         for path, number in zip(WHOLE[-2:], (1000, 700_000)))
-        capture = wire.pcap(dissected.packed(first) + dissected.packed(second))
-        found = self.plugin.frames(capture)
-        sessions = {each["session"][0] for each in found if each["kind"] == ["4"]}
-        alone = [each["packet"] for each in found if each["kind"] == ["4"] and not each["response_to"]]
-        yield len(sessions) == 2 and not alone, f"{sessions}, without a pair {alone}"
-
-    def test_one_pass_is_two_passes(self):
-        """But for what isn't known yet, in which packet a request will be answered, and for bytes without a frame,
-        which TCP doesn't give again."""
-        for share in (0, 0.1):
-            capture = joined(lossy(list(wire.conversation(pieces_of(path))), random.Random(1), share) for path in WHOLE)
-            one, two = ([each for each in found if each["kind"]] for found in
-                        (self.plugin.frames(capture), self.plugin.frames(capture, "-2")))
-            for each in one + two:
-                each.pop("response_in", None)
-            early = {each["packet"] for each in two if each["kind"] == ["4"] and each["response_to"]} \
-                - {each["packet"] for each in one if each["kind"] == ["4"] and each["response_to"]}
-            one, two = ([each for each in found if each["packet"] not in early] for found in (one, two))
-            other = [(a, b) for a, b in zip(one, two) if a != b]
-            yield len(one) == len(two) and not other, f"{share} lost: {len(one)} and {len(two)}, {other[:1]}"
 
     def test_holes(self):
         """hole.c says where frames begin again as resync.py does."""
@@ -222,15 +188,6 @@ class Tests:
             if rule(side, bytes(data)) != (place is not None, keep if place is None else place):
                 wrong.append((side, data.hex(), place, keep))
         yield not wrong, f"{len(wrong)} of 40,000 differ: {wrong[:1]}"
-
-    def test_payloads(self):
-        """fields.c judges the payloads of docs/EXAMPLES.md, as tests/judged.py has them."""
-        numbers = library.declared()[2]
-        read = wanted.fields_of(self.folder)
-        for call, digits, status, place in judged.JUDGED:
-            if status not in ("RANGE", "MISFIT"):
-                found = read(call, bytes.fromhex(digits))
-                yield found == (numbers[status], place), f"{call} {digits}: {found}, not {status} at {place}"
 
     def test_golden(self):
         if self.plugin.release != "4.0":
@@ -275,7 +232,7 @@ class Tests:
 
     def test_mutants(self):
         """Mutated connections, many in one capture, under the address sanitizer."""
-        plugin = dissected.Plugin(self.folder, self.words.stub, sanitized=True)
+        plugin = dissected.Plugin(self.folder, self.words.libzk, sanitized=True)
         sent = [list(wire.conversation(pieces_of(path))) for path in WHOLE if path.stat().st_size < 60_000]
         for first in range(0, self.words.mutants, MUTANTS_A_RUN):
             seeds = range(first, min(first + MUTANTS_A_RUN, self.words.mutants))
@@ -288,7 +245,7 @@ class Tests:
 def main():
     parser = argparse.ArgumentParser(description="Tests of the plugin for Wireshark.")
     parser.add_argument("--install", action="store_true")
-    parser.add_argument("--stub", action="store_true")
+    parser.add_argument("--libzk", type=lambda path: pathlib.Path(path).resolve())
     parser.add_argument("--mutants", type=int, default=1000)
     parser.add_argument("--seeds", type=int, default=3)
     parser.add_argument("--golden", action="store_true")
@@ -296,15 +253,12 @@ def main():
     words = parser.parse_args()
     if words.install:
         subprocess.run(["apt-get", "install", "-y", "--no-install-recommends", *PACKAGES], check=True)
-    if missing := dissected.missing():
+    if missing := dissected.missing(words.libzk):
         print(f"left out: the plugin for Wireshark, as {', '.join(missing)} is not here\n0 passed, 0 failed")
         return 0
-    if not words.stub and not LIBRARY.exists():
-        print("the proved library is not built: a stub replaces it")
-        words.stub = True
     passed, failures = 0, []
     with tempfile.TemporaryDirectory() as folder:
-        tests = Tests(dissected.Plugin(folder, words.stub), folder, words)
+        tests = Tests(dissected.Plugin(folder, words.libzk), folder, words)
         for name in [name for name in dir(Tests) if name.startswith("test_")]:
             if words.words and not any(word in name for word in words.words):
                 continue

@@ -1,6 +1,6 @@
 /* connection.c
- * What is kept of a connection, and the places of its frames: found out on the first pass over the packets, looked up on
- * every later one.
+ * What is kept of a connection, and the places of its frames: found out on the first pass over the packets, looked up
+ * on every later one.
  *
  * A side's bytes have TCP's numbers, and a frame begins where the last one ended. So a loss is a number that is too
  * great, and what was captured again one that is too small, whatever TCP's own analysis says of it.
@@ -13,7 +13,7 @@
 
 #include "hole.h"
 
-/* Of TCP's conversation_completeness, whose numbers packet-tcp.c keeps to itself: the SYN of the client, of the server. */
+/* Of TCP's conversation_completeness, whose numbers packet-tcp.c keeps to itself: the client's SYN, the server's. */
 static const guint8 began[] = {[ZK_CLIENT] = 0x01, [ZK_SERVER] = 0x02};
 
 /* No more gaps of a side are kept; and bytes in which no frame is found wait for others up to here. */
@@ -54,6 +54,10 @@ struct connection *connection_of(packet_info *pinfo) {
     }
     if (pref_strict) {
         judge_begin(&connection->judge, pref_limit, (guint32)pref_profile);
+        if (!connection->judge.judges) {
+            connection->unjudged = pinfo->num;
+            connection->why = "can't be judged: memory is missing, or the greatest payload isn't 64 to 16777216";
+        }
         wmem_register_callback(wmem_file_scope(), forget, connection);
     }
     conversation_add_proto_data(conversation, proto_zookeeper, connection);
@@ -71,9 +75,13 @@ static gboolean is_connect(const struct piece *piece) {
         return FALSE;
     }
     gint32 length = int_at(piece->bytes);
-    return length >= 4 && (guint32)length <= piece->there - FRAME_HEAD && int_at(piece->bytes + FRAME_HEAD) == 0 &&
-           message_read(piece->side == ZK_CLIENT ? ZK_CONNECT : ZK_CONNECTED, 0, NULL, piece->bytes + FRAME_HEAD,
-                        (size_t)length, NULL, 0).status == ZK_WELL;
+    const guint8 *payload = piece->bytes + FRAME_HEAD;
+    if (length < 4 || (guint32)length > piece->there - FRAME_HEAD || int_at(payload) != 0) {
+        return FALSE;
+    }
+    struct zk_payload judged = piece->side == ZK_CLIENT ? zk_judge_first(payload, (size_t)length)
+                                                        : zk_judge_connected(payload, (size_t)length);
+    return judged.status == ZK_WELL;
 }
 
 /* A side's first bytes. */
@@ -165,58 +173,59 @@ static struct kept *look_for_frames(struct connection *connection, packet_info *
     return keep(connection, pinfo, piece, NO_FRAME, (guint32)end.place);
 }
 
-/* What is where a frame may begin; `place` is where the next one does. `filling`: the bytes are in a gap, and say
- * nothing of those after it. */
-static struct kept *look(struct connection *connection, packet_info *pinfo, const struct piece *piece, struct way *way,
-                         guint32 *place, gboolean filling) {
-    gboolean plausible = frame_is_plausible(piece->side, piece->bytes, piece->there, pref_limit);
-    if (!way->sure && !plausible && !is_first(way, piece)) {
-        gboolean short_of = piece->there < FRAME_HEAD + REPLY_HEAD;
-        if (short_of && piece->may_wait) {
-            return keep(connection, pinfo, piece, MORE, DESEGMENT_ONE_MORE_SEGMENT);
-        }
-        if (filling) {
-            *place = piece->number + piece->size;
-            return keep(connection, pinfo, piece, NO_FRAME, piece->size);
-        }
-        seek(way);
-        struct kept *kept = look_for_frames(connection, pinfo, piece, way, place);
-        if (kept) {
-            return kept;
-        }
+/* Nothing is known to begin here, so frames are looked for; NULL where one begins here. `filling`: the bytes are in a
+ * gap, and say nothing of those after it. The same holds below. */
+static struct kept *look_unsure(struct connection *connection, packet_info *pinfo, const struct piece *piece,
+                                struct way *way, guint32 *place, gboolean filling) {
+    if (piece->there < FRAME_HEAD + REPLY_HEAD && piece->may_wait) {
+        return keep(connection, pinfo, piece, MORE, DESEGMENT_ONE_MORE_SEGMENT);
     }
-    if (piece->there < FRAME_HEAD) {
-        if (piece->may_wait) {
-            return keep(connection, pinfo, piece, MORE, DESEGMENT_ONE_MORE_SEGMENT);
-        }
-        be_late(connection, pinfo, "has a frame that was not captured whole");
-        if (!filling) {
-            seek(way);
-        }
+    if (filling) {
         *place = piece->number + piece->size;
         return keep(connection, pinfo, piece, NO_FRAME, piece->size);
     }
-    guint32 length = (guint32)int_at(piece->bytes), size = FRAME_HEAD + length;
-    if (length > pref_limit) {
-        struct kept *kept = keep(connection, pinfo, piece, A_FRAME, FRAME_HEAD);
-        kept->frame = frame_without_payload(connection, pinfo, piece);
-        if (!filling) {
-            seek(way);
-        }
-        *place = piece->number + (filling ? piece->size : FRAME_HEAD);
-        return kept;
+    seek(way);
+    return look_for_frames(connection, pinfo, piece, way, place);
+}
+
+/* Not even the length is there. */
+static struct kept *look_at_stub(struct connection *connection, packet_info *pinfo, const struct piece *piece,
+                                 struct way *way, guint32 *place, gboolean filling) {
+    if (piece->may_wait) {
+        return keep(connection, pinfo, piece, MORE, DESEGMENT_ONE_MORE_SEGMENT);
     }
-    if (size > piece->size) {
-        if (piece->may_wait) {
-            if (!filling) {
-                way->end = piece->number + size;
-            }
-            return keep(connection, pinfo, piece, MORE, size - piece->size);
-        }
+    be_late(connection, pinfo, "has a frame that was not captured whole");
+    if (!filling) {
+        seek(way);
+    }
+    *place = piece->number + piece->size;
+    return keep(connection, pinfo, piece, NO_FRAME, piece->size);
+}
+
+/* The length is no payload's. */
+static struct kept *look_at_length(struct connection *connection, packet_info *pinfo, const struct piece *piece,
+                                   struct way *way, guint32 *place, gboolean filling) {
+    struct kept *kept = keep(connection, pinfo, piece, A_FRAME, FRAME_HEAD);
+    kept->frame = frame_without_payload(connection, pinfo, piece);
+    if (!filling) {
+        seek(way);
+    }
+    *place = piece->number + (filling ? piece->size : FRAME_HEAD);
+    return kept;
+}
+
+/* A frame of this size begins here. */
+static struct kept *look_at_frame(struct connection *connection, packet_info *pinfo, const struct piece *piece,
+                                  struct way *way, guint32 size, guint32 *place, gboolean filling) {
+    if (size > piece->size && piece->may_wait) {
         if (!filling) {
-            way->rest.from = piece->number;
-            way->rest.to = piece->number + size;
+            way->end = piece->number + size;
         }
+        return keep(connection, pinfo, piece, MORE, size - piece->size);
+    }
+    if (size > piece->size && !filling) {
+        way->rest.from = piece->number;
+        way->rest.to = piece->number + size;
     }
     struct kept *kept = keep(connection, pinfo, piece, A_FRAME, MIN(size, piece->size));
     kept->frame = frame_new(connection, pinfo, piece, size);
@@ -224,19 +233,45 @@ static struct kept *look(struct connection *connection, packet_info *pinfo, cons
     return kept;
 }
 
+/* What is where a frame may begin; `place` is where the next one does. */
+static struct kept *look(struct connection *connection, packet_info *pinfo, const struct piece *piece, struct way *way,
+                         guint32 *place, gboolean filling) {
+    if (!way->sure && !is_first(way, piece) &&
+        !frame_is_plausible(piece->side, piece->bytes, piece->there, pref_limit)) {
+        struct kept *kept = look_unsure(connection, pinfo, piece, way, place, filling);
+        if (kept) {
+            return kept;
+        }
+    }
+    if (piece->there < FRAME_HEAD) {
+        return look_at_stub(connection, pinfo, piece, way, place, filling);
+    }
+    guint32 length = (guint32)int_at(piece->bytes);
+    if (length > pref_limit) {
+        return look_at_length(connection, pinfo, piece, way, place, filling);
+    }
+    return look_at_frame(connection, pinfo, piece, way, FRAME_HEAD + length, place, filling);
+}
+
+/* A byte that was captured before: how many such bytes are here, and whether they are the rest of a frame. */
+static struct kept *look_again(struct connection *connection, packet_info *pinfo, const struct piece *piece,
+                               const struct way *way) {
+    guint32 known = way->next - piece->number;
+    for (wmem_list_frame_t *at = wmem_list_head(way->gaps); at; at = wmem_list_frame_next(at)) {
+        gint32 before = (gint32)(((struct gap *)wmem_list_frame_data(at))->from - piece->number);
+        if (before > 0 && (guint32)before < known) {
+            known = (guint32)before;
+        }
+    }
+    gboolean rest = (gint32)(piece->number - way->rest.from) > 0 && (gint32)(piece->number - way->rest.to) < 0;
+    return keep(connection, pinfo, piece, rest ? REST : AGAIN, MIN(known, piece->size));
+}
+
 /* What was captured before, or is in a gap. */
 static struct kept *look_back(struct connection *connection, packet_info *pinfo, struct piece *piece, struct way *way) {
-    guint32 known = way->next - piece->number;
     struct gap *gap = gap_at(way, piece->number);
     if (!gap) {
-        for (wmem_list_frame_t *at = wmem_list_head(way->gaps); at; at = wmem_list_frame_next(at)) {
-            gint32 before = (gint32)(((struct gap *)wmem_list_frame_data(at))->from - piece->number);
-            if (before > 0 && (guint32)before < known) {
-                known = (guint32)before;
-            }
-        }
-        gboolean rest = (gint32)(piece->number - way->rest.from) > 0 && (gint32)(piece->number - way->rest.to) < 0;
-        return keep(connection, pinfo, piece, rest ? REST : AGAIN, MIN(known, piece->size));
+        return look_again(connection, pinfo, piece, way);
     }
     if (gap->from != piece->number) {
         /* The frames of a gap are found from its beginning on; bytes further on wait in vain. */

@@ -47,7 +47,9 @@ static void judge(struct connection *connection, packet_info *pinfo, const struc
         frame->verdict = VERDICT_LEFT_OUT;
         return;
     }
-    gboolean is_welcome = frame->kind == ZK_CONNECTED && (!other->begun || other->next == other->first);
+    /* The server's first bytes, which may answer four letters that were lost. */
+    gboolean is_welcome = piece->side == ZK_SERVER && (frame->kind == ZK_CONNECTED || !frame->kind) &&
+                          (!other->begun || other->next == other->first);
     if ((is_welcome || frame->unasked || frame->disordered) && may_know_more(other, piece->tcp)) {
         be_late(connection, pinfo, "lacks a request that was answered");
         return;
@@ -96,8 +98,8 @@ struct frame *frame_new(struct connection *connection, packet_info *pinfo, const
     frame->kind = kind_of(way, piece);
     if (frame->kind == ZK_REQUEST && there >= REQUEST_HEAD) {
         call_new(connection, pinfo, frame, payload, there);
-        newer = op_is_newer(frame->call->op) && message_read(ZK_REQUEST, (guint32)pref_profile, NULL, payload, there,
-                                                             NULL, 0).status == ZK_UNKNOWN_OP;
+        newer = op_is_newer(frame->call->op) &&
+                zk_judge_request((guint32)pref_profile, payload, there).status == ZK_UNKNOWN_OP;
     } else if (frame->kind == ZK_REPLY && there >= 4) {
         frame->xid = int_at(payload);
         call_answer(connection, pinfo, frame);

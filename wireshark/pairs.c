@@ -38,27 +38,34 @@ static void wait_for_reply(struct connection *connection, struct call *call) {
     }
 }
 
+/* The operations of a multi's parts, of a request that has this number of fields. */
+static void note_parts(struct call *call, const guint8 *payload, guint32 length, guint32 count) {
+    struct zk_field *fields = wmem_alloc_array(NULL, struct zk_field, count);
+    message_read(ZK_REQUEST, ZK_PROFILE_35, NULL, payload, length, fields, count);
+    for (guint32 k = 0; k < count; k++) {
+        call->count += fields[k].kind == ZK_KIND_PART;
+    }
+    call->parts = wmem_alloc0_array(wmem_file_scope(), gint32, call->count);
+    for (guint32 k = 0, part = 0; k < count; k++) {
+        if (fields[k].kind == ZK_KIND_PART) {
+            call->parts[part++] = (gint32)fields[k].number;
+        }
+    }
+    wmem_free(NULL, fields);
+}
+
 /* What a request asks: its path, and of a multi the operations of its parts. */
 static void note_asked(struct call *call, const guint8 *payload, guint32 length) {
     enum { FIRST = 8 }; /* a path is among the first fields */
-    struct field first[FIRST];
+    struct zk_field first[FIRST];
     struct message message = message_read(ZK_REQUEST, ZK_PROFILE_35, NULL, payload, length, first, FIRST);
-    const struct field *path = field_of(first, MIN(message.count, FIRST), FIELD_PATH);
-    call->is_known = message.status == ZK_WELL;
-    if (path && path->number >= 0) {
-        call->path = (const char *)wmem_strndup(wmem_file_scope(), (const char *)payload + path->place + 4,
-                                                (gsize)path->number);
+    const struct zk_field *path = field_of(first, MIN(message.read.count, FIRST), ZK_NAME_PATH);
+    call->is_known = message.read.status == ZK_WELL;
+    if (path && !path->null) {
+        call->path = (const char *)wmem_strndup(wmem_file_scope(), (const char *)payload + path->place, path->length);
     }
     if (call->op == OP_MULTI && call->is_known) {
-        struct field *fields = wmem_alloc_array(NULL, struct field, message.count);
-        message_read(ZK_REQUEST, ZK_PROFILE_35, NULL, payload, length, fields, message.count);
-        call->parts = wmem_alloc0_array(wmem_file_scope(), gint32, fields[message.count - 1].part);
-        for (size_t k = 0; k < message.count; k++) {
-            if (fields[k].name == FIELD_PART_OP && fields[k].number != OP_END) {
-                call->parts[call->count++] = (gint32)fields[k].number;
-            }
-        }
-        wmem_free(NULL, fields);
+        note_parts(call, payload, length, message.read.count);
     }
 }
 

@@ -8,7 +8,7 @@
 
 #include "zk.h"
 
-/* So many requests may wait. More are rare, and a talk takes 52 bytes for each, at once. */
+/* How many requests may wait. More are rare, and a talk takes 52 bytes for each, at once. */
 enum { VERDICT_WAITING = 1024 };
 
 enum verdict { VERDICT_WELL, VERDICT_REFUSED, VERDICT_NONE, VERDICT_LEFT_OUT };
@@ -19,7 +19,7 @@ struct judge {
     bool judges;
 };
 
-/* Begins, if there is memory. */
+/* Begins, if there is memory, and `limit` is one that a talk may have. */
 void judge_begin(struct judge *judge, uint32_t limit, uint32_t profile);
 
 /* Takes a frame, which is the next of its side, in the order of the conversation. VERDICT_WELL, VERDICT_REFUSED with

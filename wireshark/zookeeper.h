@@ -138,6 +138,21 @@ void call_answer(struct connection *connection, packet_info *pinfo, struct frame
 
 enum { MOST_FIELDS = 4096 };
 
+/* The filterable fields of messages. */
+enum name {
+    FIELD_XID, FIELD_OP, FIELD_ZXID, FIELD_ERR,
+    FIELD_PATH, FIELD_DATA, FIELD_VERSION, FIELD_FLAGS, FIELD_WATCH,
+    FIELD_ACL, FIELD_PERMS, FIELD_SCHEME, FIELD_ID, FIELD_AUTH_TYPE, FIELD_AUTH,
+    FIELD_CHILDREN, FIELD_CHILD,
+    FIELD_RELATIVE_ZXID, FIELD_DATA_WATCHES, FIELD_EXIST_WATCHES, FIELD_CHILD_WATCHES, FIELD_WATCHED,
+    FIELD_EVENT_KIND, FIELD_EVENT_STATE,
+    FIELD_PROTOCOL_VERSION, FIELD_LAST_ZXID, FIELD_TIMEOUT, FIELD_SESSION, FIELD_PASSWD, FIELD_READ_ONLY,
+    FIELD_PART_OP, FIELD_PART_DONE, FIELD_PART_HEADER_ERR, FIELD_PART_ERR,
+    FIELD_CZXID, FIELD_MZXID, FIELD_CTIME, FIELD_MTIME, FIELD_STAT_VERSION, FIELD_CVERSION, FIELD_AVERSION,
+    FIELD_EPHEMERAL_OWNER, FIELD_DATA_LENGTH, FIELD_NUM_CHILDREN, FIELD_PZXID,
+    FIELD_NAMES
+};
+
 extern int proto_zookeeper, proto_tcp, tap_zookeeper;
 extern dissector_handle_t zookeeper_handle;
 extern int hf_field[FIELD_NAMES];
@@ -148,11 +163,19 @@ extern gint ett_message, ett_list, ett_stat, ett_part, ett_acl;
 extern expert_field ei_refused, ei_unread, ei_newer, ei_order, ei_unasked, ei_error, ei_no_frame, ei_again, ei_cut,
     ei_many;
 
-/* Adds these fields of a payload that begins after the first FRAME_HEAD bytes. */
-void tree_fields(tvbuff_t *tvb, packet_info *pinfo, proto_tree *tree, const struct field *fields, size_t count);
+/* Adds the fields of the header of a message of this kind, as far as `length` bytes of its payload have them. Of this
+ * and of what follows: the payload begins after the first FRAME_HEAD bytes. */
+void tree_head(tvbuff_t *tvb, proto_tree *tree, guint32 kind, guint32 length);
 
-/* The first field of this name outside of parts, or NULL. */
-const struct field *field_of(const struct field *fields, size_t count, enum name name);
+/* Adds these fields of a payload. */
+void tree_fields(tvbuff_t *tvb, packet_info *pinfo, proto_tree *tree, guint32 kind, const struct zk_field *fields,
+                 size_t count);
+
+/* Adds the header by which a multi, or its results, end. */
+void tree_last_header(tvbuff_t *tvb, proto_tree *tree, guint32 place);
+
+/* The first field of this name (ZK_NAME_PATH and so on) before any part, or NULL. */
+const struct zk_field *field_of(const struct zk_field *fields, size_t count, guint16 name);
 
 /* ---- Preferences (register.c) */
 
@@ -160,7 +183,15 @@ extern flag pref_desegment, pref_strict, pref_hide;
 extern guint pref_limit;
 extern gint pref_profile;
 
-/* ---- Dissection (packet-zookeeper.c) and statistics (statistics.c) */
+/* ---- Dissection (packet-zookeeper.c, show.c) and statistics (statistics.c) */
+
+/* What is kept of a packet while it is dissected. */
+enum { KEY_BEGUN, KEY_WORDS };
+
+/* Shows a message, whose bytes as far as they were captured are those of the tvbuff; and bytes that are no frame. */
+void show_frame(tvbuff_t *tvb, packet_info *pinfo, proto_tree *top, const struct connection *connection,
+                const struct frame *frame, guint32 side);
+void show_bytes(tvbuff_t *tvb, packet_info *pinfo, proto_tree *top, enum what what, guint32 side);
 
 int dissect_zookeeper(tvbuff_t *tvb, packet_info *pinfo, proto_tree *tree, void *data);
 flag dissect_heuristic(tvbuff_t *tvb, packet_info *pinfo, proto_tree *tree, void *data);
