@@ -34,6 +34,14 @@ class Message(ctypes.Structure):
                 ("zxid", ctypes.c_int64), ("frame", ctypes.c_uint64)]
 
 
+class Waiting(ctypes.Structure):
+    _fields_ = [("status", ctypes.c_uint32), ("requests", ctypes.c_uint32), ("weight", ctypes.c_uint32)]
+
+
+class Held(ctypes.Structure):
+    _fields_ = [("status", ctypes.c_uint32), ("bytes", ctypes.c_uint32)]
+
+
 class Line(ctypes.Structure):
     _fields_ = [("status", ctypes.c_uint32), ("length", ctypes.c_size_t)]
 
@@ -79,10 +87,13 @@ class Library:
         for name, result, words in (
             ("zk_talk_new", number, (handle, number, number, number, number)),
             ("zk_talk_step", Step, (handle, number, ctypes.c_char_p, size)),
+            ("zk_talk_pass", Step, (handle, number, ctypes.c_char_p, size)),
             ("zk_talk_view", Message, (handle, number)),
             ("zk_talk_line", Line, (handle, number, ctypes.c_char_p, size)),
             ("zk_talk_payload", Line, (handle, number, ctypes.c_char_p, size)),
             ("zk_talk_fields", Read, (handle, number, *room)),
+            ("zk_talk_waiting", Waiting, (handle,)),
+            ("zk_talk_held", Held, (handle, number)),
             ("zk_talk_ending_line", Line, (handle, ctypes.c_char_p, size)),
             ("zk_talk_free", None, (handle,)),
             ("zk_speaker_new", number, (handle, number, number, number, number)),

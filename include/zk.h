@@ -135,6 +135,20 @@ struct zk_message {
     uint64_t frame;
 };
 
+/* How many requests wait for their replies, and their weight, which `waiting` of zk_talk_new bounds: 1 each, and 1 more for
+ * each part of a multi. A connect request isn't among them. */
+struct zk_waiting {
+    uint32_t status;
+    uint32_t requests;
+    uint32_t weight;
+};
+
+/* How many bytes of a side are held of a frame that isn't whole, its length included. */
+struct zk_held {
+    uint32_t status;
+    uint32_t bytes;
+};
+
 /* A text's length; it is written where there is room for all of it (ZK_WELL, else ZK_ROOM). */
 struct zk_line {
     uint32_t status;
@@ -257,6 +271,10 @@ uint32_t zk_talk_new(struct zk_talk *talk, uint32_t client, uint32_t server, uin
 /* Takes bytes of a side up to the end of the first frame that becomes whole, or all of them. It never allocates. */
 struct zk_step zk_talk_step(struct zk_talk *talk, uint32_t side, const uint8_t *piece, size_t length);
 
+/* The same, and it keeps no frame: for who wants no message. It doesn't copy a frame that is whole in the piece, unless a
+ * first look at it is undecided. */
+struct zk_step zk_talk_pass(struct zk_talk *talk, uint32_t side, const uint8_t *piece, size_t length);
+
 /* The message whose frame the side keeps: the one that its last step completed. */
 struct zk_message zk_talk_view(struct zk_talk *talk, uint32_t side);
 
@@ -268,6 +286,12 @@ struct zk_line zk_talk_payload(struct zk_talk *talk, uint32_t side, uint8_t *out
 
 /* Writes the fields of that message, as zk_read_request and its like; their places are those in the payload. */
 struct zk_read zk_talk_fields(struct zk_talk *talk, uint32_t side, struct zk_field *out, size_t room);
+
+/* How many requests wait for their replies; after a fault, those before the byte that decided it. */
+struct zk_waiting zk_talk_waiting(struct zk_talk *talk);
+
+/* How many bytes the side has sent of a frame that isn't whole. */
+struct zk_held zk_talk_held(struct zk_talk *talk, uint32_t side);
 
 /* How the conversation ends if nothing more comes. */
 struct zk_ending zk_talk_finish(struct zk_talk *talk);
@@ -536,6 +560,12 @@ static inline struct zk_step zk_safe_talk_step(struct zk_talk *talk, uint32_t si
     return answer.status != ZK_WELL ? answer : zk_talk_step(talk, side, (const uint8_t *)zk_from(piece), length);
 }
 
+static inline struct zk_step zk_safe_talk_pass(struct zk_talk *talk, uint32_t side, const uint8_t *piece, size_t length) {
+    struct zk_step answer = ZK_ZEROS;
+    answer.status = zk_first_of(zk_fault_at(talk, 1, sizeof *talk), zk_fault_of(piece, length, sizeof *piece));
+    return answer.status != ZK_WELL ? answer : zk_talk_pass(talk, side, (const uint8_t *)zk_from(piece), length);
+}
+
 static inline struct zk_message zk_safe_talk_view(struct zk_talk *talk, uint32_t side) {
     struct zk_message answer = ZK_ZEROS;
     answer.status = zk_fault_at(talk, 1, sizeof *talk);
@@ -558,6 +588,18 @@ static inline struct zk_read zk_safe_talk_fields(struct zk_talk *talk, uint32_t 
     struct zk_read answer = ZK_ZEROS;
     answer.status = zk_first_of(zk_fault_at(talk, 1, sizeof *talk), zk_fault_of(out, room, sizeof *out));
     return answer.status != ZK_WELL ? answer : zk_talk_fields(talk, side, (struct zk_field *)zk_into(out), room);
+}
+
+static inline struct zk_waiting zk_safe_talk_waiting(struct zk_talk *talk) {
+    struct zk_waiting answer = ZK_ZEROS;
+    answer.status = zk_fault_at(talk, 1, sizeof *talk);
+    return answer.status != ZK_WELL ? answer : zk_talk_waiting(talk);
+}
+
+static inline struct zk_held zk_safe_talk_held(struct zk_talk *talk, uint32_t side) {
+    struct zk_held answer = ZK_ZEROS;
+    answer.status = zk_fault_at(talk, 1, sizeof *talk);
+    return answer.status != ZK_WELL ? answer : zk_talk_held(talk, side);
 }
 
 static inline struct zk_ending zk_safe_talk_finish(struct zk_talk *talk) {
@@ -681,10 +723,13 @@ static inline struct zk_line zk_safe_listing(const struct zk_piece *pieces, size
 
 #define zk_talk_new zk_safe_talk_new
 #define zk_talk_step zk_safe_talk_step
+#define zk_talk_pass zk_safe_talk_pass
 #define zk_talk_view zk_safe_talk_view
 #define zk_talk_line zk_safe_talk_line
 #define zk_talk_payload zk_safe_talk_payload
 #define zk_talk_fields zk_safe_talk_fields
+#define zk_talk_waiting zk_safe_talk_waiting
+#define zk_talk_held zk_safe_talk_held
 #define zk_talk_finish zk_safe_talk_finish
 #define zk_talk_ending_line zk_safe_talk_ending_line
 #define zk_talk_free zk_safe_talk_free

@@ -41,7 +41,8 @@ C_TYPES = {"u8": "uint8_t", "u16": "uint16_t", "u32": "uint32_t", "u64": "uint64
            "SpeakerHandle": "struct zk_speaker", "SayAnswer": "struct zk_say", "FaultNumbers": "struct zk_fault",
            "StepAnswer": "struct zk_step", "EndingAnswer": "struct zk_ending", "MessageAnswer": "struct zk_message",
            "LineAnswer": "struct zk_line", "Piece": "struct zk_piece", "PayloadAnswer": "struct zk_payload",
-           "Field": "struct zk_field", "ReadAnswer": "struct zk_read", "WriteAnswer": "struct zk_written"}
+           "Field": "struct zk_field", "ReadAnswer": "struct zk_read", "WriteAnswer": "struct zk_written",
+           "WaitingAnswer": "struct zk_waiting", "HeldAnswer": "struct zk_held"}
 INSIDE = {"TalkBox", "VoiceBox"}
 FIELDS, RECORDS = (TOP / "crates" / name / "src" for name in ("zk_fields", "zk_records"))
 

@@ -2,13 +2,16 @@
 
 tests/library.py calls it. Each recording is given to a talk in the pieces that it has, and again byte by byte. Where a
 frame becomes whole, its payload, its fields, its number and the numbers of its header are compared with the bytes that
-were given, as tests/fields.py reads them.
+were given, as tests/fields.py reads them. A second talk passes over the same pieces: it returns what the first returns,
+and keeps no frame. After each piece what it holds, and what waits, is compared with the bytes and requests that came.
 """
 
+import collections
 import ctypes
 
 import fields
 
+NO_MESSAGE, MULTI = 69, 14
 KINDS = ("first", "request", "connected", "reply", "event")
 
 
@@ -21,6 +24,47 @@ def numbers_of(kind, payload):
     if kind in ("reply", "event"):
         return number(0, 4), number(12, 4), number(4, 8)
     return 0, 0, 0
+
+
+def parts_of(caller, message, payload):
+    """How many parts a request has; only a multi has any."""
+    if KINDS[message.kind - 1] != "request" or message.operation != MULTI:
+        return 0
+    read = fields.wanted(payload, len(payload), "request", MULTI, caller.names)
+    return sum(kind == fields.KINDS["part"] for _, _, _, _, kind, _ in read)
+
+
+class Waiting:
+    """The weights of the requests without a reply, by lanes (docs/CONVERSATION.md, sections 12 and 18)."""
+
+    def __init__(self):
+        self.lanes = collections.defaultdict(collections.deque)
+
+    def message(self, kind, xid, parts):
+        lane = self.lanes[xid if xid in (-2, -4, -8) else 0]
+        if kind == "request":
+            lane.append(1 + parts)
+        elif kind == "reply":
+            lane.popleft()
+
+    def numbers(self):
+        weights = [weight for lane in self.lanes.values() for weight in lane]
+        return len(weights), sum(weights)
+
+
+def numbers_of_step(step):
+    fault = step.fault
+    return (step.used, step.status, step.whole, fault.frame, fault.offset, fault.side, fault.place, fault.reason,
+            fault.expected, fault.got)
+
+
+def compare_counts(library, talk, came, waiting):
+    """What is held of each side, where these bytes came of its frame, and what waits."""
+    for side in (0, 1):
+        held = library.zk_talk_held(talk.handle, side)
+        yield (held.status, held.bytes), (0, len(came[side]))
+    found = library.zk_talk_waiting(talk.handle)
+    yield (found.status, found.requests, found.weight), (0, *waiting.numbers())
 
 
 def compare_message(caller, talk, side, frame, payload):
@@ -44,20 +88,27 @@ def compare_message(caller, talk, side, frame, payload):
 
 def compare_recording(caller, content, cut):
     """What is returned of each message of a recording whose pieces are cut to at most `cut` bytes."""
-    came, frames = [bytearray(), bytearray()], [0, 0]
-    with caller.talk.Talk(caller.library, profile=35) as talk:
+    came, frames, waiting, library = [bytearray(), bytearray()], [0, 0], Waiting(), caller.library
+    with caller.talk.Talk(library, profile=35) as talk, caller.talk.Talk(library, profile=35) as passing:
         for side, piece in caller.talk.pieces(content):
             at = 0
             while at < len(piece):
                 part = piece[at:at + cut]
-                step = caller.library.zk_talk_step(talk.handle, side, part, len(part))
+                step = library.zk_talk_step(talk.handle, side, part, len(part))
+                passed = library.zk_talk_pass(passing.handle, side, part, len(part))
+                yield numbers_of_step(passed), numbers_of_step(step)
                 if step.status != 0:
                     return
                 came[side] += part[:step.used]
                 at += step.used
                 if step.whole:
-                    yield from compare_message(caller, talk, side, frames[side], bytes(came[side][4:]))
+                    payload, message = bytes(came[side][4:]), library.zk_talk_view(talk.handle, side)
+                    yield from compare_message(caller, talk, side, frames[side], payload)
+                    waiting.message(KINDS[message.kind - 1], message.xid, parts_of(caller, message, payload))
                     came[side], frames[side] = bytearray(), frames[side] + 1
+                    yield library.zk_talk_view(passing.handle, side).status, NO_MESSAGE
+                    yield from compare_counts(library, talk, came, waiting)
+                yield from compare_counts(library, passing, came, waiting)
 
 
 def compare(talk, library, names, recordings):

@@ -28,6 +28,9 @@ int main(void) {
 
     expect("zk_talk_new", zk_talk_new(NULL, 64, 64, 1, 34), ZK_NULL);
     expect("zk_talk_step", zk_talk_step(NULL, ZK_CLIENT, &byte, 1).status, ZK_NULL);
+    expect("zk_talk_pass", zk_talk_pass(NULL, ZK_CLIENT, &byte, 1).status, ZK_NULL);
+    expect("zk_talk_waiting", zk_talk_waiting(NULL).status, ZK_NULL);
+    expect("zk_talk_held", zk_talk_held(NULL, ZK_CLIENT).status, ZK_NULL);
     expect("zk_talk_view", zk_talk_view(NULL, ZK_CLIENT).status, ZK_NULL);
     expect("zk_talk_line", zk_talk_line(NULL, ZK_CLIENT, out, room).status, ZK_NULL);
     expect("zk_talk_payload", zk_talk_payload(NULL, ZK_CLIENT, out, room).status, ZK_NULL);
@@ -48,6 +51,11 @@ int main(void) {
     expect("zk_talk_step, no bytes, whole", step.whole, false);
     expect("zk_talk_step, no bytes, no side", zk_talk_step(&talk, 2, NULL, 0).status, ZK_RANGE);
     expect("zk_talk_step, too long", zk_talk_step(&talk, ZK_CLIENT, &byte, more).status, ZK_RANGE);
+    expect("zk_talk_pass, null", zk_talk_pass(&talk, ZK_CLIENT, NULL, 1).status, ZK_NULL);
+    expect("zk_talk_pass, no bytes", zk_talk_pass(&talk, ZK_CLIENT, NULL, 0).status, ZK_WELL);
+    expect("zk_talk_pass, no bytes, no side", zk_talk_pass(&talk, 2, NULL, 0).status, ZK_RANGE);
+    expect("zk_talk_pass, too long", zk_talk_pass(&talk, ZK_CLIENT, &byte, more).status, ZK_RANGE);
+    expect("zk_talk_held, no side", zk_talk_held(&talk, 2).status, ZK_RANGE);
     expect("zk_talk_line, null", zk_talk_line(&talk, ZK_CLIENT, NULL, 1).status, ZK_NULL);
     expect("zk_talk_line, no room", zk_talk_line(&talk, ZK_CLIENT, NULL, 0).status, ZK_NO_MESSAGE);
     expect("zk_talk_line, too long", zk_talk_line(&talk, ZK_CLIENT, out, more).status, ZK_RANGE);
@@ -64,7 +72,13 @@ int main(void) {
     expect("zk_talk_finish, nothing came", zk_talk_finish(&talk).kind, ZK_WHOLE);
     expect("zk_talk_step, well", zk_talk_step(&talk, ZK_CLIENT, &byte, 1).status, ZK_WELL);
     expect("zk_talk_finish, a byte came", zk_talk_finish(&talk).kind, ZK_CUT);
+    expect("zk_talk_held, a byte came", zk_talk_held(&talk, ZK_CLIENT).bytes, 1);
+    expect("zk_talk_held, of the other side", zk_talk_held(&talk, ZK_SERVER).bytes, 0);
+    expect("zk_talk_waiting, nothing waits", zk_talk_waiting(&talk).requests, 0);
     zk_talk_free(&talk);
+    expect("zk_talk_pass, no talk", zk_talk_pass(&talk, ZK_CLIENT, &byte, 1).status, ZK_EMPTY);
+    expect("zk_talk_waiting, no talk", zk_talk_waiting(&talk).status, ZK_EMPTY);
+    expect("zk_talk_held, no talk", zk_talk_held(&talk, ZK_CLIENT).status, ZK_EMPTY);
 
     expect("zk_speaker_new, well", zk_speaker_new(&speaker, 64, 64, 1, 34), ZK_WELL);
     expect("zk_speaker_say, null", zk_speaker_say(&speaker, NULL, 1).status, ZK_NULL);

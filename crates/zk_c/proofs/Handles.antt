@@ -6,7 +6,7 @@ use Rattle.zk_talk.specs.declared.message.Fault.{Fault}
 use Rattle.zk_talk.specs.declared.message.Ending.{Ending}
 use Rattle.zk_talk.specs.declared.talk.Stepped.{Stepped}
 use Rattle.zk_talk.specs.Stands.{TalkState}
-use Rattle.zk_c.specs.Handle.{IsStep, IsFinish}
+use Rattle.zk_c.specs.Handle.{Call, IsFinish}
 use Rattle.zk_c.specs.declared.said.SayAnswer.{SayAnswer}
 use Rattle.zk_c.specs.Voice.{VoiceState}
 use Rattle.zk_c.specs.Saying.{TellsSay}
@@ -14,9 +14,9 @@ use Rattle.zk_c.specs.Saying.{TellsSay}
 pub same_value : {A : Type 0} {x y : A} → Some x ≡ Some y → x ≡ y
 same_value {x = x} e = ap (λ o. unwrap_or o x) e
 
-pub step_of : {t u new : TalkState} {s r : Side} {piece : List ℕ} {outcome : Result Stepped Fault} → t ≡ u → s ≡ r → IsStep t s piece outcome new → IsStep u r piece outcome new
-step_of {new = new} {piece = piece} {outcome = outcome} same_talk same_side step =
-    subst (λ (p : TalkState × Side). IsStep p.0 p.1 piece outcome new) (λ i. (same_talk i, same_side i)) step
+pub call_of : (Is : Call) {t u new : TalkState} {s r : Side} {piece : List ℕ} {outcome : Result Stepped Fault} → t ≡ u → s ≡ r → Is t s piece outcome new → Is u r piece outcome new
+call_of Is {new = new} {piece = piece} {outcome = outcome} same_talk same_side is =
+    subst (λ (p : TalkState × Side). Is p.0 p.1 piece outcome new) (λ i. (same_talk i, same_side i)) is
 
 pub finish_of : {t u : TalkState} {ending : Ending} → t ≡ u → IsFinish t ending → IsFinish u ending
 finish_of {ending = ending} same finish = subst (λ (s : TalkState). IsFinish s ending) same finish

@@ -16,13 +16,23 @@ use Rattle.zk_c.specs.declared.answer.StepAnswer.{StepAnswer}
 use Rattle.zk_c.specs.declared.answer.EndingAnswer.{EndingAnswer}
 use Rattle.zk_c.specs.declared.answer.MessageAnswer.{MessageAnswer}
 use Rattle.zk_c.specs.declared.answer.LineAnswer.{LineAnswer}
+use Rattle.zk_c.specs.declared.counts.WaitingAnswer.{WaitingAnswer}
+use Rattle.zk_c.specs.declared.counts.HeldAnswer.{HeldAnswer}
 use Rattle.zk_c.specs.Numbers.{side_number, reason_number, expected_of, got_of}
 
 abbrev pub no_fault : FaultNumbers
 no_fault = record { frame = 0; offset = 0; side = 0; place = 0; reason = 0; expected = pos 0; got = pos 0 }
 
 abbrev pub fault_numbers : Fault → FaultNumbers
-fault_numbers f = record { frame = f.frame; offset = f.offset; side = side_number f.side; place = f.place; reason = reason_number f.reason; expected = expected_of f.reason; got = got_of f.reason }
+fault_numbers f = record {
+  frame = f.frame;
+  offset = f.offset;
+  side = side_number f.side;
+  place = f.place;
+  reason = reason_number f.reason;
+  expected = expected_of f.reason;
+  got = got_of f.reason;
+}
 
 -- a step that wasn't made, with this status
 abbrev pub no_step : ℕ → StepAnswer
@@ -45,11 +55,46 @@ no_message status = record { status = status; kind = 0; xid = pos 0; operation =
 
 -- a message whose frame has `size` bytes, and is the last of `frames`; the operation of a reply is its request's
 abbrev pub message_answer : ℕ → ℕ → Message → MessageAnswer
-message_answer size frames (FromClient (Connect hello read_only)) = record { status = 0; kind = 1; xid = pos 0; operation = pos 0; size = size; err = pos 0; zxid = pos 0; frame = frames - 1 }
-message_answer size frames (FromClient (Ask xid ask)) = record { status = 0; kind = 2; xid = xid; operation = op_number (op_of_ask ask); size = size; err = pos 0; zxid = pos 0; frame = frames - 1 }
-message_answer size frames (FromServer (Connected hello read_only)) = record { status = 0; kind = 3; xid = pos 0; operation = pos 0; size = size; err = pos 0; zxid = pos 0; frame = frames - 1 }
-message_answer size frames (FromServer (Answered reply)) = record { status = 0; kind = 4; xid = reply.xid; operation = op_number (op_of_reply reply); size = size; err = err_of reply.outcome; zxid = reply.zxid; frame = frames - 1 }
-message_answer size frames (FromServer (Event zxid event)) = record { status = 0; kind = 5; xid = negsuc 0; operation = pos 0; size = size; err = pos 0; zxid = zxid; frame = frames - 1 }
+message_answer size frames (FromClient (Connect hello read_only)) =
+    record { status = 0; kind = 1; xid = pos 0; operation = pos 0; size = size; err = pos 0; zxid = pos 0; frame = frames - 1 }
+message_answer size frames (FromClient (Ask xid ask)) =
+    record {
+      status = 0;
+      kind = 2;
+      xid = xid;
+      operation = op_number (op_of_ask ask);
+      size = size;
+      err = pos 0;
+      zxid = pos 0;
+      frame = frames - 1;
+    }
+message_answer size frames (FromServer (Connected hello read_only)) =
+    record { status = 0; kind = 3; xid = pos 0; operation = pos 0; size = size; err = pos 0; zxid = pos 0; frame = frames - 1 }
+message_answer size frames (FromServer (Answered reply)) =
+    record {
+      status = 0;
+      kind = 4;
+      xid = reply.xid;
+      operation = op_number (op_of_reply reply);
+      size = size;
+      err = err_of reply.outcome;
+      zxid = reply.zxid;
+      frame = frames - 1;
+    }
+message_answer size frames (FromServer (Event zxid event)) =
+    record { status = 0; kind = 5; xid = negsuc 0; operation = pos 0; size = size; err = pos 0; zxid = zxid; frame = frames - 1 }
 
 abbrev pub no_line : ℕ → LineAnswer
 no_line status = record { status = status; length = 0 }
+
+abbrev pub no_waiting : ℕ → WaitingAnswer
+no_waiting status = record { status = status; requests = 0; weight = 0 }
+
+abbrev pub waiting_answer : ℕ → ℕ → WaitingAnswer
+waiting_answer requests weight = record { status = 0; requests = requests; weight = weight }
+
+abbrev pub no_held : ℕ → HeldAnswer
+no_held status = record { status = status; bytes = 0 }
+
+abbrev pub held_answer : ℕ → HeldAnswer
+held_answer bytes = record { status = 0; bytes = bytes }

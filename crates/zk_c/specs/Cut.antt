@@ -9,7 +9,8 @@ use Rattle.zk_c.specs.Numbers.{side_of}
 abbrev pub AreCut : List Piece → List ℕ → History → Type 0
 AreCut [] bytes h = (bytes ≡ []) × (h ≡ [])
 AreCut (p ∷ pieces) bytes h =
-    (side : Side) × (side_of p.side ≡ Some side) × (p.length ≤ length bytes) × (later : History) × AreCut pieces (drop p.length bytes) later × (h ≡ on side (take p.length bytes) ++ later)
+    (side : Side) × (side_of p.side ≡ Some side) × (p.length ≤ length bytes) × (later : History) ×
+    AreCut pieces (drop p.length bytes) later × (h ≡ on side (take p.length bytes) ++ later)
 
 -- the pieces and the bytes are no history's
 abbrev pub AreNotCut : List Piece → List ℕ → Type 0

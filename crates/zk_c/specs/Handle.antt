@@ -1,5 +1,5 @@
 -- What the talk behind a handle does.
-use Rattle.std.specs.Prelude.{◌≡◌, ◌≢◌, ℕ, ◌<◌, ◌+◌, false, List, [], ◌++◌, length, drop, Option, Some, Result, Err, IfOk, IfErr, OnErr}
+use Rattle.std.specs.Prelude.{◌≡◌, ◌≢◌, ℕ, ◌<◌, ◌+◌, Bool, false, List, [], ◌++◌, length, drop, Option, Some, Result, Err, IfOk, IfErr, OnErr}
 use Rattle.zk_jute.specs.declared.fault.Reason.TheVariants.{NoMemory}
 use Rattle.zk_talk.specs.declared.message.Side.{Side}
 use Rattle.zk_talk.specs.declared.message.Fault.{Fault}
@@ -9,9 +9,11 @@ use Rattle.zk_talk.specs.declared.message.Ending.TheVariants.{Refused}
 use Rattle.zk_talk.specs.declared.limits.Limits.{Limits}
 use Rattle.zk_talk.specs.Held.{Message}
 use Rattle.zk_talk.specs.History.{History}
+use Rattle.zk_talk.specs.Conversation.{Conversation, number_waiting, load}
+use Rattle.zk_talk.specs.Fault.{rest_on}
 use Rattle.zk_talk.specs.Ending.{IsEnding}
-use Rattle.zk_talk.specs.Stands.{TalkState, Stands, Refuses, held_on, kept_on, frames_on}
-use Rattle.zk_talk.specs.Taking.{StepsOn, IsRefused, given_up}
+use Rattle.zk_talk.specs.Stands.{TalkState, Stands, Refuses, WhereItStands, held_on, kept_on, frames_on}
+use Rattle.zk_talk.specs.Taking.{StepsOn, PassesOn, IsRefused, given_up}
 use Rattle.zk_talk.specs.Viewed.{Shows, Leaves, other_side}
 use Rattle.zk_c.specs.declared.answer.StepAnswer.{StepAnswer}
 use Rattle.zk_c.specs.declared.answer.EndingAnswer.{EndingAnswer}
@@ -21,6 +23,8 @@ use Rattle.zk_talk.specs.Ranges.{AreLimits}
 use Rattle.zk_c.specs.Answer.{step_answer, ending_answer, no_message, message_answer, no_line}
 use Rattle.zk_c.specs.declared.answer.MessageAnswer.{MessageAnswer}
 use Rattle.zk_c.specs.declared.answer.LineAnswer.{LineAnswer}
+use Rattle.zk_c.specs.declared.counts.WaitingAnswer.{WaitingAnswer}
+use Rattle.zk_c.specs.declared.counts.HeldAnswer.{HeldAnswer}
 use Rattle.zk_asks.specs.Held.{ClientFrame}
 use Rattle.zk_asks.specs.Frames as asks
 use Rattle.zk_answers.specs.Held.{ServerFrame}
@@ -32,23 +36,37 @@ use Rattle.zk_c.specs.Read.{no_read, TellsClient, TellsServer}
 use Rattle.zk_lines.specs.Lines.{line}
 use Rattle.zk_lines.specs.Endings.{ending_text}
 
--- what `Talk::step` promises
-pub record IsStep (old : TalkState) (side : Side) (piece : List ℕ) (outcome : Result Stepped Fault) (new : TalkState) : Type 0 where
+-- what both `Talk::step` and `Talk::pass` promise; the bytes that were used did what `Goes` says
+pub record IsAdvanced (Goes : ℕ → Bool → Type 0) (old : TalkState) (side : Side) (piece : List ℕ)
+    (outcome : Result Stepped Fault) (new : TalkState) : Type 0 where
   pub limits : new.limits ≡ old.limits
-  pub ok : IfOk outcome (λ s. StepsOn old side piece s.used s.whole new)
+  pub ok : IfOk outcome (λ s. Goes s.used s.whole)
   pub exact : IfOk outcome (λ s. s.whole ≡ false → s.used ≡ length piece)
   pub other : Leaves (other_side side) old new
   pub err : IfErr outcome (λ e. (e.reason ≢ NoMemory) × IsRefused old side piece e new)
-  pub none : OnErr outcome (kept_on side new ≡ [])
   pub kept : (f : Fault) → old.fault ≡ Some f → (outcome ≡ Err f) × (new ≡ given_up side old)
 
--- the answer is that of a step of the talk, which goes on behind the handle
-pub record TellsStep (old : TalkState) (side : Side) (piece : List ℕ) (answer : StepAnswer) (after : Option TalkState) : Type 0 where
+-- what `Talk::step` promises
+pub record IsStep (old : TalkState) (side : Side) (piece : List ℕ) (outcome : Result Stepped Fault) (new : TalkState) : Type 0 where
+  pub advanced : IsAdvanced (λ used whole. StepsOn old side piece used whole new) old side piece outcome new
+  pub none : OnErr outcome (kept_on side new ≡ [])
+
+-- what `Talk::pass` promises
+pub record IsPass (old : TalkState) (side : Side) (piece : List ℕ) (outcome : Result Stepped Fault) (new : TalkState) : Type 0 where
+  pub advanced : IsAdvanced (λ used whole. PassesOn old side piece used whole new) old side piece outcome new
+  pub given_up : kept_on side new ≡ []
+
+-- a call that takes a piece of a side
+abbrev pub Call : Type 1
+Call = TalkState → Side → List ℕ → Result Stepped Fault → TalkState → Type 0
+
+-- the answer is that of such a call of the talk, which goes on behind the handle
+pub record Tells (Is : Call) (old : TalkState) (side : Side) (piece : List ℕ) (answer : StepAnswer) (after : Option TalkState) : Type 0 where
   pub outcome : Result Stepped Fault
   pub talk : TalkState
   pub held : after ≡ Some talk
   pub told : answer ≡ step_answer outcome
-  pub step : IsStep old side piece outcome talk
+  pub is : Is old side piece outcome talk
 
 -- the limits are these numbers
 pub record AreNumbers (c s w p : ℕ) (limits : Limits) : Type 0 where
@@ -89,6 +107,23 @@ pub record IsView (talk : TalkState) (side : Side) (answer : MessageAnswer) : Ty
   pub none : kept_on side talk ≡ [] → answer ≡ no_message 69
   pub some : (m : Message) → Shows talk side m → answer ≡ message_answer (size_held side talk) (frames_on side talk) m
   pub there : (kept_on side talk ≡ [] → ⊥) → (m : Message) × Shows talk side m
+
+-- how many requests wait for their replies after these frames, and what they weigh
+pub record AreWaiting (v : Conversation) (answer : WaitingAnswer) : Type 0 where
+  pub requests : answer.requests ≡ number_waiting v.client v.server
+  pub weight : answer.weight ≡ load v.client v.server
+
+-- the answer is what waits after the talk's history, or before the byte that decided its fault
+pub record IsWaiting (talk : TalkState) (answer : WaitingAnswer) : Type 0 where
+  pub well : answer.status ≡ 0
+  pub stands : WhereItStands talk (λ v client_rest server_rest. AreWaiting v answer)
+  pub refuses : (h : History) (M : List Message) (f : Fault) (r : Refuses talk h M f) → AreWaiting r.is.conversation answer
+
+-- the answer is the length of the frame that the side has begun, as far as it came
+pub record IsHeld (talk : TalkState) (side : Side) (answer : HeldAnswer) : Type 0 where
+  pub well : answer.status ≡ 0
+  pub bytes : answer.bytes ≡ length (held_on side talk)
+  pub stands : WhereItStands talk (λ v client_rest server_rest. answer.bytes ≡ length (rest_on side client_rest server_rest))
 
 -- the text is at the front of the room; or it doesn't fit, or memory is refused, and the room is as it was
 pub data TellsText (text before after : List ℕ) (answer : LineAnswer) : Type 0 where

@@ -42,7 +42,8 @@ pub record IsListed (limits : Limits) (pieces : List Piece) (bytes text : List �
 
 -- the answer is the listing under limits of these numbers, or that memory was refused
 pub data TellsListing (client server waiting profile : ℕ) (h : History) (before after : List ℕ) (answer : LineAnswer) : Type 0 where
-  told : (limits : Limits) (text : List ℕ) → AreNumbers client server waiting profile limits → IsListing limits h text → TellsText text before after answer → TellsListing client server waiting profile h before after answer
+  told : (limits : Limits) (text : List ℕ) → AreNumbers client server waiting profile limits → IsListing limits h text →
+      TellsText text before after answer → TellsListing client server waiting profile h before after answer
   lacks : answer ≡ no_line 5 → after ≡ before → TellsListing client server waiting profile h before after answer
 
 -- if the numbers are those of limits, the answer is the listing under them, or that memory was refused

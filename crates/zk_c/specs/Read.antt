@@ -46,13 +46,63 @@ room_status room count = if nat_le count room then 0 else 68
 
 -- the header's numbers, and how many fields there are
 abbrev pub client_read : ℕ → ℕ → ClientFrame → ReadAnswer
-client_read room count (Connect hello flag) = record { status = room_status room count; place = 0; count = count; kind = 1; xid = pos 0; operation = pos 0; err = pos 0; zxid = pos 0 }
-client_read room count (Ask xid a) = record { status = room_status room count; place = 0; count = count; kind = 2; xid = xid; operation = op_number (op_of_ask a); err = pos 0; zxid = pos 0 }
+client_read room count (Connect hello flag) =
+    record {
+      status = room_status room count;
+      place = 0;
+      count = count;
+      kind = 1;
+      xid = pos 0;
+      operation = pos 0;
+      err = pos 0;
+      zxid = pos 0;
+    }
+client_read room count (Ask xid a) =
+    record {
+      status = room_status room count;
+      place = 0;
+      count = count;
+      kind = 2;
+      xid = xid;
+      operation = op_number (op_of_ask a);
+      err = pos 0;
+      zxid = pos 0;
+    }
 
 abbrev pub server_read : ℕ → ℕ → ServerFrame → ReadAnswer
-server_read room count (Connected hello flag) = record { status = room_status room count; place = 0; count = count; kind = 3; xid = pos 0; operation = pos 0; err = pos 0; zxid = pos 0 }
-server_read room count (Answered r) = record { status = room_status room count; place = 0; count = count; kind = 4; xid = r.xid; operation = op_number (op_of_reply r); err = err_of r.outcome; zxid = r.zxid }
-server_read room count (Event zxid event) = record { status = room_status room count; place = 0; count = count; kind = 5; xid = negsuc 0; operation = pos 0; err = pos 0; zxid = zxid }
+server_read room count (Connected hello flag) =
+    record {
+      status = room_status room count;
+      place = 0;
+      count = count;
+      kind = 3;
+      xid = pos 0;
+      operation = pos 0;
+      err = pos 0;
+      zxid = pos 0;
+    }
+server_read room count (Answered r) =
+    record {
+      status = room_status room count;
+      place = 0;
+      count = count;
+      kind = 4;
+      xid = r.xid;
+      operation = op_number (op_of_reply r);
+      err = err_of r.outcome;
+      zxid = r.zxid;
+    }
+server_read room count (Event zxid event) =
+    record {
+      status = room_status room count;
+      place = 0;
+      count = count;
+      kind = 5;
+      xid = negsuc 0;
+      operation = pos 0;
+      err = pos 0;
+      zxid = zxid;
+    }
 
 -- the frame's fields are written, as many as there is room for, and the answer counts them all
 pub record TellsClient (f : ClientFrame) (before after : List Field) (answer : ReadAnswer) : Type 0 where
@@ -79,7 +129,16 @@ abbrev pub ask_head : List ℕ → ReadAnswer
 ask_head payload = record { status = 0; place = 0; count = 0; kind = 0; xid = int_there payload 0; operation = int_there payload 4; err = pos 0; zxid = pos 0 }
 
 abbrev pub answer_head : List ℕ → ReadAnswer
-answer_head payload = record { status = 0; place = 0; count = 0; kind = 0; xid = int_there payload 0; operation = pos 0; err = int_there payload 12; zxid = long_there payload 4 }
+answer_head payload = record {
+  status = 0;
+  place = 0;
+  count = 0;
+  kind = 0;
+  xid = int_there payload 0;
+  operation = pos 0;
+  err = int_there payload 12;
+  zxid = long_there payload 4;
+}
 
 -- by what it is read as; a request of no operation has a header too
 abbrev pub head_of : Option Opened → List ℕ → ReadAnswer
@@ -104,7 +163,8 @@ pub record TellsRefused (o : Option Opened) (payload : List ℕ) (fault : ItemFa
   pub told : answer ≡ refused_read (head_of o payload) fault answer.count
 
 -- the answer is a fault of this kind, never NoMemory, of a payload that is read as this
-pub record IsReadFault (Is : ℕ → Reason → Type 0) (IsOpened : Option Opened → Type 0) (payload : List ℕ) (before after : List Field) (answer : ReadAnswer) : Type 0 where
+pub record IsReadFault (Is : ℕ → Reason → Type 0) (IsOpened : Option Opened → Type 0) (payload : List ℕ)
+    (before after : List Field) (answer : ReadAnswer) : Type 0 where
   pub fault : ItemFault
   pub is : IsTold Is fault
   pub ample : fault.reason ≢ NoMemory
@@ -124,25 +184,30 @@ IsAskOf profile payload (Some o) = (op : Op) × (o ≡ opened.Ask op) × HasOp p
 -- ---- a payload is that of a message, whose fields are written; or its first fault is returned
 
 abbrev pub ConnectOrFault : List ℕ → List Field → List Field → ReadAnswer → Type 0
-ConnectOrFault payload before after answer = ((f : ClientFrame) × IsConnect payload f) ⊎ IsReadFault (IsFirstFault payload) (Just opened.First) payload before after answer
+ConnectOrFault payload before after answer = ((f : ClientFrame) × IsConnect payload f) ⊎
+    IsReadFault (IsFirstFault payload) (Just opened.First) payload before after answer
 
 abbrev pub ReadsRequest : Profile → List ℕ → List Field → List Field → ReadAnswer → Type 0
 ReadsRequest profile payload before after answer = (f : ClientFrame) → IsRequest profile payload f → TellsClient f before after answer
 
 abbrev pub RequestOrFault : Profile → List ℕ → List Field → List Field → ReadAnswer → Type 0
-RequestOrFault profile payload before after answer = ((f : ClientFrame) × IsRequest profile payload f) ⊎ IsReadFault (IsAskFault profile payload) (IsAskOf profile payload) payload before after answer
+RequestOrFault profile payload before after answer = ((f : ClientFrame) × IsRequest profile payload f) ⊎
+    IsReadFault (IsAskFault profile payload) (IsAskOf profile payload) payload before after answer
 
 abbrev pub WelcomeOrFault : List ℕ → List Field → List Field → ReadAnswer → Type 0
-WelcomeOrFault payload before after answer = ((s : ServerFrame) × IsWelcome payload s) ⊎ IsReadFault (IsConnectedFault payload) (Just opened.Connected) payload before after answer
+WelcomeOrFault payload before after answer = ((s : ServerFrame) × IsWelcome payload s) ⊎
+    IsReadFault (IsConnectedFault payload) (Just opened.Connected) payload before after answer
 
 abbrev pub ReadsReply : Op → List PartOp → List ℕ → List Field → List Field → ReadAnswer → Type 0
 ReadsReply op parts payload before after answer = (s : ServerFrame) → IsReply op parts payload s → TellsServer s before after answer
 
 abbrev pub ReplyOrFault : Op → List PartOp → List ℕ → List Field → List Field → ReadAnswer → Type 0
-ReplyOrFault op parts payload before after answer = ((s : ServerFrame) × IsReply op parts payload s) ⊎ IsReadFault (IsReplyFault op parts payload) (Just (opened.Reply op)) payload before after answer
+ReplyOrFault op parts payload before after answer = ((s : ServerFrame) × IsReply op parts payload s) ⊎
+    IsReadFault (IsReplyFault op parts payload) (Just (opened.Reply op)) payload before after answer
 
 abbrev pub NoticeOrFault : List ℕ → List Field → List Field → ReadAnswer → Type 0
-NoticeOrFault payload before after answer = ((s : ServerFrame) × IsNotice payload s) ⊎ IsReadFault (IsEventFault payload) (Just opened.Event) payload before after answer
+NoticeOrFault payload before after answer = ((s : ServerFrame) × IsNotice payload s) ⊎
+    IsReadFault (IsEventFault payload) (Just opened.Event) payload before after answer
 
 -- so it is of a payload whose places are numbers, and whose header, where it has one, isn't an event's
 abbrev pub WhereReply : ℤ → List ℤ → List ℕ → (Op → List PartOp → Type 0) → Type 0

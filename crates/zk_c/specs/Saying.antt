@@ -48,11 +48,16 @@ pub record IsRefusal (s : SpeakerState) (m : Message) (e : SayFault) : Type 0 wh
 -- what a call does with the text of a line
 pub data TellsSay (old : VoiceState) (text : List ℕ) (new : VoiceState) (answer : SayAnswer) : Type 0 where
   -- the line is this message's, which may be said after those that were said, and was said
-  said : (m : Message) → Fits m → text ≡ line m → new.speaker.limits ≡ old.speaker.limits → new.frame ≡ frame (payload_of m) → answer ≡ say_answer 0 (length new.frame) 0 → ((before : List Message) → Says old.speaker before → MaySay old.speaker.limits before m × Says new.speaker (before ++ m ∷ [])) → TellsSay old text new answer
+  said : (m : Message) → Fits m → text ≡ line m → new.speaker.limits ≡ old.speaker.limits →
+      new.frame ≡ frame (payload_of m) → answer ≡ say_answer 0 (length new.frame) 0 →
+      ((before : List Message) → Says old.speaker before →
+      MaySay old.speaker.limits before m × Says new.speaker (before ++ m ∷ [])) → TellsSay old text new answer
   -- the line is this message's, which is refused
-  refused : (m : Message) → Fits m → text ≡ line m → (e : SayFault) → new ≡ silent old → answer ≡ say_answer (say_number e) 0 0 → IsRefusal old.speaker m e → TellsSay old text new answer
+  refused : (m : Message) → Fits m → text ≡ line m → (e : SayFault) → new ≡ silent old →
+      answer ≡ say_answer (say_number e) 0 0 → IsRefusal old.speaker m e → TellsSay old text new answer
   -- the line is no message's, or memory was refused
-  no_line : (e : LineFault) → new ≡ silent old → answer ≡ say_answer (line_number e.reason) 0 e.column → ((m : Message) → Fits m → text ≡ line m → e.reason ≡ lines.NoMemory) → TellsSay old text new answer
+  no_line : (e : LineFault) → new ≡ silent old → answer ≡ say_answer (line_number e.reason) 0 e.column →
+      ((m : Message) → Fits m → text ≡ line m → e.reason ≡ lines.NoMemory) → TellsSay old text new answer
 
 -- the speaker behind the handle says the line
 pub record SaysLine (old : VoiceState) (text : List ℕ) (answer : SayAnswer) (after : Option VoiceState) : Type 0 where

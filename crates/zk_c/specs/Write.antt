@@ -16,7 +16,8 @@ written (Err (unwritten.Room size)) = record { status = 68; length = size; index
 
 -- the answer is that of writing what the fields say between these items
 abbrev pub TellsWritten : List Item → List Item → List ℕ → List Field → List ℕ → List ℕ → WriteAnswer → Type 0
-TellsWritten front behind content fields before after answer = (result : Result ℕ Unwritten) × Writes front behind content fields before result after × (answer ≡ written result)
+TellsWritten front behind content fields before after answer = (result : Result ℕ Unwritten) ×
+    Writes front behind content fields before result after × (answer ≡ written result)
 
 -- the answer is that of writing a message's own fields
 abbrev pub TellsAgain : ClientFrame → List ℕ → List Field → List ℕ → List ℕ → WriteAnswer → Type 0

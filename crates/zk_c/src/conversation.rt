@@ -1,9 +1,10 @@
 //! `Conversation`: a talk, and a buffer for the lines of its messages.
 ghost use Rattle.std.specs.Prelude.{◌≡◌, [], IfOk};
 ghost use Rattle.zk_talk.specs.Stands.{Stands};
-ghost use Rattle.zk_c.specs.Handle.{IsStep, IsFinish, IsView, IsLine, IsEndingLine, IsFields, IsPayload};
+ghost use Rattle.zk_c.specs.Handle.{IsStep, IsPass, IsFinish, IsView, IsLine, IsEndingLine, IsFields, IsPayload, IsWaiting, IsHeld};
 
 use crate::answer::{LineAnswer, MessageAnswer};
+use crate::counts::{HeldAnswer, WaitingAnswer};
 use crate::number::{NO_MEMORY, NO_MESSAGE};
 use crate::read_answer::{ReadAnswer, read_client, read_server};
 use std::alloc::{AllocError, Global};
@@ -48,6 +49,31 @@ impl Conversation {
         ensures { IsStep self.old side piece.now result self.new }
     {
         self.talk.step(side, piece)
+    }
+
+    /// Takes the piece up to the end of the first frame that becomes whole, or all of it, and keeps no frame.
+    ///
+    /// # Errors
+    ///
+    /// Those of `Talk::pass`.
+    pub fn pass(&mut self, side: Side, piece: &[u8]) -> Result<Stepped, Fault>
+        ensures { IsPass self.old side piece.now result self.new }
+    {
+        self.talk.pass(side, piece)
+    }
+
+    /// How many requests wait for their replies.
+    pub fn waiting(&self) -> WaitingAnswer
+        ensures { IsWaiting self.now result }
+    {
+        WaitingAnswer::of(self.talk.requests(), self.talk.waiting())
+    }
+
+    /// How many bytes of the side are held of a frame that isn't whole.
+    pub fn held(&self, side: Side) -> HeldAnswer
+        ensures { IsHeld self.now side result }
+    {
+        HeldAnswer::of(self.talk.begun(side))
     }
 
     /// How the history so far ends.

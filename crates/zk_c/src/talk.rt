@@ -5,12 +5,13 @@ ghost use Rattle.zk_talk.specs.declared.message.Side.{Side};
 ghost use Rattle.zk_records.specs.declared.profile.Profile.{Profile};
 ghost use Rattle.zk_talk.specs.Stands.{TalkState};
 ghost use Rattle.zk_c.specs.Numbers.{side_of};
-ghost use Rattle.zk_c.specs.Answer.{no_step, no_ending, no_message, no_line};
-ghost use Rattle.zk_c.specs.Handle.{AreNumbers, IsNew, TellsStep, TellsEnding, IsView, IsLine, IsEndingLine, IsFields, IsPayload, AreNoLimits};
+ghost use Rattle.zk_c.specs.Answer.{no_step, no_ending, no_message, no_line, no_waiting, no_held};
+ghost use Rattle.zk_c.specs.Handle.{AreNumbers, IsNew, Tells, IsStep, IsPass, TellsEnding, IsView, IsLine, IsEndingLine, IsFields, IsPayload, IsWaiting, IsHeld, AreNoLimits};
 ghost use Rattle.zk_c.specs.Read.{no_read};
 
 use crate::answer::{EndingAnswer, LineAnswer, MessageAnswer, StepAnswer};
 use crate::conversation::Conversation;
+use crate::counts::{HeldAnswer, WaitingAnswer};
 use crate::loose::Loose;
 use crate::number::{EMPTY, IN_USE, NO_MEMORY, RANGE, WELL, side_of};
 use crate::read_answer::ReadAnswer;
@@ -131,7 +132,7 @@ pub extern "C" fn zk_talk_step(
     // With no talk there is no step.
     ensures empty { handle.old.held.value ≡ None → IsSome (side_of side) → (result ≡ no_step 65) × (handle.new.held.value ≡ None) }
     // The talk makes the step, and stays behind the handle.
-    ensures step { (s : Side) (t : TalkState) → side_of side ≡ Some s → handle.old.held.value ≡ Some t → TellsStep t s piece.now result handle.new.held.value }
+    ensures step { (s : Side) (t : TalkState) → side_of side ≡ Some s → handle.old.held.value ≡ Some t → Tells IsStep t s piece.now result handle.new.held.value }
 {
     let Some(side) = side_of(side) else {
         return StepAnswer::none(RANGE);
@@ -140,6 +141,32 @@ pub extern "C" fn zk_talk_step(
         return StepAnswer::none(EMPTY);
     };
     let answer = StepAnswer::of(talk.step(side, piece));
+    handle.put(talk);
+    answer
+}
+
+/// Takes the piece's bytes as `zk_talk_step` does, and keeps no frame.
+#[unsafe(no_mangle)]
+pub extern "C" fn zk_talk_pass(
+    alloc: Global,
+    handle: &mut TalkHandle,
+    side: u32,
+    piece: &[u8],
+) -> StepAnswer
+    // A number that is no side's changes nothing.
+    ensures range { side_of side ≡ None → (result ≡ no_step 67) × (handle.new ≡ handle.old) }
+    // With no talk no byte is used.
+    ensures empty { handle.old.held.value ≡ None → IsSome (side_of side) → (result ≡ no_step 65) × (handle.new.held.value ≡ None) }
+    // The talk passes over the bytes, and stays behind the handle.
+    ensures pass { (s : Side) (t : TalkState) → side_of side ≡ Some s → handle.old.held.value ≡ Some t → Tells IsPass t s piece.now result handle.new.held.value }
+{
+    let Some(side) = side_of(side) else {
+        return StepAnswer::none(RANGE);
+    };
+    let Some(mut talk) = handle.take(alloc) else {
+        return StepAnswer::none(EMPTY);
+    };
+    let answer = StepAnswer::of(talk.pass(side, piece));
     handle.put(talk);
     answer
 }
@@ -247,6 +274,47 @@ pub extern "C" fn zk_talk_payload(
         return LineAnswer::none(EMPTY);
     };
     let answer = talk.payload(side, out);
+    handle.put(talk);
+    answer
+}
+
+/// How many requests of the history so far wait for their replies, and what they weigh.
+#[unsafe(no_mangle)]
+pub extern "C" fn zk_talk_waiting(alloc: Global, handle: &mut TalkHandle) -> WaitingAnswer
+    // With no talk nothing waits.
+    ensures empty { handle.old.held.value ≡ None → result ≡ no_waiting 65 }
+    // The requests are the talk's.
+    ensures waiting { (t : TalkState) → handle.old.held.value ≡ Some t → IsWaiting t result }
+    // The talk stays as it is.
+    ensures same { handle.new.held.value ≡ handle.old.held.value }
+{
+    let Some(talk) = handle.take(alloc) else {
+        return WaitingAnswer::none(EMPTY);
+    };
+    let answer = talk.waiting();
+    handle.put(talk);
+    answer
+}
+
+/// How many bytes of the side are held of a frame that isn't whole.
+#[unsafe(no_mangle)]
+pub extern "C" fn zk_talk_held(alloc: Global, handle: &mut TalkHandle, side: u32) -> HeldAnswer
+    // A number that is no side's is refused.
+    ensures range { side_of side ≡ None → result ≡ no_held 67 }
+    // With no talk nothing is held.
+    ensures empty { handle.old.held.value ≡ None → IsSome (side_of side) → result ≡ no_held 65 }
+    // The bytes are the talk's.
+    ensures held { (s : Side) (t : TalkState) → side_of side ≡ Some s → handle.old.held.value ≡ Some t → IsHeld t s result }
+    // The talk stays as it is.
+    ensures same { handle.new.held.value ≡ handle.old.held.value }
+{
+    let Some(side) = side_of(side) else {
+        return HeldAnswer::none(RANGE);
+    };
+    let Some(talk) = handle.take(alloc) else {
+        return HeldAnswer::none(EMPTY);
+    };
+    let answer = talk.held(side);
     handle.put(talk);
     answer
 }
