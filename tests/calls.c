@@ -161,7 +161,7 @@ static void step(struct played *it) {
     must(step.status == ZK_WELL || !step.whole, "a whole frame that is refused");
     must((step.fault.reason != 0) == (step.status != ZK_WELL && step.status <= ZK_STREAM_END), "a fault");
     if (step.status != ZK_WELL || !next) it->broken = true;
-    else if ((it->used += step.used) == pieces[it->recording->first + it->piece].length) {
+    else if ((it->used += step.used) >= pieces[it->recording->first + it->piece].length) { /* damage may add bytes */
         it->used = 0;
         it->piece++;
     }
