@@ -353,8 +353,8 @@ struct zk_read zk_read_event(const uint8_t *payload, size_t length, struct zk_fi
  * and where the status isn't ZK_WELL the room is unchanged; it doesn't overlap the content.
  *
  * Whether a frame may come next is judged by a talk: give it to zk_talk_step as the client's bytes, send it if the step
- * is ZK_WELL, and give the talk all that the server sends. So one talk judges both sides, names the request of each
- * reply, and its queue empties as replies come. examples/client_frames.c does this. */
+ * is ZK_WELL, and give the talk all that the server sends. So one talk judges both sides, gives each reply its
+ * request's operation, and its queue empties as replies come. examples/client_frames.c does this. */
 struct zk_written zk_write_request(int32_t xid, int32_t operation, const struct zk_field *fields, size_t count, const uint8_t *content, size_t length, uint8_t *out, size_t room);
 
 /* The same for a connect request, which has no header. */

@@ -27,9 +27,9 @@
 //! memory and written at once. A builder's contract holds for every list of lines that it may have taken, so its calls
 //! compose.
 //!
-//! **`migrate` holds one buffer**: what a block made whole, which is written before the next read, and then the piece
-//! that is begun. A piece without a time gets it with its first byte, so nothing is moved. If memory runs out within a
-//! block, its pieces are not written.
+//! **`migrate` puts what it writes into one buffer**: what a block made whole, which is written before the next read,
+//! and then the piece that is begun, which is copied to a second buffer once the first is written. A piece without a
+//! time gets it with its first byte. If memory runs out within a block, its pieces are not written.
 //!
 //! **`Limits::new` judges the numbers of the command line**, so a number out of range cannot reach a command. Words
 //! that the system cannot give as texts `main` refuses by itself (`refuse`). These are three crates and not one, so
