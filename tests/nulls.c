@@ -4,6 +4,16 @@
 
 #include <stdio.h>
 
+static const uint8_t byte = 0;
+static const int32_t part = 1;
+static const struct zk_piece piece = {ZK_CLIENT, 1};
+static const uint8_t ping[] = {0xff, 0xff, 0xff, 0xfe, 0, 0, 0, 11};
+static const uint8_t exists[] = {0, 0, 0, 1, 0, 0, 0, 3, 0, 0, 0, 2, '/', 'a', 0};
+static const size_t room = 1, most = (size_t)PTRDIFF_MAX, more = (size_t)PTRDIFF_MAX + 1;
+static uint8_t out[1] = {7};
+static struct zk_field field = {7, 7, 7, 7, 7, 7};
+static struct zk_talk talk = ZK_ZEROS;
+static struct zk_speaker speaker = ZK_ZEROS;
 static int failures;
 
 static void expect(const char *call, uint32_t status, uint32_t expected) {
@@ -13,19 +23,7 @@ static void expect(const char *call, uint32_t status, uint32_t expected) {
     }
 }
 
-int main(void) {
-    const uint8_t byte = 0;
-    const int32_t part = 1;
-    const struct zk_piece piece = {ZK_CLIENT, 1};
-    const uint8_t ping[] = {0xff, 0xff, 0xff, 0xfe, 0, 0, 0, 11};
-    const uint8_t exists[] = {0, 0, 0, 1, 0, 0, 0, 3, 0, 0, 0, 2, '/', 'a', 0};
-    uint8_t out[1] = {7};
-    const size_t room = sizeof out, most = (size_t)PTRDIFF_MAX, more = most + 1;
-    struct zk_field field = {7, 7, 7, 7, 7, 7};
-    struct zk_talk talk = ZK_ZEROS;
-    struct zk_speaker speaker = ZK_ZEROS;
-    struct zk_step step;
-
+static void handles_that_are_null(void) {
     expect("zk_talk_new", zk_talk_new(NULL, 64, 64, 1, 34), ZK_NULL);
     expect("zk_talk_step", zk_talk_step(NULL, ZK_CLIENT, &byte, 1).status, ZK_NULL);
     expect("zk_talk_pass", zk_talk_pass(NULL, ZK_CLIENT, &byte, 1).status, ZK_NULL);
@@ -42,6 +40,10 @@ int main(void) {
     expect("zk_speaker_say", zk_speaker_say(NULL, &byte, 1).status, ZK_NULL);
     expect("zk_speaker_frame", zk_speaker_frame(NULL, out, room).status, ZK_NULL);
     zk_speaker_free(NULL);
+}
+
+static void pieces(void) {
+    struct zk_step step;
 
     expect("zk_talk_new, well", zk_talk_new(&talk, 64, 64, 1, 34), ZK_WELL);
     expect("zk_talk_step, null", zk_talk_step(&talk, ZK_CLIENT, NULL, 1).status, ZK_NULL);
@@ -56,6 +58,9 @@ int main(void) {
     expect("zk_talk_pass, no bytes, no side", zk_talk_pass(&talk, 2, NULL, 0).status, ZK_RANGE);
     expect("zk_talk_pass, too long", zk_talk_pass(&talk, ZK_CLIENT, &byte, more).status, ZK_RANGE);
     expect("zk_talk_held, no side", zk_talk_held(&talk, 2).status, ZK_RANGE);
+}
+
+static void messages(void) {
     expect("zk_talk_line, null", zk_talk_line(&talk, ZK_CLIENT, NULL, 1).status, ZK_NULL);
     expect("zk_talk_line, no room", zk_talk_line(&talk, ZK_CLIENT, NULL, 0).status, ZK_NO_MESSAGE);
     expect("zk_talk_line, too long", zk_talk_line(&talk, ZK_CLIENT, out, more).status, ZK_RANGE);
@@ -79,7 +84,9 @@ int main(void) {
     expect("zk_talk_pass, no talk", zk_talk_pass(&talk, ZK_CLIENT, &byte, 1).status, ZK_EMPTY);
     expect("zk_talk_waiting, no talk", zk_talk_waiting(&talk).status, ZK_EMPTY);
     expect("zk_talk_held, no talk", zk_talk_held(&talk, ZK_CLIENT).status, ZK_EMPTY);
+}
 
+static void speakers(void) {
     expect("zk_speaker_new, well", zk_speaker_new(&speaker, 64, 64, 1, 34), ZK_WELL);
     expect("zk_speaker_say, null", zk_speaker_say(&speaker, NULL, 1).status, ZK_NULL);
     expect("zk_speaker_say, no line", zk_speaker_say(&speaker, NULL, 0).status, ZK_LINE_WORD);
@@ -90,7 +97,9 @@ int main(void) {
     expect("zk_speaker_frame, no frame", (uint32_t)zk_speaker_frame(&speaker, out, room).length, 0);
     expect("zk_speaker_frame, too long", zk_speaker_frame(&speaker, out, more).status, ZK_RANGE);
     zk_speaker_free(&speaker);
+}
 
+static void judged_payloads(void) {
     expect("zk_judge_first, null", zk_judge_first(NULL, 1).status, ZK_NULL);
     expect("zk_judge_first, no bytes", zk_judge_first(NULL, 0).status, ZK_SHORT);
     expect("zk_judge_request, null", zk_judge_request(34, NULL, 1).status, ZK_NULL);
@@ -108,6 +117,9 @@ int main(void) {
     expect("zk_judge_reply, nothing", zk_judge_reply(14, NULL, 0, NULL, 0).status, ZK_SHORT);
     expect("zk_judge_reply, too many parts", zk_judge_reply(14, &part, most / 4 + 1, &byte, 1).status, ZK_RANGE);
     expect("zk_judge_reply, no byte", zk_judge_reply(14, &part, 1, &byte, 0).status, ZK_SHORT);
+}
+
+static void read_payloads(void) {
     expect("zk_read_first, null", zk_read_first(NULL, 1, &field, 1).status, ZK_NULL);
     expect("zk_read_first, null room", zk_read_first(&byte, 1, NULL, 1).status, ZK_NULL);
     expect("zk_read_first, no bytes", zk_read_first(NULL, 0, &field, 1).status, ZK_SHORT);
@@ -122,6 +134,9 @@ int main(void) {
     expect("zk_read_reply, null", zk_read_reply(14, &part, 1, NULL, 1, &field, 1).status, ZK_NULL);
     expect("zk_read_event, no byte", zk_read_event(&byte, 0, &field, 1).status, ZK_SHORT);
     expect("the field", field.place, 7);
+}
+
+static void written_frames(void) {
     expect("zk_write_first, null fields", zk_write_first(NULL, 1, &byte, 1, out, room).status, ZK_NULL);
     expect("zk_write_first, null", zk_write_first(&field, 1, NULL, 1, out, room).status, ZK_NULL);
     expect("zk_write_first, null room", zk_write_first(&field, 1, &byte, 1, NULL, 1).status, ZK_NULL);
@@ -129,6 +144,9 @@ int main(void) {
     expect("zk_write_request, nothing", zk_write_request(1, 11, NULL, 0, NULL, 0, NULL, 0).status, ZK_ROOM);
     expect("zk_write_request, nothing, length", (uint32_t)zk_write_request(1, 11, NULL, 0, NULL, 0, NULL, 0).length, 12);
     expect("zk_write_request, too many fields", zk_write_request(1, 3, &field, most / sizeof field + 1, &byte, 1, out, room).status, ZK_RANGE);
+}
+
+static void listings(void) {
     expect("zk_listing, null pieces", zk_listing(NULL, 1, &byte, 1, 64, 64, 1, 34, out, room).status, ZK_NULL);
     expect("zk_listing, null", zk_listing(&piece, 1, NULL, 1, 64, 64, 1, 34, out, room).status, ZK_NULL);
     expect("zk_listing, null room", zk_listing(&piece, 1, &byte, 1, 64, 64, 1, 34, NULL, 1).status, ZK_NULL);
@@ -138,6 +156,17 @@ int main(void) {
     expect("zk_listing, nothing", zk_listing(NULL, 0, NULL, 0, 64, 64, 1, 34, NULL, 0).status, ZK_ROOM);
     expect("zk_listing, too many pieces", zk_listing(&piece, most / 16 + 1, &byte, 1, 64, 64, 1, 34, out, room).status, ZK_RANGE);
     expect("zk_listing, too small", zk_listing(&piece, 1, &byte, 1, 64, 64, 1, 34, out, room).status, ZK_ROOM);
+}
+
+int main(void) {
+    handles_that_are_null();
+    pieces();
+    messages();
+    speakers();
+    judged_payloads();
+    read_payloads();
+    written_frames();
+    listings();
     expect("the room", out[0], 7);
     return failures != 0;
 }
