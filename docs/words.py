@@ -25,6 +25,9 @@ TOP = pathlib.Path(__file__).resolve().parent.parent
 # The greatest number of words of a page, and of all of docs/; and of words in one sentence.
 WORDS = {"README.md": 1300, "docs/DECISIONS.md": 3000, "docs/MUST_FAIL.md": 1500, "docs/": 22000}
 SHORT, LONG = 40, 60
+
+# The page of what was measured and changed for speed, which docs/ is counted without.
+FIGURES = "docs/PERF.md"
 PLAIN = {"README.md": SHORT, "tools/README.md": SHORT, "docs/LIBRARY.md": SHORT}
 
 # Words that are rarely the plainest, and how often all pages together may have them.
@@ -129,7 +132,7 @@ def in_scripts():
 def judged(texts):
     """What is wrong."""
     sizes = {name_of(path): len(GENERATED.sub("", text).split()) for path, text in texts.items()}
-    sizes["docs/"] = sum(size for name, size in sizes.items() if name.startswith("docs/"))
+    sizes["docs/"] = sum(size for name, size in sizes.items() if name.startswith("docs/") and name != FIGURES)
     for name, limit in WORDS.items():
         if sizes[name] > limit:
             yield f"{name}: {sizes[name]} words, and at most {limit} are allowed"
