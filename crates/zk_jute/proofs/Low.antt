@@ -1,9 +1,9 @@
--- Bytes whose high bit is not set, sixteen at a time.
+-- Bytes whose high bit is not set, a block at a time.
 use Rattle.std.proofs.Common.{◌≡◌, ℕ, zero, suc, ◌+◌, ◌-◌, ◌%◌, ◌^◌, ◌<◌, ◌≤◌, Bool, true, false, cond, eqb, leb, List, [], ◌∷◌, map, length, get_or, take, drop, replicate, refl, sym, ap, subst, ◌∙◌, inl, inr, arith, get_or-drop, get_or-take}
 use Rattle.std.specs.Str.{IsAscii}
 use Rattle.std.proofs.lemmas.Bool.{cases_lt, leb-false, eqb-true}
 use Rattle.std.proofs.lemmas.List.{length-map, get_or_past}
-use Rattle.std.proofs.lemmas.Simd.{length-zip2, mask_l-mod}
+use Rattle.std.proofs.lemmas.Simd.{length-zip2, length-replicate, mask_l-mod}
 use lib.Lanes.{zip2, mask_l, top}
 use Rattle.simdutf8.proofs.Lanes.{at_least}
 
@@ -16,10 +16,10 @@ none_high (x ∷ xs) e zero = go (leb 128 x) refl (omega arith)
     go false p q = leb-false _ _ p
 none_high (x ∷ xs) e (suc i) = none_high xs (omega arith) i
 
-pub low_of_mask : (xs : List ℕ) → length xs ≡ 16 → eqb (mask_l (map (top 7) (zip2 at_least (replicate 16 128) xs)) % 2 ^ 64) 0 ≡ true → (i : ℕ) → get_or xs i 0 < 128
-low_of_mask xs long e =
+pub low_of_mask : (n : ℕ) (xs : List ℕ) → length xs ≡ n → n ≤ 64 → eqb (mask_l (map (top 7) (zip2 at_least (replicate n 128) xs)) % 2 ^ 64) 0 ≡ true → (i : ℕ) → get_or xs i 0 < 128
+low_of_mask n xs long small e =
     none_high xs (ap (λ n. mask_l (map (top 7) (zip2 at_least (replicate n 128) xs))) long
-    ∙ sym (mask_l-mod _ 64 (omega (arith, length-map (zip2 at_least (replicate 16 128) xs) (top 7), length-zip2 at_least (replicate 16 128) xs (sym long)))) ∙ eqb-true _ _ e)
+    ∙ sym (mask_l-mod _ 64 (omega (arith, length-map (zip2 at_least (replicate n 128) xs) (top 7), length-zip2 at_least (replicate n 128) xs (length-replicate n 128 ∙ sym long), length-replicate {A = ℕ} n 128))) ∙ eqb-true _ _ e)
 
 -- low bytes in front, and low bytes at the end that meet them
 pub low_ends : (bytes : List ℕ) (at n : ℕ) → IsAscii (take at bytes) → IsAscii (take n (drop (length bytes - n) bytes)) → length bytes ≤ at + n → n ≤ length bytes → IsAscii bytes

@@ -13,4 +13,5 @@ pub mod Flagged
 pub mod Held
 pub mod Standing
 pub mod Shown
+pub mod Follow
 pub mod Once

@@ -1,5 +1,5 @@
-//! Tests whether bytes are ASCII, sixteen at a time.
-ghost use Rattle.std.specs.Prelude.{IsTrue};
+//! Tests whether bytes are ASCII, sixteen, eight or four at a time.
+ghost use Rattle.std.specs.Prelude.{◌≤◌, length, IsTrue};
 ghost use Rattle.std.specs.Str.{IsAscii};
 
 use std::simd::prelude::*;
@@ -12,13 +12,45 @@ fn is_low(block: u8x16) -> bool
     block.simd_ge(u8x16::splat(0x80)).to_bitmask() == 0
 }
 
+/// The same of eight bytes.
+#[inline(always)]
+fn is_low_8(block: u8x8) -> bool
+    ensures { IsTrue result → IsAscii block }
+{
+    block.simd_ge(u8x8::splat(0x80)).to_bitmask() == 0
+}
+
+/// The same of four bytes.
+#[inline(always)]
+fn is_low_4(block: u8x4) -> bool
+    ensures { IsTrue result → IsAscii block }
+{
+    block.simd_ge(u8x4::splat(0x80)).to_bitmask() == 0
+}
+
+/// Whether each byte is ASCII, of less than sixteen. The second block overlaps the first.
+#[inline(always)]
+fn is_plain_few(bytes: &[u8]) -> bool
+    requires { length bytes.now ≤ 16 }
+    ensures { IsTrue result → IsAscii bytes.now }
+{
+    let end = bytes.len();
+    if end >= 8 {
+        is_low_8(u8x8::from_slice(bytes)) && is_low_8(u8x8::from_slice(&bytes[end - 8..]))
+    } else if end >= 4 {
+        is_low_4(u8x4::from_slice(bytes)) && is_low_4(u8x4::from_slice(&bytes[end - 4..]))
+    } else {
+        bytes.is_ascii()
+    }
+}
+
 /// Whether each byte is ASCII. The last block overlaps the one before it.
 #[inline(always)]
 pub(crate) fn is_plain(bytes: &[u8]) -> bool
     ensures { IsTrue result → IsAscii bytes.now }
 {
     if bytes.len() < 16 {
-        return bytes.is_ascii();
+        return is_plain_few(bytes);
     }
     let last = bytes.len() - 16;
     let mut at = 0;

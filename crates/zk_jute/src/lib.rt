@@ -65,6 +65,7 @@ mod series;
 mod shown;
 mod stands;
 mod text;
+mod utf8;
 mod value;
 mod wire;
 
