@@ -15,3 +15,4 @@ pub mod Standing
 pub mod Shown
 pub mod Follow
 pub mod Once
+pub mod Ends

@@ -7,6 +7,7 @@
 //! - `Wire::read` reads an owned value, and `read_ref` one that borrows its texts, blobs and lists from the payload.
 //!   Both run the same code, `Stands::decode`, over an `Origin`: `Kept` (copies), `Payload` (borrows) or `KnownPayload`
 //!   (borrows from what is already judged, without judging it again).
+//! - `Ends::end_at` finds where a value ends in a payload, and makes no value.
 //! - `Spell::write` writes a value; `Spell::size_within` counts its bytes.
 //! - A payload that is refused has an `ItemFault`: the first byte that no value has there, and the reason.
 //!
@@ -53,6 +54,7 @@
 
 mod ascii;
 mod at;
+mod ends;
 mod fault;
 mod list;
 mod number;
@@ -70,6 +72,7 @@ mod value;
 mod wire;
 
 pub use at::{known_at, scan};
+pub use ends::Ends;
 pub use fault::{ItemFault, Reason, reason_name};
 pub use number::{bool_at, int_at, long_at};
 pub use origin::{Kept, KnownPayload, Origin, Payload, PayloadOf};
