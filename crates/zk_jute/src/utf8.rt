@@ -1,7 +1,7 @@
 //! Tests whether short bytes are UTF-8, sixteen at a time: each by a look-up of the pair that it ends, and by the two
 //! bytes before that. It stands for `simdutf8`, which judges less than 64 bytes one by one.
 //!
-//! After Keiser and Lemire, "Validating UTF-8 In Less Than One Instruction Per Byte"; the tables are those of `simdutf8`.
+//! After Keiser and Lemire, "Validating UTF-8 In Less Than One Instruction Per Byte", whose tables these are.
 ghost use Rattle.std.specs.Prelude.{◌≡◌, ℕ, suc, ◌-◌, ◌<◌, ◌≤◌, ◌∷◌, ◌++◌, length, map, replicate, slice_index, IsTrue, IsUtf8};
 ghost use Rattle.simdutf8.specs.Classes.{IsClass};
 ghost use Rattle.simdutf8.specs.Steps.{AreZero};
