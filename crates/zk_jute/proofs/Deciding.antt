@@ -3,7 +3,7 @@ use Rattle.std.proofs.Common.{◌≡◌, ℕ, ◌+◌, ◌≤◌, ◌⊎◌, inl
 use Rattle.std.proofs.lemmas.List.{append-nil}
 use Rattle.zk_jute.specs.declared.fault.Reason.{Reason}
 use Rattle.zk_jute.specs.declared.fault.Reason.TheVariants.{Trailing}
-use Rattle.zk_jute.specs.Item.{Item, ABoolean, bytes_of}
+use Rattle.zk_jute.specs.Item.{Item, bytes_of}
 use Rattle.zk_jute.specs.Layout.{Layout, IsValueOf}
 use Rattle.zk_jute.specs.Faults.{IsFault}
 use Rattle.zk_jute.specs.Reading.{Fault, Read, Fails, told, told_fault, items_at}
