@@ -3,9 +3,9 @@ ghost use Rattle.std.specs.Prelude.{◌≡◌, refl};
 ghost use Rattle.zk_records.specs.Records.{id, acl, id_of, acl_of};
 ghost use Rattle.zk_records.specs.Shown.{acl_value, acl_is_value};
 
-use crate::fields::{decode, fields};
+use crate::fields::{decode, ends, fields};
 use zk_jute::{
-    Element, Form, ItemFault, Origin, Output, Series, Spell, Stands, Text, TextRef, Wire,
+    Element, Ends, Form, ItemFault, Origin, Output, Series, Spell, Stands, Text, TextRef, Wire,
 };
 
 /// Someone under a scheme of authentication: `Id`.
@@ -38,6 +38,13 @@ impl<T: Form> Form for IdOf<T> {
 impl<P: Origin, T: Stands<P>> Stands<P> for IdOf<T> {
     fn decode(src: &P, place: usize) -> Result<(Self, usize), ItemFault> {
         decode!(src, place => IdOf { scheme, ident })
+    }
+}
+
+impl<T: Ends> Ends for IdOf<T> {
+    #[inline(always)]
+    fn end_at(payload: &[u8], place: usize) -> Option<usize> {
+        ends!(payload, place => T, T)
     }
 }
 
@@ -75,6 +82,13 @@ impl<W: Form> Form for AclOf<W> {
 impl<P: Origin, W: Stands<P>> Stands<P> for AclOf<W> {
     fn decode(src: &P, place: usize) -> Result<(Self, usize), ItemFault> {
         decode!(src, place => AclOf { perms, who })
+    }
+}
+
+impl<W: Ends> Ends for AclOf<W> {
+    #[inline(always)]
+    fn end_at(payload: &[u8], place: usize) -> Option<usize> {
+        ends!(payload, place => i32, W)
     }
 }
 

@@ -6,9 +6,9 @@ ghost use Rattle.std.specs.Prelude.{◌≡◌, refl};
 ghost use Rattle.zk_records.specs.Records.{create_ask, delete_ask, set_data_ask, set_acl_ask, check_ask, create_ask_of, delete_ask_of, set_data_ask_of, set_acl_ask_of, check_ask_of};
 
 use crate::acl::{Acl, AclList};
-use crate::fields::{decode, fields};
+use crate::fields::{decode, ends, fields};
 use zk_jute::{
-    Blob, BlobRef, Form, ItemFault, List, Origin, Output, Spell, Stands, Text, TextRef, Wire,
+    Blob, BlobRef, Ends, Form, ItemFault, List, Origin, Output, Spell, Stands, Text, TextRef, Wire,
 };
 
 /// Creates a node: `CreateRequest`.
@@ -49,6 +49,13 @@ impl<P: Origin, T: Stands<P>, B: Stands<P>, A: Stands<P>> Stands<P> for CreateAs
     }
 }
 
+impl<T: Ends, B: Ends, A: Ends> Ends for CreateAskOf<T, B, A> {
+    #[inline(always)]
+    fn end_at(payload: &[u8], place: usize) -> Option<usize> {
+        ends!(payload, place => T, B, A, i32)
+    }
+}
+
 impl Wire for CreateAsk {
     ghost written = { refl };
 }
@@ -84,6 +91,13 @@ impl<P: Origin, T: Stands<P>> Stands<P> for DeleteAskOf<T> {
     #[inline(always)]
     fn decode(src: &P, place: usize) -> Result<(Self, usize), ItemFault> {
         decode!(src, place => DeleteAskOf { path, version })
+    }
+}
+
+impl<T: Ends> Ends for DeleteAskOf<T> {
+    #[inline(always)]
+    fn end_at(payload: &[u8], place: usize) -> Option<usize> {
+        ends!(payload, place => T, i32)
     }
 }
 
@@ -127,6 +141,13 @@ impl<P: Origin, T: Stands<P>, B: Stands<P>> Stands<P> for SetDataAskOf<T, B> {
     }
 }
 
+impl<T: Ends, B: Ends> Ends for SetDataAskOf<T, B> {
+    #[inline(always)]
+    fn end_at(payload: &[u8], place: usize) -> Option<usize> {
+        ends!(payload, place => T, B, i32)
+    }
+}
+
 impl Wire for SetDataAsk {
     ghost written = { refl };
 }
@@ -167,6 +188,13 @@ impl<P: Origin, T: Stands<P>, A: Stands<P>> Stands<P> for SetAclAskOf<T, A> {
     }
 }
 
+impl<T: Ends, A: Ends> Ends for SetAclAskOf<T, A> {
+    #[inline(always)]
+    fn end_at(payload: &[u8], place: usize) -> Option<usize> {
+        ends!(payload, place => T, A, i32)
+    }
+}
+
 impl Wire for SetAclAsk {
     ghost written = { refl };
 }
@@ -202,6 +230,13 @@ impl<P: Origin, T: Stands<P>> Stands<P> for CheckAskOf<T> {
     #[inline(always)]
     fn decode(src: &P, place: usize) -> Result<(Self, usize), ItemFault> {
         decode!(src, place => CheckAskOf { path, version })
+    }
+}
+
+impl<T: Ends> Ends for CheckAskOf<T> {
+    #[inline(always)]
+    fn end_at(payload: &[u8], place: usize) -> Option<usize> {
+        ends!(payload, place => T, i32)
     }
 }
 

@@ -5,11 +5,11 @@ ghost use Rattle.std.specs.Prelude.{◌≡◌, refl};
 ghost use Rattle.zk_records.specs.Records.{data_body, acl_body, children_body, create_body, data_body_of, acl_body_of, children_body_of, create_body_of};
 
 use crate::acl::{Acl, AclList};
-use crate::fields::{decode, fields};
+use crate::fields::{decode, ends, fields};
 use crate::stat::Stat;
 use zk_jute::{
-    Blob, BlobRef, Form, ItemFault, List, Origin, Output, Spell, Stands, Text, TextList, TextRef,
-    Wire,
+    Blob, BlobRef, Ends, Form, ItemFault, List, Origin, Output, Spell, Stands, Text, TextList,
+    TextRef, Wire,
 };
 
 /// A node's data, and its `Stat`: `GetDataResponse`.
@@ -43,6 +43,13 @@ impl<P: Origin, B: Stands<P>> Stands<P> for DataBodyOf<B> {
     #[inline(always)]
     fn decode(src: &P, place: usize) -> Result<(Self, usize), ItemFault> {
         decode!(src, place => DataBodyOf { blob, stat })
+    }
+}
+
+impl<B: Ends> Ends for DataBodyOf<B> {
+    #[inline(always)]
+    fn end_at(payload: &[u8], place: usize) -> Option<usize> {
+        ends!(payload, place => B, Stat)
     }
 }
 
@@ -84,6 +91,13 @@ impl<P: Origin, A: Stands<P>> Stands<P> for AclBodyOf<A> {
     }
 }
 
+impl<A: Ends> Ends for AclBodyOf<A> {
+    #[inline(always)]
+    fn end_at(payload: &[u8], place: usize) -> Option<usize> {
+        ends!(payload, place => A, Stat)
+    }
+}
+
 impl Wire for AclBody {
     ghost written = { refl };
 }
@@ -122,6 +136,13 @@ impl<P: Origin, L: Stands<P>> Stands<P> for ChildrenBodyOf<L> {
     }
 }
 
+impl<L: Ends> Ends for ChildrenBodyOf<L> {
+    #[inline(always)]
+    fn end_at(payload: &[u8], place: usize) -> Option<usize> {
+        ends!(payload, place => L, Stat)
+    }
+}
+
 impl Wire for ChildrenBody {
     ghost written = { refl };
 }
@@ -157,6 +178,13 @@ impl<P: Origin, T: Stands<P>> Stands<P> for CreateBodyOf<T> {
     #[inline(always)]
     fn decode(src: &P, place: usize) -> Result<(Self, usize), ItemFault> {
         decode!(src, place => CreateBodyOf { path, stat })
+    }
+}
+
+impl<T: Ends> Ends for CreateBodyOf<T> {
+    #[inline(always)]
+    fn end_at(payload: &[u8], place: usize) -> Option<usize> {
+        ends!(payload, place => T, Stat)
     }
 }
 

@@ -21,6 +21,13 @@ macro_rules! decode {
     };
 }
 
+/// `ends!(payload, place => A, B, C)` is the body of `end_at` for a record whose fields are of these types.
+macro_rules! ends {
+    ($payload:ident, $place:ident => $($field:ty),+) => {
+        <fields!($($field),+) as Ends>::end_at($payload, $place)
+    };
+}
+
 /// `own!(self, alloc => R { a, b, c })` is the body of `own` for the record `R`.
 macro_rules! own {
     ($record:ident, $alloc:ident => $owned:ident { $($field:ident),+ }) => {
@@ -29,5 +36,6 @@ macro_rules! own {
 }
 
 pub(crate) use decode;
+pub(crate) use ends;
 pub(crate) use fields;
 pub(crate) use own;

@@ -5,8 +5,8 @@
 ghost use Rattle.std.specs.Prelude.{◌≡◌, refl};
 ghost use Rattle.zk_records.specs.Records.{watch_ask, path_ask, watch_ask_of, path_ask_of};
 
-use crate::fields::{decode, fields};
-use zk_jute::{Form, ItemFault, Origin, Output, Spell, Stands, Text, TextRef, Wire};
+use crate::fields::{decode, ends, fields};
+use zk_jute::{Ends, Form, ItemFault, Origin, Output, Spell, Stands, Text, TextRef, Wire};
 
 /// Looks at a node, and may set a watch: `ExistsRequest`, `GetDataRequest`, `GetChildrenRequest` and
 /// `GetChildren2Request`.
@@ -43,6 +43,13 @@ impl<P: Origin, T: Stands<P>> Stands<P> for WatchAskOf<T> {
     }
 }
 
+impl<T: Ends> Ends for WatchAskOf<T> {
+    #[inline(always)]
+    fn end_at(payload: &[u8], place: usize) -> Option<usize> {
+        ends!(payload, place => T, bool)
+    }
+}
+
 impl Wire for WatchAsk {
     ghost written = { refl };
 }
@@ -76,6 +83,13 @@ impl<P: Origin, T: Stands<P>> Stands<P> for PathAskOf<T> {
     #[inline(always)]
     fn decode(src: &P, place: usize) -> Result<(Self, usize), ItemFault> {
         decode!(src, place => PathAskOf { path })
+    }
+}
+
+impl<T: Ends> Ends for PathAskOf<T> {
+    #[inline(always)]
+    fn end_at(payload: &[u8], place: usize) -> Option<usize> {
+        ends!(payload, place => T)
     }
 }
 

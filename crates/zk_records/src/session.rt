@@ -2,10 +2,10 @@
 ghost use Rattle.std.specs.Prelude.{◌≡◌, refl};
 ghost use Rattle.zk_records.specs.Records.{auth_ask, set_watches_ask, auth_ask_of, set_watches_ask_of};
 
-use crate::fields::{decode, fields};
+use crate::fields::{decode, ends, fields};
 use zk_jute::{
-    Blob, BlobRef, Form, ItemFault, List, Origin, Output, Spell, Stands, Text, TextList, TextRef,
-    Wire,
+    Blob, BlobRef, Ends, Form, ItemFault, List, Origin, Output, Spell, Stands, Text, TextList,
+    TextRef, Wire,
 };
 
 /// Authenticates the client: `AuthPacket`.
@@ -40,6 +40,13 @@ impl<T: Form, B: Form> Form for AuthAskOf<T, B> {
 impl<P: Origin, T: Stands<P>, B: Stands<P>> Stands<P> for AuthAskOf<T, B> {
     fn decode(src: &P, place: usize) -> Result<(Self, usize), ItemFault> {
         decode!(src, place => AuthAskOf { kind, scheme, auth })
+    }
+}
+
+impl<T: Ends, B: Ends> Ends for AuthAskOf<T, B> {
+    #[inline(always)]
+    fn end_at(payload: &[u8], place: usize) -> Option<usize> {
+        ends!(payload, place => i32, T, B)
     }
 }
 
@@ -81,6 +88,13 @@ impl<L: Form> Form for SetWatchesAskOf<L> {
 impl<P: Origin, L: Stands<P>> Stands<P> for SetWatchesAskOf<L> {
     fn decode(src: &P, place: usize) -> Result<(Self, usize), ItemFault> {
         decode!(src, place => SetWatchesAskOf { zxid, data_watches, exist_watches, child_watches })
+    }
+}
+
+impl<L: Ends> Ends for SetWatchesAskOf<L> {
+    #[inline(always)]
+    fn end_at(payload: &[u8], place: usize) -> Option<usize> {
+        ends!(payload, place => i64, L, L, L)
     }
 }
 

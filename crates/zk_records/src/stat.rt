@@ -3,7 +3,7 @@ ghost use Rattle.std.specs.Prelude.{◌≡◌, refl};
 ghost use Rattle.zk_records.specs.Records.{stat};
 
 use crate::fields::{decode, fields};
-use zk_jute::{Form, ItemFault, Origin, Output, Spell, Stands, Wire};
+use zk_jute::{Ends, Form, ItemFault, Origin, Output, Spell, Stands, Wire};
 
 /// What is known of a node: `Stat`, 68 bytes.
 #[derive(Clone, Copy, Debug)]
@@ -50,6 +50,20 @@ impl<P: Origin> Stands<P> for Stat {
     #[inline(always)]
     fn decode(src: &P, place: usize) -> Result<(Self, usize), ItemFault> {
         decode!(src, place => Stat { czxid, mzxid, ctime, mtime, version, cversion, aversion, ephemeral_owner, data_length, num_children, pzxid })
+    }
+}
+
+/// The bytes of a `Stat`.
+const SIZE: usize = 68;
+
+impl Ends for Stat {
+    /// Any 68 bytes are a `Stat`: one look at how many are left stands for reading the fields.
+    #[inline(always)]
+    fn end_at(payload: &[u8], place: usize) -> Option<usize> {
+        if payload.len() - place < SIZE {
+            return None;
+        }
+        Some(place + SIZE)
     }
 }
 
