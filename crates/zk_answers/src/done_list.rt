@@ -18,7 +18,9 @@ use crate::frame::{PartDoneOf, PartDoneRef};
 use crate::multi::{Mark, is_end, mark_of};
 use std::marker::Model;
 use zk_asks::Asked;
-use zk_jute::{ItemFault, KnownPayload, Payload, PayloadOf, Reason, TextRef, end_of, read_ref};
+use zk_jute::{
+    Ends, ItemFault, KnownPayload, Payload, PayloadOf, Reason, TextRef, read_ref,
+};
 use zk_records::{MultiHeader, PartOp, Stat, part_of};
 
 /// The results of a multi's parts, borrowed.
@@ -160,8 +162,8 @@ fn result_end(payload: &[u8], place: usize, op: PartOp) -> Option<usize>
     ensures within { IfSome result (λ end. end ≤ length payload.now) }
 {
     match op {
-        PartOp::Create => end_of::<TextRef>(payload, place),
-        PartOp::SetData => end_of::<Stat>(payload, place),
+        PartOp::Create => TextRef::end_at(payload, place),
+        PartOp::SetData => Stat::end_at(payload, place),
         PartOp::Delete | PartOp::Check => Some(place),
     }
 }

@@ -8,7 +8,7 @@ ghost use Rattle.zk_answers.specs.Fronts.{IsBodyAlone, IsReplyUnder};
 use crate::done_list::results_ref;
 use crate::frame::body_rows;
 use zk_asks::Asked;
-use zk_jute::{Payload, TextList, TextRef, end_of};
+use zk_jute::{Ends, Payload, TextList, TextRef};
 use zk_records::{AclBodyRef, ChildrenBodyRef, CreateBodyRef, DataBodyRef, Op, ReplyHeader, Stat};
 
 /// The bytes of a reply's header.
@@ -24,8 +24,8 @@ fn body_end(payload: &[u8], place: usize, op: Op) -> Option<usize>
         ($($($one:ident)|+: $field:ident $only:ident),+;
          $($both:ident: $pair:ident $first:ident),+; $($bare:ident)|+) => {
             match op {
-                $($(Op::$one)|+ => end_of::<$field>(payload, place),)+
-                $(Op::$both => end_of::<$pair>(payload, place),)+
+                $($(Op::$one)|+ => <$field as Ends>::end_at(payload, place),)+
+                $(Op::$both => <$pair as Ends>::end_at(payload, place),)+
                 $(Op::$bare)|+ => Some(place),
                 Op::Multi => None,
             }

@@ -9,7 +9,7 @@ use crate::codes::allowed;
 use crate::frame::ask_rows;
 use crate::part_list::multi_ref;
 use crate::request::MultiRef;
-use zk_jute::{Payload, end_of, read_ref};
+use zk_jute::{Ends, Payload, read_ref};
 use zk_records::{
     AuthAskRef, CreateAskRef, DeleteAskRef, Op, PathAskRef, Profile, RequestHeader, SetAclAskRef,
     SetDataAskRef, SetWatchesAskRef, WatchAskRef, op_of,
@@ -25,7 +25,7 @@ fn body_end(payload: &[u8], place: usize, op: Op) -> Option<usize>
     macro_rules! row {
         ($($($held:ident)|+: $record:ident),+; $($bare:ident)|+) => {
             match op {
-                $($(Op::$held)|+ => end_of::<$record>(payload, place),)+
+                $($(Op::$held)|+ => <$record as Ends>::end_at(payload, place),)+
                 $(Op::$bare)|+ => Some(place),
                 Op::Multi => None,
             }

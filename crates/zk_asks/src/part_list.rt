@@ -16,7 +16,7 @@ ghost use Rattle.zk_asks.specs.Shown.{parts_at};
 use crate::frame::{PartOf, PartRef};
 use crate::multi::{Mark, mark_of};
 use std::marker::Model;
-use zk_jute::{ItemFault, KnownPayload, Payload, PayloadOf, Reason, end_of, read_ref};
+use zk_jute::{Ends, ItemFault, KnownPayload, Payload, PayloadOf, Reason, read_ref};
 use zk_records::{
     CheckAskRef, CreateAskRef, DeleteAskRef, MultiHeader, PartOp, SetDataAskRef, part_of,
 };
@@ -161,10 +161,10 @@ fn part_end(payload: &[u8], place: usize, op: PartOp) -> Option<usize>
     ensures within { IfSome result (λ end. end ≤ length payload.now) }
 {
     match op {
-        PartOp::Create => end_of::<CreateAskRef>(payload, place),
-        PartOp::Delete => end_of::<DeleteAskRef>(payload, place),
-        PartOp::SetData => end_of::<SetDataAskRef>(payload, place),
-        PartOp::Check => end_of::<CheckAskRef>(payload, place),
+        PartOp::Create => CreateAskRef::end_at(payload, place),
+        PartOp::Delete => DeleteAskRef::end_at(payload, place),
+        PartOp::SetData => SetDataAskRef::end_at(payload, place),
+        PartOp::Check => CheckAskRef::end_at(payload, place),
     }
 }
 

@@ -8,11 +8,11 @@ use Rattle.zk_answers.proofs.done_list.result_end.Goals as goal
 
 pub returns-in-Create-clause-some : goal.returns-in-Create-clause-some
 returns-in-Create-clause-some c =
-    of_result c.args.payload.now c.args.place c.args.op ustring done.Created (sym (ap result_layout c.in-Create.is)) (λ x. c.in-Create.is) (λ x. refl) c.end_of.result c.end_of.ensures.some
+    of_result c.args.payload.now c.args.place c.args.op ustring done.Created (sym (ap result_layout c.in-Create.is)) (λ x. c.in-Create.is) (λ x. refl) c.end_at.result c.end_at.ensures.some
 
 pub returns-in-SetData-clause-some : goal.returns-in-SetData-clause-some
 returns-in-SetData-clause-some c =
-    let end = c.end_of-in-SetData in
+    let end = c.end_at-in-SetData in
     of_result c.args.payload.now c.args.place c.args.op stat done.DataSet (sym (ap result_layout c.in-SetData.is)) (λ x. c.in-SetData.is) (λ x. refl) end.result end.ensures.some
 
 pub returns-in-Delete-clause-some : goal.returns-in-Delete-clause-some

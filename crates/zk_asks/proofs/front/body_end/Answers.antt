@@ -8,18 +8,18 @@ pub returns-in-Create-clause-some : goal.returns-in-Create-clause-some
 returns-in-Create-clause-some c =
     let there = of_record c.args.payload.now c.args.place c.args.op create_ask in
     elim c.in-Create.is [
-      | inl e ↦ there ask.Create (λ x. sym e) (λ x. refl) (λ x. refl) c.end_of.result c.end_of.ensures.some
-      | inr e ↦ there ask.Create2 (λ x. sym e) (λ x. refl) (λ x. refl) c.end_of.result c.end_of.ensures.some
+      | inl e ↦ there ask.Create (λ x. sym e) (λ x. refl) (λ x. refl) c.end_at.result c.end_at.ensures.some
+      | inr e ↦ there ask.Create2 (λ x. sym e) (λ x. refl) (λ x. refl) c.end_at.result c.end_at.ensures.some
     ]
 
 pub returns-in-Delete-clause-some : goal.returns-in-Delete-clause-some
 returns-in-Delete-clause-some c =
-    let end = c.end_of-in-Delete in
+    let end = c.end_at-in-Delete in
     of_record c.args.payload.now c.args.place c.args.op delete_ask ask.Delete (λ x. sym c.in-Delete.is) (λ x. refl) (λ x. refl) end.result end.ensures.some
 
 pub returns-in-Exists-clause-some : goal.returns-in-Exists-clause-some
 returns-in-Exists-clause-some c =
-    let end = c.end_of-in-Exists in
+    let end = c.end_at-in-Exists in
     let there = of_record c.args.payload.now c.args.place c.args.op watch_ask in
     elim c.in-Exists.is [
       | inl e ↦ there ask.Exists (λ x. sym e) (λ x. refl) (λ x. refl) end.result end.ensures.some
@@ -30,12 +30,12 @@ returns-in-Exists-clause-some c =
 
 pub returns-in-SetData-clause-some : goal.returns-in-SetData-clause-some
 returns-in-SetData-clause-some c =
-    let end = c.end_of-in-SetData in
+    let end = c.end_at-in-SetData in
     of_record c.args.payload.now c.args.place c.args.op set_data_ask ask.SetData (λ x. sym c.in-SetData.is) (λ x. refl) (λ x. refl) end.result end.ensures.some
 
 pub returns-in-GetAcl-clause-some : goal.returns-in-GetAcl-clause-some
 returns-in-GetAcl-clause-some c =
-    let end = c.end_of-in-GetAcl in
+    let end = c.end_at-in-GetAcl in
     let there = of_record c.args.payload.now c.args.place c.args.op path_ask in
     elim c.in-GetAcl.is [
       | inl e ↦ there ask.GetAcl (λ x. sym e) (λ x. refl) (λ x. refl) end.result end.ensures.some
@@ -44,17 +44,17 @@ returns-in-GetAcl-clause-some c =
 
 pub returns-in-SetAcl-clause-some : goal.returns-in-SetAcl-clause-some
 returns-in-SetAcl-clause-some c =
-    let end = c.end_of-in-SetAcl in
+    let end = c.end_at-in-SetAcl in
     of_record c.args.payload.now c.args.place c.args.op set_acl_ask ask.SetAcl (λ x. sym c.in-SetAcl.is) (λ x. refl) (λ x. refl) end.result end.ensures.some
 
 pub returns-in-Auth-clause-some : goal.returns-in-Auth-clause-some
 returns-in-Auth-clause-some c =
-    let end = c.end_of-in-Auth in
+    let end = c.end_at-in-Auth in
     of_record c.args.payload.now c.args.place c.args.op auth_ask ask.Auth (λ x. sym c.in-Auth.is) (λ x. refl) (λ x. refl) end.result end.ensures.some
 
 pub returns-in-SetWatches-clause-some : goal.returns-in-SetWatches-clause-some
 returns-in-SetWatches-clause-some c =
-    let end = c.end_of-in-SetWatches in
+    let end = c.end_at-in-SetWatches in
     of_record c.args.payload.now c.args.place c.args.op set_watches_ask ask.SetWatches (λ x. sym c.in-SetWatches.is) (λ x. refl) (λ x. refl) end.result end.ensures.some
 
 pub returns-in-Ping-clause-some : goal.returns-in-Ping-clause-some
