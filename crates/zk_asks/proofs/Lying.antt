@@ -1,5 +1,5 @@
 -- Parts that lie in a payload: what stands there is their value, and where they are passed.
-use Rattle.std.proofs.Common.{◌≡◌, ℕ, ◌+◌, ◌≤◌, ◌<◌, inl, inr, List, [], ◌∷◌, ◌++◌, length, drop, Some, Ok, Err, refl, sym, ap, subst, ◌∙◌, arith}
+use Rattle.std.proofs.Common.{◌≡◌, ℕ, ◌+◌, ◌≤◌, ◌<◌, inr, List, [], ◌∷◌, ◌++◌, length, drop, Some, Ok, Err, refl, sym, ap, subst, ◌∙◌, arith}
 use Rattle.std.specs.Prelude.{ℤ, negsuc, Bool, false, Result, IfOk, IfErr, Option, None, map, slice_get, get_or, ◌≢◌}
 use Rattle.std.specs.List.{flat_map}
 use Rattle.std.proofs.lemmas.List.{append-nil, length-drop, length-map, drop-drop, get_or-drop}
@@ -33,10 +33,10 @@ use Rattle.zk_asks.specs.Forms.{header_items}
 use Rattle.zk_asks.specs.Rows.{op_of_ask, body_items}
 use Rattle.zk_asks.specs.Frames.{IsSent, payload}
 use Rattle.zk_asks.specs.declared.frame.PartOf.TheVariants as part
-use Rattle.zk_asks.specs.Parts.{part_row, part_layout, part_header, end_header, marked, MayStand, op_of_part, record_of, part_items, multi_items}
+use Rattle.zk_asks.specs.Parts.{part_row, part_layout, part_header, end_header, marked, op_of_part, record_of, part_items, multi_items}
 use Rattle.zk_asks.specs.Shown.{create_of, delete_of, set_data_of, check_of, create_value, delete_value, set_data_value, check_value, part_numbered, record_value, part_value, parts_at}
 use Rattle.zk_asks.proofs.Parts.{record_is}
-use Rattle.zk_asks.proofs.Parted.{record_same, op_same, mark_same, not_end}
+use Rattle.zk_asks.proofs.Parted.{record_same, op_same, mark_same}
 
 -- ---- the records
 
@@ -146,15 +146,6 @@ module _ (p : Part) (src : List ℕ) (place end : ℕ) (le : place ≤ length sr
       let h = header_read header after v s in
       h.0 ∙ ap part_header (part_number_apart op other (sym (ap (λ (x : MultiHeader). x.kind) h.0) ∙ is))
 
-  pub no_header_fault : (e : ItemFault) → HasToldFault (IsValueOf multi_header.layout) src place e → ⊥
-  no_header_fault e f = excluded multi_header.layout (marked (part_header op)) (drop place src) (drop (place + 9) src) f.0 e.reason head_value header_there.0 f.1
-
-  pub not_last : (header : MultiHeader) (after : ℕ) → IsValueOf multi_header.layout (marked header) → StandsAt (marked header) src place after → header ≡ end_header → ⊥
-  not_last header after v s is = not_end op (sym (header_read header after v s).0 ∙ is)
-
-  pub not_bad : (header : MultiHeader) (after : ℕ) → IsValueOf multi_header.layout (marked header) → StandsAt (marked header) src place after → (MayStand header → ⊥) → ⊥
-  not_bad header after v s not = not (inl (op, (header_read header after v s).0))
-
   pub mark_stands : OneStands multi_header.items src place
   mark_stands = (part_header op, place + 9, (have_parts (marked (part_header op)) (record_of p) have).0, header_there)
 
@@ -203,21 +194,6 @@ answered x (Err e) = x
 
 pub pair_told : (x y : Part × ℕ) → ◌≡◌ {A = Result (Part × ℕ) ItemFault} (Ok x) (Ok y) → x ≡ y
 pair_told x y = ap (answered y)
-
-pub op_told : (q p : Part) (m n : ℕ) (op : PartOp) → op_of_part q ≡ op → ◌≡◌ {A = Result (Part × ℕ) ItemFault} (Ok (q, m)) (Ok (p, n)) → ◌≡◌ {A = Result (PartOp × ℕ) ItemFault} (Ok (op, m)) (Ok (op_of_part p, n))
-op_told q p m n op is same =
-    let part : q ≡ p = ap (λ (r : Result (Part × ℕ) ItemFault). (answered (p, n) r).0) same in
-    let end : m ≡ n = ap (λ (r : Result (Part × ℕ) ItemFault). (answered (p, n) r).1) same in
-    ap (λ (o : PartOp). Ok (o, m)) (sym is ∙ ap op_of_part part) ∙ ap (λ (k : ℕ). Ok (op_of_part p, k)) end
-
-pub both_told : (op o : PartOp) (m n : ℕ) → ◌≡◌ {A = Result (PartOp × ℕ) ItemFault} (Ok (op, m)) (Ok (o, n)) → (op ≡ o) × (m ≡ n)
-both_told op o m n same = (ap (λ (r : Result (PartOp × ℕ) ItemFault). (answered (o, n) r).0) same, ap (λ (r : Result (PartOp × ℕ) ItemFault). (answered (o, n) r).1) same)
-
-pub not_told : (e : ItemFault) (p : Part) (n : ℕ) → ◌≡◌ {A = Result (Part × ℕ) ItemFault} (Err e) (Ok (p, n)) → ⊥
-not_told e p n same = cc
-
-pub none_told : (e : ItemFault) (o : PartOp) (n : ℕ) → ◌≡◌ {A = Result (PartOp × ℕ) ItemFault} (Err e) (Ok (o, n)) → ⊥
-none_told e o n same = cc
 
 -- ---- parts that were passed
 

@@ -127,6 +127,7 @@ impl<'a> ExactSizeIterator for PartItems<'a> {
 }
 
 /// The record of a part of the operation `op` at `place`, and the place after it; judged, or known to be there.
+#[inline(always)]
 fn record_ref<'a, const KNOWN: bool>(
     src: &PayloadOf<'a, KNOWN>,
     place: usize,
@@ -191,6 +192,7 @@ fn record_end<const KNOWN: bool>(
 }
 
 /// The part that is known to be at `place`, and the place after it.
+#[inline(always)]
 fn part_in<'a>(src: &KnownPayload<'a>, place: usize) -> (PartRef<'a>, usize)
     requires place { place ≤ length src.now.bytes.now }
     requires known { OneStands part_items src.now.bytes.now place }
@@ -202,42 +204,22 @@ fn part_in<'a>(src: &KnownPayload<'a>, place: usize) -> (PartRef<'a>, usize)
     record_ref(src, after, op).unwrap()
 }
 
-/// The operation of the part at `place`, and the place after it. No part is made.
-fn op_in(src: &Payload<'_>, place: usize) -> Result<(PartOp, usize), ItemFault>
-    requires { place ≤ length src.now.bytes.now }
-    ensures { (p : Part) (end : ℕ) → HaveBytes (part_items p) → StandsAt (part_items p) src.now.bytes.now place end → result ≡ Ok (op_of_part p, end) }
-{
-    let (header, after) = read_ref::<_, MultiHeader>(src, place)?;
-    match mark_of(&header) {
-        Mark::Part(op) => {
-            let end = record_end(src, after, op)?;
-            Ok((op, end))
-        }
-        Mark::End => Err(ItemFault::at(place, Reason::BadPart)),
-        Mark::Bad => Err(ItemFault::at(place, Reason::BadPart)),
-    }
-}
-
 impl<'a> PartItems<'a> {
-    /// Passes over the next part and returns its operation; no part is made.
+    /// Passes over the next part and returns its operation.
     pub(crate) fn pass(&mut self) -> Option<PartOp>
         ensures { MatchOption result ((self.old ≡ []) × (self.new ≡ [])) (λ op. (p : Part) × (op_of_part p ≡ op) × (self.old ≡ p ∷ self.new)) }
     {
         if self.left == 0 {
             return None;
         }
-        let src = Payload {
+        // All parts that are left are known to be there.
+        let src = KnownPayload {
             bytes: self.payload,
         };
-        match op_in(&src, self.place) {
-            Ok((op, place)) => {
-                self.place = place;
-                self.left -= 1;
-                Some(op)
-            }
-            // All parts that are left are known to be there.
-            Err(_) => None,
-        }
+        let (part, place) = part_in(&src, self.place);
+        self.place = place;
+        self.left -= 1;
+        Some(part.op())
     }
 }
 
