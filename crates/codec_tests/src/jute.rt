@@ -2,8 +2,8 @@
 use std::process::Abort;
 use std::test::Fail;
 use zk_jute::{
-    BlobRef, ItemFault, Items, Payload, Reason, Stands, TextList, TextRef, bool_at, end_of, int_at,
-    long_at, scan,
+    BlobRef, Ends, ItemFault, Items, Payload, Reason, Stands, TextList, TextRef, bool_at, end_of,
+    int_at, long_at, scan,
 };
 
 #[test]
@@ -48,6 +48,38 @@ fn ends(rt: HostRuntime) -> Result<(), Fail> {
     assert_eq!(rt; scan::<TextRef>(TWO.bytes, 4)?, 10);
     assert_eq!(rt; end_of::<TextRef>(TWO.bytes, 4), Some(10));
     assert_eq!(rt; end_of::<TextRef>(&TWO.bytes[..9], 4), None);
+    assert_eq!(rt; TextRef::end_at(TWO.bytes, 4), Some(10));
+    assert_eq!(rt; TextRef::end_at(&TWO.bytes[..9], 4), None);
+    Ok(())
+}
+
+/// Where a list of texts ends that one look finds plain, or that needs a look at each.
+#[test]
+fn ends_of_lists(rt: HostRuntime) -> Result<(), Fail> {
+    let plain = b"\0\0\0\x02\0\0\0\x02/a\0\0\0\0";
+    let letters = b"\0\0\0\x02\0\0\0\x02\xc3\xa4\xff\xff\xff\xff";
+    let stray = b"\0\0\0\x02\0\0\0\x02\xc3\xa4\0\0\0\x01\xc3";
+    assert_eq!(rt; TextList::end_at(plain, 0), Some(14));
+    assert_eq!(rt; TextList::end_at(&plain[..13], 0), None);
+    assert_eq!(rt; TextList::end_at(TWO.bytes, 0), Some(14));
+    assert_eq!(rt; TextList::end_at(letters, 0), Some(14));
+    assert_eq!(rt; TextList::end_at(stray, 0), None);
+    Ok(())
+}
+
+/// Where a list of more texts ends than get one look.
+#[test]
+fn ends_of_many(rt: HostRuntime) -> Result<(), Fail> {
+    let mut many = Vec::new(rt.alloc());
+    many.extend_from_slice(b"\0\0\0\x82")?;
+    for _ in 0..129 {
+        many.extend_from_slice(b"\0\0\0\x01n")?;
+    }
+    many.extend_from_slice(b"\0\0\0\x02\xc3\xa4")?;
+    assert_eq!(rt; TextList::end_at(many.as_slice(), 0), Some(655));
+    assert_eq!(rt; end_of::<TextList>(many.as_slice(), 0), Some(655));
+    many.truncate(654);
+    assert_eq!(rt; TextList::end_at(many.as_slice(), 0), None);
     Ok(())
 }
 
