@@ -18,9 +18,7 @@ use crate::frame::{PartDoneOf, PartDoneRef};
 use crate::multi::{Mark, is_end, mark_of};
 use std::marker::Model;
 use zk_asks::Asked;
-use zk_jute::{
-    Ends, ItemFault, KnownPayload, Payload, PayloadOf, Reason, TextRef, read_ref,
-};
+use zk_jute::{Ends, ItemFault, KnownPayload, Payload, PayloadOf, Reason, TextRef, read_ref};
 use zk_records::{MultiHeader, PartOp, Stat, part_of};
 
 /// The results of a multi's parts, borrowed.
