@@ -3,6 +3,7 @@ pub mod Runs
 pub mod Kept
 pub mod Small
 pub mod Numbers
+pub mod Numerals
 pub mod Flags
 pub mod Many
 pub mod Looks

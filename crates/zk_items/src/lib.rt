@@ -32,6 +32,7 @@
 #![tactic(auto)]
 
 mod code;
+mod decimal;
 mod digits;
 mod fault;
 mod laws;

@@ -7,7 +7,7 @@ ghost use Rattle.zk_items.specs.Leaf.{in_number, in_name, in_hex, in_word};
 
 use itoa::Buffer;
 
-fn is_in_number(b: u8) -> bool
+pub fn is_in_number(b: u8) -> bool
     ensures { result ≡ in_number b }
 {
     b.is_ascii_digit() || b == b'-'

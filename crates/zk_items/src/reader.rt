@@ -6,6 +6,7 @@ ghost use Rattle.zk_items.specs.Leaf.{in_name, in_word, is_plain, num_at, bit_at
 ghost use Rattle.zk_items.specs.Codes.{is_next};
 ghost use Rattle.zk_items.specs.Many.{many_at};
 
+use crate::decimal::{int_ahead, long_ahead};
 use crate::fault::{LineFault, LineReason};
 use crate::number::{hex_len, int_of, letters_len, long_of, name_len, number_len};
 use crate::plain::plain_len;
@@ -161,6 +162,10 @@ impl<'a> Reader<'a> {
     pub fn int(&mut self) -> Result<i32, LineFault>
         ensures { Gives result self.new (num_at 31 self.old) }
     {
+        if let Some((n, len)) = int_ahead(self.ahead) {
+            self.ahead = &self.ahead[len..];
+            return Ok(n);
+        }
         let (run, rest) = self.ahead.split_at(number_len(self.ahead));
         let Some(n) = int_of(run) else {
             return Err(self.fault(LineReason::Number));
@@ -174,6 +179,10 @@ impl<'a> Reader<'a> {
     pub fn long(&mut self) -> Result<i64, LineFault>
         ensures { Gives result self.new (num_at 63 self.old) }
     {
+        if let Some((n, len)) = long_ahead(self.ahead) {
+            self.ahead = &self.ahead[len..];
+            return Ok(n);
+        }
         let (run, rest) = self.ahead.split_at(number_len(self.ahead));
         let Some(n) = long_of(run) else {
             return Err(self.fault(LineReason::Number));
