@@ -21,7 +21,7 @@ use Rattle.zk_items.proofs.Runs.{run_is, run_passes, stops_ends}
 hex_goes_on : (b : ℕ) → in_hex b ≡ true → goes_on b ≡ true
 hex_goes_on b h = grind arith
 
-as_bytes : (bytes : List ℕ) → AllByRecursion (λ b. b < 256) bytes → IsBytes bytes
+pub as_bytes : (bytes : List ℕ) → AllByRecursion (λ b. b < 256) bytes → IsBytes bytes
 as_bytes [] fit i = omega arith
 as_bytes (b ∷ bytes) fit zero = fit.0
 as_bytes (b ∷ bytes) fit (suc i) = as_bytes bytes fit.1 i
@@ -42,7 +42,7 @@ same_at (suc n) k h small =
           rw e (eqb-true (slice_index lower_digits n) (hex_digit n) parts.0)
     ]
 
-digit_is : (n : ℕ) → n < 16 → slice_index lower_digits n ≡ hex_digit n
+pub digit_is : (n : ℕ) → n < 16 → slice_index lower_digits n ≡ hex_digit n
 digit_is n small = same_at 16 n refl small
 
 digit_passes : (n : ℕ) → n < 16 → in_hex (slice_index lower_digits n) ≡ true

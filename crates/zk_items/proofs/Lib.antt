@@ -10,4 +10,5 @@ pub mod Looks
 pub mod Lanes
 pub mod Texts
 pub mod Blobs
+pub mod Joined
 pub mod Codes

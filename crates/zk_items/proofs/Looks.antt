@@ -11,34 +11,36 @@ use Rattle.std.proofs.Math.Seq.{drop-cons}
 use lib.Lanes.{chunk, Each1, mask_l, pick_l, top}
 use Rattle.zk_items.specs.Leaf.{is_plain, symbol_spell, hex_digit}
 
-abbrev odd : ℕ → Bool
-odd b = not (is_plain b)
-
 twice : (b : Bool) → not (not b) ≡ b
 twice true = refl
 twice false = refl
 
-not_odd : (v : List ℕ) → prefix_len (λ b. not (odd b)) v ≡ prefix_len is_plain v
-not_odd [] = refl
-not_odd (b ∷ v) = ap₂ (λ t n. cond t (1 + n) 0) (twice (is_plain b)) (not_odd v)
+module _ (q : ℕ → Bool) where
+  -- what doesn't pass
+  abbrev pub odd : ℕ → Bool
+  odd b = not (q b)
 
--- each lane's answer is that of its byte
-each_lane : (f : ℕ → ℕ) (v : List ℕ) → agree_below (λ b. top 7 (f b)) odd 256 ≡ true → Each1 (Fits w8) v → map (λ b. top 7 (f b)) v ≡ map odd v
-each_lane f [] all fits = refl
-each_lane f (b ∷ v) all fits = ap₂ (λ t ts. t ∷ ts) (agree_below_at (λ b. top 7 (f b)) odd 256 b all fits.0.fits) (each_lane f v all fits.1)
+  not_odd : (v : List ℕ) → prefix_len (λ b. not (odd b)) v ≡ prefix_len q v
+  not_odd [] = refl
+  not_odd (b ∷ v) = ap₂ (λ t n. cond t (1 + n) 0) (twice (q b)) (not_odd v)
 
-module _ (f : ℕ → ℕ) (v z : List ℕ) (n : ℕ) (long : length v ≡ n) (few : n ≤ 64) (fits : Each1 (Fits w8) v) (lanes : z ≡ map f v)
-    (all : agree_below (λ b. top 7 (f b)) odd 256 ≡ true) where
-  mask_is : mask_l (map (top 7) z) % 2 ^ 64 ≡ mask_l (map odd v)
-  mask_is =
-      ap (λ l. mask_l l % 2 ^ 64) (ap (map (top 7)) lanes ∙ map-map (top 7) f v ∙ each_lane f v all fits)
-      ∙ mask_l-mod (map odd v) 64 (omega (arith, length-map v odd))
+  -- each lane's answer is that of its byte
+  each_lane : (f : ℕ → ℕ) (v : List ℕ) → agree_below (λ b. top 7 (f b)) odd 256 ≡ true → Each1 (Fits w8) v → map (λ b. top 7 (f b)) v ≡ map odd v
+  each_lane f [] all fits = refl
+  each_lane f (b ∷ v) all fits = ap₂ (λ t ts. t ∷ ts) (agree_below_at (λ b. top 7 (f b)) odd 256 b all fits.0.fits) (each_lane f v all fits.1)
 
-  pub none_odd : mask_l (map (top 7) z) % 2 ^ 64 ≡ 0 → n ≡ prefix_len is_plain v
-  none_odd none = sym long ∙ sym (leading_from_mask_l odd v (sym mask_is ∙ none)) ∙ not_odd v
+  module _ (f : ℕ → ℕ) (v z : List ℕ) (n : ℕ) (long : length v ≡ n) (few : n ≤ 64) (fits : Each1 (Fits w8) v) (lanes : z ≡ map f v)
+      (all : agree_below (λ b. top 7 (f b)) odd 256 ≡ true) where
+    mask_is : mask_l (map (top 7) z) % 2 ^ 64 ≡ mask_l (map odd v)
+    mask_is =
+        ap (λ l. mask_l l % 2 ^ 64) (ap (map (top 7)) lanes ∙ map-map (top 7) f v ∙ each_lane f v all fits)
+        ∙ mask_l-mod (map odd v) 64 (omega (arith, length-map v odd))
 
-  pub first_odd : 0 < mask_l (map (top 7) z) % 2 ^ 64 → count_trailing_zeros 64 (mask_l (map (top 7) z) % 2 ^ 64) ≡ prefix_len is_plain v
-  first_odd some = ap (count_trailing_zeros 64) mask_is ∙ trailing_mask_l odd 64 v (omega arith) (omega (arith, mask_is)) ∙ not_odd v
+    pub none_odd : mask_l (map (top 7) z) % 2 ^ 64 ≡ 0 → n ≡ prefix_len q v
+    none_odd none = sym long ∙ sym (leading_from_mask_l odd v (sym mask_is ∙ none)) ∙ not_odd v
+
+    pub first_odd : 0 < mask_l (map (top 7) z) % 2 ^ 64 → count_trailing_zeros 64 (mask_l (map (top 7) z) % 2 ^ 64) ≡ prefix_len q v
+    first_odd some = ap (count_trailing_zeros 64) mask_is ∙ trailing_mask_l odd 64 v (omega arith) (omega (arith, mask_is)) ∙ not_odd v
 
 -- ---- from looks to the whole run
 

@@ -40,6 +40,7 @@ mod number;
 mod plain;
 mod reader;
 mod symbol;
+mod undigits;
 mod write;
 
 pub use code::{

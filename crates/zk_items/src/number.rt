@@ -5,6 +5,7 @@ ghost use Rattle.std.specs.Fmt.{signed_decimal};
 ghost use Rattle.zk_items.specs.Leaf as leaf;
 ghost use Rattle.zk_items.specs.Leaf.{in_number, in_name, in_hex, in_word};
 
+use crate::undigits::digits_by;
 use itoa::Buffer;
 
 pub fn is_in_number(b: u8) -> bool
@@ -60,7 +61,11 @@ pub fn hex_len(bytes: &[u8]) -> usize
     ensures value { result ≡ prefix_len in_hex bytes.now }
     ensures within { result ≤ length bytes.now }
 {
-    bytes.iter().take_while(|b| is_in_hex(**b)).count()
+    if bytes.len() >= 16 {
+        digits_by::<16>(bytes)
+    } else {
+        bytes.iter().take_while(|b| is_in_hex(**b)).count()
+    }
 }
 
 fn is_int(n: i32, run: &[u8]) -> bool

@@ -11,6 +11,7 @@ use crate::fault::{LineFault, LineReason};
 use crate::number::{hex_len, int_of, letters_len, long_of, name_len, number_len};
 use crate::plain::plain_len;
 use crate::symbol::{hex_value, is_plain, text_of};
+use crate::undigits::bytes_of;
 use hex::FromHexError;
 use std::alloc::{AllocError, Global};
 use std::marker::Model;
@@ -192,7 +193,7 @@ impl<'a> Reader<'a> {
     }
 
     /// Reads a blob: `~`, or `#` and the longest run of lower-case digits.
-    #[tactic(auto, unfolding(crate::specs::Leaf::blob_at))]
+    #[tactic(auto, using(crate::proofs::Runs::run_passes), unfolding(crate::specs::Leaf::blob_at))]
     pub fn blob(&mut self) -> Result<Blob, LineFault>
         ensures { Gives result self.new (blob_at self.old) }
     {
@@ -203,7 +204,7 @@ impl<'a> Reader<'a> {
             }
             Some((b'#', rest)) => {
                 let (run, rest) = rest.split_at(hex_len(rest));
-                let bytes = match hex::decode(self.alloc, run) {
+                let bytes = match bytes_of(self.alloc, run) {
                     Ok(bytes) => bytes,
                     Err(FromHexError::OutOfMemory) => return Err(LineFault::from(AllocError)),
                     Err(_) => return Err(self.fault(LineReason::Blob)),

@@ -1,0 +1,10 @@
+use Rattle.std.proofs.Common.{◌-◌, ◌≤◌, length}
+use Rattle.std.specs.List.{prefix_len}
+use Rattle.zk_items.specs.Leaf.{in_hex}
+use Rattle.zk_items.proofs.undigits.digits_by.Given as goal
+
+abbrev pub invariant-loop-at : goal.invariant-loop-at
+invariant-loop-at g l = l.at ≤ prefix_len in_hex l.bytes
+
+abbrev pub decreases-loop-at : goal.decreases-loop-at
+decreases-loop-at g l = length l.bytes - l.at

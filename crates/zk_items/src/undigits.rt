@@ -1,0 +1,113 @@
+//! The bytes that lower-case hexadecimal digits spell, read thirty-two digits at a time.
+ghost use Rattle.std.specs.Prelude.{◌≡◌, ◌+◌, ◌*◌, ◌<◌, ◌≤◌, ◌++◌, ◌⊎◌, IfOk, IfErr, Ok, Err, length, map, take, drop, true};
+ghost use Rattle.std.specs.List.{AllByRecursion, prefix_len};
+ghost use Rattle.hex.specs.Hex.{encode_lower, decode_of};
+ghost use Rattle.hex.specs.declared.error.FromHexError.TheVariants.{OutOfMemory};
+ghost use Rattle.zk_items.specs.Leaf.{in_hex, hex_digit};
+
+use hex::FromHexError;
+use std::alloc::Global;
+use std::simd::prelude::*;
+
+/// The number of lanes before the first that isn't a lower-case digit.
+fn digits_in<const N: usize>(v: Simd<u8, N>) -> usize
+    requires { N ≤ 64 }
+    ensures { result ≡ prefix_len in_hex v.entry }
+{
+    let odd = v.simd_lt(Simd::splat(b'0'))
+        | v.simd_ge(Simd::splat(b':')) & v.simd_lt(Simd::splat(b'a'))
+        | v.simd_ge(Simd::splat(b'g'));
+    let mask = odd.to_bitmask();
+    if mask == 0 {
+        N
+    } else {
+        mask.trailing_zeros() as usize
+    }
+}
+
+/// The length of the run of lower-case digits in front, found N bytes at a time, as `hex_len` finds it one by one.
+// The last block overlaps the one before it.
+pub fn digits_by<const N: usize>(bytes: &[u8]) -> usize
+    requires some { (0 < N) × (N ≤ 64) }
+    requires room { N ≤ length bytes.now }
+    ensures { result ≡ prefix_len in_hex bytes.now }
+{
+    let last = bytes.len() - N;
+    let mut at = 0;
+    while at < last {
+        let run = digits_in(Simd::<u8, N>::from_slice(&bytes[at..]));
+        if run < N {
+            return at + run;
+        }
+        at += N;
+    }
+    last + digits_in(Simd::<u8, N>::from_slice(&bytes[last..]))
+}
+
+/// The value of each digit.
+fn values(digits: u8x16) -> u8x16
+    requires { AllByRecursion (λ c. in_hex c ≡ true) digits }
+    ensures value { map hex_digit result ≡ digits }
+    ensures low { AllByRecursion (λ n. n < 16) result }
+{
+    (digits & u8x16::splat(15)) + (digits >> u8x16::splat(6)) * u8x16::splat(9)
+}
+
+/// The byte of each two digits.
+fn joined(digits: u8x32) -> u8x16
+    requires { AllByRecursion (λ c. in_hex c ≡ true) digits }
+    ensures { encode_lower result ≡ digits }
+{
+    let high = values(digits.shuffle(
+        digits,
+        [0, 2, 4, 6, 8, 10, 12, 14, 16, 18, 20, 22, 24, 26, 28, 30],
+    ));
+    let low = values(digits.shuffle(
+        digits,
+        [1, 3, 5, 7, 9, 11, 13, 15, 17, 19, 21, 23, 25, 27, 29, 31],
+    ));
+    high << u8x16::splat(4) | low
+}
+
+/// Reads the thirty-two digits from `2 * at` on into `room`, from `at` on.
+fn read_block(room: &mut [u8], digits: &[u8], at: usize)
+    requires hex { AllByRecursion (λ c. in_hex c ≡ true) digits.now }
+    requires block { 2 * at + 32 ≤ length digits.now }
+    requires room { 2 * length room.old ≡ length digits.now }
+    ensures room { length room.new ≡ length room.old }
+    ensures read { encode_lower (take (at + 16) room.new) ≡ encode_lower (take at room.old) ++ take 32 (drop (2 * at) digits.now) }
+{
+    joined(u8x32::from_slice(&digits[2 * at..])).copy_to_slice(&mut room[at..]);
+}
+
+/// Reads thirty-two digits or more into `room`.
+// The first block is read for the bytes beyond a multiple of sixteen, and the next one begins after these: so the last one
+// ends with the digits, and none is read pair by pair.
+fn read_blocks(room: &mut [u8], digits: &[u8])
+    requires hex { AllByRecursion (λ c. in_hex c ≡ true) digits.now }
+    requires some { 16 ≤ length room.old }
+    requires room { 2 * length room.old ≡ length digits.now }
+    ensures { encode_lower room.new ≡ digits.now }
+{
+    read_block(room, digits, 0);
+    let mut at = room.len() % 16;
+    while at < room.len() {
+        read_block(room, digits, at);
+        at += 16;
+    }
+}
+
+/// The bytes that lower-case digits spell, as `hex::decode` reads them.
+// Memory is asked for once, for as many bytes as there are pairs.
+pub fn bytes_of(alloc: Global, digits: &[u8]) -> Result<Vec<u8>, FromHexError>
+    requires { AllByRecursion (λ c. in_hex c ≡ true) digits.now }
+    ensures ok { IfOk result (λ bytes. decode_of digits.now ≡ Ok bytes.items) }
+    ensures err { IfErr result (λ e. (e ≡ OutOfMemory) ⊎ (decode_of digits.now ≡ Err e)) }
+{
+    if digits.len() < 32 || digits.len() % 2 != 0 {
+        return hex::decode(alloc, digits);
+    }
+    let mut bytes = vec![in alloc; 0u8; digits.len() / 2]?;
+    read_blocks(bytes.as_mut_slice(), digits);
+    Ok(bytes)
+}
