@@ -8,7 +8,7 @@
 //! Texts are written between quotation marks, with `\` and two hexadecimal digits for each byte but 20 to 7e, `"` and
 //! `\`; blobs as `#` and their digits; null as `~`. docs/FORMATS.md has them all.
 //!
-//! The crate rests on `zk_jute` and `zk_records` for values and names, and on `itoa`, `hex`, `simdutf8` and `thiserror`.
+//! The crate rests on `zk_jute` and `zk_records` for values and names, and on `itoa`, `hex` and `thiserror`.
 //!
 //! ```text
 //! let mut line = Reader::new(rt.alloc(), b"7 \"/a\" #6f6b");

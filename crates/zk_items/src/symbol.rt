@@ -36,8 +36,12 @@ pub fn text_of(bytes: Vec<u8>) -> Option<String>
     ensures found { IfSome result (λ text. (string_bytes text ≡ bytes.items) × (is_utf8 bytes.items ≡ true)) }
     ensures none { IfNone result (is_utf8 bytes.items ≡ false) }
 {
-    if !simdutf8::is_utf8(bytes.as_slice()) {
-        return None;
+    match String::from_utf8(bytes) {
+        Ok(text) => {
+            // Its `&str` tells the proof that the bytes are UTF-8.
+            text.as_str();
+            Some(text)
+        }
+        Err(_) => None,
     }
-    String::from_utf8(bytes).ok()
 }
