@@ -8,6 +8,7 @@ pub mod Flags
 pub mod Many
 pub mod Looks
 pub mod Lanes
+pub mod Escapes
 pub mod Texts
 pub mod Blobs
 pub mod Joined

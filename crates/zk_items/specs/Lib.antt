@@ -2,5 +2,6 @@ pub mod Form
 pub mod Laws
 pub mod Many
 pub mod Leaf
+pub mod Odd
 pub mod Codes
 pub mod Reasons

@@ -17,7 +17,7 @@ fn digits(values: u8x16) -> u8x16
 }
 
 /// The two digits of each byte, side by side.
-fn pairs(bytes: u8x16) -> u8x32
+pub fn pairs(bytes: u8x16) -> u8x32
     ensures { result ≡ encode_lower bytes }
 {
     let high = digits(bytes >> u8x16::splat(4));

@@ -34,6 +34,7 @@
 mod code;
 mod decimal;
 mod digits;
+mod escape;
 mod fault;
 mod laws;
 mod number;

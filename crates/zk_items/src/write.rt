@@ -1,5 +1,5 @@
 //! How the items of a line are written.
-ghost use Rattle.std.specs.Prelude.{◌≡◌, ◌∷◌, ◌++◌, [], ◌+◌, ◌<◌, ◌≤◌, OnOk, false, length, take, drop};
+ghost use Rattle.std.specs.Prelude.{◌≡◌, ◌∷◌, ◌++◌, [], ◌+◌, ◌<◌, ◌≤◌, slice_index, IfOk, OnOk, false, length, take, drop};
 ghost use Rattle.std.specs.Fmt.{signed_decimal};
 ghost use Rattle.std.specs.List.{flat_map};
 ghost use Rattle.zk_jute.specs.declared.value.Nullable.TheVariants as nullable;
@@ -7,6 +7,7 @@ ghost use Rattle.zk_items.specs.Form.{Keeps};
 ghost use Rattle.zk_items.specs.Leaf.{int, long, is_plain, text_fits, text_spell, blob_fits, blob_spell, symbol_spell, bit_spell, ro_spell};
 
 use crate::digits::put_digits;
+use crate::escape::{odd_len, put_escapes};
 use crate::plain::{are_plain, plain_len};
 use crate::symbol::{hex_digit, is_plain};
 use itoa::write_digits;
@@ -151,6 +152,24 @@ fn put_escape(out: &mut Vec<u8>, b: u8) -> Result<(), AllocError>
     out.extend_from_slice(&[b'\\', hex_digit(b / 16), hex_digit(b % 16)])
 }
 
+/// Appends the escapes of bytes in front, of which the first isn't plain; returns how many.
+// A few are written one by one.
+fn put_odd(out: &mut Vec<u8>, bytes: &[u8]) -> Result<usize, AllocError>
+    requires some { 0 < length bytes.now }
+    requires odd { is_plain (slice_index bytes.now 0) ≡ false }
+    ensures many { IfOk result (λ n. (1 ≤ n) × (n ≤ length bytes.now)) }
+    ensures spelled { IfOk result (λ n. out.new.items ≡ out.old.items ++ flat_map symbol_spell (take n bytes.now)) }
+    ensures keeps { Keeps out.old.items out.new.items }
+{
+    let run = odd_len(bytes);
+    if run < 4 {
+        put_escape(out, bytes[0])?;
+        return Ok(1);
+    }
+    put_escapes(out, &bytes[..run])?;
+    Ok(run)
+}
+
 /// Appends the bytes of a text, each plain or as its escape.
 // A run of plain ones is copied whole.
 fn put_symbols(out: &mut Vec<u8>, bytes: &[u8]) -> Result<(), AllocError>
@@ -158,14 +177,14 @@ fn put_symbols(out: &mut Vec<u8>, bytes: &[u8]) -> Result<(), AllocError>
     ensures keeps { Keeps out.old.items out.new.items }
 {
     let mut ahead = bytes;
-    while let Some((first, rest)) = ahead.split_first() {
+    while let Some(first) = ahead.first() {
         if is_plain(*first) {
             let (run, rest) = ahead.split_at(plain_len(ahead));
             out.extend_from_slice(run)?;
             ahead = rest;
         } else {
-            put_escape(out, *first)?;
-            ahead = rest;
+            let count = put_odd(out, ahead)?;
+            ahead = &ahead[count..];
         }
     }
     Ok(())
