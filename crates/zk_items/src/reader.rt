@@ -103,6 +103,7 @@ impl<'a> Reader<'a> {
     }
 
     /// Passes `word`, if it comes next; else returns the fault `Word`.
+    #[inline(always)]
     pub fn front(&mut self, word: &[u8]) -> Result<(), LineFault>
         ensures read { Passes result self.new (word_at word.now self.old) }
         ensures none { IfErr result (λ e. (word_at word.now self.old ≡ None) × (self.new ≡ self.old)) }
@@ -117,6 +118,7 @@ impl<'a> Reader<'a> {
     }
 
     /// Passes `word` and returns true, if it comes next.
+    #[inline(always)]
     pub fn passes(&mut self, word: &[u8]) -> bool
         ensures { MatchBool result (word_at word.now self.old ≡ Some self.new) ((word_at word.now self.old ≡ None) × (self.new ≡ self.old)) }
     {
