@@ -1,5 +1,5 @@
 -- The lines of what a client sends have the laws of lines.
-use Rattle.std.proofs.Common.{◌≡◌, ℕ, List, [], ◌∷◌, ◌++◌, None, refl}
+use Rattle.std.proofs.Common.{◌≡◌, ℕ, List, [], ◌∷◌, ◌++◌, Some, None, refl, ap, ◌∙◌}
 use Rattle.zk_jute.specs.Flagged.{flag_items}
 use Rattle.zk_jute.specs.Item.{HaveBytes}
 use Rattle.zk_records.specs.Records as records
@@ -110,6 +110,10 @@ op_found _ = (refl, refl)
 pub op_names : IsNames op_name asks.op_named
 unfolding asks.op_named
 op_names = names_of op_name asks.all_ops op_found
+
+-- the operation that has a name is found by it
+pub op_is : (bytes : List ℕ) (op : Op) → bytes ≡ op_name op → asks.op_named bytes ≡ Some op
+op_is bytes op e = ap asks.op_named e ∙ op_names.found op
 
 ruleset ask_records = (create_is, delete_is, watch_is, set_data_is, path_is, set_acl_is, auth_is, set_watches_is, multi_is, nothing_is)
 

@@ -15,6 +15,8 @@ pub trait Item: Put + Sized + Drop {
 }
 
 /// Reads a field: `word`, and then the value.
+// Inlined, so that the word is known where it is compared.
+#[inline(always)]
 pub fn read_field<T: Item>(line: &mut Reader<'_>, word: Word) -> Result<T, LineFault>
     ensures { Gives result line.new (field_at word T.form.at line.old) }
 {

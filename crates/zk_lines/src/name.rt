@@ -1,5 +1,5 @@
 //! The operations, parts and results by their names in a line.
-ghost use Rattle.std.specs.Prelude.{◌≡◌};
+ghost use Rattle.std.specs.Prelude.{◌≡◌, IfSome, Some};
 ghost use Rattle.zk_lines.specs.Asks as asks;
 ghost use Rattle.zk_lines.specs.Answers as answers;
 
@@ -26,11 +26,50 @@ const OPS: [Op; 16] = [
     Op::CloseSession,
 ];
 
+/// The operation that may have a name with this first letter and length: no two have both.
+fn op_like(first: u8, len: usize) -> Option<Op> {
+    match (first, len) {
+        (b'a', 4) => Some(Op::Auth),
+        (b'c', 6) => Some(Op::Create),
+        (b'c', 7) => Some(Op::Create2),
+        (b'c', 12) => Some(Op::CloseSession),
+        (b'd', 6) => Some(Op::Delete),
+        (b'e', 6) => Some(Op::Exists),
+        (b'g', 6) => Some(Op::GetAcl),
+        (b'g', 7) => Some(Op::GetData),
+        (b'g', 11) => Some(Op::GetChildren),
+        (b'g', 12) => Some(Op::GetChildren2),
+        (b'm', 5) => Some(Op::Multi),
+        (b'p', 4) => Some(Op::Ping),
+        (b's', 4) => Some(Op::Sync),
+        (b's', 6) => Some(Op::SetAcl),
+        (b's', 7) => Some(Op::SetData),
+        (b's', 10) => Some(Op::SetWatches),
+        _ => None,
+    }
+}
+
+/// The operation whose name is `name`, told from its first letter and length.
+// Stands for the search of `op_named`, where it finds one.
+fn op_at_once(name: &[u8]) -> Option<Op>
+    ensures { IfSome result (λ op. asks.op_named name.now ≡ Some op) }
+{
+    let op = op_like(*name.first()?, name.len())?;
+    if name == op_name(op).as_bytes() {
+        Some(op)
+    } else {
+        None
+    }
+}
+
 /// The operation whose name is `name`; `None` if there is none.
 #[tactic(auto, unfolding(crate::specs::Asks::op_named))]
 pub fn op_named(name: &[u8]) -> Option<Op>
     ensures { result ≡ asks.op_named name.now }
 {
+    if let Some(op) = op_at_once(name) {
+        return Some(op);
+    }
     OPS.iter()
         .copied()
         .find(|op| name == op_name(*op).as_bytes())

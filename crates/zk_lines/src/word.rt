@@ -85,6 +85,7 @@ pub fn put_word(out: &mut Vec<u8>, word: Word) -> Result<(), AllocError>
 }
 
 /// Passes `word`, if it comes next; else returns the fault.
+#[inline(always)]
 pub fn read_word(line: &mut Reader<'_>, word: Word) -> Result<(), LineFault>
     ensures { Passes result line.new (word_at (word_of word) line.old) }
 {
