@@ -19,7 +19,7 @@ abbrev time_bytes : Format → List ℕ → List ℕ
 time_bytes Zkr1 block = no_time
 time_bytes Zkr2 block = take 8 (drop 1 block)
 
-size-some : (n : ℕ) → is_within 1 16777220 n ≡ true → 0 < n
+pub size-some : (n : ℕ) → is_within 1 16777220 n ≡ true → 0 < n
 size-some n h = grind (arith, nat_tests)
 
 side-good : (side : Side) → IsValue SideByte (side_byte side ∷ [])

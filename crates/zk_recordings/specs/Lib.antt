@@ -4,3 +4,4 @@ pub mod Recording
 pub mod Reader
 pub mod Reading
 pub mod Heads
+pub mod Pieces

@@ -1,12 +1,57 @@
-//! The head of a piece, read at once where it is whole at the front of a block.
+//! The limits of a head; the head of a piece, and a whole piece, read at once where a block begins with them.
 ghost use Rattle.std.specs.Prelude.{◌≡◌, ◌≤◌, ◌+◌, true, IfSome, length, take, drop};
 ghost use Rattle.zk_recordings.specs.declared.parts.Part.TheVariants.{Size};
+ghost use Rattle.zk_recordings.specs.HeadLimits.{limits_or, profile_by};
 ghost use Rattle.zk_recordings.specs.Parts as parts;
 ghost use Rattle.zk_recordings.specs.Recording.{side_byte};
+ghost use Rattle.zk_recordings.specs.Reading.{chosen};
 ghost use Rattle.zk_recordings.specs.Heads.{IsTimeIn};
+ghost use Rattle.zk_recordings.specs.Pieces.{IsHeadIn, IsPieceIn};
 
 use crate::parts::{Format, Part, number};
-use zk_talk::Side;
+use zk_records::Profile;
+use zk_talk::{Limits, Side};
+
+/// The head of a piece.
+#[derive(Clone, Copy)]
+pub struct PieceHead {
+    /// The side whose content follows.
+    pub side: Side,
+    /// The number of bytes of the content.
+    pub size: u32,
+    /// The number of bytes of the head.
+    pub used: usize,
+}
+
+/// A piece with all its content, at the front of a block.
+#[derive(Clone, Copy, Debug, PartialEq, Eq)]
+pub struct WholePiece {
+    /// The side whose content it is.
+    pub side: Side,
+    /// The number of bytes of the head, which isn't 0. The content follows them.
+    pub head: usize,
+    /// The number of bytes of head and content.
+    pub used: usize,
+}
+
+/// The profile whose number is `number`, in a head.
+pub fn profile_of(number: u32) -> Profile
+    ensures { result ≡ profile_by number }
+{
+    if number == 35 {
+        Profile::V35
+    } else {
+        Profile::V34
+    }
+}
+
+/// The limits that a head's numbers make; `None` if one is out of range.
+pub fn head_limits(client: u32, server: u32, waiting: u32, profile: Profile) -> Option<Limits>
+    ensures { (options : Limits) → chosen result options ≡ limits_or options client server waiting profile }
+{
+    let limits = Limits::new(client, server, waiting)?;
+    Some(limits.with_profile(profile))
+}
 
 /// The side that `byte` is the letter of; `None` if it is of none.
 pub fn side_named(byte: u8) -> Option<Side>
@@ -59,4 +104,34 @@ pub fn size_in(block: &[u8], at: usize) -> Option<u32>
         0,
     ];
     Part::Size.is_good(size).then_some(number(size))
+}
+
+/// The head of a piece, if it is whole and good at the front of `block`; `None`: undecided.
+#[inline(always)]
+pub fn head_in(format: Format, block: &[u8]) -> Option<PieceHead>
+    ensures { IfSome result (IsHeadIn format block.now) }
+{
+    let side = side_named(*block.first()?)?;
+    let at = behind_time(format, block)?;
+    let size = size_in(block, at)?;
+    let used = at + 4;
+    Some(PieceHead { side, size, used })
+}
+
+/// The piece that is whole at the front of `block`; `None`: undecided.
+#[inline(always)]
+pub fn piece_in(format: Format, block: &[u8]) -> Option<WholePiece>
+    ensures { IfSome result (IsPieceIn format block.now) }
+{
+    let PieceHead {
+        side,
+        size,
+        used: head,
+    } = head_in(format, block)?;
+    let used = head + size as usize;
+    if used <= block.len() {
+        Some(WholePiece { side, head, used })
+    } else {
+        None
+    }
 }

@@ -5,7 +5,8 @@
 //! rows there.
 //!
 //! `RecordingReader::next` is the main call: it takes the first bytes of a block of any size and returns how many it
-//! took, and the side whose content they are, if they are content. `limits` returns the limits of the head, `damage` the
+//! took, and the side whose content they are, if they are content. `next_piece` takes a piece at once, head and content,
+//! if a block begins with it whole, as two calls of `next` would. `limits` returns the limits of the head, `damage` the
 //! first damage, `finish` the damage of a recording that ends here. Any bytes are one recording, which may be damaged.
 //!
 //! Nothing is allocated. The crate rests on `zk_talk` for sides and limits, and on `zk_records` for profiles.
@@ -22,13 +23,14 @@
 //! **A recording is a grammar by its spelling.** The fixed parts of both formats are rows of one table: width, good
 //! values, and the damage of a bad or cut one. A further format adds rows, not cases.
 //!
-//! **The head of a piece is read at once if a block begins with it whole** (`State::pass_head`); else byte by byte,
-//! which finds the damage.
+//! **The head of a piece is read at once if a block begins with it whole** (`head_in`); else byte by byte, which finds
+//! the damage.
 #![tactic(auto)]
 
 mod heads;
 mod parts;
 mod recording;
 
+pub use heads::WholePiece;
 pub use parts::{Damage, DamageAt, Format, ZKR1};
 pub use recording::{RecordingReader, Run};

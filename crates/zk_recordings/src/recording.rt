@@ -1,19 +1,18 @@
 //! `RecordingReader`: reads recordings of both formats, a head, and pieces of either side.
-ghost use Rattle.std.specs.Prelude.{◌≡◌, ◌+◌, ◌^◌, ◌<◌, ◌≤◌, ◌∷◌, ℕ, List, [], true, None, Some, MatchOption, IfSome, length, take};
+ghost use Rattle.std.specs.Prelude.{◌≡◌, ◌+◌, ◌-◌, ◌^◌, ◌<◌, ◌≤◌, ◌∷◌, ℕ, List, [], true, None, Some, MatchOption, IfSome, IfNone, length, take, drop};
 ghost use Rattle.zk_recordings.specs.declared.parts.DamageAt.{DamageAt};
 ghost use Rattle.zk_recordings.specs.declared.parts.Format.TheVariants.{Zkr1, Zkr2};
 ghost use Rattle.zk_recordings.specs.declared.parts.Part.TheVariants.{Letters, ClientLimit, SideByte, Time, Size};
-ghost use Rattle.zk_recordings.specs.HeadLimits.{limits_or, profile_by};
 ghost use Rattle.zk_recordings.specs.Parts as parts;
 ghost use Rattle.zk_recordings.specs.Reader.{Content, state_of};
 ghost use Rattle.zk_recordings.specs.Recording.{Recording, Breaks, AtLetters, Cut, damage_of, limits_of, place_of, side_byte};
 ghost use Rattle.zk_recordings.specs.Heads.{PassesHead};
+ghost use Rattle.zk_recordings.specs.Pieces.{ReadsPiece};
 ghost use Rattle.zk_recordings.specs.Reading.{GoesOnFrom, Accepts, IsAt, IsBetweenOf, IsNeverBetween, IsDamagedBy, IsUndamaged, IsHeaded, IsSound, ReadsOn, chosen, place_in, then_at};
 
-use crate::heads::{behind_time, side_named, size_in};
+use crate::heads::{WholePiece, head_in, head_limits, piece_in, profile_of};
 use crate::parts::{Bytes, Damage, DamageAt, Format, Part, number, word};
 use std::marker::Model;
-use zk_records::Profile;
 use zk_talk::{Limits, Side};
 
 /// What the first `used` bytes of a block are: content of `side`, or of neither.
@@ -81,25 +80,6 @@ fn side_of(byte: u8) -> Side
     } else {
         Side::Server
     }
-}
-
-/// The profile whose number is `number`, in a head.
-fn profile_of(number: u32) -> Profile
-    ensures { result ≡ profile_by number }
-{
-    if number == 35 {
-        Profile::V35
-    } else {
-        Profile::V34
-    }
-}
-
-/// The limits that a head's numbers make; `None` if one is out of range.
-fn head_limits(client: u32, server: u32, waiting: u32, profile: Profile) -> Option<Limits>
-    ensures { (options : Limits) → chosen result options ≡ limits_or options client server waiting profile }
-{
-    let limits = Limits::new(client, server, waiting)?;
-    Some(limits.with_profile(profile))
 }
 
 impl State {
@@ -222,54 +202,64 @@ impl State {
         }
     }
 
-    /// The state after the whole head of a piece at the front of `block`, and the length of that head; `None`: undecided.
-    // Most pieces come so, with all their content in the block.
-    fn pass_head(self, block: &[u8]) -> Option<(State, usize)>
-        requires { self.at + length block.now < 2 ^ 64 }
-        ensures { IfSome result (λ x. PassesHead (state_of self) block.now x.1 (state_of x.0)) }
+    /// Takes the whole head of a piece at the front of `block`, and returns its length; `None`: undecided, and nothing changed.
+    // Stands for `take_byte` with each byte of the head. Most pieces come so, with all their content in the block.
+    #[inline(always)]
+    fn pass_head(&mut self, block: &[u8]) -> Option<usize>
+        requires { self.old.at + length block.now < 2 ^ 64 }
+        ensures some { IfSome result (λ used. PassesHead (state_of self.old) block.now used (state_of self.new)) }
+        ensures none { IfNone result (self.new ≡ self.old) }
     {
-        let side = side_named(*block.first()?)?;
-        let at = behind_time(self.format, block)?;
-        let size = size_in(block, at)?;
-        let used = at + 4;
-        let state = State {
-            at: self.at + used as u64,
-            stage: Stage::Content { got: 0 },
-            side,
-            size,
-            ..self
-        };
-        Some((state, used))
+        let head = head_in(self.format, block)?;
+        self.at += head.used as u64;
+        self.stage = Stage::Content { got: 0 };
+        self.side = head.side;
+        self.size = head.size;
+        Some(head.used)
     }
 
-    /// Within `part`: the state after the next byte, or after the whole head of a piece, and the number of bytes that is.
-    fn in_part(self, part: Part, bytes: Bytes, got: usize, block: &[u8]) -> (State, usize)
+    /// Within `part`: takes the next byte, or the whole head of a piece, and returns the number of bytes that is.
+    #[inline(always)]
+    fn in_part(&mut self, part: Part, bytes: Bytes, got: usize, block: &[u8]) -> usize
         requires some { 0 < length block.now }
         requires got { got < parts.width part }
         requires eight { length bytes ≡ 8 }
-        requires room { self.at + got + length block.now < 2 ^ 64 }
-        ensures sound { IsSound (state_of result.0) }
-        ensures progress { 0 < result.1 }
-        ensures used { result.1 ≤ length block.now }
-        ensures place { place_in (state_of result.0) ≤ self.at + got + result.1 }
-        ensures reads { GoesOnFrom (state_of self) part bytes got (take result.1 block.now) (state_of result.0) }
+        requires room { self.old.at + got + length block.now < 2 ^ 64 }
+        ensures sound { IsSound (state_of self.new) }
+        ensures progress { 0 < result }
+        ensures used { result ≤ length block.now }
+        ensures place { place_in (state_of self.new) ≤ self.old.at + got + result }
+        ensures reads { GoesOnFrom (state_of self.old) part bytes got (take result block.now) (state_of self.new) }
     {
         if let Part::SideByte = part {
-            if let Some(passed) = self.pass_head(block) {
-                return passed;
+            if let Some(used) = self.pass_head(block) {
+                return used;
             }
         }
-        (self.take_byte(part, bytes, got, block[0]), 1)
+        *self = self.take_byte(part, bytes, got, block[0]);
+        1
     }
 
-    /// Within a content, of which `got` bytes have come.
-    fn within(self, got: u32) -> State
-        ensures { state_of result ≡ record (state_of self) { stage = Content got } }
+    /// Within a content: takes some of it, so that `got` bytes of it have come.
+    #[inline(always)]
+    fn grow(&mut self, got: u32)
+        ensures { state_of self.new ≡ record (state_of self.old) { stage = Content got } }
     {
-        State {
-            stage: Stage::Content { got },
-            ..self
-        }
+        self.stage = Stage::Content { got };
+    }
+
+    /// Within a content: takes the last of it.
+    #[inline(always)]
+    fn end_piece(&mut self)
+        requires { self.old.at + self.old.size < 2 ^ 64 }
+        ensures { state_of self.new ≡ then_at (state_of self.old) SideByte self.old.size }
+    {
+        self.at += u64::from(self.size);
+        self.stage = Stage::Fixed {
+            part: Part::SideByte,
+            bytes: [0; 8],
+            got: 0,
+        };
     }
 }
 
@@ -307,22 +297,20 @@ impl RecordingReader {
         ensures place { place_in self.new ≤ place_in self.old + result.used }
         ensures reads { (x : List ℕ) (r : Recording) → IsAt self.old x r → ReadsOn self.new x r (take result.used block.now) result.side }
     {
-        let state = self.state;
-        match state.stage {
+        match self.state.stage {
             Stage::Fixed { part, bytes, got } => {
-                let (state, used) = state.in_part(part, bytes, got, block);
-                self.state = state;
+                let used = self.state.in_part(part, bytes, got, block);
                 Run { used, side: None }
             }
             Stage::Content { got } => {
-                let side = Some(state.side);
-                let left = state.size - got;
+                let side = Some(self.state.side);
+                let left = self.state.size - got;
                 if block.len() < left as usize {
-                    self.state = state.within(got + block.len() as u32);
+                    self.state.grow(got + block.len() as u32);
                     let used = block.len();
                     Run { used, side }
                 } else {
-                    self.state = state.then(Part::SideByte, u64::from(state.size));
+                    self.state.end_piece();
                     let used = left as usize;
                     Run { used, side }
                 }
@@ -331,6 +319,30 @@ impl RecordingReader {
                 used: block.len(),
                 side: None,
             },
+        }
+    }
+
+    /// Takes the piece that is whole at the front of `block`, if a head or a piece has just ended; `None`: undecided, and
+    /// nothing changed.
+    // Stands for two calls of `next`, which take its head and its content.
+    #[inline(always)]
+    pub fn next_piece(&mut self, block: &[u8]) -> Option<WholePiece>
+        requires { place_in self.old + length block.now < 2 ^ 64 }
+        ensures none { IfNone result (self.new ≡ self.old) }
+        ensures within { IfSome result (λ p. (0 < p.head) × (p.head < p.used) × (p.used ≤ length block.now)) }
+        ensures place { IfSome result (λ p. place_in self.new ≤ place_in self.old + p.used) }
+        ensures reads { IfSome result (λ p. ReadsPiece self.old (take p.head block.now) (take (p.used - p.head) (drop p.head block.now)) p.side self.new) }
+    {
+        match self.state.stage {
+            Stage::Fixed {
+                part: Part::SideByte,
+                ..
+            } => {
+                let piece = piece_in(self.state.format, block)?;
+                self.state.at += piece.used as u64;
+                Some(piece)
+            }
+            _ => None,
         }
     }
 

@@ -12,7 +12,7 @@ returns-then-block-left-clause-reads c = λ x r i.
     let j = subst (λ s. IsAt s x r) (sym c.self.view_is) i in
     let at' = subst (λ q. AtStage st q x r) (ap stage_of c.in-Content.is) j.stands in
     let sound = subst (IsSoundAt st) (ap stage_of c.in-Content.is) c.self.invariant in
-    rw (c.within-self-inside.ensures, take-length) (content-more st c.in-Content.got x block r j.spells j.has at' (omega (arith, c.if-block-left.true, sound.left)))
+    rw (c.grow.ensures, take-length) (content-more st c.in-Content.got x block r j.spells j.has at' (omega (arith, c.if-block-left.true, sound.left)))
 
 pub returns-else-block-left-clause-reads : goal.returns-else-block-left-clause-reads
 returns-else-block-left-clause-reads c = λ x r i.
@@ -24,7 +24,7 @@ returns-else-block-left-clause-reads c = λ x r i.
     let at' = subst (λ q. AtStage st q x r) (ap stage_of c.in-Content.is) j.stands in
     let sound = subst (IsSoundAt st) (ap stage_of c.in-Content.is) c.self.invariant in
     let all : got + length part ≡ st.size = omega (arith, length-take (st.size - got) block, c.if-block-left.false, sound.left) in
-    rw (c.then-self-inside.ensures, c.from.ensures) (content-whole st got x part r j.spells j.has at' all)
+    rw c.end_piece.ensures (content-whole st got x part r j.spells j.has at' all)
 
 pub returns-in-Damaged-clause-reads : goal.returns-in-Damaged-clause-reads
 returns-in-Damaged-clause-reads c = λ x r i.

@@ -8,6 +8,7 @@ use Rattle.zk_recordings.proofs.recording.State.in_part.Goals as goal
 
 pub returns-in-Some-clause-reads : goal.returns-in-Some-clause-reads
 returns-in-Some-clause-reads c = λ x r i has a.
+    let s = state_of c.args.self.now in
     let none : c.args.got ≡ 0 = omega (arith, subst (λ q. c.args.got < width q) c.in-SideByte.is c.requires.got) in
-    let side = subst (λ q. AtFixed (state_of c.args.self) q c.args.bytes c.args.got r) c.in-SideByte.is a in
-    passes-head (state_of c.args.self) c.args.block.now c.in-Some.passed.1 (state_of c.in-Some.passed.0) c.in-Some.ensures c.args.bytes x r i has (subst (λ n. AtFixed (state_of c.args.self) SideByte c.args.bytes n r) none side)
+    let side = subst (λ q. AtFixed s q c.args.bytes c.args.got r) c.in-SideByte.is a in
+    passes-head s c.args.block.now c.in-Some.used (state_of c.pass_head.new.self) c.in-Some.ensures.some c.args.bytes x r i has (subst (λ n. AtFixed s SideByte c.args.bytes n r) none side)

@@ -3,7 +3,7 @@ use Rattle.std.proofs.lemmas.Bool.{false≢true}
 use Rattle.zk_recordings.specs.HeadLimits.{limits_or}
 use Rattle.zk_recordings.specs.Reading.{chosen}
 use Rattle.zk_recordings.proofs.Accepts.{limits-none, limits-some}
-use Rattle.zk_recordings.proofs.recording.head_limits.Goals as goal
+use Rattle.zk_recordings.proofs.heads.head_limits.Goals as goal
 
 pub returns-in_err-limits : goal.returns-in_err-limits
 returns-in_err-limits c = λ options.
