@@ -4,6 +4,7 @@ pub mod Talking
 pub mod Outcomes
 pub mod Stops
 pub mod Steps
+pub mod Pieces
 pub mod Found
 pub mod Opened
 pub mod Stopped

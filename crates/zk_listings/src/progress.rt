@@ -187,6 +187,34 @@ impl Progress {
         }
     }
 
+    /// `advance`; a piece that is whole at the front of the block is taken at once, head and content, if the conversation
+    /// has begun.
+    // Stands for two calls of `advance` there, which take the head and the content.
+    #[inline(always)]
+    fn advance_far(
+        &mut self,
+        block: &[u8],
+        listing: Listing,
+        lines: &mut Vec<u8>,
+    ) -> Result<Step, AllocError>
+        requires some { 0 < length block.now }
+        requires room { place_in self.old.reader + length block.now < 2 ^ 64 }
+        ensures within { IfOk result (λ step. IsWithin self.old.reader block.now step self.new.reader) }
+        ensures steps { IfOk result (λ step. Steps listing self.old lines.old.items block.now step self.new lines.new.items) }
+    {
+        if let Some(talk) = &mut self.talk {
+            if let Some(piece) = self.reader.next_piece(block) {
+                let content = &block[piece.head..piece.used];
+                let refused = feed(talk, piece.side, content, listing, lines)?;
+                return Ok(match refused {
+                    Some(fault) => Step::Found(Summary::Ended(Ending::Refused(fault))),
+                    None => Step::Took(piece.used),
+                });
+            }
+        }
+        self.advance(block, listing, lines)
+    }
+
     /// Takes a block, and appends the lines of its messages. Returns the recording's summary if it is known, whatever follows.
     pub fn feed(
         &mut self,
@@ -200,7 +228,7 @@ impl Progress {
     {
         let mut at = 0;
         while at < block.len() {
-            let step = self.advance(rest(block, at), listing, lines)?;
+            let step = self.advance_far(rest(block, at), listing, lines)?;
             match step {
                 Step::Took(used) => at += used,
                 Step::Found(summary) => return Ok(Some(summary)),
