@@ -7,6 +7,8 @@
 #[cfg(test)]
 mod adapters;
 #[cfg(test)]
+mod blocks;
+#[cfg(test)]
 mod devices;
 #[cfg(test)]
 mod engines;

@@ -1,6 +1,6 @@
 -- One line more.
 use Rattle.std.proofs.Common.{◌≡◌, ◌≢◌, ℕ, ◌+◌, ◌<◌, List, [], ◌∷◌, ◌++◌, length, map, Option, ◌⊎◌, inl, inr, refl, sym, ap, ◌∙◌, subst, append_assoc, append-nil, arith, length-append, true, false, Bool}
-use Rattle.std.specs.Io.KnownBytes.{Appends}
+use Rattle.std.specs.Io.KnownBytes.{Appends, append_known}
 use Rattle.std.specs.List.{AllByRecursion, flat_map}
 use Rattle.std.specs.Int.{w32, to_be_bytes}
 use Rattle.std.proofs.lemmas.List.{map-append, length-map}
@@ -23,17 +23,13 @@ use Rattle.zk_talk.specs.Said.{payload_of, side_of}
 use Rattle.zk_frames.specs.Framing.{frame}
 use Rattle.zk_frames.proofs.Cuts.{length-frame}
 use Rattle.zk_runs.specs.declared.built.Built.TheVariants.{Whole, LineRefused, SayRefused}
-use Rattle.zk_runs.specs.declared.builder.Halt.TheVariants.{Fails}
-use Rattle.zk_listings.specs.declared.listing.RunFault.{RunFault}
 use Rattle.zk_runs.specs.Building.{head, built_bytes}
 use Rattle.zk_recordings.specs.Recording.{no_time}
-use Rattle.zk_listings.specs.Outcome.{HasGrownIn}
 use Rattle.zk_runs.specs.Building.{IsDotted, AreAccepted, AreEnded, IsNextLine, IsBuilt, without_ending, with_ending, behind_ending, other_ending, no_message, not_said, ending_fault, due_ending, piece_of, recording_of}
-use Rattle.zk_runs.specs.Accepting.{AreGood, Took, Refuses, Begins, HaltsAt, line_halt, line_halt_by, say_halt}
+use Rattle.zk_runs.specs.Accepting.{AreGood, Took, Refuses, Stops, HaltsAt, line_halt, line_halt_by, say_halt}
 use Rattle.zk_listings.proofs.Bytes.{Appends-then}
-use Rattle.zk_listings.proofs.Feeding.{grown-whole}
-use Rattle.zk_listings.proofs.Found.{grown-further}
 use Rattle.zk_recordings.proofs.Lists.{flat_map-snoc}
+use Rattle.zk_runs.proofs.Known.{known-whole}
 
 pub all-snoc : {X : Type 0} (P : X → Type 0) (xs : List X) (x : X) → AllByRecursion P xs → P x → AllByRecursion P (xs ++ x ∷ [])
 all-snoc P [] x all p = (p, tt)
@@ -62,13 +58,14 @@ short-frame : (limits : Limits) (before : List Message) (m : Message) → MaySay
 short-frame limits before (Client f) may = omega (arith, length-frame (client_payload f), may.1, limits.in_range.1)
 short-frame limits before (Server s) may = omega (arith, length-frame (server_payload s), may.1, limits.in_range.3)
 
--- the piece of a message: what was written, from the frame that was appended to nothing
-pub piece-is : (limits : Limits) (before : List Message) (m : Message) (side : Side) (written piece content out none : List ℕ) → MaySay limits before m →
-    written ≡ piece → side ≡ side_of m → content ≡ out → out ≡ none ++ frame (payload_of m) → none ≡ [] →
-    (length content < 4294967296 → piece ≡ built_bytes (record { side = side; time = no_time; size = to_be_bytes w32 (length content); content = content })) → written ≡ built_bytes (piece_of m)
-piece-is limits before m side written piece content out none may written_is side_is content_is out_is none_is is =
+-- the piece of a message, which was appended from the frame that was said
+pub piece-is : (limits : Limits) (before : List Message) (m : Message) (side : Side) (due due_now content out none : List ℕ) → MaySay limits before m →
+    side ≡ side_of m → content ≡ out → out ≡ none ++ frame (payload_of m) → none ≡ [] →
+    (length content < 4294967296 → due_now ≡ due ++ built_bytes (record { side = side; time = no_time; size = to_be_bytes w32 (length content); content = content })) →
+    due_now ≡ due ++ built_bytes (piece_of m)
+piece-is limits before m side due due_now content out none may side_is content_is out_is none_is is =
     let frame_is : content ≡ frame (payload_of m) = content_is ∙ out_is ∙ ap (λ l. l ++ frame (payload_of m)) none_is in
-    written_is ∙ is (omega (arith, ap length frame_is, short-frame limits before m may)) ∙ rw (side_is, frame_is) refl
+    is (omega (arith, ap length frame_is, short-frame limits before m may)) ∙ rw (side_is, frame_is) refl
 
 -- before the first message
 pub nothing-accepted : (limits : Limits) → AreAccepted limits [] []
@@ -95,12 +92,9 @@ built-good limits lines messages false good = without_ending good refl
 built-good limits lines messages true good = with_ending good refl
 
 module _ (limits : Limits) (lines : List (List ℕ)) (before now : Option (List ℕ)) (count : ℕ) (speaker : SpeakerState) (t : Took limits lines before now count false speaker) where
-  begins-here : Begins limits lines before now
-  begins-here = record { messages = t.messages; accepted = t.knows.good; written = grown-whole before now (recording_of t.messages) t.written }
-
   -- nothing was written of the next line
-  pub fails-before : (next : List ℕ) (fault : RunFault) → HaltsAt limits lines next before (Fails fault) now
-  fails-before next fault = inl begins-here
+  pub stops-here : Stops limits lines before now
+  stops-here = record { messages = t.messages; accepted = t.knows.good; written = t.written }
 
   module _ (m : Message) (fits : Fits m) (new : SpeakerState) (limits_are : new.limits ≡ speaker.limits)
       (says : (all : List Message) → Says speaker all → MaySay speaker.limits all m × Says new (all ++ m ∷ [])) where
@@ -120,14 +114,6 @@ module _ (limits : Limits) (lines : List (List ℕ)) (before now : Option (List 
       written = subst (Appends before after) (sym (recording-more t.messages m)) (Appends-then before now after _ _ t.written written);
     }
 
-    -- a front of its piece
-    pub fails-within : (after : Option (List ℕ)) (fault : RunFault) → HasGrownIn now after (built_bytes (piece_of m)) → HaltsAt limits lines (line m) before (Fails fault) after
-    fails-within after fault written = inr (record {
-      messages = t.messages ++ m ∷ [];
-      accepted = accepted-more limits lines t.messages m t.knows.good fits said-more;
-      written = subst (HasGrownIn before after) (sym (recording-more t.messages m)) (grown-further before now after _ _ t.written written);
-    })
-
   -- the message can't be said
   module _ (m : Message) (fits : Fits m) where
     unsaid : (fault : SayFault) → IsSayFault speaker.limits t.messages m fault → Refuses limits (lines ++ line m ∷ []) before now (SayRefused (count + 1) fault)
@@ -146,7 +132,7 @@ module _ (limits : Limits) (lines : List (List ℕ)) (before now : Option (List 
 
     pub halts-unsaid : (fault : SayFault) → (fault ≡ no_memory) ⊎ ((all : List Message) → Says speaker all → IsSayFault speaker.limits all m fault) →
         HaltsAt limits lines (line m) before (say_halt (count + 1) fault) now
-    halts-unsaid no_memory w = inl begins-here
+    halts-unsaid no_memory w = stops-here
     halts-unsaid NotFirst w = unsaid-by NotFirst (λ e. cc) w
     halts-unsaid Unasked w = unsaid-by Unasked (λ e. cc) w
     halts-unsaid (XidOrder expected got) w = unsaid-by (XidOrder expected got) (λ e. cc) w
@@ -193,7 +179,7 @@ module _ (limits : Limits) (lines : List (List ℕ)) (before now : Option (List 
     }
 
     unread-by : (r : LineReason) → fault.reason ≡ r → HaltsAt limits lines next before (line_halt_by r (count + 1) fault) now
-    unread-by NoMemory e = inl begins-here
+    unread-by NoMemory e = stops-here
     unread-by Word e = unread (λ k. cc)
     unread-by Number e = unread (λ k. cc)
     unread-by Text e = unread (λ k. cc)
@@ -218,3 +204,9 @@ halts-behind limits lines before now count speaker next t =
           (ap (λ k. LineRefused k ending_fault) (omega (arith, t.knows.count_is, long, counted limits ended.before t.messages ended.accepted)));
       written = t.written;
     }
+
+-- what is due was written
+pub took-written : (limits : Limits) (lines : List (List ℕ)) (before now after : Option (List ℕ)) (due : List ℕ) (count : ℕ) (ended : Bool) (speaker : SpeakerState) →
+    Took limits lines before (append_known now due) count ended speaker → Appends now after due → Took limits lines before after count ended speaker
+took-written limits lines before now after due count ended speaker t w =
+    record { messages = t.messages; knows = t.knows; written = known-whole before now after due (recording_of t.messages) t.written w }

@@ -7,14 +7,15 @@ use Rattle.zk_runs.specs.declared.built.Built.{Built}
 use Rattle.zk_runs.specs.declared.built.Built.TheVariants.{Whole, LineRefused, SayRefused}
 use Rattle.zk_runs.specs.declared.builder.Halt.{Halt}
 use Rattle.zk_runs.specs.declared.builder.Halt.TheVariants.{Refused, Fails}
-use Rattle.zk_listings.specs.declared.listing.RunFault.TheVariants.{Memory}
+use Rattle.zk_listings.specs.declared.listing.RunFault.TheVariants.{Read, Write, Memory}
 use Rattle.zk_runs.specs.Building.{head}
 use Rattle.zk_listings.specs.Outcome.{HasGrownIn}
-use Rattle.zk_runs.specs.Building.{AreLines, StandFirst, fed_in, all_of, Covers, HasBuilt, HasBuiltSoFar, HasBegunBuilding}
+use Rattle.zk_runs.specs.Building.{AreLines, StandFirst, fed_in, all_of, Covers, HasBuilt, HasBuiltSoFar, HasBegunBuilding, recording_of}
 use Rattle.zk_runs.specs.Accepting.{HasTaken, IsRefused, HaltsIn, BeginsIn, BuildsAll, BeginsAll, StandIn, some, all, answer_of}
 use Rattle.zk_listings.proofs.Bytes.{Consumes-none, Consumes-then}
 use Rattle.zk_runs.proofs.Accepted.{built-good, nothing-accepted}
-use Rattle.zk_runs.proofs.Taken.{halts-here}
+use Rattle.zk_listings.proofs.Feeding.{grown-whole}
+use Rattle.zk_runs.proofs.Taken.{begins-here, begins-of}
 
 covers-first : (built : Built) (x : List ℕ) (unread : Option (List ℕ)) (lines : List (List ℕ)) → IsRefused built → StandFirst x unread lines → Covers built x unread lines
 covers-first Whole x unread lines is stand = absurd is
@@ -66,17 +67,7 @@ module _ (limits : Limits) (unread mid : Option (List ℕ)) (x : List ℕ) (befo
   }
 
   pub begun-so_far : (begun : List ℕ) (count : ℕ) (ended : Bool) (speaker : SpeakerState) → HasTaken limits x before now begun count ended speaker → HasBegunBuilding limits unread mid before now
-  begun-so_far begun count ended speaker t =
-      let b = halts-here limits x before now begun count ended speaker t [] Memory in
-      record {
-        bytes = x;
-        lines = b.lines;
-        messages = b.begins.messages;
-        consumed = p;
-        stand = fed_in b.rest b.each (sym (append-nil x) ∙ b.read);
-        accepted = b.begins.accepted;
-        written = b.begins.written;
-      }
+  begun-so_far begun count ended speaker t = from-begins mid x p (begins-here limits x before now begun count ended speaker t)
 
   -- at the end
   module _ (after : Option (List ℕ)) (none : List ℕ) (q : Consumes mid after none) (nothing : none ≡ []) (end : IsAtEnd after) where
@@ -107,9 +98,9 @@ module _ (limits : Limits) (unread mid : Option (List ℕ)) (x : List ℕ) (befo
 
   -- within a block
   module _ (after : Option (List ℕ)) (block : List ℕ) (q : Consumes mid after block) where
-    pub built-answer : (halt : Halt) → HaltsIn limits (x ++ block) before halt now → IfOk (answer_of halt) (λ built. HasBuilt limits unread after before now built)
-    built-answer (Fails fault) b = tt
-    built-answer (Refused built) r = record {
+    pub built-answer : (halt : Halt) (count : ℕ) → HaltsIn limits (x ++ block) before halt count now → IfOk (answer_of halt) (λ built. HasBuilt limits unread after before now built)
+    built-answer (Fails fault) count b = tt
+    built-answer (Refused built) count r = record {
       bytes = x ++ block;
       lines = r.lines;
       messages = r.refuses.messages;
@@ -119,9 +110,14 @@ module _ (limits : Limits) (unread mid : Option (List ℕ)) (x : List ℕ) (befo
       written = r.refuses.written;
     }
 
-    pub begun-answer : (halt : Halt) → HaltsIn limits (x ++ block) before halt now → OnErr (answer_of halt) (HasBegunBuilding limits unread after before now)
-    begun-answer (Refused built) r = tt
-    begun-answer (Fails fault) b = from-begins after (x ++ block) (Consumes-then unread mid after x block p q) b
+    pub begun-answer : (halt : Halt) (count : ℕ) → HaltsIn limits (x ++ block) before halt count now → OnErr (answer_of halt) (HasBegunBuilding limits unread after before now)
+    begun-answer (Refused built) count r = tt
+    begun-answer (Fails Memory) count s =
+        from-begins after (x ++ block) (Consumes-then unread mid after x block p q)
+        (begins-of limits (x ++ block) before now s.lines s.rest s.messages Whole s.each s.read (built-good limits s.lines s.messages s.ended s.good)
+        (grown-whole before now (recording_of s.messages) s.written))
+    begun-answer (Fails Read) count b = from-begins after (x ++ block) (Consumes-then unread mid after x block p q) b
+    begun-answer (Fails Write) count b = from-begins after (x ++ block) (Consumes-then unread mid after x block p q) b
 
 -- the head was not written whole
 pub begun-head : (limits : Limits) (unread before now : Option (List ℕ)) → HasGrownIn before now head → HasBegunBuilding limits unread unread before now

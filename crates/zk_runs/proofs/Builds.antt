@@ -15,6 +15,7 @@ use Rattle.zk_recordings.specs.Recording.{First, InPieces, front}
 use Rattle.zk_listings.specs.Outcome.{HasGrownIn}
 use Rattle.zk_runs.specs.Building.{AreLines, StandFirst, recording_of, piece_of, AreAccepted, IsNextLine, IsBuilt, without_ending, with_ending, behind_ending, other_ending, no_message, not_said, Covers}
 use Rattle.zk_runs.specs.Rebuilding.{AreBuilt, BuildsAlike, BuildsWithin, Stopped}
+use Rattle.zk_runs.proofs.Known.{grown_less}
 use Rattle.zk_runs.proofs.Splits.{lines_once, first_lines}
 use Rattle.zk_runs.proofs.Verdicts.{messages_once, alike_once, accepted_first}
 
@@ -78,13 +79,6 @@ run_once limits x messages built b unread contents contents_now other h =
     )
 
 -- ---- a run that stopped
-
--- a front of a list, as one of a longer list
-take_less : (k : ℕ) (xs ys : List ℕ) → take (min k (length xs)) (xs ++ ys) ≡ take k xs
-take_less k xs ys = take-append-le (min k (length xs)) xs ys (omega arith) ∙ take_min k xs
-
-grown_less : (before after : Option (List ℕ)) (xs ys : List ℕ) → HasGrownIn before after xs → HasGrownIn before after (xs ++ ys)
-grown_less before after xs ys g = (min g.0 (length xs), subst (Appends before after) (sym (take_less g.0 xs ys)) g.1)
 
 recording-append : (M N : List Message) → recording_of (M ++ N) ≡ recording_of M ++ flat_map built_bytes (map piece_of N)
 recording-append M N =

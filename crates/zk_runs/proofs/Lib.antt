@@ -1,10 +1,12 @@
 pub mod Shown
 pub mod Splits
 pub mod Verdicts
+pub mod Known
 pub mod Builds
 pub mod Rebuilds
 pub mod Accepted
 pub mod Taken
+pub mod Gathered
 pub mod Answered
 pub mod Spared
 pub mod Moves

@@ -1,18 +1,26 @@
 -- Lines in the bytes that were read.
-use Rattle.std.proofs.Common.{◌≡◌, ◌≢◌, ℕ, ◌+◌, ◌<◌, ◌⊎◌, List, [], ◌∷◌, ◌++◌, length, take, drop, get_or, Option, inl, inr, refl, sym, ap, ◌∙◌, subst, append_assoc, append-nil, true, false, Bool, IfOk, OnErr}
+use Rattle.std.proofs.Common.{◌≡◌, ◌≢◌, ℕ, ◌+◌, ◌<◌, List, [], ◌∷◌, ◌++◌, length, take, drop, get_or, Option, refl, sym, ap, ◌∙◌, subst, append_assoc, append-nil, true, false, Bool, IfOk, OnErr}
 use Rattle.std.specs.List.{All, AllByRecursion}
-use Rattle.std.proofs.lemmas.List.{take_more, take-append-drop}
+use Rattle.std.specs.Io.KnownBytes.{append_known}
+use Rattle.std.proofs.lemmas.List.{take_more, take-append-drop, same_from_push}
+use Rattle.std.proofs.lemmas.List.Concat.{flat_map-append}
 use Rattle.std.proofs.Math.Seq.{take-add}
 use Rattle.std.proofs.lemmas.List.Elements.{recursion_from_All}
 use Rattle.zk_talk.specs.declared.limits.Limits.{Limits}
+use Rattle.zk_talk.specs.Held.{Message}
 use Rattle.zk_talk.specs.Said.{SpeakerState}
+use Rattle.zk_lines.specs.Lines.{line}
+use Rattle.zk_runs.specs.declared.built.Built.{Built}
 use Rattle.zk_runs.specs.declared.built.Built.TheVariants.{Whole}
 use Rattle.zk_runs.specs.declared.builder.Halt.{Halt}
 use Rattle.zk_runs.specs.declared.builder.Halt.TheVariants.{Refused, Fails}
-use Rattle.zk_listings.specs.declared.listing.RunFault.{RunFault}
-use Rattle.zk_runs.specs.Building.{IsLine, with_feed, fed, AreLines, all_fed, last_unfed, AreEnded, due_ending, recording_of}
-use Rattle.zk_runs.specs.Accepting.{AreGood, Took, HasTaken, Begins, HaltsAt, BeginsIn, HaltsIn, BuildsAll, BeginsAll, some, all, answer_of}
+use Rattle.zk_listings.specs.declared.listing.RunFault.TheVariants.{Read, Write, Memory}
+use Rattle.zk_listings.specs.Outcome.{HasGrownIn}
+use Rattle.zk_runs.specs.Building.{IsLine, with_feed, fed, AreLines, all_fed, last_unfed, AreAccepted, AreEnded, due_ending, recording_of}
+use Rattle.zk_runs.specs.Building.{IsBuilt, without_ending, with_ending, behind_ending, other_ending, no_message, not_said}
+use Rattle.zk_runs.specs.Accepting.{Took, HasTaken, Stops, HaltsAt, BeginsIn, StopsIn, HaltsIn, BuildsAll, BeginsAll, some, all, answer_of}
 use Rattle.zk_listings.proofs.Feeding.{grown-whole}
+use Rattle.zk_runs.proofs.Known.{known-part}
 use Rattle.zk_runs.proofs.Accepted.{all-snoc, built-good}
 use Rattle.zk_recordings.proofs.Lists.{flat_map-snoc}
 
@@ -30,6 +38,42 @@ line-of bytes a = recursion_from_All (λ b. b ≢ 10) bytes a
 fed-more : (lines : List (List ℕ)) (next : List ℕ) → fed (lines ++ next ∷ []) ≡ fed lines ++ with_feed next
 fed-more lines next = flat_map-snoc with_feed lines next
 
+fed-append : (front rest : List (List ℕ)) → fed (front ++ rest) ≡ fed front ++ fed rest
+fed-append front rest = flat_map-append with_feed front rest
+
+-- some of the first lines, which are accepted
+record Accepts (limits : Limits) (lines : List (List ℕ)) (messages : List Message) : Type 0 where
+  pub front : List (List ℕ)
+  pub rest : List (List ℕ)
+  pub splits : lines ≡ front ++ rest
+  pub accepted : AreAccepted limits front messages
+
+accepts : (limits : Limits) (lines : List (List ℕ)) (messages : List Message) (built : Built) → IsBuilt limits lines messages built → Accepts limits lines messages
+accepts limits lines messages built (without_ending a e) = record { front = lines; rest = []; splits = sym (append-nil lines); accepted = a }
+accepts limits lines messages built (with_ending a e) = record { front = a.before; rest = due_ending messages ∷ []; splits = a.ends; accepted = a.accepted }
+accepts limits lines messages built (behind_ending next b e) = record {
+  front = b.ended.before;
+  rest = due_ending messages ∷ next ∷ b.after;
+  splits = b.stands ∙ ap (λ l. l ++ next ∷ b.after) b.ended.ends ∙ append_assoc b.ended.before (due_ending messages ∷ []) (next ∷ b.after);
+  accepted = b.ended.accepted;
+}
+accepts limits lines messages built (other_ending next b dotted other e) = record { front = b.before; rest = next ∷ b.after; splits = b.stands; accepted = b.accepted }
+accepts limits lines messages built (no_message next b plain none fault known e) = record { front = b.before; rest = next ∷ b.after; splits = b.stands; accepted = b.accepted }
+accepts limits lines messages built (not_said m fits b fault is e) = record { front = b.before; rest = line m ∷ b.after; splits = b.stands; accepted = b.accepted }
+
+-- a front was written of what is built of these lines
+pub begins-of : (limits : Limits) (x : List ℕ) (before now : Option (List ℕ)) (lines : List (List ℕ)) (rest : List ℕ) (messages : List Message) (built : Built) →
+    AllByRecursion IsLine lines → x ≡ fed lines ++ rest → IsBuilt limits lines messages built → HasGrownIn before now (recording_of messages) → BeginsIn limits x before now
+begins-of limits x before now lines rest messages built each read is written =
+    let a = accepts limits lines messages built is in
+    record {
+      lines = a.front;
+      rest = fed a.rest ++ rest;
+      each = all-front IsLine a.front a.rest (subst (AllByRecursion IsLine) a.splits each);
+      read = read ∙ ap (λ l. fed l ++ rest) a.splits ∙ ap (λ l. l ++ rest) (fed-append a.front a.rest) ∙ append_assoc (fed a.front) (fed a.rest) rest;
+      begins = record { messages = messages; accepted = a.accepted; written = written };
+    }
+
 module _ (limits : Limits) (x : List ℕ) (before now : Option (List ℕ)) (begun : List ℕ) (count : ℕ) (ended : Bool) (speaker : SpeakerState)
     (t : HasTaken limits x before now begun count ended speaker) where
   -- bytes with no line feed
@@ -42,29 +86,23 @@ module _ (limits : Limits) (x : List ℕ) (before now : Option (List ℕ)) (begu
     took = t.took;
   }
 
+  pub begins-here : BeginsIn limits x before now
+  begins-here = begins-of limits x before now t.lines begun t.took.messages Whole t.each t.read
+      (built-good limits t.lines t.took.messages ended t.took.knows.good) (grown-whole before now (recording_of t.took.messages) t.took.written)
+
   -- a growth is refused
-  pub taken-begins : (good : Bool) → AreGood good limits t.lines t.took.messages → (more : List ℕ) → BeginsIn limits (x ++ more) before now
-  taken-begins false good more = record {
+  pub stops-more : (more : List ℕ) → StopsIn limits (x ++ more) before now count
+  stops-more more = record {
     lines = t.lines;
     rest = begun ++ more;
+    messages = t.took.messages;
+    ended = ended;
     each = t.each;
     read = ap (λ l. l ++ more) t.read ∙ append_assoc (fed t.lines) begun more;
-    begins = record { messages = t.took.messages; accepted = good; written = grown-whole before now (recording_of t.took.messages) t.took.written };
+    good = t.took.knows.good;
+    count_is = t.took.knows.count_is;
+    written = t.took.written;
   }
-  taken-begins true good more =
-      let lines_are : AreEnded limits t.lines t.took.messages = good in
-      let last = with_feed (due_ending t.took.messages) in
-      let cut : fed t.lines ≡ fed lines_are.before ++ last = ap fed lines_are.ends ∙ fed-more lines_are.before (due_ending t.took.messages) in
-      record {
-        lines = lines_are.before;
-        rest = last ++ (begun ++ more);
-        each = all-front IsLine lines_are.before (due_ending t.took.messages ∷ []) (subst (AllByRecursion IsLine) lines_are.ends t.each);
-        read = ap (λ l. l ++ more) t.read ∙ append_assoc (fed t.lines) begun more ∙ ap (λ l. l ++ (begun ++ more)) cut ∙ append_assoc (fed lines_are.before) last (begun ++ more);
-        begins = record { messages = t.took.messages; accepted = lines_are.accepted; written = grown-whole before now (recording_of t.took.messages) t.took.written };
-      }
-
-  pub halts-here : (more : List ℕ) (fault : RunFault) → HaltsIn limits (x ++ more) before (Fails fault) now
-  halts-here more fault = taken-begins ended t.took.knows.good more
 
   read-line : (x ++ 10 ∷ []) ≡ fed (t.lines ++ begun ∷ [])
   read-line = ap (λ l. l ++ 10 ∷ []) t.read ∙ append_assoc (fed t.lines) begun (10 ∷ []) ∙ sym (fed-more t.lines begun)
@@ -81,21 +119,39 @@ module _ (limits : Limits) (x : List ℕ) (before now : Option (List ℕ)) (begu
   }
 
   -- the line feed came, and the line was refused
-  pub halts-line : (after : Option (List ℕ)) (rest : List ℕ) (halt : Halt) → HaltsAt limits t.lines begun before halt after → HaltsIn limits (x ++ 10 ∷ rest) before halt after
-  halts-line after rest halt halts =
+  pub halts-line : (rest : List ℕ) (halt : Halt) → HaltsAt limits t.lines begun before halt now → HaltsIn limits (x ++ 10 ∷ rest) before halt count now
+  halts-line rest halt halts =
       let each = all-snoc IsLine t.lines begun t.each t.begun_is in
       let read : x ++ 10 ∷ rest ≡ fed (t.lines ++ begun ∷ []) ++ rest = sym (append_assoc x (10 ∷ []) rest) ∙ ap (λ l. l ++ rest) read-line in
       by halt halts each read where
-        by : (halt : Halt) → HaltsAt limits t.lines begun before halt after → AllByRecursion IsLine (t.lines ++ begun ∷ []) → x ++ 10 ∷ rest ≡ fed (t.lines ++ begun ∷ []) ++ rest → HaltsIn limits (x ++ 10 ∷ rest) before halt after
-        by (Refused built) refuses each read = record { lines = t.lines ++ begun ∷ []; rest = rest; each = each; read = read; refuses = refuses }
-        by (Fails fault) (inl begins) each read = record {
+        stop : Stops limits t.lines before now → StopsIn limits (x ++ 10 ∷ rest) before now count
+        stop s = record {
+          lines = t.lines;
+          rest = begun ++ 10 ∷ rest;
+          messages = s.messages;
+          ended = false;
+          each = t.each;
+          read = ap (λ l. l ++ 10 ∷ rest) t.read ∙ append_assoc (fed t.lines) begun (10 ∷ rest);
+          good = s.accepted;
+          count_is = t.took.knows.count_is;
+          written = s.written;
+        }
+
+        begin : Stops limits t.lines before now → BeginsIn limits (x ++ 10 ∷ rest) before now
+        begin s = record {
           lines = t.lines;
           rest = begun ++ 10 ∷ rest;
           each = t.each;
           read = ap (λ l. l ++ 10 ∷ rest) t.read ∙ append_assoc (fed t.lines) begun (10 ∷ rest);
-          begins = begins;
+          begins = record { messages = s.messages; accepted = s.accepted; written = grown-whole before now (recording_of s.messages) s.written };
         }
-        by (Fails fault) (inr begins) each read = record { lines = t.lines ++ begun ∷ []; rest = rest; each = each; read = read; begins = begins }
+
+        by : (halt : Halt) → HaltsAt limits t.lines begun before halt now → AllByRecursion IsLine (t.lines ++ begun ∷ []) → x ++ 10 ∷ rest ≡ fed (t.lines ++ begun ∷ []) ++ rest →
+            HaltsIn limits (x ++ 10 ∷ rest) before halt count now
+        by (Refused built) refuses each read = record { lines = t.lines ++ begun ∷ []; rest = rest; each = each; read = read; refuses = refuses }
+        by (Fails Memory) s each read = stop s
+        by (Fails Read) s each read = begin s
+        by (Fails Write) s each read = begin s
 
   -- at the end of the bytes with no line begun
   pub builds-here : begun ≡ [] → BuildsAll limits x before now Whole
@@ -121,32 +177,56 @@ module _ (limits : Limits) (x : List ℕ) (before now : Option (List ℕ)) (begu
       written = took.written;
     }
 
+  -- the last line was taken, and a front of its piece written
+  module _ (begun_some : begun ≢ []) (due : List ℕ) (after : Option (List ℕ)) (new : SpeakerState) (more : ℕ) (written : HasGrownIn now after due) where
+    pub begins-part : (closed : Bool) → Took limits (t.lines ++ begun ∷ []) before (append_known now due) more closed new → BeginsAll limits x before after
+    begins-part false took = record {
+      lines = t.lines ++ begun ∷ [];
+      stand = all (last_unfed t.lines begun t.each t.begun_is begun_some refl t.read);
+      begins = record {
+        messages = took.messages;
+        accepted = took.knows.good;
+        written = known-part before now after due (recording_of t.took.messages) (recording_of took.messages) t.took.written took.written written;
+      };
+    }
+    begins-part true took =
+        let ends : AreEnded limits (t.lines ++ begun ∷ []) took.messages = took.knows.good in
+        let same : t.lines ≡ ends.before = (same_from_push t.lines ends.before begun (due_ending took.messages) ends.ends).0 in
+        record {
+          lines = ends.before;
+          stand = some begun (subst (AllByRecursion IsLine) same t.each) (t.read ∙ ap (λ l. fed l ++ begun) same);
+          begins = record {
+            messages = took.messages;
+            accepted = ends.accepted;
+            written = known-part before now after due (recording_of t.took.messages) (recording_of took.messages) t.took.written took.written written;
+          };
+        }
+
 -- the last line was refused, or not taken
-module _ (now after : Option (List ℕ)) (begun : List ℕ) (count : ℕ) (ended : Bool) (speaker : SpeakerState) (begun_some : begun ≢ []) where
-  pub answers-last : (halt : Halt) → ((limits : Limits) (lines : List (List ℕ)) (before : Option (List ℕ)) → Took limits lines before now count ended speaker → HaltsAt limits lines begun before halt after) →
-      IfOk (answer_of halt) (λ built. (limits : Limits) (x : List ℕ) (before : Option (List ℕ)) → HasTaken limits x before now begun count ended speaker → BuildsAll limits x before after built)
+module _ (now : Option (List ℕ)) (begun : List ℕ) (count : ℕ) (ended : Bool) (speaker : SpeakerState) (begun_some : begun ≢ []) where
+  pub answers-last : (halt : Halt) → ((limits : Limits) (lines : List (List ℕ)) (before : Option (List ℕ)) → Took limits lines before now count ended speaker → HaltsAt limits lines begun before halt now) →
+      IfOk (answer_of halt) (λ built. (limits : Limits) (x : List ℕ) (before : Option (List ℕ)) → HasTaken limits x before now begun count ended speaker → BuildsAll limits x before now built)
   answers-last (Refused built) halts = λ limits x before t.
       let r = halts limits t.lines before t.took in
       record {
         lines = t.lines ++ begun ∷ [];
         messages = r.messages;
-        all = all-lines limits x before now begun count ended speaker t begun_some after;
+        all = all-lines limits x before now begun count ended speaker t begun_some now;
         is = r.is;
         written = r.written;
       }
   answers-last (Fails fault) halts = tt
 
   begins-by : (limits : Limits) (x : List ℕ) (before : Option (List ℕ)) (t : HasTaken limits x before now begun count ended speaker) →
-      Begins limits t.lines before after ⊎ Begins limits (t.lines ++ begun ∷ []) before after → BeginsAll limits x before after
-  begins-by limits x before t (inl b) = record { lines = t.lines; stand = some begun t.each t.read; begins = b }
-  begins-by limits x before t (inr b) = record {
-    lines = t.lines ++ begun ∷ [];
-    stand = all (all-lines limits x before now begun count ended speaker t begun_some after);
-    begins = b;
+      Stops limits t.lines before now → BeginsAll limits x before now
+  begins-by limits x before t s = record {
+    lines = t.lines;
+    stand = some begun t.each t.read;
+    begins = record { messages = s.messages; accepted = s.accepted; written = grown-whole before now (recording_of s.messages) s.written };
   }
 
-  pub begins-last : (halt : Halt) → ((limits : Limits) (lines : List (List ℕ)) (before : Option (List ℕ)) → Took limits lines before now count ended speaker → HaltsAt limits lines begun before halt after) →
-      OnErr (answer_of halt) ((limits : Limits) (x : List ℕ) (before : Option (List ℕ)) → HasTaken limits x before now begun count ended speaker → BeginsAll limits x before after)
+  pub begins-last : (halt : Halt) → ((limits : Limits) (lines : List (List ℕ)) (before : Option (List ℕ)) → Took limits lines before now count ended speaker → HaltsAt limits lines begun before halt now) →
+      OnErr (answer_of halt) ((limits : Limits) (x : List ℕ) (before : Option (List ℕ)) → HasTaken limits x before now begun count ended speaker → BeginsAll limits x before now)
   begins-last (Refused built) halts = tt
   begins-last (Fails fault) halts = λ limits x before t. begins-by limits x before t (halts limits t.lines before t.took)
 
@@ -169,17 +249,17 @@ module _ (limits : Limits) (x : List ℕ) (before now : Option (List ℕ)) (begu
   taken-front = subst (λ b. HasTaken limits (x ++ take used block) before now b count ended speaker) (sym is)
       (taken-more limits x before now begun count ended speaker t (take used block) (line-of (take used block) plain))
 
-  module _ (within : used < length block) (found : get_or block used 0 ≡ 10) (after : Option (List ℕ)) where
-    pub halts-block : (halt : Halt) → HaltsAt limits taken-front.lines grown before halt after → HaltsIn limits (x ++ block) before halt after
+  module _ (within : used < length block) (found : get_or block used 0 ≡ 10) where
+    pub halts-block : (halt : Halt) → HaltsAt limits taken-front.lines grown before halt now → HaltsIn limits (x ++ block) before halt count now
     halts-block halt halts =
         let whole : (x ++ take used block) ++ 10 ∷ drop (used + 1) block ≡ x ++ block =
         append_assoc x (take used block) (10 ∷ drop (used + 1) block) ∙ ap (λ b. x ++ b) (sym (behind-feed block used within found)) in
-        subst (λ y. HaltsIn limits y before halt after) whole
-        (halts-line limits (x ++ take used block) before now grown count ended speaker taken-front after (drop (used + 1) block) halt halts)
+        subst (λ y. HaltsIn limits y before halt count now) whole
+        (halts-line limits (x ++ take used block) before now grown count ended speaker taken-front (drop (used + 1) block) halt halts)
 
-    pub taken-block : (more : ℕ) (closed : Bool) (new : SpeakerState) → Took limits (taken-front.lines ++ grown ∷ []) before after more closed new →
+    pub taken-block : (after : Option (List ℕ)) (more : ℕ) (closed : Bool) (new : SpeakerState) → Took limits (taken-front.lines ++ grown ∷ []) before after more closed new →
         HasTaken limits (x ++ take (used + 1) block) before after [] more closed new
-    taken-block more closed new took =
+    taken-block after more closed new took =
         let whole : (x ++ take used block) ++ 10 ∷ [] ≡ x ++ take (used + 1) block =
         append_assoc x (take used block) (10 ∷ []) ∙ ap (λ b. x ++ b) (sym (at-feed block used within found)) in
         subst (λ y. HasTaken limits y before after [] more closed new) whole
@@ -192,7 +272,13 @@ taken-further limits x block n m before now begun count ended speaker t =
     subst (λ y. HasTaken limits y before now begun count ended speaker)
     (append_assoc x (take n block) (take m (drop n block)) ∙ ap (λ b. x ++ b) (sym (take-add n m block))) t
 
-pub halts-further : (limits : Limits) (x block : List ℕ) (n : ℕ) (before now : Option (List ℕ)) (halt : Halt) →
-    HaltsIn limits ((x ++ take n block) ++ drop n block) before halt now → HaltsIn limits (x ++ block) before halt now
-halts-further limits x block n before now halt i =
-    subst (λ y. HaltsIn limits y before halt now) (append_assoc x (take n block) (drop n block) ∙ ap (λ b. x ++ b) (take-append-drop n block)) i
+pub halts-further : (limits : Limits) (x block : List ℕ) (n : ℕ) (before now : Option (List ℕ)) (halt : Halt) (count : ℕ) →
+    HaltsIn limits ((x ++ take n block) ++ drop n block) before halt count now → HaltsIn limits (x ++ block) before halt count now
+halts-further limits x block n before now halt count i =
+    subst (λ y. HaltsIn limits y before halt count now) (append_assoc x (take n block) (drop n block) ∙ ap (λ b. x ++ b) (take-append-drop n block)) i
+
+-- nothing was put, and no line was taken
+pub halts-same : (limits : Limits) (x : List ℕ) (before written : Option (List ℕ)) (due due_now : List ℕ) (halt : Halt) (count count_now : ℕ) → due_now ≡ due → count_now ≡ count →
+    HaltsIn limits x before halt count (append_known written due) → HaltsIn limits x before halt count_now (append_known written due_now)
+halts-same limits x before written due due_now halt count count_now same kept h =
+    subst (λ d. HaltsIn limits x before halt count_now (append_known written d)) (sym same) (subst (λ n. HaltsIn limits x before halt n (append_known written due)) (sym kept) h)

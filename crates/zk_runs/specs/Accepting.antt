@@ -1,5 +1,5 @@
 -- How far lines were taken, and what was written of their messages.
-use Rattle.std.specs.Prelude.{◌≡◌, ◌⊎◌, ℕ, Bool, true, false, List, [], ◌∷◌, ◌++◌, length, Option, Result, Ok, Err}
+use Rattle.std.specs.Prelude.{◌≡◌, ℕ, Bool, true, false, List, [], ◌∷◌, ◌++◌, length, Option, Result, Ok, Err}
 use Rattle.std.specs.List.{AllByRecursion}
 use Rattle.std.specs.Io.KnownBytes.{Appends}
 use Rattle.zk_talk.specs.declared.limits.Limits.{Limits}
@@ -66,10 +66,16 @@ pub record Begins (limits : Limits) (lines : List (List ℕ)) (before now : Opti
   pub accepted : AreAccepted limits lines messages
   pub written : HasGrownIn before now (recording_of messages)
 
--- after these lines the next one is refused, or a run fails at it
+-- memory is refused after these lines, the recording of whose messages was written
+pub record Stops (limits : Limits) (lines : List (List ℕ)) (before now : Option (List ℕ)) : Type 0 where
+  pub messages : List Message
+  pub accepted : AreAccepted limits lines messages
+  pub written : Appends before now (recording_of messages)
+
+-- after these lines the next one is refused, or memory is; nothing is written of it
 abbrev pub HaltsAt : Limits → List (List ℕ) → List ℕ → Option (List ℕ) → Halt → Option (List ℕ) → Type 0
 HaltsAt limits lines next before (Refused built) now = Refuses limits (lines ++ next ∷ []) before now built
-HaltsAt limits lines next before (Fails fault) now = Begins limits lines before now ⊎ Begins limits (lines ++ next ∷ []) before now
+HaltsAt limits lines next before (Fails fault) now = Stops limits lines before now
 
 -- a line in these bytes is refused
 pub record RefusesIn (limits : Limits) (x : List ℕ) (before now : Option (List ℕ)) (built : Built) : Type 0 where
@@ -86,9 +92,24 @@ pub record BeginsIn (limits : Limits) (x : List ℕ) (before now : Option (List 
   pub read : x ≡ fed lines ++ rest
   pub begins : Begins limits lines before now
 
-abbrev pub HaltsIn : Limits → List ℕ → Option (List ℕ) → Halt → Option (List ℕ) → Type 0
-HaltsIn limits x before (Refused built) now = RefusesIn limits x before now built
-HaltsIn limits x before (Fails fault) now = BeginsIn limits x before now
+-- memory is refused in these bytes, after as many lines, the recording of whose messages was written
+pub record StopsIn (limits : Limits) (x : List ℕ) (before now : Option (List ℕ)) (count : ℕ) : Type 0 where
+  pub lines : List (List ℕ)
+  pub rest : List ℕ
+  pub messages : List Message
+  pub ended : Bool
+  pub each : AllByRecursion IsLine lines
+  pub read : x ≡ fed lines ++ rest
+  pub good : AreGood ended limits lines messages
+  pub count_is : count ≡ length lines
+  pub written : Appends before now (recording_of messages)
+
+-- a run stops in these bytes, after as many lines: at a line that is refused, or as it fails
+abbrev pub HaltsIn : Limits → List ℕ → Option (List ℕ) → Halt → ℕ → Option (List ℕ) → Type 0
+HaltsIn limits x before (Refused built) count now = RefusesIn limits x before now built
+HaltsIn limits x before (Fails Memory) count now = StopsIn limits x before now count
+HaltsIn limits x before (Fails Read) count now = BeginsIn limits x before now
+HaltsIn limits x before (Fails Write) count now = BeginsIn limits x before now
 
 -- ---- at the end of the bytes
 

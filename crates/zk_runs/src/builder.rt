@@ -13,12 +13,13 @@ ghost use Rattle.zk_listings.specs.declared.listing.RunFault.TheVariants.{Read, 
 ghost use Rattle.zk_recordings.specs.Recording.{no_time, side_byte};
 ghost use Rattle.zk_runs.specs.Building.{built_bytes, untimed, IsDotted, due_ending};
 ghost use Rattle.zk_runs.specs.Accepting.{IfSpared};
-ghost use Rattle.zk_runs.specs.Stepping.{IsBegun, TakesLine, HaltsOn, TakesIn, HaltsWithin, IsAnswered, HasWrittenFirst};
+ghost use Rattle.zk_runs.specs.Stepping.{IsBegun, TakesLine, HaltsOn, GathersIn, StopsGathering, TakesIn, HaltsWithin, IsAnswered, HasWrittenFirst};
 
 use crate::built::Built;
+use memchr::memchr;
 use std::alloc::{AllocError, Global};
 use zk_lines::{LineFault, LineReason, ending_line, read_line};
-use zk_listings::{Failed, RunFault, Sink, rest, write_whole};
+use zk_listings::{BLOCK, Failed, RunFault, Sink, rest, write_whole};
 use zk_talk::{Ending, Limits, Message, SayFault, Side, Speaker};
 
 /// The fault of a line that begins with a dot and isn't the ending line that is due, or of a line after that one.
@@ -94,10 +95,10 @@ fn len_before_feed(bytes: &[u8]) -> usize
     ensures before { All (λ b. b ≢ 10) (take result bytes.now) }
     ensures found { result < length bytes.now → slice_index bytes.now result ≡ 10 }
 {
-    bytes
-        .iter()
-        .position(|byte| *byte == b'\n')
-        .unwrap_or(bytes.len())
+    match memchr(b'\n', bytes) {
+        Some(at) => at,
+        None => bytes.len(),
+    }
 }
 
 fn is_dotted(line: &[u8]) -> bool
@@ -124,85 +125,93 @@ fn byte_of(side: Side) -> u8
     }
 }
 
-/// The piece of `content`, which is of `side`.
-fn piece_of(alloc: Global, side: Side, content: &[u8]) -> Result<Vec<u8>, AllocError>
-    ensures { IfOk result (λ piece. length content.now < 2 ^ 32 → piece.items ≡ built_bytes (untimed side content.now)) }
+/// Appends the piece of `content`, which is of `side`, or as much of it as there is memory for.
+fn append_piece(side: Side, content: &[u8], due: &mut Vec<u8>) -> Result<(), AllocError>
+    ensures ok { OnOk result (length content.now < 2 ^ 32 → due.new.items ≡ due.old.items ++ built_bytes (untimed side content.now)) }
+    ensures front { OnErr result (take (length due.old.items) due.new.items ≡ due.old.items) }
 {
     let size = u32::try_from(content.len()).unwrap_or(u32::MAX);
-    let mut piece = Vec::new(alloc);
-    piece.extend_from_slice(&[byte_of(side)])?;
-    piece.extend_from_slice(&size.to_be_bytes())?;
-    piece.extend_from_slice(content)?;
-    Ok(piece)
+    due.extend_from_slice(&[byte_of(side)])?;
+    due.extend_from_slice(&size.to_be_bytes())?;
+    due.extend_from_slice(content)?;
+    Ok(())
 }
 
-/// What was said of the lines so far, and the bytes after the last line feed.
+/// Appends the piece of `content`, which is of `side`, or nothing.
+fn put_piece(side: Side, content: &[u8], due: &mut Vec<u8>) -> Result<(), AllocError>
+    ensures ok { OnOk result (length content.now < 2 ^ 32 → due.new.items ≡ due.old.items ++ built_bytes (untimed side content.now)) }
+    ensures same { OnErr result (due.new.items ≡ due.old.items) }
+{
+    let start = due.len();
+    match append_piece(side, content, due) {
+        Ok(()) => Ok(()),
+        Err(e) => {
+            due.truncate(start);
+            Err(e)
+        }
+    }
+}
+
+/// Takes all bytes out of a buffer, which keeps its room unless they were more than a block.
+fn empty(alloc: Global, buffer: &mut Vec<u8>)
+    ensures { buffer.new.items ≡ [] }
+{
+    if buffer.len() > BLOCK {
+        *buffer = Vec::new(alloc);
+    } else {
+        buffer.clear();
+    }
+}
+
+/// Takes lines, one after another: says their messages, and makes the pieces.
 #[derive(Drop)]
-pub(crate) struct Builder {
+struct Scribe {
     speaker: Speaker,
-    begun: Vec<u8>,
+    /// Room for the frame of a message.
+    frame: Vec<u8>,
     lines: u64,
     ended: bool,
 }
 
-impl Builder {
-    /// A builder that has read nothing.
-    pub fn new(alloc: Global, limits: Limits) -> Result<Builder, AllocError>
-        ensures start { IfOk result (IsBegun limits) }
-        ensures count { IfOk result (λ b. b.lines ≡ 0) }
-    {
-        let speaker = Speaker::new(alloc, limits)?;
-        Ok(Builder {
-            speaker,
-            begun: Vec::new(alloc),
-            lines: 0,
-            ended: false,
-        })
-    }
-
-    /// Says `message`, and writes its piece.
-    fn speak<W: Sink>(
-        &mut self,
-        alloc: Global,
-        message: &Message,
-        writer: &mut W,
-    ) -> Result<(), Halt>
+impl Scribe {
+    /// Says `message`, whose piece is due then.
+    fn speak(&mut self, alloc: Global, message: &Message, due: &mut Vec<u8>) -> Result<(), Halt>
         requires room { self.old.lines + 1 < 2 ^ 64 }
         requires going { self.old.ended ≡ false }
         requires fits { Fits message.now }
-        requires live { W.has_failed writer.old ≡ false }
         ensures count { OnOk result (self.new.lines ≡ self.old.lines + 1) }
-        ensures goes_on { OnOk result (TakesLine self.old self.new (line message.now) (W.contents writer.old) (W.contents writer.new)) }
-        ensures halts { IfErr result (HaltsOn self.old (line message.now) (W.contents writer.old) (W.contents writer.new)) }
-        ensures live { OnOk result (W.has_failed writer.new ≡ false) }
-        ensures spared { IfErr result (λ halt. IfSpared halt (W.has_failed writer.new ≡ false)) }
-        ensures failed { IsErrOf result (Fails Write) → W.has_failed writer.new ≡ true }
+        ensures kept { OnErr result (self.new.lines ≡ self.old.lines) }
+        ensures goes_on { OnOk result (TakesLine self.old self.new (line message.now) due.old.items due.new.items) }
+        ensures halts { IfErr result (HaltsOn self.old (line message.now)) }
+        ensures same { OnErr result (due.new.items ≡ due.old.items) }
         ensures no_read { result ≢ Err (Fails Read) }
+        ensures no_write { result ≢ Err (Fails Write) }
     {
-        let mut frame = Vec::new(alloc);
-        if let Err(fault) = self.speaker.say(message, &mut frame) {
+        self.frame.clear();
+        if let Err(fault) = self.speaker.say(message, &mut self.frame) {
             return Err(Halt::at_message(self.lines + 1, fault));
         }
-        let piece = piece_of(alloc, side_of(message), &frame)?;
-        write_whole(writer, &piece)?;
+        put_piece(side_of(message), &self.frame, due)?;
+        empty(alloc, &mut self.frame);
         self.lines += 1;
         Ok(())
     }
 
-    /// Takes the begun line, which begins with a dot, as the ending line.
-    fn end(&mut self, alloc: Global) -> Result<(), Halt>
+    /// Takes the line, which begins with a dot, as the ending line.
+    fn end(&mut self, alloc: Global, line: &[u8]) -> Result<(), Halt>
         requires room { self.old.lines + 1 < 2 ^ 64 }
         requires going { self.old.ended ≡ false }
-        requires dotted { IsDotted self.old.begun.items }
+        requires dotted { IsDotted line.now }
         ensures count { OnOk result (self.new.lines ≡ self.old.lines + 1) }
-        ensures goes_on { OnOk result ((now : Option (List ℕ)) → TakesLine self.old self.new self.old.begun.items now now) }
-        ensures halts { IfErr result (λ halt. (now : Option (List ℕ)) → HaltsOn self.old self.old.begun.items now now halt) }
+        ensures kept { OnErr result (self.new.lines ≡ self.old.lines) }
+        ensures goes_on { OnOk result ((due : List ℕ) → TakesLine self.old self.new line.now due due) }
+        ensures halts { IfErr result (HaltsOn self.old line.now) }
         ensures no_read { result ≢ Err (Fails Read) }
         ensures no_write { result ≢ Err (Fails Write) }
     {
         let unanswered = self.speaker.unanswered();
         let due = ending_line(alloc, &Ending::Whole { unanswered })?;
-        if self.begun.as_slice() == due.as_slice() {
+        if line == due.as_slice() {
             self.ended = true;
             self.lines += 1;
             Ok(())
@@ -211,82 +220,122 @@ impl Builder {
         }
     }
 
-    /// Takes the begun line as a whole one.
-    fn close<W: Sink>(&mut self, alloc: Global, writer: &mut W) -> Result<(), Halt>
+    /// Takes a whole line.
+    fn close(&mut self, alloc: Global, line: &[u8], due: &mut Vec<u8>) -> Result<(), Halt>
         requires room { self.old.lines + 1 < 2 ^ 64 }
-        requires live { W.has_failed writer.old ≡ false }
         ensures count { OnOk result (self.new.lines ≡ self.old.lines + 1) }
-        ensures goes_on { OnOk result (TakesLine self.old self.new self.old.begun.items (W.contents writer.old) (W.contents writer.new)) }
-        ensures halts { IfErr result (HaltsOn self.old self.old.begun.items (W.contents writer.old) (W.contents writer.new)) }
-        ensures live { OnOk result (W.has_failed writer.new ≡ false) }
-        ensures spared { IfErr result (λ halt. IfSpared halt (W.has_failed writer.new ≡ false)) }
-        ensures failed { IsErrOf result (Fails Write) → W.has_failed writer.new ≡ true }
+        ensures kept { OnErr result (self.new.lines ≡ self.old.lines) }
+        ensures goes_on { OnOk result (TakesLine self.old self.new line.now due.old.items due.new.items) }
+        ensures halts { IfErr result (HaltsOn self.old line.now) }
+        ensures same { OnErr result (due.new.items ≡ due.old.items) }
         ensures no_read { result ≢ Err (Fails Read) }
+        ensures no_write { result ≢ Err (Fails Write) }
     {
         if self.ended {
             return Err(Halt::at_line(self.lines + 1, NO_ENDING));
         }
-        if is_dotted(&self.begun) {
-            return self.end(alloc);
+        if is_dotted(line) {
+            return self.end(alloc, line);
         }
-        match read_line(alloc, &self.begun) {
-            Ok(message) => self.speak(alloc, &message, writer),
+        match read_line(alloc, line) {
+            Ok(message) => self.speak(alloc, &message, due),
             Err(fault) => Err(Halt::at_line(self.lines + 1, fault)),
         }
     }
+}
 
-    /// Takes the first bytes of a block, up to a line feed, and returns how many.
-    fn advance<W: Sink>(
-        &mut self,
-        alloc: Global,
-        block: &[u8],
-        writer: &mut W,
-    ) -> Result<usize, Halt>
+/// What was taken of the lines so far, and the bytes after the last line feed.
+#[derive(Drop)]
+pub(crate) struct Builder {
+    scribe: Scribe,
+    begun: Vec<u8>,
+}
+
+impl Builder {
+    /// A builder that has read nothing.
+    pub fn new(alloc: Global, limits: Limits) -> Result<Builder, AllocError>
+        ensures start { IfOk result (IsBegun limits) }
+        ensures count { IfOk result (λ b. b.scribe.lines ≡ 0) }
+    {
+        let speaker = Speaker::new(alloc, limits)?;
+        let scribe = Scribe {
+            speaker,
+            frame: Vec::new(alloc),
+            lines: 0,
+            ended: false,
+        };
+        Ok(Builder {
+            scribe,
+            begun: Vec::new(alloc),
+        })
+    }
+
+    /// Takes the first bytes of a block, up to a line feed, and returns how many. A line is copied only where it is
+    /// begun in an earlier block or ends in a later one.
+    fn advance(&mut self, alloc: Global, block: &[u8], due: &mut Vec<u8>) -> Result<usize, Halt>
         requires some { 0 < length block.now }
-        requires room { self.old.lines + length block.now < 2 ^ 64 }
-        requires live { W.has_failed writer.old ≡ false }
+        requires room { self.old.scribe.lines + length block.now < 2 ^ 64 }
         ensures progress { IfOk result (λ n. 0 < n) }
         ensures used { IfOk result (λ n. n ≤ length block.now) }
-        ensures count { IfOk result (λ n. self.new.lines ≤ self.old.lines + n) }
-        ensures goes_on { IfOk result (λ n. TakesIn self.old self.new (take n block.now) (W.contents writer.old) (W.contents writer.new)) }
-        ensures halts { IfErr result (HaltsWithin self.old block.now (W.contents writer.old) (W.contents writer.new)) }
-        ensures live { OnOk result (W.has_failed writer.new ≡ false) }
-        ensures spared { IfErr result (λ halt. IfSpared halt (W.has_failed writer.new ≡ false)) }
-        ensures failed { IsErrOf result (Fails Write) → W.has_failed writer.new ≡ true }
+        ensures count { IfOk result (λ n. self.new.scribe.lines ≤ self.old.scribe.lines + n) }
+        ensures goes_on { IfOk result (λ n. GathersIn self.old self.new (take n block.now) due.old.items due.new.items) }
+        ensures halts { IfErr result (StopsGathering self.old self.new block.now due.old.items due.new.items) }
         ensures no_read { result ≢ Err (Fails Read) }
+        ensures no_write { result ≢ Err (Fails Write) }
     {
         let used = len_before_feed(block);
-        self.begun.extend_from_slice(&block[..used])?;
         if used == block.len() {
+            self.begun.extend_from_slice(&block[..used])?;
             return Ok(used);
         }
-        self.close(alloc, writer)?;
-        self.begun.clear();
+        if !self.begun.is_empty() {
+            self.begun.extend_from_slice(&block[..used])?;
+            self.scribe.close(alloc, &self.begun, due)?;
+            self.begun.clear();
+            return Ok(used + 1);
+        }
+        self.scribe.close(alloc, &block[..used], due)?;
         Ok(used + 1)
     }
 
-    /// Takes a whole block.
-    pub fn feed<W: Sink>(&mut self, alloc: Global, block: &[u8], writer: &mut W) -> Result<(), Halt>
-        requires room { self.old.lines + length block.now < 2 ^ 64 }
-        requires live { W.has_failed writer.old ≡ false }
-        ensures count { OnOk result (self.new.lines ≤ self.old.lines + length block.now) }
-        ensures goes_on { OnOk result (TakesIn self.old self.new block.now (W.contents writer.old) (W.contents writer.new)) }
-        ensures halts { IfErr result (HaltsWithin self.old block.now (W.contents writer.old) (W.contents writer.new)) }
-        ensures live { OnOk result (W.has_failed writer.new ≡ false) }
-        ensures spared { IfErr result (λ halt. IfSpared halt (W.has_failed writer.new ≡ false)) }
-        ensures failed { IsErrOf result (Fails Write) → W.has_failed writer.new ≡ true }
+    /// Takes a block, of which nothing is written here.
+    fn gather(&mut self, alloc: Global, block: &[u8], due: &mut Vec<u8>) -> Result<(), Halt>
+        requires room { self.old.scribe.lines + length block.now < 2 ^ 64 }
+        ensures count { OnOk result (self.new.scribe.lines ≤ self.old.scribe.lines + length block.now) }
+        ensures goes_on { OnOk result (GathersIn self.old self.new block.now due.old.items due.new.items) }
+        ensures halts { IfErr result (StopsGathering self.old self.new block.now due.old.items due.new.items) }
         ensures no_read { result ≢ Err (Fails Read) }
+        ensures no_write { result ≢ Err (Fails Write) }
     {
         let mut at = 0;
         while at < block.len() {
-            at += self.advance(alloc, rest(block, at), writer)?;
+            at += self.advance(alloc, rest(block, at), due)?;
         }
         Ok(())
     }
 
+    /// Takes a whole block, and writes at once the pieces of the lines that end in it; if one of them is refused, or
+    /// memory is, those of the lines before. It stands for taking line by line and writing each piece.
+    pub fn feed<W: Sink>(&mut self, alloc: Global, block: &[u8], writer: &mut W) -> Result<(), Halt>
+        requires room { self.old.scribe.lines + length block.now < 2 ^ 64 }
+        requires live { W.has_failed writer.old ≡ false }
+        ensures count { OnOk result (self.new.scribe.lines ≤ self.old.scribe.lines + length block.now) }
+        ensures goes_on { OnOk result (TakesIn self.old self.new block.now (W.contents writer.old) (W.contents writer.new)) }
+        ensures halts { IfErr result (HaltsWithin self.old self.new block.now (W.contents writer.old) (W.contents writer.new)) }
+        ensures live { OnOk result (W.has_failed writer.new ≡ false) }
+        ensures spared { IfErr result (λ halt. IfSpared halt (W.has_failed writer.new ≡ false)) }
+        ensures failed { IsErrOf result (Fails Write) → W.has_failed writer.new ≡ true }
+        ensures no_read { result ≢ Err (Fails Read) }
+    {
+        let mut due = Vec::new(alloc);
+        let gathered = self.gather(alloc, block, &mut due);
+        write_whole(writer, &due)?;
+        gathered
+    }
+
     /// Takes the end of the input: a line that is begun there has no line feed.
     pub fn finish<W: Sink>(&mut self, alloc: Global, writer: &mut W) -> Result<Built, RunFault>
-        requires room { self.old.lines + 1 < 2 ^ 64 }
+        requires room { self.old.scribe.lines + 1 < 2 ^ 64 }
         requires live { W.has_failed writer.old ≡ false }
         ensures built { IfOk result (IsAnswered self.old (W.contents writer.old) (W.contents writer.new)) }
         ensures begun { OnErr result (HasWrittenFirst self.old (W.contents writer.old) (W.contents writer.new)) }
@@ -298,9 +347,11 @@ impl Builder {
         if self.begun.is_empty() {
             return Ok(Built::Whole);
         }
-        match self.close(alloc, writer) {
-            Ok(()) => Ok(Built::Whole),
-            Err(halt) => halt.answer(),
+        let mut piece = Vec::new(alloc);
+        if let Err(halt) = self.scribe.close(alloc, &self.begun, &mut piece) {
+            return halt.answer();
         }
+        write_whole(writer, &piece)?;
+        Ok(Built::Whole)
     }
 }

@@ -54,12 +54,12 @@ returns-then-count-eq0-clause-begun g c =
 pub returns-in-Err-clause-ok : goal.returns-in-Err-clause-ok
 returns-in-Err-clause-ok g c =
     let i = c.loop-turn.invariant.taken in
-    rw c.answer.ensures (built-answer c.args.limits _ _ i.0 _ _ i.1 _ _ c.in-Ok.ensures.bytes.0 c.in-Err.halt (c.in-Err.ensures.halts c.args.limits i.0 _ (i.2 _ c.in_ok-write_whole.ensures.ok)))
+    rw c.answer.ensures (built-answer c.args.limits _ _ i.0 _ _ i.1 _ _ c.in-Ok.ensures.bytes.0 c.in-Err.halt _ (c.in-Err.ensures.halts c.args.limits i.0 _ (i.2 _ c.in_ok-write_whole.ensures.ok)))
 
 pub returns-in-Err-clause-begun : goal.returns-in-Err-clause-begun
 returns-in-Err-clause-begun g c =
     let i = c.loop-turn.invariant.taken in
-    rw c.answer.ensures (begun-answer c.args.limits _ _ i.0 _ _ i.1 _ _ c.in-Ok.ensures.bytes.0 c.in-Err.halt (c.in-Err.ensures.halts c.args.limits i.0 _ (i.2 _ c.in_ok-write_whole.ensures.ok)))
+    rw c.answer.ensures (begun-answer c.args.limits _ _ i.0 _ _ i.1 _ _ c.in-Ok.ensures.bytes.0 c.in-Err.halt _ (c.in-Err.ensures.halts c.args.limits i.0 _ (i.2 _ c.in_ok-write_whole.ensures.ok)))
 
 pub loop-turn-preserved : goal.loop-turn-preserved
 loop-turn-preserved g c =

@@ -10,8 +10,8 @@ invariant-loop-turn g l = record {
   live : g.R.Source.has_failed l.reader ≡ false;
   writer_live : g.W.Sink.has_failed l.writer ≡ false;
   count : g.R.Source.read_count l.reader ≡ g.R.Source.read_count l.initial.reader + l._turn;
-  lines : l.builder.lines ≤ 65536 * l._turn;
+  lines : l.builder.scribe.lines ≤ 65536 * l._turn;
   taken : (x : List ℕ) × Consumes (g.R.Source.remaining l.initial.reader) (g.R.Source.remaining l.reader) x
       × ((before : Option (List ℕ)) → Appends before (g.W.Sink.contents l.initial.writer) head →
-      HasTaken l.fn.limits x before (g.W.Sink.contents l.writer) l.builder.begun.items l.builder.lines l.builder.ended l.builder.speaker);
+      HasTaken l.fn.limits x before (g.W.Sink.contents l.writer) l.builder.begun.items l.builder.scribe.lines l.builder.scribe.ended l.builder.scribe.speaker);
 }

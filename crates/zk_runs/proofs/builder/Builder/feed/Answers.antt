@@ -1,33 +1,44 @@
-use Rattle.std.proofs.Common.{◌≡◌, ◌++◌, take, drop, length, length-drop, arith, ap, subst}
+use Rattle.std.proofs.Common.{◌++◌, List, ℕ, Option, subst}
+use Rattle.std.specs.Io.KnownBytes.{Appends}
 use Rattle.std.proofs.lemmas.Result.{err_from_is_err_and}
-use Rattle.zk_runs.specs.Accepting.{HasTaken, HaltsIn}
-use Rattle.zk_runs.proofs.Taken.{taken-further, halts-further}
+use Rattle.zk_listings.specs.Outcome.{HasGrownIn}
+use Rattle.zk_runs.proofs.Gathered.{taken-unput, taken-written, halts-written, gathered-part, on-ok-map, if-err-map}
+use Rattle.zk_runs.proofs.Spared.{spared-result}
 use Rattle.zk_runs.proofs.builder.Builder.feed.Goals as goal
 
-pub returns-in_err-at-clause-halts : goal.returns-in_err-at-clause-halts
-returns-in_err-at-clause-halts g c =
+pub returns-in_err-write_whole-clause-halts : goal.returns-in_err-write_whole-clause-halts
+returns-in_err-write_whole-clause-halts g c =
     let p = err_from_is_err_and c.from_residual.result c.from_residual.ensures.1 in
+    let was = g.W.Sink.contents c.args.writer.now in
+    let now = g.W.Sink.contents c.write_whole.new.writer in
+    let due = c.gather-gathered.new.due.items in
+    let block = c.args.block.now in
     rw (p.1, p.2) (λ limits x before t.
-    let block = c.args.block.now in
-    let after = g.W.Sink.contents c.advance.new.writer in
-    let so_far = c.loop-at.invariant.taken limits x before t in
-    halts-further limits x block c.loop-at.at before after c.in_err-at.field-0.0
-    (subst (λ b. HaltsIn limits ((x ++ take c.loop-at.at block) ++ b) before c.in_err-at.field-0.0 after) c.rest.ensures (c.in_err-at.ensures.halts limits _ before so_far)))
+    let start = taken-unput limits x before was _ c.new-due.ensures.items _ _ _ _ t in
+    gathered-part limits (x ++ block) before was now due _ t.took.written (subst (HasGrownIn was now) c.deref.ensures.value c.in_err-write_whole.ensures.err)
+    c.gather-gathered.result _ _ _ _
+    (on-ok-map c.gather-gathered.result _ _ (λ goes. goes limits x before was start) c.gather-gathered.ensures.goes_on)
+    (if-err-map c.gather-gathered.result _ _ (λ halt halts. halts limits x before was start) c.gather-gathered.ensures.halts))
 
-pub loop-at-preserved : goal.loop-at-preserved
-loop-at-preserved g c =
-    let at = c.loop-at.at in
-    let block = c.args.block.now in
-    let used = c.in_ok-at.field-0 in
-    let long : length c.rest.result.now ≡ length (drop at block) = ap length c.rest.ensures in
-    record {
-      within = omega (arith, c.in_ok-at.ensures.used, long, length-drop at block);
-      count = omega (arith, c.in_ok-at.ensures.count, c.loop-at.invariant.count);
-      live = c.in_ok-at.ensures.live;
-      taken = λ limits x before t.
-          let so_far = c.loop-at.invariant.taken limits x before t in
-          let new = c.advance.new.self in
-          taken-further limits x block at used before _ _ _ _ _
-          (subst (λ b. HasTaken limits ((x ++ take at block) ++ take used b) before (g.W.Sink.contents c.advance.new.writer) new.begun.items new.lines new.ended new.speaker) c.rest.ensures
-          (c.in_ok-at.ensures.goes_on limits _ before so_far));
-    }
+pub returns-clause-goes_on : goal.returns-clause-goes_on
+returns-clause-goes_on g c =
+    let was = g.W.Sink.contents c.args.writer.now in
+    let now = g.W.Sink.contents c.write_whole.new.writer in
+    let due = c.gather-gathered.new.due.items in
+    let w = subst (Appends was now) c.deref.ensures.value c.in_ok-write_whole.ensures.ok in
+    on-ok-map c.gather-gathered.result _ _ (λ goes limits x before t.
+    taken-written limits (x ++ c.args.block.now) before was now due w _ _ _ _
+    (goes limits x before was (taken-unput limits x before was _ c.new-due.ensures.items _ _ _ _ t))) c.gather-gathered.ensures.goes_on
+
+pub returns-clause-halts : goal.returns-clause-halts
+returns-clause-halts g c =
+    let was = g.W.Sink.contents c.args.writer.now in
+    let now = g.W.Sink.contents c.write_whole.new.writer in
+    let due = c.gather-gathered.new.due.items in
+    let w = subst (Appends was now) c.deref.ensures.value c.in_ok-write_whole.ensures.ok in
+    if-err-map c.gather-gathered.result _ _ (λ halt halts limits x before t.
+    halts-written limits (x ++ c.args.block.now) before was now due w halt _
+    (halts limits x before was (taken-unput limits x before was _ c.new-due.ensures.items _ _ _ _ t))) c.gather-gathered.ensures.halts
+
+pub returns-clause-spared : goal.returns-clause-spared
+returns-clause-spared g c = spared-result c.gather-gathered.result _ c.in_ok-write_whole.ensures.failed

@@ -1,29 +1,53 @@
-use Rattle.std.proofs.Common.{◌≢◌, [], ◌∙◌, sym, ap, length, arith, eq-eqb}
+use Rattle.std.proofs.Common.{◌≢◌, [], ◌∷◌, ◌++◌, ◌∙◌, sym, ap, subst, length, arith, eq-eqb}
+use Rattle.std.specs.Io.KnownBytes.{Appends}
 use Rattle.std.proofs.lemmas.Bool.{false≢true}
-use Rattle.zk_runs.proofs.Taken.{builds-last, answers-last, begins-last}
-use Rattle.zk_runs.proofs.Spared.{open-answer, spared-answer}
+use Rattle.std.proofs.lemmas.Result.{err_from_is_err_and}
+use Rattle.zk_listings.specs.Outcome.{HasGrownIn}
+use Rattle.zk_runs.proofs.Accepted.{took-written}
+use Rattle.zk_runs.proofs.Gathered.{took-unput}
+use Rattle.zk_runs.proofs.Taken.{builds-last, begins-part, answers-last, begins-last}
+use Rattle.zk_runs.proofs.Spared.{spared-halt, open-answer}
 use Rattle.zk_runs.proofs.builder.Builder.finish.Goals as goal
 
-pub returns-in-Ok-clause-built : goal.returns-in-Ok-clause-built
-returns-in-Ok-clause-built g c =
+pub returns-clause-built : goal.returns-clause-built
+returns-clause-built g c =
     let begun = c.args.self.now.begun in
     let some : begun.items ≢ [] = λ e. false≢true (sym c.if-is_empty.false ∙ c.is_empty.ensures ∙ eq-eqb begun.len 0 (omega (arith, ap length e, begun.ok))) in
-    λ limits x before t. builds-last limits x before _ _ _ _ _ t some _ _ _ _ (c.in-Ok.ensures.goes_on limits t.lines before t.took)
+    let was = g.W.Sink.contents c.args.writer.now in
+    let now = g.W.Sink.contents c.write_whole.new.writer in
+    let w = subst (Appends was now) c.deref-2.ensures.value c.in_ok-write_whole.ensures.ok in
+    let goes = rw c.deref.ensures.value at c.in_default.ensures.goes_on in
+    λ limits x before t.
+    let start = took-unput limits t.lines before was _ c.new-piece.ensures.items _ _ _ t.took in
+    builds-last limits x before _ _ _ _ _ t some _ _ _ _
+    (took-written limits (t.lines ++ begun.items ∷ []) before was now _ _ _ _ (goes limits t.lines before was start) w)
+
+pub returns-in_err-write_whole-clause-begun : goal.returns-in_err-write_whole-clause-begun
+returns-in_err-write_whole-clause-begun g c =
+    let p = err_from_is_err_and c.from_residual.result c.from_residual.ensures.1 in
+    let was = g.W.Sink.contents c.args.writer.now in
+    let now = g.W.Sink.contents c.write_whole.new.writer in
+    let begun = c.args.self.now.begun in
+    let some : begun.items ≢ [] = λ e. false≢true (sym c.if-is_empty.false ∙ c.is_empty.ensures ∙ eq-eqb begun.len 0 (omega (arith, ap length e, begun.ok))) in
+    let goes = rw c.deref.ensures.value at c.in_default.ensures.goes_on in
+    rw p.1 (λ limits x before t.
+    let start = took-unput limits t.lines before was _ c.new-piece.ensures.items _ _ _ t.took in
+    begins-part limits x before _ _ _ _ _ t some _ _ _ _ (subst (HasGrownIn was now) c.deref-2.ensures.value c.in_err-write_whole.ensures.err) _
+    (goes limits t.lines before was start))
 
 pub returns-in-Err-clause-built : goal.returns-in-Err-clause-built
 returns-in-Err-clause-built g c =
     let begun = c.args.self.now.begun in
     let some : begun.items ≢ [] = λ e. false≢true (sym c.if-is_empty.false ∙ c.is_empty.ensures ∙ eq-eqb begun.len 0 (omega (arith, ap length e, begun.ok))) in
-    rw c.answer.ensures (answers-last _ _ _ _ _ _ some c.in-Err.halt c.in-Err.ensures.halts)
+    let halts = rw c.deref.ensures.value at c.in-Err.ensures.halts in
+    rw c.answer.ensures (answers-last _ _ _ _ _ some c.in-Err.halt (λ limits lines before t. halts limits lines before _ t))
 
 pub returns-in-Err-clause-begun : goal.returns-in-Err-clause-begun
 returns-in-Err-clause-begun g c =
     let begun = c.args.self.now.begun in
     let some : begun.items ≢ [] = λ e. false≢true (sym c.if-is_empty.false ∙ c.is_empty.ensures ∙ eq-eqb begun.len 0 (omega (arith, ap length e, begun.ok))) in
-    rw c.answer.ensures (begins-last _ _ _ _ _ _ some c.in-Err.halt c.in-Err.ensures.halts)
+    let halts = rw c.deref.ensures.value at c.in-Err.ensures.halts in
+    rw c.answer.ensures (begins-last _ _ _ _ _ some c.in-Err.halt (λ limits lines before t. halts limits lines before _ t))
 
 pub returns-in-Err-clause-open : goal.returns-in-Err-clause-open
-returns-in-Err-clause-open g c = rw c.answer.ensures (open-answer c.in-Err.halt _ c.in-Err.ensures.spared)
-
-pub returns-in-Err-clause-spared : goal.returns-in-Err-clause-spared
-returns-in-Err-clause-spared g c = rw c.answer.ensures (spared-answer c.in-Err.halt _ c.in-Err.ensures.spared)
+returns-in-Err-clause-open g c = rw c.answer.ensures (open-answer c.in-Err.halt _ (spared-halt c.in-Err.halt _ c.requires.live))

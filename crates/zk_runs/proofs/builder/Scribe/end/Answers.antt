@@ -1,0 +1,22 @@
+use Rattle.std.proofs.Common.{◌∙◌, sym}
+use Rattle.std.proofs.lemmas.Bool.{false≢true}
+use Rattle.std.proofs.lemmas.Result.{err_from_is_err_and}
+use Rattle.std.proofs.lemmas.Slice.Eq.{bytes_eq-Decides}
+use Rattle.std.specs.Io.KnownBytes.{append_known}
+use Rattle.zk_runs.proofs.Accepted.{stops-here, took-ending, halts-not_due}
+use Rattle.zk_runs.proofs.builder.Scribe.end.Goals as goal
+
+pub returns-in_err-due-clause-halts : goal.returns-in_err-due-clause-halts
+returns-in_err-due-clause-halts c =
+    let p = err_from_is_err_and c.from_residual.result c.from_residual.ensures.1 in
+    rw (p.1, p.2) (λ limits lines before now t. stops-here limits lines before now _ _ (rw c.requires.going at t))
+
+pub returns-clause-halts : goal.returns-clause-halts
+returns-clause-halts c = λ limits lines before now t.
+    rw c.at_line.ensures (halts-not_due limits lines before now _ _ (rw c.requires.going at t) c.args.line.now c.unanswered-unanswered.result c.unanswered-unanswered.ensures c.requires.dotted
+    (λ e. false≢true (sym c.if-eq.false ∙ c.eq.ensures ∙ (bytes_eq-Decides c.args.line.now c.as_slice.result.now).1 (e ∙ sym c.in_ok-due.ensures ∙ sym c.as_slice.ensures.value))))
+
+pub returns-then-eq-clause-goes_on : goal.returns-then-eq-clause-goes_on
+returns-then-eq-clause-goes_on c = λ due limits lines before written t.
+    took-ending limits lines before (append_known written due) _ _ (rw c.requires.going at t) c.args.line.now c.unanswered-unanswered.result c.unanswered-unanswered.ensures
+    ((bytes_eq-Decides c.args.line.now c.as_slice.result.now).0 (sym c.eq.ensures ∙ c.if-eq.true) ∙ c.as_slice.ensures.value ∙ c.in_ok-due.ensures)
