@@ -26,7 +26,7 @@ use Rattle.zk_runs.specs.declared.built.Built.TheVariants.{Whole, LineRefused, S
 use Rattle.zk_runs.specs.Building.{head, built_bytes}
 use Rattle.zk_recordings.specs.Recording.{no_time}
 use Rattle.zk_runs.specs.Building.{IsDotted, AreAccepted, AreEnded, IsNextLine, IsBuilt, without_ending, with_ending, behind_ending, other_ending, no_message, not_said, ending_fault, due_ending, piece_of, recording_of}
-use Rattle.zk_runs.specs.Accepting.{AreGood, Took, Refuses, Stops, HaltsAt, line_halt, line_halt_by, say_halt}
+use Rattle.zk_runs.specs.Accepting.{AreGood, Took, Refuses, StopsAfter, HaltsAt, line_halt, line_halt_by, say_halt}
 use Rattle.zk_listings.proofs.Bytes.{Appends-then}
 use Rattle.zk_recordings.proofs.Lists.{flat_map-snoc}
 use Rattle.zk_runs.proofs.Known.{known-whole}
@@ -93,7 +93,7 @@ built-good limits lines messages true good = with_ending good refl
 
 module _ (limits : Limits) (lines : List (List ℕ)) (before now : Option (List ℕ)) (count : ℕ) (speaker : SpeakerState) (t : Took limits lines before now count false speaker) where
   -- nothing was written of the next line
-  pub stops-here : Stops limits lines before now
+  pub stops-here : StopsAfter limits lines before now
   stops-here = record { messages = t.messages; accepted = t.knows.good; written = t.written }
 
   module _ (m : Message) (fits : Fits m) (new : SpeakerState) (limits_are : new.limits ≡ speaker.limits)

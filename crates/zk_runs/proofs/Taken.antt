@@ -18,7 +18,7 @@ use Rattle.zk_listings.specs.declared.listing.RunFault.TheVariants.{Read, Write,
 use Rattle.zk_listings.specs.Outcome.{HasGrownIn}
 use Rattle.zk_runs.specs.Building.{IsLine, with_feed, fed, AreLines, all_fed, last_unfed, AreAccepted, AreEnded, due_ending, recording_of}
 use Rattle.zk_runs.specs.Building.{IsBuilt, without_ending, with_ending, behind_ending, other_ending, no_message, not_said}
-use Rattle.zk_runs.specs.Accepting.{Took, HasTaken, Stops, HaltsAt, BeginsIn, StopsIn, HaltsIn, BuildsAll, BeginsAll, some, all, answer_of}
+use Rattle.zk_runs.specs.Accepting.{Took, HasTaken, StopsAfter, HaltsAt, BeginsIn, StopsIn, HaltsIn, BuildsAll, BeginsAll, some, all, answer_of}
 use Rattle.zk_listings.proofs.Feeding.{grown-whole}
 use Rattle.zk_runs.proofs.Known.{known-part}
 use Rattle.zk_runs.proofs.Accepted.{all-snoc, built-good}
@@ -124,7 +124,7 @@ module _ (limits : Limits) (x : List ℕ) (before now : Option (List ℕ)) (begu
       let each = all-snoc IsLine t.lines begun t.each t.begun_is in
       let read : x ++ 10 ∷ rest ≡ fed (t.lines ++ begun ∷ []) ++ rest = sym (append_assoc x (10 ∷ []) rest) ∙ ap (λ l. l ++ rest) read-line in
       by halt halts each read where
-        stop : Stops limits t.lines before now → StopsIn limits (x ++ 10 ∷ rest) before now count
+        stop : StopsAfter limits t.lines before now → StopsIn limits (x ++ 10 ∷ rest) before now count
         stop s = record {
           lines = t.lines;
           rest = begun ++ 10 ∷ rest;
@@ -137,7 +137,7 @@ module _ (limits : Limits) (x : List ℕ) (before now : Option (List ℕ)) (begu
           written = s.written;
         }
 
-        begin : Stops limits t.lines before now → BeginsIn limits (x ++ 10 ∷ rest) before now
+        begin : StopsAfter limits t.lines before now → BeginsIn limits (x ++ 10 ∷ rest) before now
         begin s = record {
           lines = t.lines;
           rest = begun ++ 10 ∷ rest;
@@ -218,7 +218,7 @@ module _ (now : Option (List ℕ)) (begun : List ℕ) (count : ℕ) (ended : Boo
   answers-last (Fails fault) halts = tt
 
   begins-by : (limits : Limits) (x : List ℕ) (before : Option (List ℕ)) (t : HasTaken limits x before now begun count ended speaker) →
-      Stops limits t.lines before now → BeginsAll limits x before now
+      StopsAfter limits t.lines before now → BeginsAll limits x before now
   begins-by limits x before t s = record {
     lines = t.lines;
     stand = some begun t.each t.read;

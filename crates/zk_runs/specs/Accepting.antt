@@ -67,7 +67,7 @@ pub record Begins (limits : Limits) (lines : List (List ℕ)) (before now : Opti
   pub written : HasGrownIn before now (recording_of messages)
 
 -- memory is refused after these lines, the recording of whose messages was written
-pub record Stops (limits : Limits) (lines : List (List ℕ)) (before now : Option (List ℕ)) : Type 0 where
+pub record StopsAfter (limits : Limits) (lines : List (List ℕ)) (before now : Option (List ℕ)) : Type 0 where
   pub messages : List Message
   pub accepted : AreAccepted limits lines messages
   pub written : Appends before now (recording_of messages)
@@ -75,7 +75,7 @@ pub record Stops (limits : Limits) (lines : List (List ℕ)) (before now : Optio
 -- after these lines the next one is refused, or memory is; nothing is written of it
 abbrev pub HaltsAt : Limits → List (List ℕ) → List ℕ → Option (List ℕ) → Halt → Option (List ℕ) → Type 0
 HaltsAt limits lines next before (Refused built) now = Refuses limits (lines ++ next ∷ []) before now built
-HaltsAt limits lines next before (Fails fault) now = Stops limits lines before now
+HaltsAt limits lines next before (Fails fault) now = StopsAfter limits lines before now
 
 -- a line in these bytes is refused
 pub record RefusesIn (limits : Limits) (x : List ℕ) (before now : Option (List ℕ)) (built : Built) : Type 0 where
