@@ -10,13 +10,14 @@ use std::test::Fail;
 /// The sizes of blocks: lines that are whole in one, that end where one ends, and that go on in several.
 const SIZES: [usize; 10] = [1, 2, 7, 64, 96, 97, 98, 150, 203, 1_000];
 
-/// Blocks of this size are built into the recording of the messages.
+/// Blocks of this size are built into the recording of the messages, with the status and the words on standard error
+/// that are wanted.
 fn expect_built(
     rt: &impl Abort,
     alloc: Global,
     lines: &str,
     size: usize,
-    (status, told): (u8, &str),
+    want: (u8, &str),
 ) -> Result<(), Fail>
     requires { 0 < size }
 {
@@ -24,7 +25,7 @@ fn expect_built(
     let mut reader = MemorySource::by_steps(lines.as_bytes(), size);
     let mut writer = MemorySink::new(alloc);
     let (got, says) = run(alloc, "build", &mut reader, &mut writer)?;
-    assert_eq!(rt; (got, says.as_str()), (status, told), "by {size}");
+    assert_eq!(rt; (got, says.as_str()), want, "by {size}");
     assert_eq!(rt; writer.bytes(), recording.as_slice(), "by {size}");
     Ok(())
 }
