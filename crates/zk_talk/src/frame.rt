@@ -14,7 +14,7 @@ use zk_answers::{ServerFrame, ServerFrameOf, ServerRef};
 use zk_asks::ClientFrame;
 use zk_jute::{ItemFault, Reason};
 use zk_records::{Op, Own, Profile};
-use zk_waiting::Waiting;
+use zk_waiting::Awaited;
 
 /// Whether the fault is that memory was refused.
 pub fn is_no_memory(item: ItemFault) -> bool
@@ -32,7 +32,7 @@ pub fn is_no_memory(item: ItemFault) -> bool
 pub fn keep_client(
     profile: Profile,
     stream: &mut Stream,
-    waiting: &mut Waiting,
+    waiting: &mut Awaited,
     used: usize,
 ) -> bool
     requires { IsAtFrame stream.old used }
@@ -54,7 +54,7 @@ pub fn keep_client(
 pub fn pass_client(
     profile: Profile,
     stream: &mut Stream,
-    waiting: &mut Waiting,
+    waiting: &mut Awaited,
     piece: &[u8],
     used: usize,
 ) -> bool
@@ -78,7 +78,7 @@ pub fn pass_client(
 pub fn client_step(
     profile: Profile,
     stream: &mut Stream,
-    waiting: &mut Waiting,
+    waiting: &mut Awaited,
     used: usize,
 ) -> Result<(), ItemFault>
     requires { IsAtFrame stream.old used }
@@ -103,7 +103,7 @@ pub fn client_frame(
     alloc: Global,
     profile: Profile,
     stream: &mut Stream,
-    waiting: &mut Waiting,
+    waiting: &mut Awaited,
     used: usize,
 ) -> Result<ClientFrame, ItemFault>
     requires { IsAtFrame stream.old used }
@@ -144,7 +144,7 @@ fn answered(frame: &ServerRef<'_>) -> Option<Op>
 /// Keeps the server's whole frame, whose last `used` bytes are new, if it is a reply that may come next, and returns the
 /// operation of its request; `None`: undecided, and nothing changed.
 #[inline(always)]
-pub fn keep_server(stream: &mut Stream, waiting: &mut Waiting, used: usize) -> Option<Op>
+pub fn keep_server(stream: &mut Stream, waiting: &mut Awaited, used: usize) -> Option<Op>
     requires { IsAtFrame stream.old used }
     ensures max { waiting.new.max ≡ waiting.old.max }
     ensures found { (asked : ℕ) → IfSome result (λ op. (s : answers.ServerFrame) × KeepsServer asked stream.old waiting.old (Some op) s waiting.new stream.new) }
@@ -161,7 +161,7 @@ pub fn keep_server(stream: &mut Stream, waiting: &mut Waiting, used: usize) -> O
 #[inline(always)]
 pub fn pass_server(
     stream: &mut Stream,
-    waiting: &mut Waiting,
+    waiting: &mut Awaited,
     piece: &[u8],
     used: usize,
 ) -> Option<Op>
@@ -184,7 +184,7 @@ pub fn pass_server(
 pub fn server_step(
     asked: u64,
     stream: &mut Stream,
-    waiting: &mut Waiting,
+    waiting: &mut Awaited,
     used: usize,
 ) -> Result<Option<Op>, ItemFault>
     requires { IsAtFrame stream.old used }
@@ -210,7 +210,7 @@ pub fn server_frame(
     alloc: Global,
     asked: u64,
     stream: &mut Stream,
-    waiting: &mut Waiting,
+    waiting: &mut Awaited,
     used: usize,
 ) -> Result<ServerFrame, ItemFault>
     requires { IsAtFrame stream.old used }

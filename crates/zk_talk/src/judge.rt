@@ -3,7 +3,7 @@ ghost use Rattle.std.specs.Prelude.{◌≡◌, ◌≢◌, ◌<◌, ◌^◌, ◌�
 ghost use Rattle.zk_jute.specs.declared.fault.Reason.TheVariants.{NoMemory};
 ghost use Rattle.zk_asks.specs.Codes.{event_xid};
 ghost use Rattle.zk_asks.specs.Held as asks;
-ghost use Rattle.zk_asks.specs.Frames.{IsFirst, IsSent};
+ghost use Rattle.zk_asks.specs.Frames.{IsFirst, IsSent, MaySend};
 ghost use Rattle.zk_answers.specs.Faults.{IsHead};
 ghost use Rattle.zk_answers.specs.Held as answered;
 ghost use Rattle.zk_answers.specs.Frames as answers;
@@ -25,7 +25,7 @@ use zk_asks::{
 };
 use zk_jute::{ItemFault, Reason};
 use zk_records::{Op, Profile, ReplyHeader};
-use zk_waiting::{PutFault, Waiting, lane_of};
+use zk_waiting::{Awaited, PutFault, lane_of};
 
 /// The client's payload after `count` frames, borrowed.
 fn seen_client(profile: Profile, count: u64, payload: &[u8]) -> Result<ClientRef<'_>, ItemFault>
@@ -40,7 +40,7 @@ fn seen_client(profile: Profile, count: u64, payload: &[u8]) -> Result<ClientRef
 }
 
 /// Whether there is room for what is to wait for the reply to `frame`.
-fn has_room(waiting: &Waiting, frame: &ClientRef<'_>) -> bool
+fn has_room(waiting: &Awaited, frame: &ClientRef<'_>) -> bool
     requires { length (client_payload frame.now) < 2 ^ 32 }
     ensures { IsTrue result ↔ HasRoomFor frame.now waiting.now }
 {
@@ -54,7 +54,7 @@ fn has_room(waiting: &Waiting, frame: &ClientRef<'_>) -> bool
 pub fn next_client<'a>(
     profile: Profile,
     count: u64,
-    waiting: &Waiting,
+    waiting: &Awaited,
     payload: &'a [u8],
 ) -> Result<ClientRef<'a>, ItemFault>
     requires { length payload.now < 2 ^ 32 }
@@ -72,7 +72,7 @@ pub fn next_client<'a>(
 
 /// Lets `payload`, which isn't the client's first, wait for its reply, if it is a multi that may come; false: undecided,
 /// and nothing changed.
-fn await_multi(profile: Profile, waiting: &mut Waiting, payload: &[u8]) -> bool
+fn await_multi(profile: Profile, waiting: &mut Awaited, payload: &[u8]) -> bool
     ensures max { waiting.new.max ≡ waiting.old.max }
     ensures found { IsTrue result → (count : ℕ) → (count ≡ 0 → ⊥) → (f : asks.ClientFrame) × IsAwaited profile count payload.now waiting.old waiting.new f }
     ensures same { result ≡ false → waiting.new ≡ waiting.old }
@@ -86,7 +86,7 @@ fn await_multi(profile: Profile, waiting: &mut Waiting, payload: &[u8]) -> bool
 /// Lets the client's payload after `count` frames wait for its reply, if it is a request that may come next; false:
 /// undecided, and nothing changed. No fault and no frame is made.
 #[inline(always)]
-pub fn await_front(profile: Profile, count: u64, waiting: &mut Waiting, payload: &[u8]) -> bool
+pub fn await_front(profile: Profile, count: u64, waiting: &mut Awaited, payload: &[u8]) -> bool
     ensures max { waiting.new.max ≡ waiting.old.max }
     ensures found { IsTrue result → (f : asks.ClientFrame) × IsAwaited profile count payload.now waiting.old waiting.new f }
     ensures same { result ≡ false → waiting.new ≡ waiting.old }
@@ -101,7 +101,8 @@ pub fn await_front(profile: Profile, count: u64, waiting: &mut Waiting, payload:
 }
 
 /// Lets `frame` wait for its reply, if it is to have one; there is room for it.
-pub fn await_reply(waiting: &mut Waiting, frame: &ClientRef<'_>)
+pub fn await_reply(waiting: &mut Awaited, frame: &ClientRef<'_>)
+    requires may { MaySend frame.now }
     requires small { length (client_payload frame.now) < 2 ^ 32 }
     requires room { HasRoomFor frame.now waiting.old }
     ensures max { waiting.new.max ≡ waiting.old.max }
@@ -116,8 +117,9 @@ pub fn await_reply(waiting: &mut Waiting, frame: &ClientRef<'_>)
 }
 
 /// Lets `frame` wait for its reply, if it is to have one.
-pub fn remember(alloc: Global, waiting: &mut Waiting, frame: &ClientFrame) -> Result<(), ItemFault>
-    requires { length (client_payload frame.now) < 2 ^ 32 }
+pub fn remember(alloc: Global, waiting: &mut Awaited, frame: &ClientFrame) -> Result<(), ItemFault>
+    requires may { MaySend frame.now }
+    requires small { length (client_payload frame.now) < 2 ^ 32 }
     ensures max { waiting.new.max ≡ waiting.old.max }
     ensures ok { OnOk result (IsRemembered frame.now waiting.old waiting.new) }
     ensures err { IfErr result (λ e. (waiting.new ≡ waiting.old) × IsPutRefusal frame.now waiting.old e) }
@@ -139,7 +141,7 @@ pub fn remember(alloc: Global, waiting: &mut Waiting, frame: &ClientFrame) -> Re
 /// The reply `payload`, which has the header `head`, to the oldest request of its lane, borrowed.
 fn seen_answer<'a>(
     head: &ReplyHeader,
-    waiting: &Waiting,
+    waiting: &Awaited,
     payload: &'a [u8],
 ) -> Result<ServerRef<'a>, ItemFault>
     requires head { (rest : List ℕ) × IsHead payload.now head.now rest }
@@ -166,7 +168,7 @@ fn seen_answer<'a>(
 pub fn next_server<'a>(
     asked: u64,
     count: u64,
-    waiting: &Waiting,
+    waiting: &Awaited,
     payload: &'a [u8],
 ) -> Result<ServerRef<'a>, ItemFault>
     ensures due { IfOk result (λ s. IsDue s waiting.now × answers.IsSent s × (server_payload s ≡ payload.now)) }
@@ -190,7 +192,7 @@ pub fn next_server<'a>(
 /// The operation of the oldest request of the lane, if `payload`, which has the header `head`, is a reply to it; `None`:
 /// undecided.
 #[inline(always)]
-fn front_answer(head: &ReplyHeader, waiting: &Waiting, payload: &[u8]) -> Option<Op>
+fn front_answer(head: &ReplyHeader, waiting: &Awaited, payload: &[u8]) -> Option<Op>
     requires head { (rest : List ℕ) × IsHead payload.now head.now rest }
     requires reply { head.now.xid ≢ event_xid }
     ensures { IfSome result (λ op. (r : answered.Reply) × IsDueReply head.now.xid payload.now op waiting.now r) }
@@ -206,7 +208,7 @@ fn front_answer(head: &ReplyHeader, waiting: &Waiting, payload: &[u8]) -> Option
 /// Drops the request that the server's payload after `count` frames replies to, if it is a reply that may come next, and
 /// returns its operation; `None`: undecided, and nothing changed. No fault and no frame is made.
 #[inline(always)]
-pub fn forget_front(count: u64, waiting: &mut Waiting, payload: &[u8]) -> Option<Op>
+pub fn forget_front(count: u64, waiting: &mut Awaited, payload: &[u8]) -> Option<Op>
     ensures max { waiting.new.max ≡ waiting.old.max }
     ensures found { IfSome result (λ op. (s : answered.ServerFrame) × IsSettled count payload.now op waiting.old waiting.new s) }
     ensures same { IfNone result (waiting.new ≡ waiting.old) }
@@ -227,7 +229,7 @@ pub fn forget_front(count: u64, waiting: &mut Waiting, payload: &[u8]) -> Option
 }
 
 /// Drops the request that `frame` replies to.
-pub fn forget(waiting: &mut Waiting, frame: &ServerFrame)
+pub fn forget(waiting: &mut Awaited, frame: &ServerFrame)
     requires { HasAsk frame.now waiting.old }
     ensures max { waiting.new.max ≡ waiting.old.max }
     ensures forgotten { IsForgotten frame.now waiting.old waiting.new }
@@ -238,7 +240,7 @@ pub fn forget(waiting: &mut Waiting, frame: &ServerFrame)
 }
 
 /// Drops the request that the borrowed `frame` replies to.
-pub fn forget_seen(waiting: &mut Waiting, frame: &ServerRef<'_>)
+pub fn forget_seen(waiting: &mut Awaited, frame: &ServerRef<'_>)
     requires { HasAsk frame.now waiting.old }
     ensures max { waiting.new.max ≡ waiting.old.max }
     ensures forgotten { IsForgotten frame.now waiting.old waiting.new }

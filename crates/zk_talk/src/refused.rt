@@ -16,7 +16,7 @@ use zk_asks::Asked;
 use zk_frames::Frames;
 use zk_jute::{Reason, int_at};
 use zk_records::{Op, Profile, op_of};
-use zk_waiting::{Waiting, lane_of};
+use zk_waiting::{Awaited, lane_of};
 
 /// Whether a body's items can give the reason.
 fn is_of_items(reason: Reason) -> bool
@@ -83,7 +83,7 @@ pub fn asked_body(payload: &[u8]) -> Option<(Layout, &[u8])>
 }
 
 /// The operation of the request that a reply with the xid `xid` answers; `None` if it is a multi, or there is none.
-fn answered_op(xid: i32, waiting: &Waiting) -> Option<Op>
+fn answered_op(xid: i32, waiting: &Awaited) -> Option<Op>
     ensures found { (n m : ℕ) (v : Conversation) → Describes n m waiting.now v → MatchOption result (AnswersNone v xid) (AnswersOp v xid) }
     ensures known { IfSome result (λ op. op ≢ ops.Multi) }
 {
@@ -103,7 +103,7 @@ fn answered_op(xid: i32, waiting: &Waiting) -> Option<Op>
 
 /// The layout and the bytes of the body after the header of an event, or of a reply with err 0 to another operation than
 /// multi.
-pub fn answered_body<'a>(payload: &'a [u8], waiting: &Waiting) -> Option<(Layout, &'a [u8])>
+pub fn answered_body<'a>(payload: &'a [u8], waiting: &Awaited) -> Option<(Layout, &'a [u8])>
     ensures found { (n m : ℕ) (v : Conversation) → Describes n m waiting.now v → IsBodyOf v payload.now Server result }
     ensures small { IfSome result (λ b. length b.1.now ≤ length payload.now) }
     ensures known { IfSome result (λ b. b.0 ≢ layouts.Answered ops.Multi) }

@@ -22,7 +22,7 @@ use zk_answers::{Outcome, Reply, ServerFrame, fits, write_server};
 use zk_asks::{ClientFrame, allowed, write_client};
 use zk_jute::Reason;
 use zk_records::{Op, Profile, op_number, op_of};
-use zk_waiting::{Waiting, lane_of};
+use zk_waiting::{Awaited, lane_of};
 
 /// Why a message can't be said, in the order of the checks.
 #[derive(Clone, Copy, Debug, PartialEq, Eq)]
@@ -162,8 +162,9 @@ fn may_ask(limits: Limits, message: &ClientFrame) -> bool
 }
 
 /// Lets the request wait for its reply.
-fn put_request(alloc: Global, waiting: &mut Waiting, message: &ClientFrame) -> Result<(), SayFault>
-    requires { length (client_payload message.now) < 2 ^ 32 }
+fn put_request(alloc: Global, waiting: &mut Awaited, message: &ClientFrame) -> Result<(), SayFault>
+    requires may { asks.MaySend message.now }
+    requires small { length (client_payload message.now) < 2 ^ 32 }
     ensures max { waiting.new.max ≡ waiting.old.max }
     ensures ok { OnOk result (IsRemembered message.now waiting.old waiting.new) }
     ensures same { OnErr result (waiting.new ≡ waiting.old) }
@@ -183,7 +184,7 @@ pub fn say_client(
     alloc: Global,
     limits: Limits,
     asked: bool,
-    waiting: &mut Waiting,
+    waiting: &mut Awaited,
     message: &ClientFrame,
     out: &mut Vec<u8>,
 ) -> Result<(), SayFault>
@@ -226,7 +227,7 @@ fn told(outcome: &Outcome)
 }
 
 /// Whether the reply fits the oldest request of its lane.
-fn reply_fits(waiting: &Waiting, reply: &Reply) -> Result<(), SayFault>
+fn reply_fits(waiting: &Awaited, reply: &Reply) -> Result<(), SayFault>
     ensures ok { OnOk result (FitsNext waiting.now reply.now) }
     ensures err { IfErr result (IsUnfit waiting.now reply.now) }
 {
@@ -249,7 +250,7 @@ fn reply_fits(waiting: &Waiting, reply: &Reply) -> Result<(), SayFault>
 }
 
 /// Whether the request that the message replies to is there.
-fn may_answer(asked: bool, waiting: &Waiting, message: &ServerFrame) -> Result<(), SayFault>
+fn may_answer(asked: bool, waiting: &Awaited, message: &ServerFrame) -> Result<(), SayFault>
     ensures ok { OnOk result (MayAnswer asked waiting.now message.now) }
     ensures err { IfErr result (CannotAnswer asked waiting.now message.now) }
 {
@@ -271,7 +272,7 @@ pub fn say_server(
     limits: Limits,
     asked: bool,
     welcomed: bool,
-    waiting: &mut Waiting,
+    waiting: &mut Awaited,
     message: &ServerFrame,
     out: &mut Vec<u8>,
 ) -> Result<(), SayFault>

@@ -11,7 +11,7 @@ use crate::message::Message;
 use crate::say::{SayFault, say_client, say_server};
 use std::alloc::{AllocError, Global};
 use std::marker::Model;
-use zk_waiting::Waiting;
+use zk_waiting::Awaited;
 
 /// What was said so far of a conversation.
 #[derive(Drop)]
@@ -20,7 +20,7 @@ pub struct Speaker {
     limits: Limits,
     asked: bool,
     welcomed: bool,
-    waiting: Waiting,
+    waiting: Awaited,
 }
 
 impl Model for Speaker {
@@ -44,7 +44,7 @@ impl Speaker {
         ensures limits { IfOk result (λ s. s.limits ≡ limits) }
         ensures says { IfOk result (λ s. Says s []) }
     {
-        let waiting = Waiting::new(alloc, limits.waiting())?;
+        let waiting = Awaited::new(alloc, limits.waiting())?;
         Ok(Speaker {
             alloc,
             limits,

@@ -31,7 +31,7 @@ use std::alloc::{AllocError, Global};
 use std::marker::Model;
 use zk_answers::Layout;
 use zk_records::Op;
-use zk_waiting::Waiting;
+use zk_waiting::Awaited;
 
 /// What `Talk::take` took of a piece.
 #[derive(Drop)]
@@ -59,7 +59,7 @@ pub struct Talk {
     limits: Limits,
     pub(crate) client: Stream,
     pub(crate) server: Stream,
-    pub(crate) waiting: Waiting,
+    pub(crate) waiting: Awaited,
     /// The operation of the request that the server's kept frame replies to; `None` if that is no reply.
     answered: Option<Op>,
     fault: Option<Fault>,
@@ -91,7 +91,7 @@ impl Talk {
     {
         let client = Stream::new(alloc, limits.client())?;
         let server = Stream::new(alloc, limits.server())?;
-        let waiting = Waiting::new(alloc, limits.waiting())?;
+        let waiting = Awaited::new(alloc, limits.waiting())?;
         Ok(Talk {
             alloc,
             limits,

@@ -1,12 +1,20 @@
-use Rattle.std.proofs.Common.{subst, Bool, IsTrue, ℤ, map}
+use Rattle.std.proofs.Common.{subst, sym, Bool, IsTrue, ℤ, map}
 use Rattle.std.specs.Int.{w32}
 use Rattle.std.proofs.lemmas.Int.{to_z-of_z}
 use Rattle.zk_records.specs.declared.op.Op.TheVariants as ops
+use Rattle.zk_records.specs.declared.op.Op.{Op}
+use Rattle.zk_asks.specs.Codes.{IsAllowed}
 use Rattle.zk_asks.specs.Parts.{op_of_part}
 use Rattle.zk_waiting.specs.Lane.{lane_of}
 use Rattle.zk_waiting.specs.Waiting.{IsPut}
 use Rattle.zk_talk.proofs.Settling.{of_ok, asked_awaited}
 use Rattle.zk_talk.proofs.judge.await_multi.Goals as goal
+
+pub put-requires : goal.put-requires
+put-requires c =
+    let asked = c.in-Some.ensures.some in
+    let may = subst (λ (op : Op). IsAllowed c.in-Some.xid op) asked.1.1 asked.1.3.0 in
+    subst (λ (z : ℤ). IsAllowed z ops.Multi) (sym (to_z-of_z w32 c.in-Some.xid asked.1.3.1.0)) may
 
 pub returns-in-Some-clause-found : goal.returns-in-Some-clause-found
 returns-in-Some-clause-found c = λ yes count later.

@@ -4,4 +4,4 @@ use Rattle.zk_talk.proofs.Payloads.{few_parts}
 use Rattle.zk_talk.proofs.judge.remember.Goals as goal
 
 pub form_of-requires : goal.form_of-requires
-form_of-requires c = omega (arith, few_parts c.in-Ask.xid c.in-Ask.ask, c.requires, ap (λ z. length (client_payload z)) c.in-Ask.is)
+form_of-requires c = omega (arith, few_parts c.in-Ask.xid c.in-Ask.ask, c.requires.small, ap (λ z. length (client_payload z)) c.in-Ask.is)

@@ -5,8 +5,8 @@ use Rattle.zk_talk.proofs.Saying.{client_stands, client_said, client_full, unequ
 use Rattle.zk_talk.proofs.Speaking.{small_payload, either_way}
 use Rattle.zk_talk.proofs.say.say_client.Goals as goal
 
-pub put_request-requires : goal.put_request-requires
-put_request-requires c =
+pub put_request-requires-clause-small : goal.put_request-requires-clause-small
+put_request-requires-clause-small c =
     let small : c.args.limits.client ≤ 16777216 = omega (arith, c.args.limits.in_range) in
     small_payload c.args.limits.client c.args.message.now small (subst (λ z. Fit z (frame_items c.args.message.now)) c.client.ensures c.in-Ok.ensures.fits)
 
