@@ -19,7 +19,7 @@ use Rattle.zk_listings.specs.declared.listing.Listing.{Listing}
 use Rattle.zk_listings.specs.declared.listing.Listing.TheVariants.{All, Last}
 use Rattle.zk_listings.specs.Lines.{message_line, text_of}
 use Rattle.zk_listings.specs.Outcome.{IsGoodWith, HasGrownIn}
-use Rattle.zk_listings.specs.Following.{Takes}
+use Rattle.zk_listings.specs.Following.{Judges, Takes}
 use Rattle.zk_listings.proofs.Bytes.{Appends-then}
 use Rattle.zk_recordings.proofs.Lists.{on-append}
 
@@ -114,3 +114,16 @@ shown-more old from new side bytes piece at' used end whole before during after 
     let went = stepped-shows from side (take used piece) whole new steps seen none only in
     let goes = subst (λ z. GoesOn from side (take used z) (option_to_list seen) new) is went in
     subst (λ n. Takes All old before (on side (take n bytes)) None new after) (sym ends) (takes-more All old from new before during after side bytes at' taken used (option_to_list seen) goes told)
+
+-- some first bytes, and the rest of them
+pub takes-then : (listing : Listing) (old mid new : TalkState) (before during after : List ℕ) (side : Side) (bytes : List ℕ) (n : ℕ) (refused : Option Fault) →
+    Takes listing old before (on side (take n bytes)) None mid during → Takes listing mid during (on side (drop n bytes)) refused new after → Takes listing old before (on side bytes) refused new after
+takes-then listing old mid new before during after side bytes n refused first second h messages i =
+    let one = first h messages i in
+    let two = second (h ++ on side (take n bytes)) (messages ++ one.0) one.1 in
+    let joined : (h ++ on side (take n bytes)) ++ on side (drop n bytes) ≡ h ++ on side bytes = on-append side (take n bytes) (drop n bytes) h ∙ ap (λ b. h ++ on side b) (take-append-drop n bytes) in
+    let s = subst (λ z. Judges new z ((messages ++ one.0) ++ two.0) refused) joined two.1 in (
+      one.0 ++ two.0,
+      subst (λ m. Judges new (h ++ on side bytes) m refused) (append_assoc messages one.0 two.0) s,
+      listed-then listing before during after one.0 two.0 one.2 two.2,
+    )

@@ -10,12 +10,13 @@ use Rattle.zk_talk.specs.History.{on}
 use Rattle.zk_talk.specs.Stands.{TalkState, Stands}
 use Rattle.zk_listings.specs.declared.listing.Listing.{Listing}
 use Rattle.zk_listings.specs.declared.progress.Progress.{Progress}
+use Rattle.zk_listings.specs.declared.summary.Summary.{Summary}
 use Rattle.zk_listings.specs.declared.summary.Summary.TheVariants.{Ended}
 use Rattle.zk_recordings.specs.Reader.{ReaderState}
 use Rattle.zk_recordings.specs.Pieces.{ReadsPiece}
 use Rattle.zk_recordings.specs.Recording.{Spells, history_of, limits_of}
 use Rattle.zk_recordings.specs.Reading.{IsAt, ReadsOn}
-use Rattle.zk_listings.specs.Following.{Follows, Talks, Takes, Decides, Advances}
+use Rattle.zk_listings.specs.Following.{Follows, Talks, Takes, Decides, Advances, Steps, ended_by}
 use Rattle.zk_listings.proofs.Stops.{decides-by_fault}
 use Rattle.zk_listings.proofs.Decided.{broken-by}
 use Rattle.zk_listings.proofs.Talking.{Given, given, gives-by, goes-headed, goes-history}
@@ -59,7 +60,7 @@ module _ (listing : Listing) (p : Progress) (t u : TalkState) (lines lines_now b
     spells : Spells (x ++ take used block) second.new
     spells = subst (λ l. Spells l second.new) (joined x) second.is.spells
 
-  pub piece-refused : (fault : Fault) → refused ≡ Some fault → (now : Progress) → now.talk ≡ Some u → Advances listing p lines block (Some (Ended (Refused fault))) now lines_now
+  piece-refused : (fault : Fault) → refused ≡ Some fault → (now : Progress) → now.talk ≡ Some u → Advances listing p lines block (Some (Ended (Refused fault))) now lines_now
   piece-refused fault e now talk_is = λ limits x messages i.
       let g = comes limits x messages i (Some fault) e in (
         g.0,
@@ -68,7 +69,7 @@ module _ (listing : Listing) (p : Progress) (t u : TalkState) (lines lines_now b
         g.2,
       )
 
-  pub piece-on : refused ≡ None → (now : Progress) → now.limits ≡ p.limits → now.reader ≡ state → now.talk ≡ Some u → Advances listing p lines (take used block) None now lines_now
+  piece-on : refused ≡ None → (now : Progress) → now.limits ≡ p.limits → now.reader ≡ state → now.talk ≡ Some u → Advances listing p lines (take used block) None now lines_now
   piece-on e now options reader talk_is = λ limits x messages i.
       let r = second limits x messages i in
       let g = comes limits x messages i None e in
@@ -83,3 +84,10 @@ module _ (listing : Listing) (p : Progress) (t u : TalkState) (lines lines_now b
         },
         g.2,
       )
+
+  piece-by : (now : Progress) → now.limits ≡ p.limits → now.reader ≡ state → now.talk ≡ Some u → (other : Option Fault) → refused ≡ other → Steps listing p lines block used (ended_by other) now lines_now
+  piece-by now options reader talk_is None e = piece-on e now options reader talk_is
+  piece-by now options reader talk_is (Some fault) e = piece-refused fault e now talk_is
+
+  pub piece-steps : (found : Option Summary) → found ≡ ended_by refused → (now : Progress) → now.limits ≡ p.limits → now.reader ≡ state → now.talk ≡ Some u → Steps listing p lines block used found now lines_now
+  piece-steps found e now options reader talk_is = subst (λ z. Steps listing p lines block used z now lines_now) (sym e) (piece-by now options reader talk_is refused refl)

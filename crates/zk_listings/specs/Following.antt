@@ -1,5 +1,5 @@
 -- How far a recording was read, with the conversation in it, and which lines were appended.
-use Rattle.std.specs.Prelude.{◌≡◌, ◌<◌, ◌≤◌, ◌+◌, ℕ, List, [], ◌++◌, length, take, Option, None, Some}
+use Rattle.std.specs.Prelude.{◌≡◌, ℕ, List, [], ◌++◌, take, Option, None, Some}
 use Rattle.zk_talk.specs.declared.limits.Limits.{Limits}
 use Rattle.zk_talk.specs.Held.{Message}
 use Rattle.zk_talk.specs.declared.message.Ending.TheVariants.{Whole, Cut, Refused}
@@ -7,14 +7,11 @@ use Rattle.zk_talk.specs.declared.message.Fault.{Fault}
 use Rattle.zk_talk.specs.History.{History}
 use Rattle.zk_talk.specs.Stands.{TalkState, Stands, Refuses}
 use Rattle.zk_listings.specs.declared.listing.Listing.{Listing}
-use Rattle.zk_listings.specs.declared.progress.Step.{Step}
-use Rattle.zk_listings.specs.declared.progress.Step.TheVariants.{Took, Found}
 use Rattle.zk_listings.specs.declared.progress.Progress.{Progress}
-use Rattle.zk_recordings.specs.Reader.{ReaderState}
 use Rattle.zk_listings.specs.declared.summary.Summary.{Summary}
 use Rattle.zk_listings.specs.declared.summary.Summary.TheVariants.{Ended, Broken}
 use Rattle.zk_recordings.specs.Recording.{Place, Recording, Spells, place_of, history_of, limits_of}
-use Rattle.zk_recordings.specs.Reading.{IsAt, IsHeaded, place_in}
+use Rattle.zk_recordings.specs.Reading.{IsAt, IsHeaded}
 use Rattle.zk_listings.specs.Lines.{text_of}
 use Rattle.zk_listings.specs.Outcome.{IsGoodWith, IsOutcome, IsBroken, IsDecided}
 
@@ -88,6 +85,16 @@ abbrev pub Takes : Listing → TalkState → List ℕ → History → Option Fau
 Takes listing old lines bytes refused new lines_now = (h : History) (messages : List Message) → Stands old h messages →
     (more : List Message) × Judges new (h ++ bytes) (messages ++ more) refused × (lines_now ≡ lines ++ text_of listing more)
 
+-- how a conversation that is refused ends a recording
+abbrev pub ended_by : Option Fault → Option Summary
+ended_by None = None
+ended_by (Some fault) = Some (Ended (Refused fault))
+
+-- the talk has taken the bytes, or refused them, which is the summary that was found
+abbrev pub TakesTo : Listing → TalkState → List ℕ → History → Option Summary → TalkState → List ℕ → Type 0
+TakesTo listing old lines bytes found new lines_now =
+    (refused : Option Fault) × (found ≡ ended_by refused) × Takes listing old lines bytes refused new lines_now
+
 -- the bytes were given to the talk, which begins with its first content
 abbrev pub HasOr : Limits → Option TalkState → Option Fault → History → List Message → Type 0
 HasOr limits talk None h messages = Has limits talk h messages
@@ -110,12 +117,7 @@ Advances listing p lines block found now lines_now =
     (limits : Limits) (x : List ℕ) (messages : List Message) → Follows limits x messages p →
     (more : List Message) × Reaches limits (x ++ block) (messages ++ more) now found × (lines_now ≡ lines ++ text_of listing more)
 
--- some first bytes of a block were taken, or the recording's summary was found in it
-abbrev pub Steps : Listing → Progress → List ℕ → List ℕ → Step → Progress → List ℕ → Type 0
-Steps listing p lines block (Took n) now lines_now = Advances listing p lines (take n block) None now lines_now
-Steps listing p lines block (Found summary) now lines_now = Advances listing p lines block (Some summary) now lines_now
-
--- at least one byte, and no more than there are
-abbrev pub IsWithin : ReaderState → List ℕ → Step → ReaderState → Type 0
-IsWithin s block (Took n) now = (0 < n) × (n ≤ length block) × (place_in now ≤ place_in s + n)
-IsWithin s block (Found summary) now = Unit {0}
+-- this number of first bytes of a block was taken, or the recording's summary was found in the block
+abbrev pub Steps : Listing → Progress → List ℕ → List ℕ → ℕ → Option Summary → Progress → List ℕ → Type 0
+Steps listing p lines block used None now lines_now = Advances listing p lines (take used block) None now lines_now
+Steps listing p lines block used (Some summary) now lines_now = Advances listing p lines block (Some summary) now lines_now

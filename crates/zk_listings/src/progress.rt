@@ -1,5 +1,5 @@
 //! `Progress`: a recording that is read block by block, and the conversation in it.
-ghost use Rattle.std.specs.Prelude.{◌≡◌, ◌≢◌, ◌+◌, ◌^◌, ◌<◌, ◌≤◌, ℕ, List, [], Some, None, IfOk, IfSome, OnErr, MatchOption, length, drop};
+ghost use Rattle.std.specs.Prelude.{◌≡◌, ◌≢◌, ◌+◌, ◌^◌, ◌<◌, ◌≤◌, ℕ, List, [], Some, None, IfOk, IfSome, OnErr, MatchOption, length, take, drop};
 ghost use Rattle.zk_talk.specs.Held.{Message};
 ghost use Rattle.zk_talk.specs.Ending.{IsEnding};
 ghost use Rattle.zk_talk.specs.History.{History, on};
@@ -10,7 +10,8 @@ ghost use Rattle.zk_answers.specs.declared.layout.Layout.TheVariants as layouts;
 ghost use Rattle.zk_listings.specs.declared.listing.Listing.TheVariants.{All, Last};
 ghost use Rattle.zk_listings.specs.Earliest.{TellsBody};
 ghost use Rattle.zk_recordings.specs.Reading.{content_of, place_in};
-ghost use Rattle.zk_listings.specs.Following.{Follows, Finishes, HasRefused, Takes, Gives, Has, Advances, Steps, IsWithin};
+ghost use Rattle.zk_listings.specs.Following.{Follows, Finishes, HasRefused, Takes, TakesTo, Gives, Has, Advances, Steps};
+ghost use Rattle.zk_listings.specs.Following as following;
 
 use crate::listing::{Listing, tell};
 use crate::summary::Summary;
@@ -18,15 +19,6 @@ use std::alloc::{AllocError, Global};
 use zk_answers::Layout;
 use zk_recordings::RecordingReader;
 use zk_talk::{Ending, Fault, Limits, Side, Talk};
-
-/// What was done with the first bytes of a block.
-#[derive(Clone, Copy)]
-pub enum Step {
-    /// This number of bytes was taken.
-    Took(usize),
-    /// The recording's summary is known from the block, whatever follows.
-    Found(Summary),
-}
 
 /// The bytes from `at` on.
 pub fn rest(bytes: &[u8], at: usize) -> &[u8]
@@ -101,6 +93,76 @@ fn feed(
     }
 }
 
+/// How a conversation that is refused ends a recording.
+fn ended_by(refused: Option<Fault>) -> Option<Summary>
+    ensures { result ≡ following.ended_by refused }
+{
+    match refused {
+        Some(fault) => Some(Summary::Ended(Ending::Refused(fault))),
+        None => None,
+    }
+}
+
+/// Gives the frame at the front of bytes of one side to the conversation, if it is seen at once that it may come next and
+/// no lines are listed. Returns how many bytes that is; 0 if none is given.
+// Stands for `feed` of that frame, and makes no result in memory.
+#[inline(always)]
+fn feed_front(talk: &mut Talk, side: Side, bytes: &[u8], listing: Listing) -> usize
+    ensures limits { talk.new.limits ≡ talk.old.limits }
+    ensures within { result ≤ length bytes.now }
+    ensures taken { (lines : List ℕ) → Takes listing talk.old lines (on side (take result bytes.now)) None talk.new lines }
+{
+    match listing {
+        Listing::All => 0,
+        Listing::Last => match talk.pass_front(side, bytes) {
+            Some(used) => used,
+            None => 0,
+        },
+    }
+}
+
+/// `feed`; `found` becomes the summary of the fault.
+// A call of its own, so that what `feed` returns is made only where the call is.
+#[inline(never)]
+fn feed_into(
+    talk: &mut Talk,
+    side: Side,
+    bytes: &[u8],
+    listing: Listing,
+    lines: &mut Vec<u8>,
+    found: &mut Option<Summary>,
+) -> Result<(), AllocError>
+    ensures limits { talk.new.limits ≡ talk.old.limits }
+    ensures taken { IfOk result (λ _. TakesTo listing talk.old lines.old.items (on side bytes.now) found.new talk.new lines.new.items) }
+{
+    let refused = feed(talk, side, bytes, listing, lines)?;
+    *found = ended_by(refused);
+    Ok(())
+}
+
+/// `feed_into`, but for a frame that `feed_front` gives.
+// Stands for `feed_into` of all the bytes.
+#[inline(always)]
+fn feed_far(
+    talk: &mut Talk,
+    side: Side,
+    bytes: &[u8],
+    listing: Listing,
+    lines: &mut Vec<u8>,
+    found: &mut Option<Summary>,
+) -> Result<(), AllocError>
+    requires { found.old ≡ None }
+    ensures limits { talk.new.limits ≡ talk.old.limits }
+    ensures taken { IfOk result (λ _. TakesTo listing talk.old lines.old.items (on side bytes.now) found.new talk.new lines.new.items) }
+{
+    let front = feed_front(talk, side, bytes, listing);
+    if front == bytes.len() {
+        return Ok(());
+    }
+    feed_into(talk, side, rest(bytes, front), listing, lines, found)?;
+    Ok(())
+}
+
 /// Gives the first bytes of a block to the conversation, if they are content of a side. The conversation begins with the
 /// first of them, and isn't moved after that.
 fn give(
@@ -154,17 +216,20 @@ impl Progress {
         }
     }
 
-    /// Takes the first bytes of a block, and returns how many, or the summary that is known from it.
+    /// Takes the first bytes of a block, and returns how many. `found` becomes the recording's summary, if it is known from
+    /// the block, whatever follows.
     fn advance(
         &mut self,
         block: &[u8],
         listing: Listing,
         lines: &mut Vec<u8>,
-    ) -> Result<Step, AllocError>
+        found: &mut Option<Summary>,
+    ) -> Result<usize, AllocError>
         requires some { 0 < length block.now }
         requires room { place_in self.old.reader + length block.now < 2 ^ 64 }
-        ensures within { IfOk result (λ step. IsWithin self.old.reader block.now step self.new.reader) }
-        ensures steps { IfOk result (λ step. Steps listing self.old lines.old.items block.now step self.new lines.new.items) }
+        ensures within { IfOk result (λ used. (0 < used) × (used ≤ length block.now)) }
+        ensures place { IfOk result (λ used. place_in self.new.reader ≤ place_in self.old.reader + used) }
+        ensures steps { IfOk result (λ used. Steps listing self.old lines.old.items block.now used found.new self.new lines.new.items) }
     {
         let run = self.reader.next(block);
         let limits = self.reader.limits(self.limits);
@@ -179,10 +244,19 @@ impl Progress {
             lines,
         )?;
         match refused {
-            Some(fault) => Ok(Step::Found(Summary::Ended(Ending::Refused(fault)))),
+            Some(fault) => {
+                *found = Some(Summary::Ended(Ending::Refused(fault)));
+                Ok(run.used)
+            }
             None => match self.reader.damage() {
-                Some(damage) => Ok(Step::Found(Summary::Broken(damage))),
-                None => Ok(Step::Took(run.used)),
+                Some(damage) => {
+                    *found = Some(Summary::Broken(damage));
+                    Ok(run.used)
+                }
+                None => {
+                    *found = None;
+                    Ok(run.used)
+                }
             },
         }
     }
@@ -196,23 +270,23 @@ impl Progress {
         block: &[u8],
         listing: Listing,
         lines: &mut Vec<u8>,
-    ) -> Result<Step, AllocError>
+        found: &mut Option<Summary>,
+    ) -> Result<usize, AllocError>
+        requires none { found.old ≡ None }
         requires some { 0 < length block.now }
         requires room { place_in self.old.reader + length block.now < 2 ^ 64 }
-        ensures within { IfOk result (λ step. IsWithin self.old.reader block.now step self.new.reader) }
-        ensures steps { IfOk result (λ step. Steps listing self.old lines.old.items block.now step self.new lines.new.items) }
+        ensures within { IfOk result (λ used. (0 < used) × (used ≤ length block.now)) }
+        ensures place { IfOk result (λ used. place_in self.new.reader ≤ place_in self.old.reader + used) }
+        ensures steps { IfOk result (λ used. Steps listing self.old lines.old.items block.now used found.new self.new lines.new.items) }
     {
         if let Some(talk) = &mut self.talk {
             if let Some(piece) = self.reader.next_piece(block) {
                 let content = &block[piece.head..piece.used];
-                let refused = feed(talk, piece.side, content, listing, lines)?;
-                return Ok(match refused {
-                    Some(fault) => Step::Found(Summary::Ended(Ending::Refused(fault))),
-                    None => Step::Took(piece.used),
-                });
+                feed_far(talk, piece.side, content, listing, lines, found)?;
+                return Ok(piece.used);
             }
         }
-        self.advance(block, listing, lines)
+        self.advance(block, listing, lines, found)
     }
 
     /// Takes a block, and appends the lines of its messages. Returns the recording's summary if it is known, whatever follows.
@@ -227,11 +301,11 @@ impl Progress {
         ensures advances { IfOk result (λ found. Advances listing self.old lines.old.items block.now found self.new lines.new.items) }
     {
         let mut at = 0;
+        let mut found = None;
         while at < block.len() {
-            let step = self.advance_far(rest(block, at), listing, lines)?;
-            match step {
-                Step::Took(used) => at += used,
-                Step::Found(summary) => return Ok(Some(summary)),
+            at += self.advance_far(rest(block, at), listing, lines, &mut found)?;
+            if let Some(summary) = found {
+                return Ok(Some(summary));
             }
         }
         Ok(None)

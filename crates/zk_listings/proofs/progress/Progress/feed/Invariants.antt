@@ -1,4 +1,4 @@
-use Rattle.std.proofs.Common.{◌+◌, ◌≤◌, ◌-◌, length, take, None}
+use Rattle.std.proofs.Common.{◌≡◌, ◌+◌, ◌≤◌, ◌-◌, length, take, None}
 use Rattle.zk_recordings.specs.Reading.{place_in}
 use Rattle.zk_listings.specs.Following.{Advances}
 use Rattle.zk_listings.proofs.progress.Progress.feed.Given as goal
@@ -6,6 +6,7 @@ use Rattle.zk_listings.proofs.progress.Progress.feed.Given as goal
 abbrev pub invariant-loop-at : goal.invariant-loop-at
 invariant-loop-at l = record {
   within : l.at ≤ length l.block;
+  none : l.found ≡ None;
   place : place_in l.self.reader ≤ place_in l.initial.self.reader + l.at;
   advances : Advances l.fn.listing l.initial.self l.initial.lines.items (take l.at l.block) None l.self l.lines.items;
 }
