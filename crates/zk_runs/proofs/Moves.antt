@@ -1,10 +1,10 @@
 -- What one step of the reader adds to what is written of a recording that is migrated.
-use Rattle.std.proofs.Common.{◌≡◌, ℕ, ◌+◌, ◌<◌, ◌≤◌, zero, suc, List, [], ◌∷◌, ◌++◌, length, take, drop, Bool, true, false, cond, nat_lt, Option, None, Some, refl, sym, ap, ◌∙◌, subst, append_assoc, append-nil, arith, length-append}
+use Rattle.std.proofs.Common.{◌≡◌, ℕ, ◌+◌, ◌-◌, ◌<◌, ◌≤◌, zero, suc, List, [], ◌∷◌, ◌++◌, length, take, drop, Bool, true, false, cond, nat_lt, Option, None, Some, refl, sym, ap, ◌∙◌, subst, append_assoc, append-nil, arith, length-append, length-take, length-drop}
 use Rattle.std.specs.Prelude.{MatchOption}
 use Rattle.std.specs.List.{All, flat_map}
 use Rattle.std.specs.Io.KnownBytes.{Appends}
 use Rattle.std.proofs.Math.Seq.{take-add, take-length, drop-length}
-use Rattle.std.proofs.lemmas.List.{take-append-le, drop-append-le}
+use Rattle.std.proofs.lemmas.List.{take-append-le, drop-append-le, take-append-drop}
 use Rattle.std.proofs.lemmas.Grind.{flat_map-append}
 use Rattle.std.proofs.lemmas.List.Elements.{All-head, All-tail}
 use Rattle.zk_talk.specs.declared.limits.Limits.{Limits}
@@ -16,6 +16,7 @@ use Rattle.zk_recordings.specs.declared.parts.Part.{Part}
 use Rattle.zk_recordings.specs.declared.parts.Part.TheVariants.{SideByte}
 use Rattle.zk_recordings.specs.Reader.{ReaderState}
 use Rattle.zk_recordings.specs.Parts.{number, piece_parts}
+use Rattle.zk_recordings.specs.Pieces.{ReadsPiece}
 use Rattle.zk_recordings.specs.Recording.{no_time, spelled, End, Cut, Bad, end_bytes, Break, IsBreakIn, Head, First, Second, format_of, head_bytes, Piece, IsPiece, piece_bytes, Place, AtLetters, InHead, InPieces, IsPlace, front, Recording, Breaks, Ends, IsRecording, Spells, place_of, begun_of, nothing}
 use Rattle.zk_recordings.specs.Reading.{IsAt, IsDecidedBy, IsHeaded, IsBetween, IsBetweenOf, IsNeverBetween, GoesOn, in_head, within, ends, ReadsOn, format_at}
 use Rattle.zk_listings.specs.Outcome.{HasGrownIn}
@@ -350,6 +351,52 @@ module _ (options : Limits) (x block : List ℕ) (n : ℕ) (head_whole : Bool) (
       moved-all options x block n head_whole (take mark held) (drop mark held) s before now t state side reads after starts format whole some (take end all) (drop end all)
       (ap (λ i. take i all) end_is ∙ take-length all ∙ all_is ∙ ap (λ l. l ++ sent options format head_whole (drop mark more)) before-mark ∙ ap (λ l. take mark held ++ sent options format head_whole l) behind-mark)
       (ap (λ i. drop i all) end_is ∙ drop-length all)
+
+-- ---- a piece that is whole at the front of a block
+
+taken-parts : (after : Option Format) (head content : List ℕ) → (head ≡ [] → ⊥) → taken after (head ++ content) ≡ taken after head ++ content
+taken-parts None head content some = refl
+taken-parts (Some f) head content some = timed-more f head content some
+
+sent-headed : (options : Limits) (format : Format) (head_whole : Bool) (held : List ℕ) → head_whole ≡ true → sent options format head_whole held ≡ held
+sent-headed options Zkr1 true held whole = refl
+sent-headed options Zkr2 true held whole = refl
+sent-headed options format false held whole = cc
+
+module _ (options : Limits) (x block : List ℕ) (head used : ℕ) (some : 0 < head) (order : head < used) (within_block : used ≤ length block)
+    (head_whole : Bool) (mark : ℕ) (held : List ℕ) (within_held : mark ≤ length held) (s : ReaderState) (before now : Option (List ℕ))
+    (t : HasMoved options x head_whole (take mark held) (drop mark held) s before now)
+    (state : ReaderState) (side : Side) (reads : ReadsPiece s (take head block) (take (used - head) (drop head block)) side state)
+    (after : Option Format) (starts : MatchOption after (IsNeverBetween s) (IsBetweenOf s))
+    (more : List ℕ) (more_is : more ≡ held ++ taken after (take used block)) where
+  abbrev content : List ℕ
+  content = take (used - head) (drop head block)
+
+  abbrev between_them : List ℕ
+  between_them = held ++ taken after (take head block)
+
+  parts : take used block ≡ take head block ++ content
+  parts = ap (λ n. take n block) (let e : used ≡ head + (used - head) = omega (arith, order) in e) ∙ take-add head (used - head) block
+
+  headed : head_whole ≡ true
+  headed = let b = (reads.before x t.recording t.at).0 in written head_whole (place_of t.recording) (subst (λ r. IsHeaded (place_of r)) (sym b.2) tt) t.head_is
+
+  more_parts : more ≡ between_them ++ content
+  more_parts =
+      let some_head : take head block ≡ [] → ⊥ = λ none. omega (arith, ap length none, length-take head block, some, order, within_block) in
+      more_is ∙ ap (λ l. held ++ taken after l) parts ∙ ap (λ l. held ++ l) (taken-parts after (take head block) content some_head) ∙ sym (append_assoc held (taken after (take head block)) content)
+
+  pub held-piece : (end : ℕ) → end ≡ length more → HasMoved options (x ++ take used block) head_whole (take end more) (drop end more) state before now
+  held-piece end end_is =
+      let first = held-on options x block head head_whole mark held within_held s before now t reads.within None reads.begins after starts between_them refl reads.apart in
+      let enough : mark ≤ length between_them = omega (arith, within_held, length-append held (taken after (take head block))) in
+      let length_is : 0 < length content = omega (arith, order, within_block, length-take (used - head) (drop head block), length-drop head block) in
+      let all : more ≡ take mark more ++ sent options reads.format head_whole (drop mark more) =
+      sym (take-append-drop mark more) ∙ ap (λ l. take mark more ++ l) (sym (sent-headed options reads.format head_whole (drop mark more) headed)) in
+      let second = held-all options (x ++ take head block) (drop head block) (used - head) head_whole mark between_them enough reads.within before now first state (Some side) reads.ends None reads.apart
+      more more_parts reads.format reads.after length_is more all end end_is in
+      let whole = subst (λ b. HasMoved options ((x ++ take head block) ++ content) b (take end more) (drop end more) state before now) (sym headed) second in
+      subst (λ y. HasMoved options y head_whole (take end more) (drop end more) state before now) (append_assoc x (take head block) content ∙ ap (λ l. x ++ l) (sym parts)) whole
 
 -- ---- one step after another
 

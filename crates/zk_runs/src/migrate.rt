@@ -147,6 +147,28 @@ impl Migrator {
         Ok(run.used)
     }
 
+    /// `advance`; a piece that is whole at the front of the block is taken at once, head and content.
+    // Stands for two calls of `advance` there, of which the second finds the head whole, and converts nothing.
+    #[inline(always)]
+    fn advance_far(&mut self, limits: Limits, block: &[u8]) -> Result<usize, AllocError>
+        requires some { 0 < length block.now }
+        requires room { place_in self.old.reader + length block.now < 2 ^ 64 }
+        requires marked { self.old.due ≤ length self.old.held.items }
+        ensures marked { OnOk result (self.new.due ≤ length self.new.held.items) }
+        ensures progress { IfOk result (λ n. 0 < n) }
+        ensures used { IfOk result (λ n. n ≤ length block.now) }
+        ensures place { IfOk result (λ n. place_in self.new.reader ≤ place_in self.old.reader + n) }
+        ensures goes_on { IfOk result (λ n. MovesOn limits self.old self.new (take n block.now)) }
+    {
+        let after = self.reader.between();
+        if let Some(piece) = self.reader.next_piece(block) {
+            put_taken(after, &block[..piece.used], &mut self.held)?;
+            self.due = self.held.len();
+            return Ok(piece.used);
+        }
+        self.advance(limits, block)
+    }
+
     /// Takes a block; what becomes whole in it is due. Returns the damage in it, if there is one whatever follows.
     fn feed(&mut self, limits: Limits, block: &[u8]) -> Result<Option<DamageAt>, AllocError>
         requires some { 0 < length block.now }
@@ -159,7 +181,7 @@ impl Migrator {
     {
         let mut at = 0;
         while at < block.len() {
-            at += self.advance(limits, rest(block, at))?;
+            at += self.advance_far(limits, rest(block, at))?;
             if let Some(damage) = self.reader.damage() {
                 return Ok(Some(damage));
             }

@@ -8,7 +8,7 @@ returns-in-Some-clause-goes_on c = λ x before now t.
     let block = c.args.block.now in
     let at' = c.loop-at.at in
     let used = c.in_ok-at.field-0 in
-    let new = c.advance.new.self in
+    let new = c.advance_far.new.self in
     let moved = subst (λ y. HasMigratedTo c.args.limits y before now new) (joined x block at' used)
     (subst (λ b. HasMigratedTo c.args.limits ((x ++ take at' block) ++ take used b) before now new) c.rest.ensures
     (c.in_ok-at.ensures.goes_on (x ++ take at' block) before now (c.loop-at.invariant.moved x before now t))) in
@@ -25,7 +25,7 @@ loop-at-preserved c =
       marked = c.in_ok-at.ensures.marked;
       place = omega (arith, c.in_ok-at.ensures.place, c.loop-at.invariant.place);
       moved = λ x before now t.
-          let new = c.advance.new.self in
+          let new = c.advance_far.new.self in
           subst (λ y. HasMigratedTo c.args.limits y before now new) (joined x block at' used)
           (subst (λ b. HasMigratedTo c.args.limits ((x ++ take at' block) ++ take used b) before now new) c.rest.ensures
           (c.in_ok-at.ensures.goes_on (x ++ take at' block) before now (c.loop-at.invariant.moved x before now t)));
