@@ -11,7 +11,6 @@ ghost use Rattle.zk_listings.specs.declared.listing.Listing.TheVariants.{All, La
 ghost use Rattle.zk_listings.specs.Earliest.{TellsBody};
 ghost use Rattle.zk_recordings.specs.Reading.{content_of, place_in};
 ghost use Rattle.zk_listings.specs.Following.{Follows, Finishes, HasRefused, Takes, TakesTo, Gives, Has, Advances, Steps};
-ghost use Rattle.zk_listings.specs.Following as following;
 
 use crate::listing::{Listing, tell};
 use crate::summary::Summary;
@@ -77,6 +76,7 @@ fn list(
 }
 
 /// Gives bytes of one side to the conversation, and appends what `listing` has of its messages.
+#[inline(always)]
 fn feed(
     talk: &mut Talk,
     side: Side,
@@ -90,16 +90,6 @@ fn feed(
     match listing {
         Listing::All => list(talk, side, bytes, lines),
         Listing::Last => Ok(judge(talk, side, bytes)),
-    }
-}
-
-/// How a conversation that is refused ends a recording.
-fn ended_by(refused: Option<Fault>) -> Option<Summary>
-    ensures { result ≡ following.ended_by refused }
-{
-    match refused {
-        Some(fault) => Some(Summary::Ended(Ending::Refused(fault))),
-        None => None,
     }
 }
 
@@ -121,8 +111,8 @@ fn feed_front(talk: &mut Talk, side: Side, bytes: &[u8], listing: Listing) -> us
     }
 }
 
-/// `feed`; `found` becomes the summary of the fault.
-// A call of its own, so that what `feed` returns is made only where the call is.
+/// `feed`; `found` becomes the summary of a fault.
+// A call of its own, so that what `feed` returns is made only there.
 #[inline(never)]
 fn feed_into(
     talk: &mut Talk,
@@ -132,12 +122,17 @@ fn feed_into(
     lines: &mut Vec<u8>,
     found: &mut Option<Summary>,
 ) -> Result<(), AllocError>
+    requires { found.old ≡ None }
     ensures limits { talk.new.limits ≡ talk.old.limits }
     ensures taken { IfOk result (λ _. TakesTo listing talk.old lines.old.items (on side bytes.now) found.new talk.new lines.new.items) }
 {
-    let refused = feed(talk, side, bytes, listing, lines)?;
-    *found = ended_by(refused);
-    Ok(())
+    match feed(talk, side, bytes, listing, lines)? {
+        Some(refused) => {
+            *found = Some(Summary::Ended(Ending::Refused(refused)));
+            Ok(())
+        }
+        None => Ok(()),
+    }
 }
 
 /// `feed_into`, but for a frame that `feed_front` gives.
