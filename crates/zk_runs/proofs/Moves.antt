@@ -2,7 +2,6 @@
 use Rattle.std.proofs.Common.{◌≡◌, ℕ, ◌+◌, ◌-◌, ◌<◌, ◌≤◌, zero, suc, List, [], ◌∷◌, ◌++◌, length, take, drop, Bool, true, false, cond, nat_lt, Option, None, Some, refl, sym, ap, ◌∙◌, subst, append_assoc, append-nil, arith, length-append, length-take, length-drop}
 use Rattle.std.specs.Prelude.{MatchOption}
 use Rattle.std.specs.List.{All, flat_map}
-use Rattle.std.specs.Io.KnownBytes.{Appends}
 use Rattle.std.proofs.Math.Seq.{take-add, take-length, drop-length}
 use Rattle.std.proofs.lemmas.List.{take-append-le, drop-append-le, take-append-drop}
 use Rattle.std.proofs.lemmas.Grind.{flat_map-append}

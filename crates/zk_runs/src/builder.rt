@@ -1,7 +1,7 @@
 //! `Builder`: lines that are read block by block, and the pieces of their messages.
-ghost use Rattle.std.specs.Prelude.{◌≡◌, ◌≢◌, ◌+◌, ◌^◌, ◌<◌, ◌≤◌, ◌++◌, ◌∷◌, ℕ, List, Option, [], true, false, IfOk, IfErr, IsErrOf, Err, OnOk, OnErr, IsTrue, ◌↔◌, length, take, slice_index};
+ghost use Rattle.std.specs.Prelude.{◌≡◌, ◌≢◌, ◌+◌, ◌^◌, ◌<◌, ◌≤◌, ◌++◌, ℕ, List, [], true, false, IfOk, IfErr, IsErrOf, Err, OnOk, OnErr, IsTrue, ◌↔◌, length, take, slice_index};
 ghost use Rattle.std.specs.List.{All};
-ghost use Rattle.std.specs.Int.{w32, to_be_bytes};
+ghost use Rattle.std.specs.Int.{to_be_bytes};
 ghost use Rattle.std.specs.Io.KnownBytes.{Appends};
 ghost use Rattle.zk_talk.specs.declared.limits.Limits.{Limits};
 ghost use Rattle.zk_talk.specs.Held.{Message};
@@ -10,8 +10,8 @@ ghost use Rattle.zk_talk.specs.Said.{Says};
 ghost use Rattle.zk_lines.specs.Lines.{Fits, line};
 ghost use Rattle.zk_runs.specs.declared.builder.Halt.TheVariants.{Fails};
 ghost use Rattle.zk_listings.specs.declared.listing.RunFault.TheVariants.{Read, Write, Memory};
-ghost use Rattle.zk_recordings.specs.Recording.{no_time, side_byte};
-ghost use Rattle.zk_runs.specs.Building.{built_bytes, untimed, IsDotted, due_ending};
+ghost use Rattle.zk_recordings.specs.Recording.{side_byte};
+ghost use Rattle.zk_runs.specs.Building.{built_bytes, untimed, IsDotted};
 ghost use Rattle.zk_runs.specs.Accepting.{IfSpared};
 ghost use Rattle.zk_runs.specs.Stepping.{IsBegun, TakesLine, HaltsOn, GathersIn, StopsGathering, TakesIn, HaltsWithin, IsAnswered, HasWrittenFirst};
 

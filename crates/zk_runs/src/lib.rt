@@ -12,7 +12,7 @@
 //! the recording that it lists, and that a migrated recording is listed as it was.
 //!
 //! The crate rests on `zk_listings`, `zk_recordings`, `zk_lines`, `zk_items`, `zk_talk`, `zk_frames`, `zk_records`,
-//! `clap` and `thiserror`.
+//! `clap`, `memchr` and `thiserror`.
 //!
 //! ```text
 //! let mut reader = FromRead::new(rt.stdin());

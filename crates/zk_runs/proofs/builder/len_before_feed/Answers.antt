@@ -1,4 +1,4 @@
-use Rattle.std.proofs.Common.{length, take, subst, sym, eqb-true, arith, rules, le_refl, lt_irrefl}
+use Rattle.std.proofs.Common.{eqb-true, arith}
 use Rattle.zk_runs.proofs.Known.{plain-before}
 use Rattle.zk_runs.proofs.builder.len_before_feed.Goals as goal
 
