@@ -4,14 +4,13 @@ use Rattle.std.specs.List.{AllByRecursion, flat_map}
 use Rattle.zk_talk.specs.declared.limits.Limits.{Limits}
 use Rattle.zk_talk.specs.declared.message.Side.{Side}
 use Rattle.zk_talk.specs.declared.message.Side.TheVariants.{Client, Server}
-use Rattle.zk_talk.specs.declared.message.Ending.{Ending}
 use Rattle.zk_talk.specs.declared.message.Ending.TheVariants.{Whole, Cut, Refused}
 use Rattle.zk_talk.specs.Held.{Message}
 use Rattle.zk_talk.specs.History.{History, on}
 use Rattle.zk_talk.specs.Conversation.{Conversation}
 use Rattle.zk_talk.specs.Good.{Good, IsOrder}
 use Rattle.zk_talk.specs.Ending.{unanswered}
-use Rattle.zk_talk.proofs.Deciding.{AreBytes, Reached, IsStopped, history_decided}
+use Rattle.zk_talk.proofs.Deciding.{AreBytes, IsStopped, history_decided}
 use Rattle.zk_talk.proofs.Headline.{fault_is_bad}
 use Rattle.zk_frames.proofs.Cuts.{AllByRecursion-left, AllByRecursion-right}
 use Rattle.zk_recordings.specs.declared.parts.DamageAt.{DamageAt}

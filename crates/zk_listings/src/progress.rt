@@ -135,29 +135,6 @@ fn feed_into(
     }
 }
 
-/// `feed_into`, but for a frame that `feed_front` gives.
-// Stands for `feed_into` of all the bytes.
-#[inline(always)]
-fn feed_far(
-    talk: &mut Talk,
-    side: Side,
-    bytes: &[u8],
-    listing: Listing,
-    lines: &mut Vec<u8>,
-    found: &mut Option<Summary>,
-) -> Result<(), AllocError>
-    requires { found.old ≡ None }
-    ensures limits { talk.new.limits ≡ talk.old.limits }
-    ensures taken { IfOk result (λ _. TakesTo listing talk.old lines.old.items (on side bytes.now) found.new talk.new lines.new.items) }
-{
-    let front = feed_front(talk, side, bytes, listing);
-    if front == bytes.len() {
-        return Ok(());
-    }
-    feed_into(talk, side, rest(bytes, front), listing, lines, found)?;
-    Ok(())
-}
-
 /// Gives the first bytes of a block to the conversation, if they are content of a side. The conversation begins with the
 /// first of them, and isn't moved after that.
 fn give(
@@ -277,7 +254,18 @@ impl Progress {
         if let Some(talk) = &mut self.talk {
             if let Some(piece) = self.reader.next_piece(block) {
                 let content = &block[piece.head..piece.used];
-                feed_far(talk, piece.side, content, listing, lines, found)?;
+                let front = feed_front(talk, piece.side, content, listing);
+                if front == content.len() {
+                    return Ok(piece.used);
+                }
+                feed_into(
+                    talk,
+                    piece.side,
+                    rest(content, front),
+                    listing,
+                    lines,
+                    found,
+                )?;
                 return Ok(piece.used);
             }
         }

@@ -1,4 +1,4 @@
-use Rattle.std.proofs.Common.{arith, ◌∙◌, ◌++◌, [], false, true, refl, sym, length-take, ap, ◌||◌, inl, inr, subst, take}
+use Rattle.std.proofs.Common.{arith, ◌∙◌, [], false, true, refl, sym, length-take, ap, ◌||◌, inl, inr, subst, take}
 use Rattle.std.specs.Io.KnownBytes.{Appends}
 use Rattle.std.proofs.lemmas.Result.{err_from_is_err_and}
 use Rattle.zk_recordings.specs.Reading.{IsUndamaged, place_in}

@@ -1,4 +1,4 @@
-use Rattle.std.proofs.Common.{◌≡◌, ◌<◌, take, length, length-take, arith}
+use Rattle.std.proofs.Common.{◌<◌, take, length, length-take, arith}
 use Rattle.zk_runs.proofs.Moves.{held-on, held-all}
 use Rattle.zk_runs.proofs.migrate.Migrator.advance.Goals as goal
 

@@ -1,4 +1,4 @@
-use Rattle.std.proofs.Common.{◌≡◌, ◌+◌, ◌<◌, ◌≤◌, ◌-◌, ◌++◌, List, ℕ, Option, length, take}
+use Rattle.std.proofs.Common.{◌+◌, ◌<◌, ◌≤◌, ◌-◌, ◌++◌, List, ℕ, Option, length, take}
 use Rattle.zk_recordings.specs.Reading.{place_in, IsUndamaged}
 use Rattle.zk_runs.specs.Migrating.{HasMigratedTo}
 use Rattle.zk_runs.proofs.migrate.Migrator.feed.Given as goal
