@@ -1,26 +1,30 @@
--- Values whose ends are reached: one after the other, those of a list, and texts of ASCII.
-use Rattle.std.proofs.Common.{◌≡◌, ℕ, ◌+◌, ◌-◌, ◌<◌, ◌≤◌, inl, inr, false, ltb, List, [], ◌∷◌, ◌++◌, length, get_or, take, drop, Option, Some, None, Ok, refl, sym, ap, subst, ◌∙◌, append_assoc, arith, get_or-drop, get_or-take}
+-- Values whose ends are reached: one after the other, those of a list, and short texts.
+use Rattle.std.proofs.Common.{◌≡◌, ℕ, zero, suc, take-add, ◌+◌, ◌-◌, ◌<◌, ◌≤◌, false, ltb, List, [], ◌∷◌, ◌++◌, length, take, drop, Option, Some, None, Ok, refl, sym, ap, subst, ◌∙◌, arith}
 use Rattle.std.specs.Prelude.{pos, IfSome}
 use Rattle.std.specs.Int.{w64, from_be_bytes, cast_signed}
 use Rattle.std.specs.List.{flat_map}
-use Rattle.std.specs.Str.{IsAscii}
-use Rattle.std.proofs.lemmas.Bool.{cases_lt, le-ltb}
-use Rattle.std.proofs.lemmas.List.{length-append, get_or_past, get_or-append-add, get_or_append_left}
+use Rattle.std.specs.Str.{IsAscii, IsUtf8}
+use Rattle.std.proofs.lemmas.Bool.{le-ltb}
+use Rattle.std.proofs.lemmas.Nat.{be_bytes_4}
+use Rattle.simdutf8.specs.Steps.{IsClosed}
+use Rattle.simdutf8.specs.Tracks.{last_three}
+use Rattle.simdutf8.proofs.Chars.{StepsThen-IsUtf8, closed-IsUtf8}
+use Rattle.simdutf8.proofs.StepsLemmas.{StepsThen-append, StepsThen_parts, Steps_ascii, IsUtf8-after_ascii}
+use Rattle.std.proofs.lemmas.List.{take_at, drop-drop, length-append}
 use Rattle.std.proofs.lemmas.Grind.{flat_map-append}
 use Rattle.std.proofs.lemmas.Option.{IfSome_then}
 use Rattle.zk_jute.specs.declared.value.Nullable.TheVariants as nullable
-use Rattle.zk_jute.specs.Item.{Item, AnInt, ALong, AUstring, ABuffer, ACount, HasBytes, HaveBytes, int_bytes, run_bytes}
+use Rattle.zk_jute.specs.Item.{Item, AnInt, ALong, AUstring, ACount, HaveBytes, int_bytes}
 use Rattle.zk_jute.specs.Faults.{first_int}
-use Rattle.zk_jute.specs.Reading.{int_at, long_at, run_at, size_at}
+use Rattle.zk_jute.specs.Reading.{int_at, long_at, size_at}
 use Rattle.zk_jute.specs.Told.{StandsAt}
 use Rattle.zk_jute.specs.Values.{text_items, list_items}
 use Rattle.zk_jute.specs.Wired.{Wired, int, long}
 use Rattle.zk_jute.specs.Shown.{Stretch}
-use Rattle.zk_jute.specs.Ends.{EndsAt, AreLow}
+use Rattle.zk_jute.specs.Ends.{EndsAt, AreText, IsShort}
 use Rattle.zk_jute.proofs.Steps.{IsBytes}
 use Rattle.zk_jute.proofs.Numbers.{len32}
-use Rattle.zk_jute.proofs.Runs.{IsRead, int_found, long_found, run_found, size_found}
-use Rattle.zk_jute.proofs.Primitives.{ascii_text}
+use Rattle.zk_jute.proofs.Runs.{int_found, long_found, run_found, size_found}
 use Rattle.zk_jute.proofs.Layouts.{have_both, one_found}
 use Rattle.zk_jute.proofs.Sequels.{stands_then}
 use Rattle.zk_jute.proofs.Stretches.{one_passed}
@@ -67,59 +71,52 @@ module _ {X : Type 0} (items : X → List Item) (src : List ℕ) (place start : 
         subst (λ (m : ℕ). StandsAt (ACount (Some m) ∷ flat_map items xs) src place end) s.count_is stands,
       )
 
--- ---- ASCII
+-- ---- short texts in one look
 
-pub low_slice : (src : List ℕ) (place end : ℕ) → IsAscii (take (end - place) (drop place src)) → AreLow src place end
-unfolding AreLow
-low_slice src place end low i from to =
-    let k : ℕ = i - place in
-    let same : get_or (take (end - place) (drop place src)) k 0 ≡ get_or src i 0 =
-    get_or-take (end - place) (drop place src) k 0 (omega arith) ∙ get_or-drop place src k 0 ∙ ap (λ (j : ℕ). get_or src j 0) (omega arith) in
-    subst (λ (b : ℕ). b < 128) same (low k)
+-- what is in front of ASCII and what is behind it, in a text
+text_parts : (xs ys zs : List ℕ) → IsAscii ys → 0 < length ys → IsUtf8 (xs ++ (ys ++ zs)) → IsUtf8 xs × IsUtf8 zs
+text_parts xs ys zs low some text =
+    let t = last_three 0 0 0 xs in
+    let h = (StepsThen-append IsClosed 0 0 0 xs (ys ++ zs)).0 ((StepsThen-IsUtf8 (xs ++ (ys ++ zs))).1 text) in
+    let steps = (StepsThen-append IsClosed t.0 t.1 t.2 ys zs).0 h.1 in
+    let closed = (Steps_ascii t.0 t.1 t.2 ys low some).0 steps.0 in (
+      (StepsThen-IsUtf8 xs).0 ((StepsThen_parts IsClosed 0 0 0 xs).1 (h.0, closed)),
+      (IsUtf8-after_ascii ys zs low).0 (closed-IsUtf8 t.0 t.1 t.2 (ys ++ zs) closed h.1),
+    )
 
-low_content : (src bytes : List ℕ) (place end : ℕ) → drop place src ≡ (int_bytes (pos (length bytes)) ++ bytes) ++ drop end src → end ≡ place + (4 + length bytes) → AreLow src place end → IsAscii bytes
-unfolding AreLow
-low_content src bytes place end parts at low i =
-    elim (cases_lt i (length bytes)) [
-      | inl lt ↦
-          let size = int_bytes (pos (length bytes)) in
-          let rest = drop end src in
-          let split : drop place src ≡ size ++ (bytes ++ rest) = parts ∙ append_assoc size bytes rest in
-          let k : ℕ = length size + i in
-          let same : get_or src (place + k) 0 ≡ get_or bytes i 0 =
-          sym (get_or-drop place src k 0) ∙ ap (λ (x : List ℕ). get_or x k 0) split ∙ get_or-append-add size (bytes ++ rest) i 0 ∙ front bytes rest i lt in
-          subst (λ (b : ℕ). b < 128) same (low (place + k) (omega arith) (omega (arith, len32 (pos (length bytes)))))
-      | inr past ↦ rw (get_or_past bytes i 0 past) (omega arith)
-    ]
-  where
-    front : (bytes rest : List ℕ) (i : ℕ) → i < length bytes → get_or (bytes ++ rest) i 0 ≡ get_or bytes i 0
-    front bytes rest i lt = get_or_append_left bytes rest 0 i lt
+low_size : (n : ℕ) → n < 128 → IsAscii (0 ∷ 0 ∷ 0 ∷ n ∷ [])
+low_size n small zero = omega arith
+low_size n small (suc zero) = omega arith
+low_size n small (suc (suc zero)) = omega arith
+low_size n small (suc (suc (suc zero))) = small
+low_size n small (suc (suc (suc (suc i)))) = omega arith
 
-text_low : (src : List ℕ) (place : ℕ) (o : Option (List ℕ)) (after : ℕ) → IsRead (run_bytes o) src place after (HasBytes (ABuffer o)) → AreLow src place after → EndsAt text_items src place after
-text_low src place None after r low =
-    let f = one_found (AUstring None) src place after tt r.stands in
-    (nullable.Null, f.have, (f.stands.parts, f.stands.at))
-text_low src place (Some bytes) after r low =
-    let size = int_bytes (pos (length bytes)) in
-    let at : after ≡ place + (4 + length bytes) = omega (arith, r.stands.at, length-append size bytes, len32 (pos (length bytes))) in
-    let utf8 = ascii_text bytes (low_content src bytes place after r.stands.parts at low) in
-    let f = one_found (AUstring (Some bytes)) src place after (utf8, r.has_bytes.1) r.stands in
-    (nullable.Full bytes, f.have, (f.stands.parts, f.stands.at))
+small_size : (n : ℕ) → n < 128 → int_bytes (pos n) ≡ 0 ∷ 0 ∷ 0 ∷ n ∷ []
+small_size n small = be_bytes_4 (0 ∷ 0 ∷ 0 ∷ n ∷ []) n refl (λ i. omega (arith, low_size n small i)) (omega arith)
 
-part_low : (src : List ℕ) (p q r s : ℕ) → p ≤ q → r ≤ s → AreLow src p s → AreLow src q r
-unfolding AreLow
-part_low src p q r s le more low i from to = low i (omega arith) (omega arith)
+-- a short run behind others
+module _ (src : List ℕ) (place at end : ℕ) (fits : IsBytes src) (le : at ≤ length src) (short : IsShort src at end) where
+  pub short_within : at ≤ end
+  short_within = let s = (run_found src at (Some short.0, end) fits le short.2).stands.at in omega arith
 
--- a run of which only the length was looked at, behind others
-module _ (src : List ℕ) (place at : ℕ) (y : Option (List ℕ) × ℕ) (fits : IsBytes src) (le : at ≤ length src) (read : run_at src at ≡ Ok y) where
-  pub run_within : at ≤ y.1
-  run_within = let s = (run_found src at y fits le read).stands.at in omega arith
-
-  pub run_more : (count : ℕ) → place ≤ at → (AreLow src place at → Stretch text_items src place at count) → AreLow src place y.1 → Stretch text_items src place y.1 (count + 1)
-  run_more count from so_far low =
-      let within = run_within in
-      one_more text_items src place at y.1 count (so_far (part_low src place place at y.1 (omega arith) within low))
-      (text_low src at y.0 y.1 (run_found src at y fits le read) (part_low src place at y.1 y.1 from (omega arith) low))
+  pub short_more : (count : ℕ) → place ≤ at → (AreText src place at → Stretch text_items src place at count) → AreText src place end → Stretch text_items src place end (count + 1)
+  short_more count from so_far text =
+      let bytes = short.0 in
+      let r = run_found src at (Some bytes, end) fits le short.2 in
+      let size = int_bytes (pos (length bytes)) in
+      let run = size ++ bytes in
+      let rest = drop end src in
+      let front = take (at - place) (drop place src) in
+      let long : end - place ≡ (at - place) + length run = omega (arith, r.stands.at) in
+      let there : place + (at - place) ≡ at = omega arith in
+      let behind : drop (at - place) (drop place src) ≡ run ++ rest = drop-drop (at - place) place src ∙ ap (λ (n : ℕ). drop n src) there ∙ r.stands.parts in
+      let whole : take (end - place) (drop place src) ≡ front ++ run =
+      ap (λ (n : ℕ). take n (drop place src)) long ∙ take-add (at - place) (length run) (drop place src)
+      ∙ ap (λ (x : List ℕ). front ++ x) (ap (take (length run)) behind ∙ take_at run rest (length run) refl) in
+      let low : IsAscii size = subst IsAscii (sym (small_size (length bytes) short.1)) (low_size (length bytes) short.1) in
+      let parts = text_parts front size bytes low (omega (arith, len32 (pos (length bytes)))) (subst IsUtf8 whole text) in
+      let f = one_found (AUstring (Some bytes)) src at end (parts.1, r.has_bytes.1) r.stands in
+      one_more text_items src place at end count (so_far parts.0) (nullable.Full bytes, f.have, (f.stands.parts, f.stands.at))
 
 -- ---- numbers, and records
 

@@ -8,5 +8,5 @@ loop-init c = record { within = c.requires; so_far = none_passed text_items c.ar
 
 pub loop-preserved : goal.loop-preserved
 loop-preserved c =
-    let end = c.in_ok-end-2 in
+    let end = c.in_ok-end in
     record { within = end.ensures.within; so_far = one_more text_items c.args.payload.now c.args.place c.loop.at end.end c.loop.counter c.loop.invariant.so_far end.ensures.some }
