@@ -268,6 +268,10 @@ struct zk_piece {
  * requests and parts may wait (1 to 1048576). Returns ZK_WELL, ZK_IN_USE, ZK_RANGE or ZK_NO_MEMORY. */
 uint32_t zk_talk_new(struct zk_talk *talk, uint32_t client, uint32_t server, uint32_t waiting, uint32_t profile);
 
+/* Begins the talk anew with its limits, as zk_talk_new makes it, whatever came before; for who has many short
+ * conversations. It never allocates. Returns ZK_WELL or ZK_EMPTY. */
+uint32_t zk_talk_renew(struct zk_talk *talk);
+
 /* Takes bytes of a side up to the end of the first frame that becomes whole, or all of them. It never allocates. */
 struct zk_step zk_talk_step(struct zk_talk *talk, uint32_t side, const uint8_t *piece, size_t length);
 
@@ -304,6 +308,9 @@ void zk_talk_free(struct zk_talk *talk);
 
 /* Makes a speaker, which has said nothing; the numbers are those of zk_talk_new. */
 uint32_t zk_speaker_new(struct zk_speaker *speaker, uint32_t client, uint32_t server, uint32_t waiting, uint32_t profile);
+
+/* Begins the speaker anew with its limits: it has said nothing. It never allocates. Returns ZK_WELL or ZK_EMPTY. */
+uint32_t zk_speaker_renew(struct zk_speaker *speaker);
 
 /* Says the message of a line, without line feed, if it may come next; its frame is kept until the next line. */
 struct zk_say zk_speaker_say(struct zk_speaker *speaker, const uint8_t *line, size_t length);
@@ -554,6 +561,11 @@ static inline uint32_t zk_safe_talk_new(struct zk_talk *talk, uint32_t client, u
     return fault != ZK_WELL ? fault : zk_talk_new(talk, client, server, waiting, profile);
 }
 
+static inline uint32_t zk_safe_talk_renew(struct zk_talk *talk) {
+    uint32_t fault = zk_fault_at(talk, 1, sizeof *talk);
+    return fault != ZK_WELL ? fault : zk_talk_renew(talk);
+}
+
 static inline struct zk_step zk_safe_talk_step(struct zk_talk *talk, uint32_t side, const uint8_t *piece, size_t length) {
     struct zk_step answer = ZK_ZEROS;
     answer.status = zk_first_of(zk_fault_at(talk, 1, sizeof *talk), zk_fault_of(piece, length, sizeof *piece));
@@ -623,6 +635,11 @@ static inline void zk_safe_talk_free(struct zk_talk *talk) {
 static inline uint32_t zk_safe_speaker_new(struct zk_speaker *speaker, uint32_t client, uint32_t server, uint32_t waiting, uint32_t profile) {
     uint32_t fault = zk_fault_at(speaker, 1, sizeof *speaker);
     return fault != ZK_WELL ? fault : zk_speaker_new(speaker, client, server, waiting, profile);
+}
+
+static inline uint32_t zk_safe_speaker_renew(struct zk_speaker *speaker) {
+    uint32_t fault = zk_fault_at(speaker, 1, sizeof *speaker);
+    return fault != ZK_WELL ? fault : zk_speaker_renew(speaker);
 }
 
 static inline struct zk_say zk_safe_speaker_say(struct zk_speaker *speaker, const uint8_t *line, size_t length) {
@@ -722,6 +739,7 @@ static inline struct zk_line zk_safe_listing(const struct zk_piece *pieces, size
 }
 
 #define zk_talk_new zk_safe_talk_new
+#define zk_talk_renew zk_safe_talk_renew
 #define zk_talk_step zk_safe_talk_step
 #define zk_talk_pass zk_safe_talk_pass
 #define zk_talk_view zk_safe_talk_view
@@ -734,6 +752,7 @@ static inline struct zk_line zk_safe_listing(const struct zk_piece *pieces, size
 #define zk_talk_ending_line zk_safe_talk_ending_line
 #define zk_talk_free zk_safe_talk_free
 #define zk_speaker_new zk_safe_speaker_new
+#define zk_speaker_renew zk_safe_speaker_renew
 #define zk_speaker_say zk_safe_speaker_say
 #define zk_speaker_frame zk_safe_speaker_frame
 #define zk_speaker_free zk_safe_speaker_free

@@ -87,6 +87,18 @@ pub record IsNew (client server waiting profile : ℕ) (after : Option TalkState
   pub stands : Stands talk [] []
   pub none : (talk.client_kept ≡ []) × (talk.server_kept ≡ [])
 
+-- what `Talk::renew` promises
+pub record IsRenewed (old new : TalkState) : Type 0 where
+  pub limits : new.limits ≡ old.limits
+  pub stands : Stands new [] []
+  pub none : (new.client_kept ≡ []) × (new.server_kept ≡ [])
+
+-- the talk has begun anew behind the handle
+pub record Renews (old : TalkState) (after : Option TalkState) : Type 0 where
+  pub talk : TalkState
+  pub held : after ≡ Some talk
+  pub is : IsRenewed old talk
+
 -- what `Talk::finish` promises
 pub record IsFinish (talk : TalkState) (ending : Ending) : Type 0 where
   pub stands : (h : History) (M : List Message) → Stands talk h M → IsEnding talk.limits h ending

@@ -65,6 +65,18 @@ pub record SaysLine (old : VoiceState) (text : List ℕ) (answer : SayAnswer) (a
   pub held : after ≡ Some voice
   pub says : TellsSay old text voice answer
 
+-- the speaker has the same limits, and nothing was said
+pub record IsRenewed (old new : VoiceState) : Type 0 where
+  pub limits : new.speaker.limits ≡ old.speaker.limits
+  pub says : Says new.speaker []
+  pub frame : new.frame ≡ []
+
+-- the speaker has begun anew behind the handle
+pub record Renews (old : VoiceState) (after : Option VoiceState) : Type 0 where
+  pub voice : VoiceState
+  pub held : after ≡ Some voice
+  pub is : IsRenewed old voice
+
 -- a speaker of these limits is behind the handle, and nothing was said
 pub record IsSilent (client server waiting profile : ℕ) (after : Option VoiceState) : Type 0 where
   pub voice : VoiceState

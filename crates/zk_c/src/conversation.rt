@@ -1,7 +1,7 @@
 //! `Conversation`: a talk, and a buffer for the lines of its messages.
 ghost use Rattle.std.specs.Prelude.{◌≡◌, [], IfOk};
 ghost use Rattle.zk_talk.specs.Stands.{Stands};
-ghost use Rattle.zk_c.specs.Handle.{IsStep, IsPass, IsFinish, IsView, IsLine, IsEndingLine, IsFields, IsPayload, IsWaiting, IsHeld};
+ghost use Rattle.zk_c.specs.Handle.{IsRenewed, IsStep, IsPass, IsFinish, IsView, IsLine, IsEndingLine, IsFields, IsPayload, IsWaiting, IsHeld};
 
 use crate::answer::{LineAnswer, MessageAnswer};
 use crate::counts::{HeldAnswer, WaitingAnswer};
@@ -38,6 +38,13 @@ impl Conversation {
         let talk = Talk::new(alloc, limits)?;
         let line = Vec::new(alloc);
         Ok(Conversation { talk, line })
+    }
+
+    /// Begins anew with the same limits: a conversation of which nothing has come.
+    pub fn renew(&mut self)
+        ensures { IsRenewed self.old self.new }
+    {
+        self.talk.renew();
     }
 
     /// Takes the piece up to the end of the first frame that becomes whole, or all of it.

@@ -4,7 +4,7 @@ ghost use Rattle.std.specs.Option.{is_some};
 ghost use Rattle.zk_c.specs.Answer.{no_line};
 ghost use Rattle.zk_c.specs.Handle.{TellsText, AreNoLimits};
 ghost use Rattle.zk_c.specs.Voice.{VoiceState};
-ghost use Rattle.zk_c.specs.Saying.{say_answer, SaysLine, IsSilent};
+ghost use Rattle.zk_c.specs.Saying.{say_answer, SaysLine, IsSilent, Renews};
 
 use crate::answer::LineAnswer;
 use crate::loose::Loose;
@@ -100,6 +100,22 @@ pub extern "C" fn zk_speaker_new(
         return NO_MEMORY;
     };
     handle.put(boxed);
+    WELL
+}
+
+/// Begins the speaker anew with the same limits. Returns the status.
+#[unsafe(no_mangle)]
+pub extern "C" fn zk_speaker_renew(alloc: Global, handle: &mut SpeakerHandle) -> u32
+    // With no speaker nothing is done.
+    ensures empty { handle.old.held.value ≡ None → (result ≡ 65) × (handle.new.held.value ≡ None) }
+    // The speaker has said nothing, and stays behind the handle.
+    ensures renew { (v : VoiceState) → handle.old.held.value ≡ Some v → (result ≡ 0) × Renews v handle.new.held.value }
+{
+    let Some(mut voice) = handle.take(alloc) else {
+        return EMPTY;
+    };
+    voice.renew();
+    handle.put(voice);
     WELL
 }
 

@@ -6,7 +6,7 @@ ghost use Rattle.zk_records.specs.declared.profile.Profile.{Profile};
 ghost use Rattle.zk_talk.specs.Stands.{TalkState};
 ghost use Rattle.zk_c.specs.Numbers.{side_of};
 ghost use Rattle.zk_c.specs.Answer.{no_step, no_ending, no_message, no_line, no_waiting, no_held};
-ghost use Rattle.zk_c.specs.Handle.{AreNumbers, IsNew, Tells, IsStep, IsPass, TellsEnding, IsView, IsLine, IsEndingLine, IsFields, IsPayload, IsWaiting, IsHeld, AreNoLimits};
+ghost use Rattle.zk_c.specs.Handle.{AreNumbers, IsNew, Renews, Tells, IsStep, IsPass, TellsEnding, IsView, IsLine, IsEndingLine, IsFields, IsPayload, IsWaiting, IsHeld, AreNoLimits};
 ghost use Rattle.zk_c.specs.Read.{no_read};
 
 use crate::answer::{EndingAnswer, LineAnswer, MessageAnswer, StepAnswer};
@@ -116,6 +116,22 @@ pub extern "C" fn zk_talk_new(
         return NO_MEMORY;
     };
     handle.put(boxed);
+    WELL
+}
+
+/// Begins the talk anew with the same limits. Returns the status.
+#[unsafe(no_mangle)]
+pub extern "C" fn zk_talk_renew(alloc: Global, handle: &mut TalkHandle) -> u32
+    // With no talk nothing is done.
+    ensures empty { handle.old.held.value ≡ None → (result ≡ 65) × (handle.new.held.value ≡ None) }
+    // The talk has come through the empty history, and stays behind the handle.
+    ensures renew { (t : TalkState) → handle.old.held.value ≡ Some t → (result ≡ 0) × Renews t handle.new.held.value }
+{
+    let Some(mut talk) = handle.take(alloc) else {
+        return EMPTY;
+    };
+    talk.renew();
+    handle.put(talk);
     WELL
 }
 

@@ -2,7 +2,7 @@
 ghost use Rattle.std.specs.Prelude.{◌≡◌, ◌≢◌, [], IfOk};
 ghost use Rattle.zk_talk.specs.Said.{Says};
 ghost use Rattle.zk_c.specs.Handle.{TellsText};
-ghost use Rattle.zk_c.specs.Saying.{TellsSay};
+ghost use Rattle.zk_c.specs.Saying.{IsRenewed, TellsSay};
 
 use crate::answer::LineAnswer;
 use crate::said::SayAnswer;
@@ -36,6 +36,14 @@ impl Voice {
         let speaker = Speaker::new(alloc, limits)?;
         let frame = Vec::new(alloc);
         Ok(Voice { speaker, frame })
+    }
+
+    /// Begins anew with the same limits: a speaker that has said nothing.
+    pub fn renew(&mut self)
+        ensures { IsRenewed self.old self.new }
+    {
+        self.speaker.renew();
+        self.frame.clear();
     }
 
     /// Says the message whose line the bytes are.

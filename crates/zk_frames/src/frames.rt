@@ -167,14 +167,22 @@ impl Frames {
         self.standing = Standing::Open;
     }
 
+    /// Forgets all that is held, a length that was refused too. Allocates nothing.
+    #[inline(always)]
+    pub fn renew(&mut self)
+        ensures { self.new ≡ record { limit = self.old.limit; bytes = [] } }
+    {
+        self.bytes.clear();
+        self.standing = Standing::Open;
+    }
+
     /// Drops the whole frame.
     #[inline(always)]
     pub fn drop_frame(&mut self)
         requires { IsWhole self.old }
         ensures { self.new ≡ record { limit = self.old.limit; bytes = [] } }
     {
-        self.bytes.clear();
-        self.standing = Standing::Open;
+        self.renew();
     }
 }
 

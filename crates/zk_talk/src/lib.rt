@@ -15,8 +15,9 @@
 //! A `Speaker` goes the other way: `Speaker::say` appends the frame of a message, if the messages so far and it are a
 //! conversation. `said_is_read` and `read_is_said` say that the two agree.
 //!
-//! `Talk::new` allocates a frame for each side and what may wait; after it only `take` allocates, for its message. The
-//! crate rests on `zk_jute`, `zk_records`, `zk_asks`, `zk_answers`, `zk_frames`, `zk_waiting` and `thiserror`.
+//! `Talk::new` allocates a frame for each side and what may wait; after it only `take` allocates, for its message.
+//! `Talk::renew` and `Speaker::renew` begin anew in the same memory. The crate rests on `zk_jute`, `zk_records`,
+//! `zk_asks`, `zk_answers`, `zk_frames`, `zk_waiting` and `thiserror`.
 //!
 //! ```text
 //! let mut talk = Talk::new(rt.alloc(), limits)?;

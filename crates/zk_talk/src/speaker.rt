@@ -54,6 +54,16 @@ impl Speaker {
         })
     }
 
+    /// Begins anew with the same limits: a speaker that has said nothing. Allocates nothing.
+    pub fn renew(&mut self)
+        ensures limits { self.new.limits ≡ self.old.limits }
+        ensures says { Says self.new [] }
+    {
+        self.asked = false;
+        self.welcomed = false;
+        self.waiting.renew();
+    }
+
     /// Appends the frame of `message` to `out` if the messages said so far and it, frame after frame, are a conversation
     /// within the limits, and only then.
     ///

@@ -114,6 +114,16 @@ impl Stream {
         })
     }
 
+    /// The side as `new` makes it with the same limit. Allocates nothing.
+    pub fn renew(&mut self)
+        ensures { self.new ≡ record { limit = self.old.limit; held = []; kept = []; count = 0; size = 0 } }
+    {
+        self.frames.renew();
+        self.kept = false;
+        self.count = 0;
+        self.size = 0;
+    }
+
     /// The number of frames that were whole.
     #[inline(always)]
     pub fn count(&self) -> u64

@@ -103,6 +103,19 @@ impl Talk {
         })
     }
 
+    /// Begins anew with the same limits: a conversation of which nothing has come, whatever came before. Allocates nothing.
+    pub fn renew(&mut self)
+        ensures limits { self.new.limits ≡ self.old.limits }
+        ensures stands { Stands self.new [] [] }
+        ensures none { (self.new.client_kept ≡ []) × (self.new.server_kept ≡ []) }
+    {
+        self.client.renew();
+        self.server.renew();
+        self.waiting.renew();
+        self.answered = None;
+        self.fault = None;
+    }
+
     fn piece(&mut self, side: Side, piece: &[u8]) -> Result<Taken, Fault>
         requires good { self.old.fault ≡ None }
         requires given_up { kept_on side self.old ≡ [] }

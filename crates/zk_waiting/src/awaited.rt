@@ -152,6 +152,17 @@ impl Awaited {
         }
     }
 
+    /// Removes all requests. Allocates nothing.
+    pub fn renew(&mut self)
+        ensures { self.new ≡ record { max = self.old.max; ping = []; auth = []; watches = []; plain = [] } }
+    {
+        self.weight = 0;
+        self.pings = 0;
+        self.auths = 0;
+        self.watches = 0;
+        self.plain.renew();
+    }
+
     /// The weight of all requests that wait: 1 each, and 1 more for each part of a multi.
     pub fn weight(&self) -> u32
         ensures value { result ≡ weight_of self.now }
