@@ -132,6 +132,14 @@ impl Frames {
         after_header(&self.bytes)
     }
 
+    /// The bytes that are held, those of the length included.
+    #[inline(always)]
+    pub fn bytes(&self) -> &[u8]
+        ensures { result.now ≡ self.now.bytes }
+    {
+        &self.bytes
+    }
+
     /// Whether the frame is whole.
     pub fn is_whole(&self) -> bool
         ensures { IsTrue result ↔ IsWhole self.now }
