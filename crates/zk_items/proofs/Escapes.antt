@@ -1,15 +1,18 @@
 -- Escapes, made sixteen at a time.
-use Rattle.std.proofs.Common.{◌≡◌, ℕ, suc, ◌+◌, ◌-◌, ◌*◌, ◌/◌, ◌%◌, ◌<◌, Bool, true, false, cond, eqb, List, [], ◌∷◌, ◌++◌, length, take, drop, get_or, replicate, refl, sym, ap, ◌∙◌, arith, append_assoc, Result, Ok, Err, OnOk}
+use Rattle.std.proofs.Common.{◌≡◌, ℕ, zero, suc, ◌+◌, ◌-◌, ◌*◌, ◌/◌, ◌%◌, ◌<◌, ◌≤◌, not, Bool, true, false, cond, eqb, List, [], ◌∷◌, ◌++◌, length, take, drop, get_or, replicate, refl, sym, ap, ap₂, subst, w8, ◌^◌, map, ◌∙◌, arith, append_assoc, Result, Ok, Err, OnOk}
 use Rattle.std.specs.Prelude.{if◌then◌else◌, is_ok}
-use Rattle.std.specs.List.{AllByRecursion, flat_map}
+use Rattle.std.specs.List.{AllByRecursion, flat_map, prefix_len}
 use Rattle.std.proofs.lemmas.Bool.{agree_below_at, eqb-true}
 use Rattle.std.proofs.lemmas.Grind.{flat_map-append}
-use Rattle.std.proofs.lemmas.List.{append-nil, take_all, take_rest, take-append-drop}
+use Rattle.std.proofs.lemmas.List.{append-nil, take_all, take_rest, take-append-drop, take-take, length-take-le, length-take, length-map}
+use Rattle.std.proofs.lemmas.List.Sums.{prefix_len-le-length}
 use Rattle.std.proofs.Math.Seq.{take-append_seam}
-use lib.Lanes.{pick_l}
+use Rattle.std.proofs.lemmas.Simd.{tops_compared, mask_l-mod, first_set_mask_l, length-zip2}
+use lib.Count.{count_trailing_zeros}
+use lib.Lanes.{pick_l, zip2, mask_l, top}
 use Rattle.hex.specs.Hex.{encode_with, encode_lower}
 use Rattle.zk_items.specs.Leaf.{is_plain, hex_digit, symbol_spell}
-use Rattle.zk_items.specs.Odd.{escape}
+use Rattle.zk_items.specs.Odd.{escape, is_odd}
 use Rattle.zk_items.proofs.Lanes.{high, low}
 
 abbrev spelled : ℕ → List ℕ
@@ -84,3 +87,99 @@ goes_on old new ahead n all e same =
     ∙ append_assoc old front (flat_map symbol_spell (take (length ahead - n) (drop n ahead)))
     ∙ ap (λ (r : List ℕ). old ++ r) (ap (λ (d : List ℕ). front ++ flat_map symbol_spell d) (take_rest ahead n)
     ∙ sym (flat_map-append symbol_spell (take n ahead) (drop n ahead)) ∙ ap (flat_map symbol_spell) (take-append-drop n ahead)) ∙ same
+
+-- the first of three blocks, where the other two are as they were
+then_rest : (first whole front more : List ℕ) → first ≡ take 16 whole → length front ≡ 16 → front ++ more ≡ whole → first ++ more ≡ whole
+then_rest first whole front more is long e =
+    let seam : take 16 (front ++ more) ≡ front = ap (λ n. take n (front ++ more)) (sym long) ∙ take-append_seam front more in
+    ap (λ l. l ++ more) (is ∙ ap (take 16) (sym e) ∙ seam) ∙ e
+
+pub escaped_rest : (first v digits : List ℕ) → first ≡ take 16 (flat_map escape v) → length v ≡ 16 → AllByRecursion (λ b. b < 256) v → digits ≡ encode_lower v
+    → first ++ (pick_l 0 (digits ++ replicate 32 92) (10 ∷ 11 ∷ 32 ∷ 12 ∷ 13 ∷ 32 ∷ 14 ∷ 15 ∷ 32 ∷ 16 ∷ 17 ∷ 32 ∷ 18 ∷ 19 ∷ 32 ∷ 20 ∷ [])
+    ++ pick_l 0 (digits ++ replicate 32 92) (21 ∷ 32 ∷ 22 ∷ 23 ∷ 32 ∷ 24 ∷ 25 ∷ 32 ∷ 26 ∷ 27 ∷ 32 ∷ 28 ∷ 29 ∷ 32 ∷ 30 ∷ 31 ∷ []))
+    ≡ flat_map escape v
+escaped_rest first v digits is long bytes d =
+    then_rest first (flat_map escape v) (pick_l 0 (digits ++ replicate 32 92) (32 ∷ 0 ∷ 1 ∷ 32 ∷ 2 ∷ 3 ∷ 32 ∷ 4 ∷ 5 ∷ 32 ∷ 6 ∷ 7 ∷ 32 ∷ 8 ∷ 9 ∷ 32 ∷ [])) _ is refl (escaped v digits long bytes d)
+
+-- as many bytes in front as aren't plain
+pub odd_all : (n : ℕ) (v : List ℕ) → n ≤ prefix_len is_odd v → AllByRecursion (λ b. is_plain b ≡ false) (take n v)
+odd_all zero v few = tt
+odd_all (suc n) [] few = tt
+odd_all (suc n) (b ∷ v) few = pick (is_plain b) refl few (odd_all n v) where
+  pick : (t : Bool) → is_plain b ≡ t → suc n ≤ cond (not t) (1 + prefix_len is_odd v) 0 → (n ≤ prefix_len is_odd v → AllByRecursion (λ b. is_plain b ≡ false) (take n v))
+      → (is_plain b ≡ false) × AllByRecursion (λ b. is_plain b ≡ false) (take n v)
+  pick true is few rest = absurd (omega arith)
+  pick false is few rest = (is, rest (omega arith))
+
+-- how many of the first sixteen aren't plain
+pub record OddRun (v : List ℕ) (run : ℕ) : Type 0 where
+  pub odd : AllByRecursion (λ b. is_plain b ≡ false) (take run v)
+  pub few : run ≤ 16
+  pub within : run ≤ length v
+
+pub odd_run : (v : List ℕ) (run : ℕ) → run ≡ prefix_len is_odd (take 16 v) → OddRun v run
+odd_run v run is =
+    let most = prefix_len-le-length is_odd (take 16 v) in
+    let sixteen = length-take 16 v in
+    let few : run ≤ 16 = omega (arith, is, most, sixteen) in
+    record {
+      odd = subst (AllByRecursion (λ b. is_plain b ≡ false)) (take-take run 16 v few) (odd_all run (take 16 v) (omega (arith, is)));
+      few = few;
+      within = omega (arith, is, most, sixteen);
+    }
+
+pub odd_some : (v : List ℕ) (run : ℕ) → run ≡ prefix_len is_odd (take 16 v) → 0 < length v → is_plain (get_or v 0 0) ≡ false → 1 ≤ run
+odd_some [] run is some odd = absurd (omega arith)
+odd_some (b ∷ v) run is some odd = let first = ap (λ t. cond (not t) (1 + prefix_len is_odd (take 15 v)) 0) odd in omega (arith, is, first)
+
+-- the spelling of so many bytes in front, none of them plain
+pub spelled_front : (n : ℕ) (v : List ℕ) → n ≤ length v → AllByRecursion (λ b. is_plain b ≡ false) (take n v) → take (3 * n) (flat_map escape v) ≡ flat_map symbol_spell (take n v)
+spelled_front n v within odd =
+    let length_n : length (take n v) ≡ n = length-take-le n v within in
+    ap (λ m. take (3 * m) (flat_map escape v)) (sym length_n) ∙ ap (λ l. take (3 * length (take n v)) (flat_map escape l)) (sym (take-append-drop n v))
+    ∙ odd_front (take n v) (drop n v) odd
+
+-- what is spelled again as it stood was the spelling
+pub respelled : (chars whole v : List ℕ) (same n : ℕ) → whole ≡ take 16 (flat_map escape v) → take same chars ≡ take same whole → same ≤ 16 → length v ≡ 16 → n ≤ same / 3 → n ≤ prefix_len is_odd v
+    → take (3 * n) chars ≡ flat_map symbol_spell (take n v)
+respelled chars whole v same n is e within long few odd =
+    sym (take-take (3 * n) same chars (omega arith)) ∙ ap (take (3 * n)) e ∙ take-take (3 * n) same whole (omega arith) ∙ ap (take (3 * n)) is
+    ∙ take-take (3 * n) 16 (flat_map escape v) (omega arith) ∙ spelled_front n v (omega arith) (odd_all n v odd)
+
+pub on_piece : {A E : Type 0} (r : Result A E) (old new piece is : List ℕ) → piece ≡ is → OnOk r (new ≡ old ++ piece) → OnOk r (new ≡ old ++ is)
+on_piece (Ok x) old new piece is e f = f ∙ ap (λ (p : List ℕ). old ++ p) e
+on_piece (Err x) old new piece is e f = tt
+
+-- ---- the lanes before the first at which two vectors differ
+
+same_lanes : (a b : List ℕ) → length a ≡ length b → take (prefix_len (λ t. not t) (zip2 (λ x y. not (eqb x y)) a b)) a ≡ take (prefix_len (λ t. not t) (zip2 (λ x y. not (eqb x y)) a b)) b
+same_lanes [] [] e = refl
+same_lanes [] (y ∷ b) e = absurd (omega arith)
+same_lanes (x ∷ a) [] e = absurd (omega arith)
+same_lanes (x ∷ a) (y ∷ b) e = pick (eqb x y) refl (same_lanes a b (omega arith)) where
+  pick : (t : Bool) → eqb x y ≡ t → take (prefix_len (λ t. not t) (zip2 (λ x y. not (eqb x y)) a b)) a ≡ take (prefix_len (λ t. not t) (zip2 (λ x y. not (eqb x y)) a b)) b
+      → take (cond (not (not t)) (1 + prefix_len (λ t. not t) (zip2 (λ x y. not (eqb x y)) a b)) 0) (x ∷ a) ≡ take (cond (not (not t)) (1 + prefix_len (λ t. not t) (zip2 (λ x y. not (eqb x y)) a b)) 0) (y ∷ b)
+  pick true is others =
+      let n = prefix_len (λ t. not t) (zip2 (λ x y. not (eqb x y)) a b) in
+      let one : 1 + n ≡ suc n = omega arith in
+      ap (λ (k : ℕ). take k (x ∷ a)) one ∙ ap₂ (λ (h : ℕ) (l : List ℕ). h ∷ l) (eqb-true x y is) others ∙ ap (λ (k : ℕ). take k (y ∷ b)) (sym one)
+  pick false is others = refl
+
+no_change : (ms : List Bool) → map (λ t. t) ms ≡ ms
+no_change [] = refl
+no_change (m ∷ ms) = ap (λ l. m ∷ l) (no_change ms)
+
+module _ (a b : List ℕ) (r : ℕ) (long_a : length a ≡ 16) (long_b : length b ≡ 16)
+    (is : r ≡ cond (eqb (mask_l (map (top 7) (zip2 (λ x y. cond (not (eqb x y)) 255 0) a b)) % 2 ^ 64) 0) 16 (count_trailing_zeros 64 (mask_l (map (top 7) (zip2 (λ x y. cond (not (eqb x y)) 255 0) a b)) % 2 ^ 64))) where
+  first_differs : r ≡ prefix_len (λ t. not t) (zip2 (λ x y. not (eqb x y)) a b)
+  first_differs =
+      let ms = zip2 (λ x y. not (eqb x y)) a b in
+      let long : length ms ≡ 16 = length-zip2 (λ x y. not (eqb x y)) a b (omega arith) ∙ long_a in
+      let mask = ap (λ l. mask_l l % 2 ^ 64) (tops_compared w8 (λ x y. not (eqb x y)) a b ∙ sym (no_change ms)) ∙ mask_l-mod (map (λ t. t) ms) 64 (omega (arith, length-map ms (λ t. t), long)) in
+      is ∙ ap (λ m. cond (eqb m 0) 16 (count_trailing_zeros 64 m)) mask ∙ first_set_mask_l (λ t. t) ms 16 long (omega arith)
+
+  pub same_front : take r a ≡ take r b
+  same_front = ap (λ n. take n a) first_differs ∙ same_lanes a b (omega arith) ∙ ap (λ n. take n b) (sym first_differs)
+
+  pub same_within : r ≤ 16
+  same_within = let ms = zip2 (λ x y. not (eqb x y)) a b in omega (arith, first_differs, prefix_len-le-length (λ t. not t) ms, length-zip2 (λ x y. not (eqb x y)) a b (omega arith))

@@ -1,10 +1,10 @@
--- Plain bytes, looked at many at a time.
+-- Bytes of a class, looked at many at a time.
 use Rattle.std.proofs.Common.{◌≡◌, ℕ, zero, suc, ◌+◌, ◌-◌, ◌*◌, ◌/◌, ◌%◌, ◌^◌, ◌<◌, ◌≤◌, Bool, true, false, not, cond, eqb, List, [], ◌∷◌, ◌++◌, map, length, take, drop, get_or, Fits, w8, refl, sym, ap, ap₂, ◌∙◌, take_all, arith}
 use Rattle.std.proofs.lemmas.Bool.{agree_below, agree_below_at, eq-eqb, ne_eqb, cond-true, cond-false}
 use Rattle.std.proofs.lemmas.List.{append-nil, drop_all, length-map, length-drop}
 use Rattle.std.proofs.lemmas.List.Folds.{prefix_len-append}
 use Rattle.std.proofs.lemmas.List.Sums.{prefix_len-le-length}
-use Rattle.std.proofs.lemmas.Simd.{chunk-drop, length-chunk, map-map, mask_l-mod, leading_from_mask_l, trailing_mask_l}
+use Rattle.std.proofs.lemmas.Simd.{chunk-drop, length-chunk, map-map, mask_l-mod, first_set_mask_l}
 use Rattle.std.specs.List.{prefix_len, flat_map}
 use lib.Count.{count_trailing_zeros}
 use Rattle.std.proofs.Math.Seq.{drop-cons}
@@ -36,11 +36,9 @@ module _ (q : ℕ → Bool) where
         ap (λ l. mask_l l % 2 ^ 64) (ap (map (top 7)) lanes ∙ map-map (top 7) f v ∙ each_lane f v all fits)
         ∙ mask_l-mod (map odd v) 64 (omega (arith, length-map v odd))
 
-    pub none_odd : mask_l (map (top 7) z) % 2 ^ 64 ≡ 0 → n ≡ prefix_len q v
-    none_odd none = sym long ∙ sym (leading_from_mask_l odd v (sym mask_is ∙ none)) ∙ not_odd v
-
-    pub first_odd : 0 < mask_l (map (top 7) z) % 2 ^ 64 → count_trailing_zeros 64 (mask_l (map (top 7) z) % 2 ^ 64) ≡ prefix_len q v
-    first_odd some = ap (count_trailing_zeros 64) mask_is ∙ trailing_mask_l odd 64 v (omega arith) (omega (arith, mask_is)) ∙ not_odd v
+    -- the lowest bit that is set is the first lane that doesn't pass
+    pub lanes_before : (r : ℕ) → r ≡ cond (eqb (mask_l (map (top 7) z) % 2 ^ 64) 0) n (count_trailing_zeros 64 (mask_l (map (top 7) z) % 2 ^ 64)) → r ≡ prefix_len q v
+    lanes_before r e = e ∙ ap (λ m. cond (eqb m 0) n (count_trailing_zeros 64 m)) mask_is ∙ first_set_mask_l odd v n long few ∙ not_odd v
 
 -- ---- from looks to the whole run
 

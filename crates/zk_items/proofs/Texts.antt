@@ -3,6 +3,7 @@ use Rattle.std.specs.Prelude.{◌≡◌, ℕ, zero, suc, ◌+◌, ◌-◌, ◌*�
 use Rattle.std.specs.List.{flat_map, prefix_len, AllByRecursion}
 use Rattle.std.specs.Str.{is_utf8}
 use Rattle.std.proofs.Common.{ap, ap₂, sym, ◌∙◌, append_assoc, cond, arith, subst, eqb-true}
+use Rattle.std.proofs.lemmas.List.{append-nil, take-append-drop}
 use Rattle.std.proofs.lemmas.Str.{IsUtf8-from_is_utf8, is_utf8-from_IsUtf8}
 use Rattle.zk_jute.specs.Held.{Text}
 use Rattle.zk_jute.specs.declared.value.Nullable.TheVariants as nullable
@@ -225,3 +226,24 @@ past_symbol front d rest b e =
     let less = symbol_shorter d rest b e in
     let one : length d ≡ suc (length d - 1) = omega arith in
     ap (with_front (front ++ (b ∷ []))) (enough (length rest) (length d - 1) rest (omega arith) (omega arith)) ∙ sym (step_some symbol_at front (length d) (length d - 1) d rest b one e)
+
+bytes_front : (n : ℕ) (v : List ℕ) → AllByRecursion (λ b. b < 256) v → AllByRecursion (λ b. b < 256) (take n v)
+bytes_front zero v h = tt
+bytes_front (suc n) [] h = tt
+bytes_front (suc n) (b ∷ v) h = (h.0, bytes_front n v h.1)
+
+-- a run of symbols by their spellings
+run_read : (run front rest : List ℕ) → AllByRecursion (λ b. b < 256) run
+    → with_front (front ++ run) (many_at symbol_at (length rest) rest) ≡ with_front front (many_at symbol_at (length (flat_map symbol_spell run ++ rest)) (flat_map symbol_spell run ++ rest))
+run_read [] front rest small = ap (λ (l : List ℕ). with_front l (many_at symbol_at (length rest) rest)) (append-nil front)
+run_read (b ∷ run) front rest small =
+    let behind = flat_map symbol_spell run ++ rest in
+    ap (λ (l : List ℕ). with_front l (many_at symbol_at (length rest) rest)) (sym (append_assoc front (b ∷ []) run)) ∙ run_read run (front ++ (b ∷ [])) rest small.1
+    ∙ past_symbol front (symbol_spell b ++ behind) behind b (symbol_again b behind small.0)
+    ∙ ap (λ (d : List ℕ). with_front front (many_at symbol_at (length d) d)) (sym (append_assoc (symbol_spell b) (flat_map symbol_spell run) rest))
+
+pub past_run : (front seen d ahead v : List ℕ) (n : ℕ) → AllByRecursion (λ b. b < 256) v → seen ≡ front ++ take n v → take (3 * n) d ≡ flat_map symbol_spell (take n v) → ahead ≡ drop (3 * n) d
+    → with_front seen (many_at symbol_at (length ahead) ahead) ≡ with_front front (many_at symbol_at (length d) d)
+past_run front seen d ahead v n small s e a =
+    ap₂ (λ (l a : List ℕ). with_front l (many_at symbol_at (length a) a)) s a ∙ run_read (take n v) front (drop (3 * n) d) (bytes_front n v small)
+    ∙ ap (λ (d : List ℕ). with_front front (many_at symbol_at (length d) d)) (ap (λ (l : List ℕ). l ++ drop (3 * n) d) (sym e) ∙ take-append-drop (3 * n) d)

@@ -1,12 +1,14 @@
-//! The escapes of bytes that aren't plain, made sixteen at a time.
-ghost use Rattle.std.specs.Prelude.{◌≡◌, ◌+◌, ◌-◌, ◌<◌, ◌≤◌, ◌++◌, OnOk, false, length, replicate, take};
-ghost use Rattle.std.specs.List.{AllByRecursion, flat_map};
+//! The escapes of bytes that aren't plain, made many at a time.
+ghost use Rattle.std.specs.Prelude.{◌≡◌, ◌+◌, ◌*◌, ◌<◌, ◌≤◌, ◌++◌, ℕ, OnOk, false, length, take};
+ghost use Rattle.std.specs.List.{AllByRecursion, flat_map, prefix_len};
 ghost use Rattle.zk_items.specs.Form.{Keeps};
 ghost use Rattle.zk_items.specs.Leaf.{is_plain, symbol_spell};
-ghost use Rattle.zk_items.specs.Odd.{escape};
+ghost use Rattle.zk_items.specs.Odd.{escape, is_odd};
 
+use crate::append::append_front;
+use crate::class::{Class, Odd};
 use crate::digits::pairs;
-use crate::symbol::is_plain;
+use crate::symbol::is_odd;
 use std::alloc::AllocError;
 use std::simd::prelude::*;
 
@@ -32,16 +34,24 @@ fn in_row(first: u8x16, middle: u8x16, last: u8x16) -> [u8; 48]
     room
 }
 
+/// The escapes of the first five bytes, and the backslash of the next.
+#[inline(always)]
+pub fn five_escapes(bytes: u8x16) -> u8x16
+    ensures escapes { result ≡ take 16 (flat_map escape bytes) }
+    ensures lanes { (length bytes ≡ 16) × AllByRecursion (λ b. b < 256) bytes }
+{
+    pairs(bytes).shuffle(
+        u8x32::splat(b'\\'),
+        [32, 0, 1, 32, 2, 3, 32, 4, 5, 32, 6, 7, 32, 8, 9, 32],
+    )
+}
+
 /// A backslash and the two digits of each byte.
 fn escapes(bytes: u8x16) -> [u8; 48]
     ensures { result ≡ flat_map escape bytes }
 {
     let digits = pairs(bytes);
     let slash = u8x32::splat(b'\\');
-    let first = digits.shuffle(
-        slash,
-        [32, 0, 1, 32, 2, 3, 32, 4, 5, 32, 6, 7, 32, 8, 9, 32],
-    );
     let middle = digits.shuffle(
         slash,
         [
@@ -54,34 +64,51 @@ fn escapes(bytes: u8x16) -> [u8; 48]
             21, 32, 22, 23, 32, 24, 25, 32, 26, 27, 32, 28, 29, 32, 30, 31,
         ],
     );
-    in_row(first, middle, last)
+    in_row(five_escapes(bytes), middle, last)
 }
 
-/// The bytes, and zeros behind them.
-fn block_of(bytes: &[u8]) -> u8x16
-    requires { length bytes.now ≤ 16 }
-    ensures { result ≡ bytes.now ++ replicate (16 - length bytes.now) 0 }
+/// The first sixteen bytes; where there are fewer, zeros behind them.
+#[inline(always)]
+pub fn block_of(bytes: &[u8]) -> u8x16
+    ensures { (n : ℕ) → n ≤ 16 → n ≤ length bytes.now → take n result ≡ take n bytes.now }
 {
+    if bytes.len() >= 16 {
+        return u8x16::from_slice(bytes);
+    }
     let mut block = [0; 16];
     block[..bytes.len()].copy_from_slice(bytes);
     u8x16::from_array(block)
 }
 
-/// Appends the escapes of up to sixteen bytes, none of them plain.
-pub fn put_escapes(out: &mut Vec<u8>, bytes: &[u8]) -> Result<(), AllocError>
-    requires few { length bytes.now ≤ 16 }
-    requires odd { AllByRecursion (λ b. is_plain b ≡ false) bytes.now }
-    ensures spelled { OnOk result (out.new.items ≡ out.old.items ++ flat_map symbol_spell bytes.now) }
+/// Appends the escapes of the first `count` bytes, none of them plain.
+pub fn put_escapes(out: &mut Vec<u8>, bytes: u8x16, count: usize) -> Result<(), AllocError>
+    requires few { count ≤ 16 }
+    requires odd { AllByRecursion (λ b. is_plain b ≡ false) (take count bytes) }
+    ensures spelled { OnOk result (out.new.items ≡ out.old.items ++ flat_map symbol_spell (take count bytes)) }
     ensures keeps { Keeps out.old.items out.new.items }
 {
-    let room = escapes(block_of(bytes));
-    out.extend_from_slice(&room[..3 * bytes.len()])
+    if count <= 5 {
+        append_front(out, five_escapes(bytes).as_array(), 3 * count)
+    } else {
+        append_front(out, &escapes(bytes), 3 * count)
+    }
+}
+
+/// The number of bytes in front that aren't plain, counted one by one.
+fn odd_run(bytes: &[u8]) -> usize
+    ensures { result ≡ prefix_len is_odd bytes.now }
+{
+    bytes.iter().take_while(|b| is_odd(**b)).count()
 }
 
 /// The number of bytes in front that aren't plain, of the first sixteen.
+#[inline(always)]
 pub fn odd_len(bytes: &[u8]) -> usize
-    ensures within { (result ≤ 16) × (result ≤ length bytes.now) }
-    ensures odd { AllByRecursion (λ b. is_plain b ≡ false) (take result bytes.now) }
+    ensures { result ≡ prefix_len is_odd (take 16 bytes.now) }
 {
-    bytes.iter().take(16).take_while(|b| !is_plain(**b)).count()
+    if bytes.len() >= 16 {
+        Odd::run_in(u8x16::from_slice(bytes))
+    } else {
+        odd_run(bytes)
+    }
 }

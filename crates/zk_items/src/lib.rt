@@ -31,6 +31,8 @@
 //! of digits is written whole, and the next begins after the odd bytes.
 #![tactic(auto)]
 
+mod append;
+mod class;
 mod code;
 mod decimal;
 mod digits;
@@ -42,6 +44,7 @@ mod plain;
 mod reader;
 mod symbol;
 mod undigits;
+mod unescape;
 mod write;
 
 pub use code::{

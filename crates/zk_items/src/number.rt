@@ -5,7 +5,7 @@ ghost use Rattle.std.specs.Fmt.{signed_decimal};
 ghost use Rattle.zk_items.specs.Leaf as leaf;
 ghost use Rattle.zk_items.specs.Leaf.{in_number, in_name, in_hex, in_word};
 
-use crate::undigits::digits_by;
+use crate::class::{Digit, run_by};
 use itoa::Buffer;
 
 pub fn is_in_number(b: u8) -> bool
@@ -62,7 +62,7 @@ pub fn hex_len(bytes: &[u8]) -> usize
     ensures within { result ≤ length bytes.now }
 {
     if bytes.len() >= 16 {
-        digits_by::<16>(bytes)
+        run_by::<16, Digit>(bytes)
     } else {
         bytes.iter().take_while(|b| is_in_hex(**b)).count()
     }

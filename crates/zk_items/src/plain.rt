@@ -1,45 +1,11 @@
 //! Runs of plain bytes, which a text needs no escape for, found many bytes at a time.
-ghost use Rattle.std.specs.Prelude.{◌≡◌, ◌<◌, ◌≤◌, length, IsTrue};
+ghost use Rattle.std.specs.Prelude.{◌≡◌, ◌≤◌, length, IsTrue};
 ghost use Rattle.std.specs.List.{prefix_len};
 ghost use Rattle.zk_items.specs.Leaf.{is_plain};
 
+use crate::class::{Class, Plain, run_by};
 use crate::symbol::is_plain;
 use std::simd::prelude::*;
-
-/// The number of bytes of a vector before the first that isn't plain.
-fn plain_in<const N: usize>(v: Simd<u8, N>) -> usize
-    requires { N ≤ 64 }
-    ensures { result ≡ prefix_len is_plain v.entry }
-{
-    let odd = v.simd_lt(Simd::splat(b' '))
-        | v.simd_eq(Simd::splat(b'"'))
-        | v.simd_eq(Simd::splat(b'\\'))
-        | v.simd_ge(Simd::splat(0x7f));
-    let mask = odd.to_bitmask();
-    if mask == 0 {
-        N
-    } else {
-        mask.trailing_zeros() as usize
-    }
-}
-
-/// The length of the run of plain bytes in front, found N bytes at a time. The last block overlaps the one before it.
-fn plain_by<const N: usize>(bytes: &[u8]) -> usize
-    requires some { (0 < N) × (N ≤ 64) }
-    requires room { N ≤ length bytes.now }
-    ensures { result ≡ prefix_len is_plain bytes.now }
-{
-    let last = bytes.len() - N;
-    let mut at = 0;
-    while at < last {
-        let run = plain_in(Simd::<u8, N>::from_slice(&bytes[at..]));
-        if run < N {
-            return at + run;
-        }
-        at += N;
-    }
-    last + plain_in(Simd::<u8, N>::from_slice(&bytes[last..]))
-}
 
 /// The length of the run of plain bytes in front.
 pub fn plain_len(bytes: &[u8]) -> usize
@@ -47,14 +13,13 @@ pub fn plain_len(bytes: &[u8]) -> usize
     ensures within { result ≤ length bytes.now }
 {
     if bytes.len() >= 16 {
-        plain_by::<16>(bytes)
+        run_by::<16, Plain>(bytes)
     } else if bytes.len() >= 8 {
-        plain_by::<8>(bytes)
+        run_by::<8, Plain>(bytes)
     } else {
         bytes.iter().take_while(|b| is_plain(**b)).count()
     }
 }
-
 /// Whether each of 16 to 32 bytes is plain: the first sixteen and the last sixteen, in one test.
 fn are_plain_by_16(bytes: &[u8]) -> bool
     requires { (16 ≤ length bytes.now) × (length bytes.now ≤ 32) }
@@ -69,7 +34,7 @@ fn are_plain_by_16(bytes: &[u8]) -> bool
             24, 25, 26, 27, 28, 29, 30, 31,
         ],
     );
-    plain_in(both) == 32
+    Plain::run_in(both) == 32
 }
 
 /// Whether each of 8 to 16 bytes is plain: the first eight and the last eight, in one test.
@@ -80,7 +45,7 @@ fn are_plain_by_8(bytes: &[u8]) -> bool
     let first = u8x8::from_slice(bytes);
     let last = u8x8::from_slice(&bytes[bytes.len() - 8..]);
     let both: u8x16 = first.shuffle(last, [0, 1, 2, 3, 4, 5, 6, 7, 8, 9, 10, 11, 12, 13, 14, 15]);
-    plain_in(both) == 16
+    Plain::run_in(both) == 16
 }
 
 /// Whether each byte is plain; one test for up to 32 bytes.

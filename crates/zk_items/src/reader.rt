@@ -1,20 +1,24 @@
 //! `Reader`: a line, read from left to right, item by item.
-ghost use Rattle.std.specs.Prelude.{◌≡◌, ◌↔◌, IsTrue, [], length, take, drop, MatchBool, IfErr, Some, None};
-ghost use Rattle.std.specs.List.{prefix_len};
+ghost use Rattle.std.specs.Prelude.{◌≡◌, ◌↔◌, ◌*◌, ◌<◌, ◌≤◌, IsTrue, [], length, take, drop, MatchBool, IfErr, Some, None};
+ghost use Rattle.std.specs.List.{AllByRecursion, flat_map, prefix_len};
 ghost use Rattle.zk_items.specs.Form.{Gives, GivesSeen, Passes, word_at};
-ghost use Rattle.zk_items.specs.Leaf.{in_name, in_word, is_plain, num_at, bit_at, ro_at, text_at, blob_at, symbol_at};
+ghost use Rattle.zk_items.specs.Leaf.{in_name, in_word, is_plain, num_at, bit_at, ro_at, text_at, blob_at, symbol_at, symbol_spell};
 ghost use Rattle.zk_items.specs.Codes.{is_next};
 ghost use Rattle.zk_items.specs.Many.{many_at};
 
+use crate::append::append_front;
 use crate::decimal::{int_ahead, long_ahead};
+use crate::escape::block_of;
 use crate::fault::{LineFault, LineReason};
 use crate::number::{hex_len, int_of, letters_len, long_of, name_len, number_len};
 use crate::plain::plain_len;
 use crate::symbol::{hex_value, is_plain, text_of};
 use crate::undigits::bytes_of;
+use crate::unescape::escapes_in;
 use hex::FromHexError;
 use std::alloc::{AllocError, Global};
 use std::marker::Model;
+use std::simd::prelude::*;
 use zk_jute::{Blob, Bytes, Chars, Text};
 
 /// What is left of a line.
@@ -261,6 +265,24 @@ impl<'a> Reader<'a> {
         run
     }
 
+    /// The bytes of the escapes in front, at most five, and how many these are; passes nothing.
+    fn escapes(&self) -> (u8x16, usize)
+        ensures few { (result.1 ≤ 5) × (3 * result.1 ≤ length self.now) }
+        ensures read { take (3 * result.1) self.now ≡ flat_map symbol_spell (take result.1 result.0) }
+        ensures bytes { (length result.0 ≡ 16) × AllByRecursion (λ b. b < 256) result.0 }
+    {
+        let (bytes, found) = escapes_in(block_of(self.ahead));
+        (bytes, found.min(self.ahead.len() / 3))
+    }
+
+    /// Passes so many bytes.
+    fn pass(&mut self, count: usize)
+        requires { count ≤ length self.old }
+        ensures { self.new ≡ drop count self.old }
+    {
+        self.ahead = &self.ahead[count..];
+    }
+
     /// Reads the bytes of a text, up to the sign after it; else returns `fault`.
     fn inside(&mut self, fault: LineFault) -> Result<Vec<u8>, LineFault>
         ensures { GivesSeen (λ v. v.items) result self.new (many_at symbol_at (length self.old) self.old) }
@@ -270,6 +292,14 @@ impl<'a> Reader<'a> {
             if is_plain(*first) {
                 bytes.extend_from_slice(self.plain())?;
                 continue;
+            }
+            if *first == b'\\' {
+                let (block, count) = self.escapes();
+                if count > 0 {
+                    append_front(&mut bytes, block.as_array(), count)?;
+                    self.pass(3 * count);
+                    continue;
+                }
             }
             match self.symbol(fault) {
                 Ok(None) => return Ok(bytes),

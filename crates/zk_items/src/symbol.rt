@@ -2,12 +2,20 @@
 ghost use Rattle.std.specs.Prelude.{◌≡◌, ◌<◌, IfSome, IfNone, string_bytes, true, false};
 ghost use Rattle.std.specs.Str.{is_utf8};
 ghost use Rattle.zk_items.specs.Leaf as leaf;
+ghost use Rattle.zk_items.specs.Odd as odd;
 
 /// Whether `b` is plain, which a text needs no escape for: 20 to 7e, but for `"` and `\`.
 pub fn is_plain(b: u8) -> bool
     ensures { result ≡ leaf.is_plain b }
 {
     matches!(b, 32..=126) && b != b'"' && b != b'\\'
+}
+
+/// Whether a text needs an escape for `b`.
+pub fn is_odd(b: u8) -> bool
+    ensures { result ≡ odd.is_odd b }
+{
+    !is_plain(b)
 }
 
 /// The value of a lower-case hexadecimal digit; `None` if `c` is none.

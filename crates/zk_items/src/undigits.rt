@@ -1,6 +1,6 @@
 //! The bytes that lower-case hexadecimal digits spell, read thirty-two digits at a time.
 ghost use Rattle.std.specs.Prelude.{◌≡◌, ◌+◌, ◌*◌, ◌<◌, ◌≤◌, ◌++◌, ◌⊎◌, IfOk, IfErr, Ok, Err, length, map, take, drop, true};
-ghost use Rattle.std.specs.List.{AllByRecursion, prefix_len};
+ghost use Rattle.std.specs.List.{AllByRecursion};
 ghost use Rattle.hex.specs.Hex.{encode_lower, decode_of};
 ghost use Rattle.hex.specs.declared.error.FromHexError.TheVariants.{OutOfMemory};
 ghost use Rattle.zk_items.specs.Leaf.{in_hex, hex_digit};
@@ -8,41 +8,6 @@ ghost use Rattle.zk_items.specs.Leaf.{in_hex, hex_digit};
 use hex::FromHexError;
 use std::alloc::Global;
 use std::simd::prelude::*;
-
-/// The number of lanes before the first that isn't a lower-case digit.
-fn digits_in<const N: usize>(v: Simd<u8, N>) -> usize
-    requires { N ≤ 64 }
-    ensures { result ≡ prefix_len in_hex v.entry }
-{
-    let odd = v.simd_lt(Simd::splat(b'0'))
-        | v.simd_ge(Simd::splat(b':')) & v.simd_lt(Simd::splat(b'a'))
-        | v.simd_ge(Simd::splat(b'g'));
-    let mask = odd.to_bitmask();
-    if mask == 0 {
-        N
-    } else {
-        mask.trailing_zeros() as usize
-    }
-}
-
-/// The length of the run of lower-case digits in front, found N bytes at a time, as `hex_len` finds it one by one.
-// The last block overlaps the one before it.
-pub fn digits_by<const N: usize>(bytes: &[u8]) -> usize
-    requires some { (0 < N) × (N ≤ 64) }
-    requires room { N ≤ length bytes.now }
-    ensures { result ≡ prefix_len in_hex bytes.now }
-{
-    let last = bytes.len() - N;
-    let mut at = 0;
-    while at < last {
-        let run = digits_in(Simd::<u8, N>::from_slice(&bytes[at..]));
-        if run < N {
-            return at + run;
-        }
-        at += N;
-    }
-    last + digits_in(Simd::<u8, N>::from_slice(&bytes[last..]))
-}
 
 /// The value of each digit.
 fn values(digits: u8x16) -> u8x16

@@ -1,13 +1,14 @@
 //! How the items of a line are written.
 ghost use Rattle.std.specs.Prelude.{◌≡◌, ◌∷◌, ◌++◌, [], ◌+◌, ◌<◌, ◌≤◌, slice_index, IfOk, OnOk, false, length, take, drop};
 ghost use Rattle.std.specs.Fmt.{signed_decimal};
-ghost use Rattle.std.specs.List.{flat_map};
+ghost use Rattle.std.specs.List.{AllByRecursion, flat_map};
 ghost use Rattle.zk_jute.specs.declared.value.Nullable.TheVariants as nullable;
 ghost use Rattle.zk_items.specs.Form.{Keeps};
 ghost use Rattle.zk_items.specs.Leaf.{int, long, is_plain, text_fits, text_spell, blob_fits, blob_spell, symbol_spell, bit_spell, ro_spell};
 
+use crate::append::append_front;
 use crate::digits::put_digits;
-use crate::escape::{odd_len, put_escapes};
+use crate::escape::{block_of, odd_len, put_escapes};
 use crate::plain::{are_plain, plain_len};
 use crate::symbol::{hex_digit, is_plain};
 use itoa::write_digits;
@@ -75,8 +76,6 @@ pub fn put_int(out: &mut Vec<u8>, n: i32) -> Result<(), AllocError>
 }
 
 /// Appends a long.
-// Twenty bytes are copied, as many as the longest number has, and those after the digits taken back: a copy of a length
-// that isn't known beforehand is a call.
 pub fn put_long(out: &mut Vec<u8>, n: i64) -> Result<(), AllocError>
     ensures spelled { OnOk result (out.new.items ≡ out.old.items ++ signed_decimal n) }
     ensures fits { OnOk result (long.fits n) }
@@ -84,10 +83,7 @@ pub fn put_long(out: &mut Vec<u8>, n: i64) -> Result<(), AllocError>
 {
     let mut room = [0; 40];
     let start = decimal_before(&mut room, 20, n);
-    let end = out.len() + (20 - start);
-    out.extend_from_slice(&room[start..start + 20])?;
-    out.truncate(end);
-    Ok(())
+    append_front(out, &room[start..start + 20], 20 - start)
 }
 
 /// Appends a bit: `0` or `1`.
@@ -152,8 +148,20 @@ fn put_escape(out: &mut Vec<u8>, b: u8) -> Result<(), AllocError>
     out.extend_from_slice(&[b'\\', hex_digit(b / 16), hex_digit(b % 16)])
 }
 
+/// Appends the escapes of a few bytes, none of them plain, one by one.
+fn put_few(out: &mut Vec<u8>, bytes: &[u8]) -> Result<(), AllocError>
+    requires { AllByRecursion (λ b. is_plain b ≡ false) bytes.now }
+    ensures spelled { OnOk result (out.new.items ≡ out.old.items ++ flat_map symbol_spell bytes.now) }
+    ensures keeps { Keeps out.old.items out.new.items }
+{
+    for b in bytes {
+        put_escape(out, *b)?;
+    }
+    Ok(())
+}
+
 /// Appends the escapes of bytes in front, of which the first isn't plain; returns how many.
-// A few are written one by one.
+// A block of sixteen costs a copy where fewer are left.
 fn put_odd(out: &mut Vec<u8>, bytes: &[u8]) -> Result<usize, AllocError>
     requires some { 0 < length bytes.now }
     requires odd { is_plain (slice_index bytes.now 0) ≡ false }
@@ -162,11 +170,11 @@ fn put_odd(out: &mut Vec<u8>, bytes: &[u8]) -> Result<usize, AllocError>
     ensures keeps { Keeps out.old.items out.new.items }
 {
     let run = odd_len(bytes);
-    if run < 4 {
-        put_escape(out, bytes[0])?;
-        return Ok(1);
+    if run < 4 && bytes.len() < 16 {
+        put_few(out, &bytes[..run])?;
+    } else {
+        put_escapes(out, block_of(bytes), run)?;
     }
-    put_escapes(out, &bytes[..run])?;
     Ok(run)
 }
 

@@ -1,13 +1,16 @@
-use Rattle.std.proofs.Common.{◌≡◌, ◌*◌, ◌∙◌, length, take, ap}
+use Rattle.std.proofs.Common.{◌≤◌, ◌*◌, ◌∙◌, take, ap, arith}
+use Rattle.std.proofs.lemmas.List.{take-take}
 use Rattle.std.specs.List.{flat_map}
-use Rattle.zk_items.specs.Leaf.{symbol_spell}
 use Rattle.zk_items.specs.Odd.{escape}
-use Rattle.zk_items.proofs.Escapes.{odd_front, then_piece}
+use Rattle.zk_items.proofs.Escapes.{spelled_front, on_piece}
 use Rattle.zk_items.proofs.escape.put_escapes.Goals as goal
 
-pub returns-clause-spelled : goal.returns-clause-spelled
-returns-clause-spelled c =
-    let bytes = c.args.bytes.now in
-    let piece : take (3 * length bytes) c.escapes-room.result ≡ flat_map symbol_spell bytes =
-    ap (take (3 * length bytes)) (c.escapes-room.ensures ∙ ap (flat_map escape) c.block_of.ensures) ∙ odd_front bytes _ c.requires.odd in
-    then_piece c.extend_from_slice.result c.args.out.now.items c.extend_from_slice.new.self.items _ _ piece c.extend_from_slice.ensures.items
+pub returns-then-count-le5-clause-spelled : goal.returns-then-count-le5-clause-spelled
+returns-then-count-le5-clause-spelled c =
+    let most : 3 * c.args.count ≤ 16 = omega arith in
+    on_piece _ _ _ _ _ (ap (take (3 * c.args.count)) (c.as_array.ensures ∙ c.five_escapes.ensures.escapes) ∙ take-take (3 * c.args.count) 16 (flat_map escape c.args.bytes) most
+    ∙ spelled_front c.args.count c.args.bytes (omega (arith, c.fits-bytes.0)) c.requires.odd) c.append_front.ensures.appended
+
+pub returns-else-count-le5-clause-spelled : goal.returns-else-count-le5-clause-spelled
+returns-else-count-le5-clause-spelled c =
+    on_piece _ _ _ _ _ (ap (take (3 * c.args.count)) c.escapes.ensures ∙ spelled_front c.args.count c.args.bytes (omega (arith, c.fits-bytes.0)) c.requires.odd) c.append_front-else-count-le5.ensures.appended

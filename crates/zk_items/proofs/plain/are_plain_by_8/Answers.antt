@@ -15,5 +15,5 @@ returns c is =
     let first = chunk 0 8 d in
     let last = chunk (length d - 8) 8 d in
     let long : 0 + 16 ≡ length (first ++ last) = omega (arith, length-append first last, length-chunk 0 8 d (omega arith), length-chunk (length d - 8) 8 d (omega arith)) in
-    let whole : c.plain_in.result ≡ 16 = eqb-true c.plain_in.result 16 is in
-    ends_pass is_plain d 8 within c.requires.1 (sym (ap (prefix_len is_plain) (in_order (first ++ last) 16 0 long)) ∙ sym c.plain_in.ensures ∙ whole)
+    let whole : c.run_in.result ≡ 16 = eqb-true c.run_in.result 16 is in
+    ends_pass is_plain d 8 within c.requires.1 (sym (ap (prefix_len is_plain) (in_order (first ++ last) 16 0 long)) ∙ sym c.run_in.ensures ∙ whole)

@@ -1,13 +1,12 @@
 use Rattle.std.proofs.Common.{◌≡◌, ◌++◌, ◌+◌, ◌-◌, take, drop, length, List, ℕ, ap, ◌∙◌, arith, SFits, w64}
 use Rattle.std.proofs.lemmas.Int.{ints, to_z-of_z}
 use Rattle.std.specs.Fmt.{signed_decimal}
-use Rattle.std.proofs.Math.Seq.{take-append-add}
 use Rattle.zk_items.proofs.Lanes.{front_of}
+use Rattle.zk_items.proofs.Escapes.{on_piece}
 use Rattle.zk_items.proofs.write.put_long.Goals as goal
 
 pub returns-clause-spelled : goal.returns-clause-spelled
 returns-clause-spelled c =
-    let out = c.args.out.now.items in
     let w = c.decimal_before-start in
     let count = 20 - w.result in
     let ahead = drop w.result w.new.room in
@@ -16,6 +15,4 @@ returns-clause-spelled c =
     let long : count ≡ length (signed_decimal c.args.n) = search (arith, ints, to_z-of_z, w.ensures.begins) in
     let digits : take count (take 20 ahead) ≡ signed_decimal c.args.n = front_of 20 count ahead (signed_decimal c.args.n) _ is long (omega arith) in
     let twenty : w.result + 20 - w.result ≡ 20 = omega arith in
-    let appended = c.in_ok-extend_from_slice.ensures.items ∙ ap (λ (k : ℕ). out ++ take k ahead) twenty in
-    c.truncate.ensures.items ∙ ap (take (c.len.result + count)) appended ∙ ap (λ (k : ℕ). take (k + count) (out ++ take 20 ahead)) (c.len.ensures ∙ c.args.out.now.ok.0)
-    ∙ take-append-add out (take 20 ahead) count ∙ ap (λ (d : List ℕ). out ++ d) digits
+    on_piece c.append_front.result c.args.out.now.items c.append_front.new.out.items _ _ (ap (λ (k : ℕ). take count (take k ahead)) twenty ∙ digits) c.append_front.ensures.appended

@@ -1,10 +1,9 @@
 use Rattle.std.proofs.Common.{◌-◌, ◌≤◌, length}
 use Rattle.std.specs.List.{prefix_len}
-use Rattle.zk_items.specs.Leaf.{is_plain}
-use Rattle.zk_items.proofs.plain.plain_by.Given as goal
+use Rattle.zk_items.proofs.class.run_by.Given as goal
 
 abbrev pub invariant-loop-at : goal.invariant-loop-at
-invariant-loop-at g l = l.at ≤ prefix_len is_plain l.bytes
+invariant-loop-at g l = l.at ≤ prefix_len g.C.Class.has l.bytes
 
 abbrev pub decreases-loop-at : goal.decreases-loop-at
 decreases-loop-at g l = length l.bytes - l.at
