@@ -1,28 +1,32 @@
 -- Values whose ends are reached: one after the other, those of a list, and short texts.
-use Rattle.std.proofs.Common.{◌≡◌, ℕ, zero, suc, take-add, ◌+◌, ◌-◌, ◌<◌, ◌≤◌, false, ltb, List, [], ◌∷◌, ◌++◌, length, take, drop, Option, Some, None, Ok, refl, sym, ap, subst, ◌∙◌, arith}
-use Rattle.std.specs.Prelude.{pos, IfSome}
-use Rattle.std.specs.Int.{w64, from_be_bytes, cast_signed}
+use Rattle.std.proofs.Common.{to_z, of_z, ◌≡◌, ℕ, zero, suc, take-add, ◌+◌, ◌-◌, ◌/◌, ◌%◌, ◌<◌, ◌≤◌, false, ltb, List, [], ◌∷◌, ◌++◌, length, take, drop, Option, Some, None, Ok, refl, sym, ap, subst, ◌∙◌, append_assoc, arith}
+use Rattle.std.specs.Prelude.{ℤ, pos, negsuc, nat_abs, IfSome}
+use Rattle.std.specs.Int.{w32, w64, from_be_bytes, cast_signed, FitsUnsignedBits}
+use Rattle.std.specs.Int.RustNames.{FitsSigned}
+use Rattle.std.proofs.lemmas.Int.{to_z-of_z, ints}
 use Rattle.std.specs.List.{flat_map}
 use Rattle.std.specs.Str.{IsAscii, IsUtf8}
 use Rattle.std.proofs.lemmas.Bool.{le-ltb}
-use Rattle.std.proofs.lemmas.Nat.{be_bytes_4}
+use Rattle.std.proofs.lemmas.Nat.{be_bytes_4, div-add-mod'}
+use Rattle.std.proofs.Math.Seq.{drop-append_seam}
 use Rattle.simdutf8.specs.Steps.{IsClosed}
 use Rattle.simdutf8.specs.Tracks.{last_three}
 use Rattle.simdutf8.proofs.Chars.{StepsThen-IsUtf8, closed-IsUtf8}
 use Rattle.simdutf8.proofs.StepsLemmas.{StepsThen-append, StepsThen_parts, Steps_ascii, IsUtf8-after_ascii}
-use Rattle.std.proofs.lemmas.List.{take_at, drop-drop, length-append}
+use Rattle.std.proofs.lemmas.List.{take_at, drop-drop, length-append, length-take, length-drop}
 use Rattle.std.proofs.lemmas.Grind.{flat_map-append}
 use Rattle.std.proofs.lemmas.Option.{IfSome_then}
 use Rattle.zk_jute.specs.declared.value.Nullable.TheVariants as nullable
 use Rattle.zk_jute.specs.Item.{Item, AnInt, ALong, AUstring, ACount, HaveBytes, int_bytes}
 use Rattle.zk_jute.specs.Faults.{first_int}
-use Rattle.zk_jute.specs.Reading.{int_at, long_at, size_at}
+use Rattle.zk_jute.specs.Reading.{int_at, long_at, size_at, run_at}
 use Rattle.zk_jute.specs.Told.{StandsAt}
 use Rattle.zk_jute.specs.Values.{text_items, list_items}
 use Rattle.zk_jute.specs.Wired.{Wired, int, long}
 use Rattle.zk_jute.specs.Shown.{Stretch}
-use Rattle.zk_jute.specs.Ends.{EndsAt, AreText, IsShort}
+use Rattle.zk_jute.specs.Ends.{EndsAt, AreText, AreTexts, IsLow}
 use Rattle.zk_jute.proofs.Steps.{IsBytes}
+use Rattle.zk_jute.proofs.Primitives.{ascii_text}
 use Rattle.zk_jute.proofs.Numbers.{len32}
 use Rattle.zk_jute.proofs.Runs.{int_found, long_found, run_found, size_found}
 use Rattle.zk_jute.proofs.Layouts.{have_both, one_found}
@@ -84,39 +88,90 @@ text_parts xs ys zs low some text =
       (IsUtf8-after_ascii ys zs low).0 (closed-IsUtf8 t.0 t.1 t.2 (ys ++ zs) closed h.1),
     )
 
-low_size : (n : ℕ) → n < 128 → IsAscii (0 ∷ 0 ∷ 0 ∷ n ∷ [])
-low_size n small zero = omega arith
-low_size n small (suc zero) = omega arith
-low_size n small (suc (suc zero)) = omega arith
-low_size n small (suc (suc (suc zero))) = small
-low_size n small (suc (suc (suc (suc i)))) = omega arith
+abbrev HasLow : ℕ → Type 0
+HasLow n = (n < 32768) × (n % 256 < 128)
 
-small_size : (n : ℕ) → n < 128 → int_bytes (pos n) ≡ 0 ∷ 0 ∷ 0 ∷ n ∷ []
-small_size n small = be_bytes_4 (0 ∷ 0 ∷ 0 ∷ n ∷ []) n refl (λ i. omega (arith, low_size n small i)) (omega arith)
+low_size : (n : ℕ) → HasLow n → IsAscii (0 ∷ 0 ∷ n / 256 ∷ n % 256 ∷ [])
+low_size n low zero = omega arith
+low_size n low (suc zero) = omega arith
+low_size n low (suc (suc zero)) = omega (arith, low.0)
+low_size n low (suc (suc (suc zero))) = low.1
+low_size n low (suc (suc (suc (suc i)))) = omega arith
 
--- a short run behind others
-module _ (src : List ℕ) (place at end : ℕ) (fits : IsBytes src) (le : at ≤ length src) (short : IsShort src at end) where
-  pub short_within : at ≤ end
-  short_within = let s = (run_found src at (Some short.0, end) fits le short.2).stands.at in omega arith
+low_bytes : (n : ℕ) → HasLow n → int_bytes (pos n) ≡ 0 ∷ 0 ∷ n / 256 ∷ n % 256 ∷ []
+low_bytes n low = be_bytes_4 (0 ∷ 0 ∷ n / 256 ∷ n % 256 ∷ []) n refl (λ i. omega (arith, low_size n low i)) (omega (arith, div-add-mod' n 256, low.0))
 
-  pub short_more : (count : ℕ) → place ≤ at → (AreText src place at → Stretch text_items src place at count) → AreText src place end → Stretch text_items src place end (count + 1)
-  short_more count from so_far text =
-      let bytes = short.0 in
-      let r = run_found src at (Some bytes, end) fits le short.2 in
+-- an int that is a length
+pub int_size : (number : ℤ) (n : ℕ) → FitsSigned w32 number → FitsUnsignedBits 64 (to_z w32 (of_z w32 number)) → n ≡ nat_abs (to_z w32 (of_z w32 number)) → number ≡ pos n
+int_size number n fits whole size = above number (subst (FitsUnsignedBits 64) (to_z-of_z w32 number fits) whole) (size ∙ ap nat_abs (to_z-of_z w32 number fits))
+  where
+    above : (z : ℤ) → FitsUnsignedBits 64 z → n ≡ nat_abs z → z ≡ pos n
+    above (pos m) whole same = ap pos (sym same)
+    above (negsuc m) whole same = absurd (omega (arith, ints, whole))
+
+-- a run whose length is read and fits
+pub low_run : (src : List ℕ) (place after n : ℕ) (number : ℤ) → int_at src place ≡ Ok (number, after) → number ≡ pos n → n < 32768 → n % 256 < 128 → n ≤ length src - after → IsLow src place (after + n)
+low_run src place after n number read is less low there =
+    let bytes = take n (drop after src) in
+    let len : length bytes ≡ n = omega (arith, length-take n (drop after src), length-drop after src) in
+    let test : ltb (length src - after) n ≡ false = le-ltb _ _ there in
+    (bytes, omega arith, subst (λ (m : ℕ). m % 256 < 128) (sym len) low, rw (read, is, test) refl)
+
+-- a null text
+pub null_text : (src : List ℕ) (place end : ℕ) → IsBytes src → place ≤ length src → size_at src place ≡ Ok (None, end) → EndsAt text_items src place end
+null_text src place end fits le read =
+    let r = size_found src place (None, end) fits le read in
+    let f = one_found (AUstring None) src place end tt r.stands in
+    (nullable.Null, f.have, (f.stands.parts, f.stands.at))
+
+-- a run behind others, of which the bytes from `from` on aren't looked at yet
+module _ (src : List ℕ) (from at : ℕ) (fits : IsBytes src) (le : at ≤ length src) where
+  pub run_within : (o : Option (List ℕ)) (end : ℕ) → run_at src at ≡ Ok (o, end) → at + 4 ≤ end
+  run_within None end run = let s = (run_found src at (None, end) fits le run).stands.at in omega (arith, s)
+  run_within (Some bytes) end run =
+      let s = (run_found src at (Some bytes, end) fits le run).stands.at in
+      omega (arith, s, length-append (int_bytes (pos (length bytes))) bytes, len32 (pos (length bytes)))
+
+  -- its length is ASCII, and looked at with the others
+  pub low_more : (end : ℕ) → IsLow src at end → from ≤ at → (place count : ℕ) → AreTexts src from place at count → AreTexts src from place end (count + 1)
+  low_more end (bytes, less, low, run) before place count so_far text =
+      let small : HasLow (length bytes) = (less, low) in
+      let r = run_found src at (Some bytes, end) fits le run in
       let size = int_bytes (pos (length bytes)) in
-      let run = size ++ bytes in
+      let all = size ++ bytes in
       let rest = drop end src in
-      let front = take (at - place) (drop place src) in
-      let long : end - place ≡ (at - place) + length run = omega (arith, r.stands.at) in
-      let there : place + (at - place) ≡ at = omega arith in
-      let behind : drop (at - place) (drop place src) ≡ run ++ rest = drop-drop (at - place) place src ∙ ap (λ (n : ℕ). drop n src) there ∙ r.stands.parts in
-      let whole : take (end - place) (drop place src) ≡ front ++ run =
-      ap (λ (n : ℕ). take n (drop place src)) long ∙ take-add (at - place) (length run) (drop place src)
-      ∙ ap (λ (x : List ℕ). front ++ x) (ap (take (length run)) behind ∙ take_at run rest (length run) refl) in
-      let low : IsAscii size = subst IsAscii (sym (small_size (length bytes) short.1)) (low_size (length bytes) short.1) in
-      let parts = text_parts front size bytes low (omega (arith, len32 (pos (length bytes)))) (subst IsUtf8 whole text) in
+      let front = take (at - from) (drop from src) in
+      let long : end - from ≡ (at - from) + length all = omega (arith, r.stands.at) in
+      let there : from + (at - from) ≡ at = omega arith in
+      let behind : drop (at - from) (drop from src) ≡ all ++ rest = drop-drop (at - from) from src ∙ ap (λ (n : ℕ). drop n src) there ∙ r.stands.parts in
+      let whole : take (end - from) (drop from src) ≡ front ++ all =
+      ap (λ (n : ℕ). take n (drop from src)) long ∙ take-add (at - from) (length all) (drop from src)
+      ∙ ap (λ (x : List ℕ). front ++ x) (ap (take (length all)) behind ∙ take_at all rest (length all) refl) in
+      let ascii : IsAscii size = subst IsAscii (sym (low_bytes (length bytes) small)) (low_size (length bytes) small) in
+      let parts = text_parts front size bytes ascii (omega (arith, len32 (pos (length bytes)))) (subst IsUtf8 whole text) in
       let f = one_found (AUstring (Some bytes)) src at end (parts.1, r.has_bytes.1) r.stands in
       one_more text_items src place at end count (so_far parts.0) (nullable.Full bytes, f.have, (f.stands.parts, f.stands.at))
+
+  -- the others were looked at; its length isn't to be
+  pub looked_more : (o : Option (List ℕ)) (end : ℕ) → run_at src at ≡ Ok (o, end) → (place count : ℕ) → Stretch text_items src place at count → AreTexts src (at + 4) place end (count + 1)
+  looked_more None end run place count so_far text =
+      let r = run_found src at (None, end) fits le run in
+      let f = one_found (AUstring None) src at end tt r.stands in
+      one_more text_items src place at end count so_far (nullable.Null, f.have, (f.stands.parts, f.stands.at))
+  looked_more (Some bytes) end run place count so_far text =
+      let r = run_found src at (Some bytes, end) fits le run in
+      let size = int_bytes (pos (length bytes)) in
+      let rest = drop end src in
+      let long : end - (at + 4) ≡ length bytes = omega (arith, r.stands.at, length-append size bytes, len32 (pos (length bytes))) in
+      let behind : drop (at + 4) src ≡ bytes ++ rest =
+      ap (λ (n : ℕ). drop n src) (omega arith) ∙ sym (drop-drop 4 at src) ∙ ap (drop 4) (r.stands.parts ∙ append_assoc size bytes rest) ∙ drop-append_seam size (bytes ++ rest) in
+      let whole : take (end - (at + 4)) (drop (at + 4) src) ≡ bytes = ap (λ (n : ℕ). take n (drop (at + 4) src)) long ∙ ap (take (length bytes)) behind ∙ take_at bytes rest (length bytes) refl in
+      let f = one_found (AUstring (Some bytes)) src at end (subst IsUtf8 whole text, r.has_bytes.1) r.stands in
+      one_more text_items src place at end count so_far (nullable.Full bytes, f.have, (f.stands.parts, f.stands.at))
+
+-- nothing is looked at twice: bytes from a place to itself
+pub no_bytes : (src : List ℕ) (at : ℕ) → AreText src at at
+no_bytes src at = let none : at - at ≡ 0 = omega arith in subst (λ (n : ℕ). IsUtf8 (take n (drop at src))) (sym none) (ascii_text [] (λ i. omega arith))
 
 -- ---- numbers, and records
 

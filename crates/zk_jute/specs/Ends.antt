@@ -1,7 +1,9 @@
 -- Where values end that stand in a payload.
-use Rattle.std.specs.Prelude.{◌≡◌, ℕ, ◌-◌, ◌<◌, List, length, take, drop, Some, Ok, IsUtf8}
+use Rattle.std.specs.Prelude.{◌≡◌, ℕ, ◌-◌, ◌<◌, ◌%◌, List, length, take, drop, Some, Ok, IsUtf8}
 use Rattle.zk_jute.specs.Item.{Item, HaveBytes}
 use Rattle.zk_jute.specs.Told.{StandsAt}
+use Rattle.zk_jute.specs.Shown.{Stretch}
+use Rattle.zk_jute.specs.Values.{text_items}
 use Rattle.zk_jute.specs.Reading.{run_at}
 
 -- one of these values is at the place, and ends there
@@ -12,6 +14,10 @@ EndsAt {X} items src place end = (x : X) × HaveBytes (items x) × StandsAt (ite
 abbrev pub AreText : List ℕ → ℕ → ℕ → Type 0
 AreText src place end = IsUtf8 (take (end - place) (drop place src))
 
--- a run of less than 128 bytes is at the place, and ends there
-abbrev pub IsShort : List ℕ → ℕ → ℕ → Type 0
-IsShort src place end = (bytes : List ℕ) × (length bytes < 128) × (run_at src place ≡ Ok (Some bytes, end))
+-- from `place` to `at` are `count` texts, if the bytes from `from` on are UTF-8
+abbrev pub AreTexts : List ℕ → ℕ → ℕ → ℕ → ℕ → Type 0
+AreTexts src from place at count = AreText src from at → Stretch text_items src place at count
+
+-- a run whose length is four bytes of ASCII is at the place, and ends there
+abbrev pub IsLow : List ℕ → ℕ → ℕ → Type 0
+IsLow src place end = (bytes : List ℕ) × (length bytes < 32768) × (length bytes % 256 < 128) × (run_at src place ≡ Ok (Some bytes, end))

@@ -1,5 +1,5 @@
-//! Tests whether bytes are ASCII, sixteen, eight or four at a time.
-ghost use Rattle.std.specs.Prelude.{◌≤◌, length, IsTrue};
+//! Tests whether bytes are ASCII, sixty-four, sixteen, eight or four at a time.
+ghost use Rattle.std.specs.Prelude.{◌≤◌, length, take, IsTrue};
 ghost use Rattle.std.specs.Str.{IsAscii};
 
 use std::simd::prelude::*;
@@ -10,6 +10,14 @@ fn is_low(block: u8x16) -> bool
     ensures { IsTrue result → IsAscii block }
 {
     block.simd_ge(u8x16::splat(0x80)).to_bitmask() == 0
+}
+
+/// The same of sixty-four bytes.
+#[inline(always)]
+fn is_low_64(block: u8x64) -> bool
+    ensures { IsTrue result → IsAscii block }
+{
+    block.simd_ge(u8x64::splat(0x80)).to_bitmask() == 0
 }
 
 /// The same of eight bytes.
@@ -61,4 +69,19 @@ pub(crate) fn is_plain(bytes: &[u8]) -> bool
         at += 16;
     }
     is_low(u8x16::from_slice(&bytes[last..]))
+}
+
+/// How many bytes in front are whole blocks of sixty-four bytes of ASCII.
+#[inline(always)]
+pub(crate) fn plain_front(bytes: &[u8]) -> usize
+    ensures { (result ≤ length bytes.now) × IsAscii (take result bytes.now) }
+{
+    let mut at = 0;
+    while bytes.len() - at >= 64 {
+        if !is_low_64(u8x64::from_slice(&bytes[at..])) {
+            return at;
+        }
+        at += 64;
+    }
+    at
 }

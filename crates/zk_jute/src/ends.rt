@@ -1,27 +1,20 @@
 //! `Ends`: where a value ends in a payload, found without making the value.
-ghost use Rattle.std.specs.Prelude.{◌≡◌, ◌≤◌, ◌<◌, ◌+◌, length, option_copied, IsTrue, IfOk, IfSome};
+ghost use Rattle.std.specs.Prelude.{◌≡◌, ℕ, ◌≤◌, ◌<◌, ◌+◌, length, option_copied, IsTrue, IfOk, IfSome};
 ghost use Rattle.zk_jute.specs.Reading as reading;
 ghost use Rattle.zk_jute.specs.Shown.{Stretch};
 ghost use Rattle.zk_jute.specs.Values.{text_items, blob_items, list_items};
-ghost use Rattle.zk_jute.specs.Ends.{EndsAt, AreText, IsShort};
+ghost use Rattle.zk_jute.specs.Ends.{EndsAt, AreText, AreTexts, IsLow};
 
-use crate::ascii::is_plain;
+use crate::number::int_at;
 use crate::origin::Payload;
 use crate::run::{run_at, size_at};
 use crate::series::{Element, Series};
 use crate::stands::{Form, Stands};
-use crate::utf8::is_short_text;
+use crate::utf8::is_text;
 use crate::value::{BlobRef, TextRef};
-use simdutf8::is_utf8;
 
-/// A text of fewer bytes is short: its length is ASCII.
-const SHORT: usize = 128;
-
-/// How many short texts get one look.
+/// How many texts of a list get one look.
 const LOOK: usize = 64;
-
-/// How many texts are judged one by one where none that is short comes next.
-const STEP: usize = 16;
 
 /// A form of values whose ends are found without making the values.
 pub trait Ends: Form {
@@ -101,63 +94,99 @@ impl<A: Ends, B: Ends> Ends for (A, B) {
     }
 }
 
-/// The place after the run of less than 128 bytes at `place`; `None`: it is null, longer, or not whole.
+/// The place after the run at `place` if its length is four bytes of ASCII; `None`: it isn't, as null's, or not whole.
 #[inline(always)]
-fn short_end(payload: &[u8], place: usize) -> Option<usize>
+fn low_end(payload: &[u8], place: usize) -> Option<usize>
     requires { place ≤ length payload.now }
-    ensures some { IfSome result (IsShort payload.now place) }
+    ensures some { IfSome result (IsLow payload.now place) }
     ensures within { IfSome result (λ end. end ≤ length payload.now) }
 {
-    match run_at::<false>(payload, place) {
-        Ok((Some(bytes), end)) if bytes.len() < SHORT => Some(end),
-        _ => None,
+    let Ok((number, after)) = int_at(payload, place) else {
+        return None;
+    };
+    let Ok(size) = usize::try_from(number) else {
+        return None;
+    };
+    if size < 32768 && size % 256 < 128 && size <= payload.len() - after {
+        Some(after + size)
+    } else {
+        None
     }
 }
 
-/// How many short runs, of at most `count`, are there from `place` on, and the place after them. They are texts if they
-/// are UTF-8, lengths and all.
-fn short_runs_end(payload: &[u8], count: usize, place: usize) -> (usize, usize)
+/// How many texts, of at most `count`, are null from `place` on, and the place after them.
+fn nulls_end(payload: &[u8], count: usize, place: usize) -> (usize, usize)
     requires { place ≤ length payload.now }
-    ensures texts { AreText payload.now place result.1 → Stretch text_items payload.now place result.1 result.0 }
+    ensures texts { Stretch text_items payload.now place result.1 result.0 }
     ensures count { result.0 ≤ count }
-    ensures within { (place ≤ result.1) × (result.1 ≤ length payload.now) }
+    ensures within { result.1 ≤ length payload.now }
 {
     let mut at = place;
     for passed in 0..count {
-        let Some(end) = short_end(payload, at) else {
-            return (passed, at);
-        };
-        at = end;
+        match size_at(payload, at) {
+            Ok((None, end)) => at = end,
+            _ => return (passed, at),
+        }
     }
     (count, at)
 }
 
-/// Whether the bytes from `place` to `end` are UTF-8.
-#[tactic(auto, using(crate::proofs::Primitives::ascii_text))]
+/// Whether the bytes from `place` to `end` are UTF-8; false: undecided.
+#[inline(always)]
 fn are_text(payload: &[u8], place: usize, end: usize) -> bool
     requires { (place ≤ end) × (end ≤ length payload.now) }
     ensures { IsTrue result → AreText payload.now place end }
 {
-    let bytes = &payload[place..end];
-    bytes.len() < 128 && (is_plain(bytes) || is_short_text(bytes)) || is_utf8(bytes)
+    if place == end {
+        return true;
+    }
+    is_text(&payload[place..end])
 }
 
-/// The place after `count` texts, the first of them at `place`; `None`: undecided. Each is looked at by itself.
+/// One text more, the one at `at`: from where on the bytes are still to be looked at, until now from `from` on, and the
+/// place after it; `None`: undecided. A length that is ASCII is looked at with the texts, since no character reaches
+/// over it; before one that isn't, a look is due.
+#[inline(always)]
+fn next_text(payload: &[u8], from: usize, at: usize) -> Option<(usize, usize)>
+    requires { (from ≤ at) × (at ≤ length payload.now) }
+    ensures one { IfSome result (λ x. (place count : ℕ) → AreTexts payload.now from place at count → AreTexts payload.now x.0 place x.1 (count + 1)) }
+    ensures within { IfSome result (λ x. (x.0 ≤ x.1) × (x.1 ≤ length payload.now)) }
+{
+    if let Some(end) = low_end(payload, at) {
+        return Some((from, end));
+    }
+    let Ok((_, end)) = run_at::<false>(payload, at) else {
+        return None;
+    };
+    if are_text(payload, from, at) {
+        Some((at + 4, end))
+    } else {
+        None
+    }
+}
+
+/// The place after `count` texts, the first of them at `place`; `None`: undecided. One look at the bytes of many stands
+/// for a look at each.
 fn texts_end(payload: &[u8], count: usize, place: usize) -> Option<usize>
     requires { place ≤ length payload.now }
     ensures some { IfSome result (λ end. Stretch text_items payload.now place end count) }
     ensures within { IfSome result (λ end. end ≤ length payload.now) }
 {
+    let mut from = place;
     let mut at = place;
     for _ in 0..count {
-        let end = item_end::<TextRef<'_>>(payload, at)?;
+        let (due, end) = next_text(payload, from, at)?;
+        from = due;
         at = end;
     }
-    Some(at)
+    if are_text(payload, from, at) {
+        Some(at)
+    } else {
+        None
+    }
 }
 
-/// How many texts, of at most `count`, were judged from `place` on, and the place after them; `None`: undecided. One look
-/// at the bytes of short ones stands for a look at each.
+/// How many texts, of at most `count`, were judged from `place` on, and the place after them; `None`: undecided.
 fn some_texts_end(payload: &[u8], count: usize, place: usize) -> Option<(usize, usize)>
     requires place { place ≤ length payload.now }
     requires some { 0 < count }
@@ -165,18 +194,11 @@ fn some_texts_end(payload: &[u8], count: usize, place: usize) -> Option<(usize, 
     ensures count { IfSome result (λ x. (0 < x.0) × (x.0 ≤ count)) }
     ensures within { IfSome result (λ x. x.1 ≤ length payload.now) }
 {
-    if count > 1 {
-        let (short, end) = short_runs_end(payload, count.min(LOOK), place);
-        if short > 0 {
-            // Texts and their short lengths are UTF-8 together. So where these bytes aren't, one of them is no text.
-            return if are_text(payload, place, end) {
-                Some((short, end))
-            } else {
-                None
-            };
-        }
+    let (nulls, end) = nulls_end(payload, count, place);
+    if nulls > 0 {
+        return Some((nulls, end));
     }
-    let some = count.min(STEP);
+    let some = count.min(LOOK);
     let end = texts_end(payload, some, place)?;
     Some((some, end))
 }

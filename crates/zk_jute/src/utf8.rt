@@ -8,6 +8,8 @@ ghost use Rattle.simdutf8.specs.Steps.{AreZero};
 ghost use Rattle.simdutf8.specs.Tables.{first_high, first_low, second_high};
 ghost use Rattle.zk_jute.specs.Follow.{EndsClosed, Follow, FollowsAt};
 
+use crate::ascii::{is_plain, plain_front};
+use simdutf8::is_utf8;
 use std::simd::prelude::*;
 
 /// The faults that a pair of bytes can have, by the upper half of the first.
@@ -213,7 +215,7 @@ fn is_text_in_two(bytes: &[u8]) -> bool
 }
 
 /// Whether the bytes are UTF-8, as `simdutf8` says; false: undecided, or too few or too many to gain by it.
-pub(crate) fn is_short_text(bytes: &[u8]) -> bool
+fn is_short_text(bytes: &[u8]) -> bool
     ensures { IsTrue result → IsUtf8 bytes.now }
 {
     match bytes.len() {
@@ -222,5 +224,35 @@ pub(crate) fn is_short_text(bytes: &[u8]) -> bool
         14..19 => is_text_in_two(bytes),
         19..128 => is_text_by_windows(bytes),
         _ => false,
+    }
+}
+
+/// Whether the bytes are UTF-8.
+#[tactic(auto, using(crate::proofs::Primitives::ascii_text))]
+#[inline(always)]
+fn is_any_text(bytes: &[u8]) -> bool
+    ensures { IsTrue result → IsUtf8 bytes.now }
+{
+    bytes.len() < 128 && (is_plain(bytes) || is_short_text(bytes)) || is_utf8(bytes)
+}
+
+/// Whether the bytes are UTF-8; what is ASCII in front is passed over.
+fn is_long_text(bytes: &[u8]) -> bool
+    ensures { IsTrue result → IsUtf8 bytes.now }
+{
+    let front = plain_front(bytes);
+    is_any_text(&bytes[front..])
+}
+
+/// Whether the bytes are UTF-8; false: undecided, and too few to gain by it.
+#[tactic(auto, using(crate::proofs::Primitives::ascii_text))]
+#[inline(always)]
+pub(crate) fn is_text(bytes: &[u8]) -> bool
+    ensures { IsTrue result → IsUtf8 bytes.now }
+{
+    if bytes.len() < 64 {
+        is_plain(bytes) || is_short_text(bytes)
+    } else {
+        is_long_text(bytes)
     }
 }
