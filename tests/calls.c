@@ -107,6 +107,13 @@ static void refused(uint32_t status, bool live, bool side) {
     else must(status != ZK_EMPTY && status != ZK_NULL && status != ZK_IN_USE, "a status that this call has not");
 }
 
+/* A handle that has taken or said nothing begins with a recording or a listing. */
+static void choose(struct played *it, bool talk) {
+    it->broken = false;
+    it->recording = talk ? &recordings[chance(recording_count)] : &listings[chance(listing_count)];
+    it->piece = it->used = 0;
+}
+
 static void begin(struct played *it, bool talk) {
     uint32_t client = any_limit(), server = any_limit(), waiting = any_waiting(), profile = any_profile();
     bool good = client >= 64 && client <= 1 << 24 && server >= 64 && server <= 1 << 24 && waiting >= 1
@@ -116,9 +123,37 @@ static void begin(struct played *it, bool talk) {
     must(status == (it->live ? ZK_IN_USE : good ? ZK_WELL : ZK_RANGE), "a handle that is made");
     if (status != ZK_WELL) return;
     it->live = true;
-    it->broken = false;
-    it->recording = talk ? &recordings[chance(recording_count)] : &listings[chance(listing_count)];
-    it->piece = it->used = 0;
+    choose(it, talk);
+}
+
+/* The handle is begun anew, whatever came before. */
+static void renew(struct played *it, bool talk) {
+    bool none = one_in(50);
+    uint32_t status = answered(talk ? zk_talk_renew(none ? NULL : &it->talk)
+                                    : zk_speaker_renew(none ? NULL : &it->speaker));
+    must(status == (none ? ZK_NULL : it->live ? ZK_WELL : ZK_EMPTY), "a handle that is begun anew");
+    if (status != ZK_WELL) return;
+    choose(it, talk);
+    if (!talk) {
+        clear(&text, any_room());
+        struct zk_line frame = zk_speaker_frame(&it->speaker, text.at, text.room);
+        answered(frame.status);
+        within(&text, 0);
+        must(frame.status == ZK_WELL && frame.length == 0, "a frame of a speaker that has said nothing");
+        return;
+    }
+    struct zk_waiting waiting = zk_talk_waiting(&it->talk);
+    answered(waiting.status);
+    must(waiting.requests == 0 && waiting.weight == 0, "a request that waits since before the talk was begun anew");
+    for (uint32_t side = ZK_CLIENT; side <= ZK_SERVER; side++) {
+        struct zk_held held = zk_talk_held(&it->talk, side);
+        answered(held.status);
+        must(held.bytes == 0, "bytes of before the talk was begun anew");
+        must(answered(zk_talk_view(&it->talk, side).status) == ZK_NO_MESSAGE, "a frame of before");
+    }
+    struct zk_ending ending = zk_talk_finish(&it->talk);
+    answered(ending.status);
+    must(ending.kind == ZK_WHOLE && ending.unanswered == 0, "an ending of before the talk was begun anew");
 }
 
 static void end(struct played *it, bool talk) {
@@ -348,7 +383,9 @@ static void call_talk(struct played *it) {
     uint32_t side = any_side();
     switch (chance(24)) {
     case 0: begin(it, true); break;
-    case 1: if (one_in(it->broken ? 4 : 40)) end(it, true); break;
+    case 1: if (one_in(it->broken ? 8 : 40)) end(it, true);
+            else if (one_in(it->broken ? 4 : 40)) renew(it, true);
+            break;
     case 2: finish(it); break;
     case 3: write_text(it, ending_line, ZK_CLIENT); break;
     case 4: case 5: write_text(it, zk_talk_line, side); break;
@@ -361,7 +398,9 @@ static void call_talk(struct played *it) {
 static void call_speaker(struct played *it) {
     switch (chance(12)) {
     case 0: begin(it, false); break;
-    case 1: if (one_in(40)) end(it, false); break;
+    case 1: if (one_in(40)) end(it, false);
+            else if (one_in(20)) renew(it, false);
+            break;
     default: say(it);
     }
 }

@@ -27,6 +27,7 @@ import fields
 import judged
 import messages
 import packages
+import renewed
 import written
 
 TOP = pathlib.Path(__file__).resolve().parent.parent
@@ -157,6 +158,7 @@ def compare_calls(shared):
     recordings = sorted((TOP / "captures").glob("*.zkr"))
     yield from messages.compare(talk, library, names, recordings)
     yield from written.compare(talk, library, names, exported()[2], recordings)
+    yield from renewed.compare(talk, library, declared()[2], recordings)
 
 
 def check(folder, options):
