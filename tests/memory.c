@@ -2,9 +2,10 @@
  *
  *     memory talk|speaker CLIENT SERVER WAITING ROUNDS [renew]
  *
- * Each round makes a talk, whose sides send a payload of their limits and then as many requests as may wait, or a speaker
- * of which as many lines are said, and closes it; with `renew` one handle is begun anew for each round. It prints how many
- * kilobytes are resident after the last close on top of those at the start: after one round, and after all. */
+ * Each round makes a talk, whose sides send a payload of their limits and then as many requests as may wait, and asks it
+ * for a line and the ending's; or it makes a speaker, to which as many lines are said. Then it closes it. With `renew` one
+ * handle is begun anew for each round. It prints how many kilobytes are resident after the last close, on top of those at
+ * the start: after one round, and after all. */
 #define _POSIX_C_SOURCE 200809L
 #include "zk.h"
 
@@ -65,6 +66,7 @@ static void give_path(uint32_t side, size_t head, size_t limit) {
 }
 
 static void hold_a_talk(void) {
+    static uint8_t text[200];
     static const uint8_t exists[] = {0, 0, 0, 1, 0, 0, 0, 3, 0, 0, 0, 1, '/', 0};
     memset(bytes, 0, 64);
     bytes[HEAD + 27] = 16;
@@ -72,11 +74,13 @@ static void hold_a_talk(void) {
     bytes[HEAD + 27] = 0;
     bytes[HEAD + 19] = 16;
     give(ZK_SERVER, 36);
+    must(zk_talk_line(&talk, ZK_SERVER, text, sizeof text).status == ZK_WELL, "no line");
     give_path(ZK_CLIENT, 8, client);
     give_path(ZK_SERVER, 16, server);
     memcpy(bytes + HEAD, exists, sizeof exists);
     for (uint32_t i = 0; i < waiting; i++) give(ZK_CLIENT, sizeof exists);
     must(zk_talk_waiting(&talk).requests == waiting, "not all requests wait");
+    must(zk_talk_ending_line(&talk, text, sizeof text).status == ZK_WELL, "no ending's line");
 }
 
 static void hold_a_speaker(void) {
