@@ -92,8 +92,8 @@ class Library:
         for name, result, words in (
             ("zk_talk_new", number, (handle, number, number, number, number)),
             ("zk_talk_renew", number, (handle,)),
-            ("zk_talk_step", Step, (handle, number, ctypes.c_char_p, size)),
-            ("zk_talk_pass", Step, (handle, number, ctypes.c_char_p, size)),
+            ("zk_talk_step", Step, (handle, number, ctypes.c_void_p, size)),
+            ("zk_talk_pass", Step, (handle, number, ctypes.c_void_p, size)),
             ("zk_talk_view", Message, (handle, number)),
             ("zk_talk_line", Line, (handle, number, ctypes.c_char_p, size)),
             ("zk_talk_payload", Line, (handle, number, ctypes.c_char_p, size)),
@@ -145,11 +145,12 @@ class Talk:
 
     def lines(self, side, piece):
         """The line of each message that the piece completes."""
-        while piece:
-            step = self.library.zk_talk_step(self.handle, side, piece, len(piece))
+        begin, at = ctypes.cast(piece, ctypes.c_void_p).value, 0
+        while at < len(piece):
+            step = self.library.zk_talk_step(self.handle, side, begin + at, len(piece) - at)
             if step.status != 0:
                 raise Refused(step.status, step.fault.frame, step.fault.offset, step.fault.place)
-            piece = piece[step.used:]
+            at += step.used
             if step.whole:
                 yield self.written(lambda out, room: self.library.zk_talk_line(self.handle, side, out, room))
 
