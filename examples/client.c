@@ -2,9 +2,11 @@
  *
  *     client SERVER PORT PATH DATA [ROUNDS]
  *
- * It says requests as lines (docs/FORMATS.md, section 9) and reads the fields of replies. It prints what the replies
- * have. Then it reads the node ROUNDS times, and prints how many microseconds one takes. The status is 0 if the server
- * answered each request, with an error or without, 1 if a reply was refused, 2 if there is no connection. */
+ * It writes requests from fields and reads the fields of replies, and prints what the replies have. One talk judges both
+ * sides: it refuses a request that may not come next, before that is sent. Then the client reads the node ROUNDS times,
+ * and opens and closes ROUNDS sessions, for each of which the talk is begun anew; it prints how many microseconds one
+ * takes. The status is 0 if the server answered each request, with an error or without, 1 if a request or a reply was
+ * refused, 2 if there is no connection. */
 #define _POSIX_C_SOURCE 200809L
 #include "zk.h"
 
@@ -12,7 +14,6 @@
 #include <netdb.h>
 #include <netinet/in.h>
 #include <netinet/tcp.h>
-#include <stdarg.h>
 #include <stdio.h>
 #include <stdlib.h>
 #include <string.h>
@@ -20,22 +21,25 @@
 #include <time.h>
 #include <unistd.h>
 
-enum { LIMIT = 1 << 20, WAITING = 64, ROOM = 1 << 22, FIELDS = 64 };
+enum { LIMIT = 1 << 20, WAITING = 64, FIELDS = 64 };
 
-/* A session. The speaker makes frames of what may be said, and the talk judges what comes. Each has to know both sides,
- * so that a reply frees the place of its request. */
-static struct zk_speaker speaker;
-static struct zk_talk talk;
+/* Operations. */
+enum { CREATE = 1, GET_DATA = 4, SET_DATA = 5, CHECK = 13, MULTI = 14, CLOSE_SESSION = -11 };
+
+/* A session: the talk knows both sides, so a reply frees the place of its request. */
+static struct zk_talk talk = ZK_ZEROS;
 static int server = -1;
 static int32_t xid;
+/* The next request: its fields, and their texts and blobs. */
+static struct zk_field said[FIELDS];
+static size_t count, length;
+static uint8_t content[LIMIT];
 /* What came of the server; the bytes from `used` to `came` aren't read yet. */
 static uint8_t came_bytes[65536];
 static size_t used, came;
 /* The newest reply: its payload, and its fields. */
 static uint8_t payload[LIMIT];
 static struct zk_field fields[FIELDS];
-static char line[ROOM];
-static size_t length;
 
 static void fail(int status, const char *what) {
     fprintf(stderr, "client: %s\n", what);
@@ -46,53 +50,75 @@ static void well(uint32_t status) {
     if (status != ZK_WELL) fail(1, zk_status_name(status));
 }
 
-/* ---- Lines */
+/* ---- The fields of a request */
 
-static void add(const char *format, ...) {
-    va_list values;
-    va_start(values, format);
-    int added = vsnprintf(line + length, ROOM - length, format, values);
-    va_end(values);
-    if (added < 0 || (size_t)added >= ROOM - length) fail(2, "a line that is too long");
-    length += (size_t)added;
+static void add(struct zk_field field) {
+    if (count == FIELDS) fail(2, "a request of too many fields");
+    said[count++] = field;
 }
 
-/* A text, in which all but plain characters is escaped. */
+static void add_number(uint8_t kind, int64_t number) {
+    struct zk_field field = ZK_ZEROS;
+    field.kind = kind;
+    field.number = number;
+    add(field);
+}
+
+/* A text or a blob. */
+static void add_bytes(uint8_t kind, const char *bytes, size_t size) {
+    struct zk_field field = ZK_ZEROS;
+    if (size > LIMIT - length) fail(2, "a request that is too long");
+    memcpy(content + length, bytes, size);
+    field.kind = kind;
+    field.place = (uint32_t)length;
+    field.length = (uint32_t)size;
+    length += size;
+    add(field);
+}
+
 static void add_text(const char *text) {
-    add("\"");
-    for (const char *at = text; *at != 0; at++) {
-        if (*at >= ' ' && *at <= '~' && *at != '"' && *at != '\\') add("%c", *at);
-        else add("\\%02x", (unsigned)(unsigned char)*at);
-    }
-    add("\"");
+    add_bytes(ZK_KIND_TEXT, text, strlen(text));
 }
 
 static void add_blob(const char *data) {
-    add("#");
-    for (const char *at = data; *at != 0; at++) add("%02x", (unsigned)(unsigned char)*at);
+    add_bytes(ZK_KIND_BLOB, data, strlen(data));
+}
+
+static void add_null(uint8_t kind) {
+    struct zk_field field = ZK_ZEROS;
+    field.kind = kind;
+    field.null = 1;
+    add(field);
+}
+
+/* One right for all: everything. */
+static void add_rights(void) {
+    add_number(ZK_KIND_LIST, 1);
+    add_number(ZK_KIND_INT, 31);
+    add_text("world");
+    add_text("anyone");
 }
 
 /* ---- What is said */
 
-/* Sends the frame of the line, if that may be said now. */
-static void say(void) {
-    static uint8_t frame[LIMIT + 4];
-    struct zk_say said = zk_speaker_say(&speaker, (const uint8_t *)line, length);
-    if (said.status != ZK_WELL) fprintf(stderr, "%.*s\n", (int)length, line);
-    well(said.status);
-    well(zk_speaker_frame(&speaker, frame, sizeof frame).status);
-    well(zk_talk_step(&talk, ZK_CLIENT, frame, said.length).status);
-    for (size_t at = 0; at < said.length;) {
-        ssize_t wrote = send(server, frame + at, said.length - at, MSG_NOSIGNAL);
+/* Sends the frame that was written, if it may come next. */
+static void say(const uint8_t *frame, struct zk_written written) {
+    well(written.status);
+    struct zk_step step = zk_talk_step(&talk, ZK_CLIENT, frame, written.length);
+    well(step.status);
+    for (size_t at = 0; at < written.length;) {
+        ssize_t wrote = send(server, frame + at, written.length - at, MSG_NOSIGNAL);
         if (wrote <= 0) fail(2, "the connection is broken");
         at += (size_t)wrote;
     }
+    count = length = 0;
 }
 
-/* Begins the line of the next request. */
-static void ask(const char *operation) {
-    length = 0;
-    add("C %" PRId32 " %s", ++xid, operation);
+static uint8_t frame[LIMIT + 4];
+
+/* Says the request of the fields that were added. */
+static void ask(int32_t operation) {
+    say(frame, zk_write_request(++xid, operation, said, count, content, length, frame, sizeof frame));
 }
 
 /* ---- What comes */
@@ -109,11 +135,7 @@ static struct zk_message next(void) {
         struct zk_step step = zk_talk_step(&talk, ZK_SERVER, came_bytes + used, came - used);
         well(step.status);
         used += step.used;
-        if (!step.whole) continue;
-        struct zk_line heard = zk_talk_line(&talk, ZK_SERVER, (uint8_t *)line, ROOM);
-        well(heard.status);
-        well(zk_speaker_say(&speaker, (const uint8_t *)line, heard.length).status);
-        return zk_talk_view(&talk, ZK_SERVER);
+        if (step.whole) return zk_talk_view(&talk, ZK_SERVER);
     }
 }
 
@@ -150,71 +172,7 @@ static void show(const struct zk_read *read, uint16_t content, uint16_t number) 
     putchar('\n');
 }
 
-/* ---- Requests */
-
-static void start(void) {
-    length = 0;
-    add("C connect version=0 zxid=0 timeout=10000 session=0 passwd=#%032d ro=0", 0);
-    say();
-    struct zk_read read = answer();
-    printf("connected: time_out=%" PRId64 "\n", field(&read, ZK_NAME_TIME_OUT)->number);
-}
-
-static void create(const char *path, const char *data) {
-    ask("create");
-    add(" path=");
-    add_text(path);
-    add(" blob=");
-    add_blob(data);
-    add(" acl=[31:\"world\":\"anyone\"] flags=0");
-    say();
-    struct zk_read read = answer();
-    show(&read, ZK_NAME_PATH, ZK_NAME_NONE);
-}
-
-static struct zk_read get(const char *path) {
-    ask("getData");
-    add(" path=");
-    add_text(path);
-    add(" watch=0");
-    say();
-    return answer();
-}
-
-/* Changes the node, if it has the version 0, and creates one below it. */
-static void change(const char *path, const char *data) {
-    ask("multi");
-    add(" {check path=");
-    add_text(path);
-    add(" version=0;setData path=");
-    add_text(path);
-    add(" blob=");
-    add_blob(data);
-    add(" version=0;create path=");
-    add_text(path);
-    length--; /* without the quote */
-    add("/below\" blob=~ acl=[31:\"world\":\"anyone\"] flags=0}");
-    say();
-    struct zk_read read = answer();
-    printf("multi: %s", zk_error_name(read.err));
-    for (uint32_t i = 0; i < read.count; i++) {
-        int64_t number = fields[i].number;
-        if (fields[i].kind == ZK_KIND_PART) printf(" %s", number < 0 ? "failed" : zk_operation_name((int32_t)number));
-        if (fields[i].name == ZK_NAME_ERR) printf("=%s", zk_error_name((int32_t)number));
-        if (fields[i].name == ZK_NAME_VERSION) printf(" version=%" PRId64, number);
-    }
-    putchar('\n');
-}
-
-/* How many microseconds a getData takes, as a mean. */
-static double measure(const char *path, long rounds) {
-    struct timespec begun, ended;
-    clock_gettime(CLOCK_MONOTONIC, &begun);
-    for (long i = 0; i < rounds; i++) get(path);
-    clock_gettime(CLOCK_MONOTONIC, &ended);
-    double seconds = (double)(ended.tv_sec - begun.tv_sec) + (double)(ended.tv_nsec - begun.tv_nsec) / 1e9;
-    return seconds * 1e6 / (double)rounds;
-}
+/* ---- Sessions and requests */
 
 static int connection(const char *host, const char *port) {
     struct addrinfo wanted = {0}, *found = NULL;
@@ -227,26 +185,118 @@ static int connection(const char *host, const char *port) {
     return to;
 }
 
-int main(int count, char **words) {
-    long rounds = count == 6 ? atol(words[5]) : 0;
-    if (count != 5 && count != 6) fail(2, "usage: client SERVER PORT PATH DATA [ROUNDS]");
-    server = connection(words[1], words[2]);
-    well(zk_talk_new(&talk, LIMIT, LIMIT, WAITING, ZK_PROFILE_34));
-    well(zk_speaker_new(&speaker, LIMIT, LIMIT, WAITING, ZK_PROFILE_34));
-    start();
+/* Opens a session: the first one makes the talk, and each later one begins it anew. */
+static struct zk_read begin(const char *host, const char *port) {
+    static const char password[16];
+    uint32_t status = zk_talk_renew(&talk);
+    well(status != ZK_EMPTY ? status : zk_talk_new(&talk, LIMIT, LIMIT, WAITING, ZK_PROFILE_34));
+    server = connection(host, port);
+    xid = 0;
+    used = came = 0;
+    add_number(ZK_KIND_INT, 0);      /* the version of the protocol */
+    add_number(ZK_KIND_LONG, 0);     /* the last zxid that was seen */
+    add_number(ZK_KIND_INT, 10000);  /* the session's milliseconds */
+    add_number(ZK_KIND_LONG, 0);     /* no earlier session, and no password of one */
+    add_bytes(ZK_KIND_BLOB, password, sizeof password);
+    add_number(ZK_KIND_BOOL, 0);     /* not only to read */
+    say(frame, zk_write_first(said, count, content, length, frame, sizeof frame));
+    return answer();
+}
+
+static struct zk_read end(void) {
+    ask(CLOSE_SESSION);
+    struct zk_read read = answer();
+    close(server);
+    return read;
+}
+
+static void create(const char *path, const char *data) {
+    add_text(path);
+    add_blob(data);
+    add_rights();
+    add_number(ZK_KIND_INT, 0);
+    ask(CREATE);
+    struct zk_read read = answer();
+    show(&read, ZK_NAME_PATH, ZK_NAME_NONE);
+}
+
+static struct zk_read get(const char *path) {
+    add_text(path);
+    add_number(ZK_KIND_BOOL, 0);
+    ask(GET_DATA);
+    return answer();
+}
+
+/* Changes the node, if it has the version 0, and creates one below it. */
+static void change(const char *path, const char *data) {
+    add_number(ZK_KIND_PART, CHECK);
+    add_text(path);
+    add_number(ZK_KIND_INT, 0);
+    add_number(ZK_KIND_PART, SET_DATA);
+    add_text(path);
+    add_blob(data);
+    add_number(ZK_KIND_INT, 0);
+    add_number(ZK_KIND_PART, CREATE);
+    size_t place = length;
+    add_text(path);
+    add_text("/below");
+    count--; /* one text of both */
+    said[count - 1].length = (uint32_t)(length - place);
+    add_null(ZK_KIND_BLOB);
+    add_rights();
+    add_number(ZK_KIND_INT, 0);
+    ask(MULTI);
+    struct zk_read read = answer();
+    printf("multi: %s", zk_error_name(read.err));
+    for (uint32_t i = 0; i < read.count; i++) {
+        int64_t number = fields[i].number;
+        if (fields[i].kind == ZK_KIND_PART) printf(" %s", number < 0 ? "failed" : zk_operation_name((int32_t)number));
+        if (fields[i].name == ZK_NAME_ERR) printf("=%s", zk_error_name((int32_t)number));
+        if (fields[i].name == ZK_NAME_VERSION) printf(" version=%" PRId64, number);
+    }
+    putchar('\n');
+}
+
+/* ---- Times */
+
+static double microseconds(void) {
+    struct timespec time;
+    clock_gettime(CLOCK_MONOTONIC, &time);
+    return (double)time.tv_sec * 1e6 + (double)time.tv_nsec / 1e3;
+}
+
+/* Prints how many microseconds a getData takes, as a mean. */
+static void measure(const char *path, long rounds) {
+    double begun = microseconds();
+    for (long i = 0; i < rounds; i++) get(path);
+    printf("getData: %.1f microseconds, the mean of %ld\n", (microseconds() - begun) / (double)rounds, rounds);
+}
+
+/* The same of a session that asks nothing. */
+static void measure_sessions(const char *host, const char *port, long rounds) {
+    double begun = microseconds();
+    for (long i = 0; i < rounds; i++) {
+        begin(host, port);
+        end();
+    }
+    printf("session: %.1f microseconds, the mean of %ld\n", (microseconds() - begun) / (double)rounds, rounds);
+}
+
+int main(int given, char **words) {
+    long rounds = given == 6 ? atol(words[5]) : 0;
+    if (given != 5 && given != 6) fail(2, "usage: client SERVER PORT PATH DATA [ROUNDS]");
+    struct zk_read read = begin(words[1], words[2]);
+    printf("connected: time_out=%" PRId64 "\n", field(&read, ZK_NAME_TIME_OUT)->number);
     create(words[3], words[4]);
-    struct zk_read read = get(words[3]);
+    read = get(words[3]);
     show(&read, ZK_NAME_DATA, ZK_NAME_VERSION);
     change(words[3], "changed");
     read = get("/missing");
     show(&read, ZK_NAME_DATA, ZK_NAME_VERSION);
-    if (rounds > 0) printf("getData: %.1f microseconds, the mean of %ld\n", measure(words[3], rounds), rounds);
-    ask("closeSession");
-    say();
-    read = answer();
+    if (rounds > 0) measure(words[3], rounds);
+    read = end();
     show(&read, ZK_NAME_NONE, ZK_NAME_NONE);
+    if (rounds > 0) measure_sessions(words[1], words[2], rounds);
     zk_talk_free(&talk);
-    zk_speaker_free(&speaker);
-    close(server);
     return 0;
 }

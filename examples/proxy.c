@@ -29,7 +29,7 @@
 #include <time.h>
 #include <unistd.h>
 
-enum { MOST = 1000, PIECE = 65536, WAITING = 1024, LIMIT = 1 << 22, LANES = 4 };
+enum { MOST = 1000, PIECE = 65536, WAITING = 1024, LIMIT = 1 << 22, LANES = 4, SPARES = 16 };
 
 /* What came from one end, and isn't yet passed on to the other. */
 struct way {
@@ -58,6 +58,10 @@ struct connection {
 
 static struct connection *all[MOST];
 static size_t count;
+/* Talks that are over: the next connections begin them anew, which is sooner done than to make a talk. What was touched of
+ * their memory stays with them, so more aren't kept. */
+static struct zk_talk spares[SPARES];
+static size_t spare_count;
 static struct addrinfo *server;
 static uint8_t *text;
 static size_t room;
@@ -131,12 +135,31 @@ static void put_message(struct connection *it, uint32_t side) {
     put_line(it, waited, line);
 }
 
+/* Gives a connection a talk. */
+static void begin_talk(struct connection *it) {
+    if (spare_count > 0) it->talk = spares[--spare_count];
+    uint32_t status = zk_talk_renew(&it->talk);
+    if (status == ZK_EMPTY) status = zk_talk_new(&it->talk, LIMIT, LIMIT, WAITING, ZK_PROFILE_35);
+    it->seen = status == ZK_WELL;
+}
+
+/* Takes a connection's talk away. */
+static void end_talk(struct connection *it) {
+    static const struct zk_talk none = ZK_ZEROS;
+    it->seen = false;
+    if (spare_count == SPARES) {
+        zk_talk_free(&it->talk);
+        return;
+    }
+    spares[spare_count++] = it->talk;
+    it->talk = none; /* a handle isn't used twice */
+}
+
 static void put_ending(struct connection *it) {
     struct zk_line line = zk_talk_ending_line(&it->talk, text, room);
     if (longer(line)) line = zk_talk_ending_line(&it->talk, text, room);
     put_line(it, -1, line);
-    zk_talk_free(&it->talk);
-    it->seen = false;
+    end_talk(it);
 }
 
 /* Prints the messages that these bytes complete. */
@@ -228,7 +251,6 @@ static bool ready(int socket) {
 static void give_up(size_t at) {
     struct connection *it = all[at];
     if (it->seen) put_ending(it);
-    zk_talk_free(&it->talk);
     for (uint32_t side = ZK_CLIENT; side <= ZK_SERVER; side++)
         if (it->ends[side] >= 0) close(it->ends[side]);
     free(it);
@@ -246,7 +268,7 @@ static void begin(int client) {
     it->number = ++number;
     it->ends[ZK_CLIENT] = client;
     it->ends[ZK_SERVER] = socket(server->ai_family, server->ai_socktype, server->ai_protocol);
-    it->seen = zk_talk_new(&it->talk, LIMIT, LIMIT, WAITING, ZK_PROFILE_35) == ZK_WELL;
+    begin_talk(it);
     all[count++] = it;
     int to = it->ends[ZK_SERVER];
     if (!ready(client) || !ready(to)) give_up(count - 1);
@@ -311,6 +333,7 @@ int main(int given, char **words) {
     int listener = listening(words[1]);
     while (!over) turn(listener);
     while (count > 0) give_up(count - 1);
+    while (spare_count > 0) zk_talk_free(&spares[--spare_count]);
     close(listener);
     freeaddrinfo(server);
     free(text);

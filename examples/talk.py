@@ -28,6 +28,11 @@ class Step(ctypes.Structure):
     _fields_ = [("used", ctypes.c_size_t), ("status", ctypes.c_uint32), ("whole", ctypes.c_bool), ("fault", Fault)]
 
 
+class Ending(ctypes.Structure):
+    _fields_ = [("status", ctypes.c_uint32), ("kind", ctypes.c_uint32), ("unanswered", ctypes.c_uint32),
+                ("side", ctypes.c_uint32), ("got", ctypes.c_uint32), ("frame", ctypes.c_uint64), ("fault", Fault)]
+
+
 class Message(ctypes.Structure):
     _fields_ = [("status", ctypes.c_uint32), ("kind", ctypes.c_uint32), ("xid", ctypes.c_int32),
                 ("operation", ctypes.c_int32), ("size", ctypes.c_uint32), ("err", ctypes.c_int32),
@@ -86,17 +91,20 @@ class Library:
         payload, room = (ctypes.c_char_p, size), (ctypes.POINTER(Field), size)
         for name, result, words in (
             ("zk_talk_new", number, (handle, number, number, number, number)),
-            ("zk_talk_step", Step, (handle, number, ctypes.c_char_p, size)),
-            ("zk_talk_pass", Step, (handle, number, ctypes.c_char_p, size)),
+            ("zk_talk_renew", number, (handle,)),
+            ("zk_talk_step", Step, (handle, number, ctypes.c_void_p, size)),
+            ("zk_talk_pass", Step, (handle, number, ctypes.c_void_p, size)),
             ("zk_talk_view", Message, (handle, number)),
             ("zk_talk_line", Line, (handle, number, ctypes.c_char_p, size)),
             ("zk_talk_payload", Line, (handle, number, ctypes.c_char_p, size)),
             ("zk_talk_fields", Read, (handle, number, *room)),
             ("zk_talk_waiting", Waiting, (handle,)),
             ("zk_talk_held", Held, (handle, number)),
+            ("zk_talk_finish", Ending, (handle,)),
             ("zk_talk_ending_line", Line, (handle, ctypes.c_char_p, size)),
             ("zk_talk_free", None, (handle,)),
             ("zk_speaker_new", number, (handle, number, number, number, number)),
+            ("zk_speaker_renew", number, (handle,)),
             ("zk_speaker_say", Say, (handle, ctypes.c_char_p, size)),
             ("zk_speaker_frame", Line, (handle, ctypes.c_char_p, size)),
             ("zk_speaker_free", None, (handle,)),
@@ -137,11 +145,12 @@ class Talk:
 
     def lines(self, side, piece):
         """The line of each message that the piece completes."""
-        while piece:
-            step = self.library.zk_talk_step(self.handle, side, piece, len(piece))
+        begin, at = ctypes.cast(piece, ctypes.c_void_p).value, 0
+        while at < len(piece):
+            step = self.library.zk_talk_step(self.handle, side, begin + at, len(piece) - at)
             if step.status != 0:
                 raise Refused(step.status, step.fault.frame, step.fault.offset, step.fault.place)
-            piece = piece[step.used:]
+            at += step.used
             if step.whole:
                 yield self.written(lambda out, room: self.library.zk_talk_line(self.handle, side, out, room))
 

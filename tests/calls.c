@@ -3,12 +3,12 @@
  *     calls SEED COUNT FILE ..
  *
  * FILEs are recordings and listings of captures/. Handles are used in any order, empty or not; pieces of recordings,
- * payloads and lines come as they are or damaged; limits, sides, profiles and operations are right or wrong; rooms are
- * ample, exact, too small or none; pointers are null with 0 and without. What is read and written is between guard pages
- * (calls.h). It prints the first answer that can't be, and how often each status came; the status is 0 if all could. */
-#include "calls.h"
+ * payloads, fields and lines come as they are or damaged; limits, sides, profiles and operations are right or wrong; rooms
+ * are ample, exact, too small or none; pointers are null with 0 and without (chosen.h). What is read and written is between
+ * guard pages (calls.h). It prints the first answer that can't be, and how often each status came; the status is 0 if all could. */
+#include "chosen.h"
 
-enum { TALKS = 6, SPEAKERS = 3, ROOM = 1 << 16, FIELDS = 300 };
+enum { TALKS = 6, SPEAKERS = 3 };
 
 /* A handle, and how far it has come in a recording or a listing. */
 struct played {
@@ -20,83 +20,7 @@ struct played {
 };
 
 static struct played talks[TALKS], speakers[SPEAKERS];
-static struct input bytes, numbers, cuts;
-static struct output text, fields;
-static unsigned long statuses[128];
-
-/* Counts a call; its status is one that the header has. */
-static uint32_t answered(uint32_t status) {
-    counted++;
-    must(zk_status_name(status)[0] != 0, "a status without a name");
-    statuses[status]++;
-    return status;
-}
-
-/* ---- Bytes */
-
-/* Damages the bytes of an input that were copied, and returns how many they are then. */
-static size_t damaged(uint8_t *copy, size_t length) {
-    switch (chance(6)) {
-    case 0: return (size_t)chance(length + 1);
-    case 1:
-        for (size_t more = 1 + (size_t)chance(9); more > 0; more--) copy[length++] = (uint8_t)chance(256);
-        return length;
-    case 2:
-        for (size_t i = 0; i < length; i++) copy[i] = (uint8_t)chance(256);
-        return length;
-    default:
-        for (size_t times = 1 + (size_t)chance(3); length > 0 && times > 0; times--)
-            copy[chance(length)] = (uint8_t)PICK(0, 1, 2, 127, 128, 255, (int64_t)chance(256));
-        return length;
-    }
-}
-
-/* Some of these bytes, damaged once in `rarely` times. */
-static void put_bytes(const uint8_t *from, size_t length, uint64_t rarely) {
-    memcpy(bytes.copy, from, length);
-    put(&bytes, one_in(rarely) ? damaged(bytes.copy, length) : length);
-}
-
-/* A pointer, now and then null; and a length, now and then too large. What is then expected. */
-static uint32_t astray(const uint8_t **at, size_t *length) {
-    if (one_in(100) && *length > 0) {
-        *at = NULL;
-        return ZK_NULL;
-    }
-    if (one_in(100) && *at != NULL) {
-        *length = (size_t)PTRDIFF_MAX + 1 + (size_t)chance(1000);
-        return ZK_RANGE;
-    }
-    return ZK_WELL;
-}
-
-static uint32_t any_side(void) {
-    return one_in(50) ? (uint32_t)PICK(2, 3, UINT32_MAX) : (uint32_t)chance(2);
-}
-
-static uint32_t any_profile(void) {
-    return one_in(20) ? (uint32_t)PICK(0, 33, 36, UINT32_MAX) : (uint32_t)PICK(34, 35);
-}
-
-static int32_t any_operation(void) {
-    return (int32_t)PICK(1, 2, 3, 4, 5, 6, 7, 8, 9, 11, 12, 13, 14, 15, 100, 101, -11, 0, 10, -1, INT32_MIN, INT32_MAX);
-}
-
-/* A limit that is mostly enough for the recordings, and seldom in need of much memory. */
-static uint32_t any_limit(void) {
-    if (one_in(300)) return (uint32_t)PICK(1 << 24, (1 << 24) - 1);
-    if (one_in(60)) return (uint32_t)PICK(0, 63, 16777217, UINT32_MAX);
-    return (uint32_t)PICK(64, 100, 4096, 65536, 65536, 262144, 262144, 262144);
-}
-
-static uint32_t any_waiting(void) {
-    if (one_in(60)) return (uint32_t)PICK(0, 1048577, UINT32_MAX);
-    return one_in(300) ? 1 << 20 : (uint32_t)PICK(1, 2, 16, 1000, 1000, 1000);
-}
-
-static size_t any_room(void) {
-    return (size_t)PICK(0, 1, (int64_t)chance(300), (int64_t)chance(300), ROOM, ROOM);
-}
+static struct played talks[TALKS], speakers[SPEAKERS];
 
 /* ---- Handles */
 
@@ -105,6 +29,13 @@ static void refused(uint32_t status, bool live, bool side) {
     if (!side) must(status == ZK_RANGE, "a side that is none");
     else if (!live) must(status == ZK_EMPTY, "an empty handle");
     else must(status != ZK_EMPTY && status != ZK_NULL && status != ZK_IN_USE, "a status that this call has not");
+}
+
+/* A handle that has taken or said nothing begins with a recording or a listing. */
+static void choose(struct played *it, bool talk) {
+    it->broken = false;
+    it->recording = talk ? &recordings[chance(recording_count)] : &listings[chance(listing_count)];
+    it->piece = it->used = 0;
 }
 
 static void begin(struct played *it, bool talk) {
@@ -116,9 +47,37 @@ static void begin(struct played *it, bool talk) {
     must(status == (it->live ? ZK_IN_USE : good ? ZK_WELL : ZK_RANGE), "a handle that is made");
     if (status != ZK_WELL) return;
     it->live = true;
-    it->broken = false;
-    it->recording = talk ? &recordings[chance(recording_count)] : &listings[chance(listing_count)];
-    it->piece = it->used = 0;
+    choose(it, talk);
+}
+
+/* The handle is begun anew, whatever came before. */
+static void renew(struct played *it, bool talk) {
+    bool none = one_in(50);
+    uint32_t status = answered(talk ? zk_talk_renew(none ? NULL : &it->talk)
+                                    : zk_speaker_renew(none ? NULL : &it->speaker));
+    must(status == (none ? ZK_NULL : it->live ? ZK_WELL : ZK_EMPTY), "a handle that is begun anew");
+    if (status != ZK_WELL) return;
+    choose(it, talk);
+    if (!talk) {
+        clear(&text, any_room());
+        struct zk_line frame = zk_speaker_frame(&it->speaker, text.at, text.room);
+        answered(frame.status);
+        within(&text, 0);
+        must(frame.status == ZK_WELL && frame.length == 0, "a frame of a speaker that has said nothing");
+        return;
+    }
+    struct zk_waiting waiting = zk_talk_waiting(&it->talk);
+    answered(waiting.status);
+    must(waiting.requests == 0 && waiting.weight == 0, "a request that waits since before the talk was begun anew");
+    for (uint32_t side = ZK_CLIENT; side <= ZK_SERVER; side++) {
+        struct zk_held held = zk_talk_held(&it->talk, side);
+        answered(held.status);
+        must(held.bytes == 0, "bytes of before the talk was begun anew");
+        must(answered(zk_talk_view(&it->talk, side).status) == ZK_NO_MESSAGE, "a frame of before");
+    }
+    struct zk_ending ending = zk_talk_finish(&it->talk);
+    answered(ending.status);
+    must(ending.kind == ZK_WHOLE && ending.unanswered == 0, "an ending of before the talk was begun anew");
 }
 
 static void end(struct played *it, bool talk) {
@@ -149,7 +108,8 @@ static void step(struct played *it) {
     at = bytes.at;
     length = bytes.length;
     uint32_t expected = astray(&at, &length);
-    struct zk_step step = zk_talk_step(&it->talk, side, at, length);
+    bool passes = one_in(4);
+    struct zk_step step = passes ? zk_talk_pass(&it->talk, side, at, length) : zk_talk_step(&it->talk, side, at, length);
     answered(step.status);
     unchanged(&bytes);
     if (expected != ZK_WELL) {
@@ -160,11 +120,24 @@ static void step(struct played *it) {
     must(step.used <= length && (!step.whole || step.used > 0), "more is used than came");
     must(step.status == ZK_WELL || !step.whole, "a whole frame that is refused");
     must((step.fault.reason != 0) == (step.status != ZK_WELL && step.status <= ZK_STREAM_END), "a fault");
+    if (step.whole) must(zk_talk_view(&it->talk, side).status == (passes ? ZK_NO_MESSAGE : ZK_WELL), "the frame kept");
     if (step.status != ZK_WELL || !next) it->broken = true;
     else if ((it->used += step.used) >= pieces[it->recording->first + it->piece].length) { /* damage may add bytes */
         it->used = 0;
         it->piece++;
     }
+}
+
+/* What waits and is held. */
+static void count_all(struct played *it, uint32_t side) {
+    struct zk_waiting waiting = zk_talk_waiting(&it->talk);
+    answered(waiting.status);
+    refused(waiting.status, it->live, true);
+    must(waiting.requests <= waiting.weight && waiting.weight <= 1 << 20, "more requests wait than may");
+    struct zk_held held = zk_talk_held(&it->talk, side);
+    answered(held.status);
+    refused(held.status, it->live, side <= ZK_SERVER);
+    must(held.bytes <= 4 + (1 << 24), "more bytes are held than a frame has");
 }
 
 static void finish(struct played *it) {
@@ -280,6 +253,51 @@ static void read_payload(void) {
     must(judged.place == read.place && (read.kind == 0 || read.kind == kind), "another place or kind");
 }
 
+/* Writes the frame of a request from its fields, which are right or damaged. */
+static void write_payload(void) {
+    const struct payload *it = &payloads[chance(payload_count)];
+    bool asks = it->kind == ZK_REQUEST, good = true;
+    struct zk_field *all = (struct zk_field *)(void *)items.copy;
+    struct zk_read read = asks ? zk_read_request(35, it->bytes, it->length, all, FIELDS)
+                               : zk_read_first(it->bytes, it->length, all, FIELDS);
+    size_t count = read.count < FIELDS ? read.count : FIELDS;
+    answered(read.status);
+    if (read.status != ZK_WELL || (it->kind != ZK_CONNECT && !asks)) good = false;
+    for (size_t times = one_in(3) ? 1 + (size_t)chance(3) : 0; times > 0 && count > 0; times--) {
+        uint8_t *at = items.copy + chance(count * sizeof *all);
+        *at = (uint8_t)PICK(0, 1, 2, 7, 127, 255, (int64_t)chance(256));
+        good = false;
+    }
+    if (one_in(20) && count > 0) good = false, count = (size_t)chance(count);
+    put(&items, count * sizeof *all);
+    put_bytes(it->bytes, it->length, 9);
+    good = good && bytes.length == it->length && memcmp(bytes.copy, it->bytes, it->length) == 0;
+    const uint8_t *at = bytes.at;
+    size_t length = bytes.length, size = it->length + 4;
+    uint32_t expected = astray(&at, &length);
+    clear(&text, one_in(2) && size < SIZE ? size : any_room());
+    const struct zk_field *from = (const struct zk_field *)(const void *)items.at;
+    int32_t xid = asks ? number_at(it->bytes) : 0;
+    struct zk_written written = asks ? zk_write_request(xid, it->operation, from, count, at, length, text.at, text.room)
+                                     : zk_write_first(from, count, at, length, text.at, text.room);
+    answered(written.status);
+    unchanged(&items);
+    unchanged(&bytes);
+    within(&text, written.status == ZK_WELL ? written.length : 0);
+    if (expected != ZK_WELL) {
+        must(written.status == expected, "a pointer or a length astray");
+        return;
+    }
+    bool index = written.status == ZK_RANGE || written.status == ZK_TOO_LONG;
+    must(index ? written.index < count : written.index == 0, "the index of a field");
+    must(written.status != ZK_ROOM || written.length > text.room, "a frame for which there is room");
+    must(written.status == ZK_WELL || written.status == ZK_ROOM || index, "a status that this call has not");
+    if (!good) return;
+    must(written.status == (text.room < size ? ZK_ROOM : ZK_WELL) && written.length == size, "the frame of its fields");
+    if (written.status != ZK_WELL) return;
+    must((size_t)number_at(text.at) == it->length && memcmp(text.at + 4, it->bytes, it->length) == 0, "another frame");
+}
+
 /* ---- Lines and listings */
 
 static void say(struct played *it) {
@@ -348,12 +366,15 @@ static void call_talk(struct played *it) {
     uint32_t side = any_side();
     switch (chance(24)) {
     case 0: begin(it, true); break;
-    case 1: if (one_in(it->broken ? 4 : 40)) end(it, true); break;
+    case 1: if (one_in(it->broken ? 8 : 40)) end(it, true);
+            else if (one_in(it->broken ? 4 : 40)) renew(it, true);
+            break;
     case 2: finish(it); break;
     case 3: write_text(it, ending_line, ZK_CLIENT); break;
     case 4: case 5: write_text(it, zk_talk_line, side); break;
     case 6: case 7: write_text(it, zk_talk_payload, side); break;
-    case 8: case 9: case 10: talk_fields(it, side); break;
+    case 8: case 9: talk_fields(it, side); break;
+    case 10: count_all(it, side); break;
     default: step(it);
     }
 }
@@ -361,14 +382,17 @@ static void call_talk(struct played *it) {
 static void call_speaker(struct played *it) {
     switch (chance(12)) {
     case 0: begin(it, false); break;
-    case 1: if (one_in(40)) end(it, false); break;
+    case 1: if (one_in(40)) end(it, false);
+            else if (one_in(20)) renew(it, false);
+            break;
     default: say(it);
     }
 }
 
 static void call(void) {
     switch (chance(16)) {
-    case 0: case 1: case 2: case 3: case 4: read_payload(); break;
+    case 0: case 1: case 2: case 3: read_payload(); break;
+    case 4: write_payload(); break;
     case 5: case 6: case 7: call_speaker(&speakers[chance(SPEAKERS)]); break;
     case 8: if (one_in(40)) list(); else name(); break;
     default: call_talk(&talks[chance(TALKS)]);
@@ -383,13 +407,14 @@ int main(int given, char **words) {
     bytes.copy = malloc(SIZE);
     numbers.copy = malloc(PAGE);
     cuts.copy = malloc(PAGE);
-    if (bytes.copy == NULL || numbers.copy == NULL || cuts.copy == NULL) return 2;
+    items.copy = malloc(FIELDS * sizeof(struct zk_field));
+    if (bytes.copy == NULL || numbers.copy == NULL || cuts.copy == NULL || items.copy == NULL) return 2;
     while (counted < strtoul(words[2], NULL, 10)) call();
     for (size_t i = 0; i < TALKS; i++) zk_talk_free(&talks[i].talk);
     for (size_t i = 0; i < SPEAKERS; i++) zk_speaker_free(&speakers[i].speaker);
     while (kept_count > 0) free(kept[--kept_count]);
     free(pieces), free(lines), free(payloads);
-    free(bytes.copy), free(numbers.copy), free(cuts.copy);
+    free(bytes.copy), free(numbers.copy), free(cuts.copy), free(items.copy);
     printf("%lu calls from the seed %lu:", counted, seed);
     for (uint32_t i = 0; i < 128; i++)
         if (statuses[i] > 0) printf(" %s %lu", zk_status_name(i), statuses[i]);

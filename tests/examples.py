@@ -219,6 +219,20 @@ def backpressure(program):
 # ---- The client
 
 
+def measure_client(program):
+    """Whether it goes on with reads, and with sessions one after another, each of which begins anew."""
+    with answering.Server() as server:
+        threading.Thread(target=server.serve_forever, daemon=True).start()
+        words = [program, "127.0.0.1", str(server.port), "/a", "", "20"]
+        found = subprocess.run(words, capture_output=True, text=True)
+        server.shutdown()
+    closings = [bytes.fromhex(f"{xid:08x} fffffff5") for xid in (25, *(1,) * 20)]
+    good = found.returncode == 0 and len(re.findall(r"^(?:getData|session): [0-9.]+ micro.* of 20$", found.stdout, re.M)) == 2
+    yield "client, rounds", good, f"client: {found.returncode}, {found.stdout}{found.stderr}"
+    heard = [payload for payload in server.heard if payload[4:] == closings[0][4:]]
+    yield "client, sessions", heard == closings, f"client: it ends sessions by {heard}"
+
+
 def run_client(program):
     """Whether the client prints what the server has, and says what it should."""
     with answering.Server() as server:
@@ -229,6 +243,7 @@ def run_client(program):
     yield "client", good, f"client: {found.returncode}, {found.stdout}{found.stderr}"
     asked = [bytes.fromhex(digits) for digits in ASKED]
     yield "client, bytes", server.heard[1:] == asked, f"client: it says {[heard.hex() for heard in server.heard[1:]]}"
+    yield from measure_client(program)
     with socket.create_server(("127.0.0.1", 0)) as listener:
         words = [program, "127.0.0.1", str(listener.getsockname()[1]), "/a", ""]
         with subprocess.Popen(words, stderr=subprocess.PIPE, text=True) as found:

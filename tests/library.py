@@ -6,9 +6,10 @@
 Each call that crates/zk_c/src exports is in include/zk.h with the same parameters, each struct that C sees with the
 same fields, and each number by the same name. Payloads, lines and conversations are judged as tables say (judged.py).
 The fields of payloads, and of recordings' messages, are compared with a second reading of docs/FORMATS.md (fields.py,
-messages.py). The examples and the tests in C are compiled and run (examples.py): listings of every recording, a proxy
-and a client over sockets, null pointers, handles that go from thread to thread, and --calls (1,000,000) calls at random
-between guard pages, from a seed. The packages for Python, Rust and Go are built, and run their own tests
+messages.py), and those of requests written again (written.py). Handles that are begun anew are compared with new ones
+(renewed.py). The examples and the tests in C are compiled and run (examples.py): listings of every recording, a proxy
+and a client over sockets, null pointers, handles that go from thread to thread, the memory that stays of closed ones,
+and --calls (1,000,000) calls at random between guard pages, from a seed. The packages for Python, Rust and Go are built, and run their own tests
 (packages.py). What is skipped, since a compiler or a module is missing, is reported.
 
 Where no other is named, the library is proved and built here, over the libraries below it that `rt ci` left; where it
@@ -27,6 +28,7 @@ import fields
 import judged
 import messages
 import packages
+import renewed
 import written
 
 TOP = pathlib.Path(__file__).resolve().parent.parent
@@ -157,6 +159,7 @@ def compare_calls(shared):
     recordings = sorted((TOP / "captures").glob("*.zkr"))
     yield from messages.compare(talk, library, names, recordings)
     yield from written.compare(talk, library, names, exported()[2], recordings)
+    yield from renewed.compare(talk, library, declared()[2], recordings)
 
 
 def check(folder, options):

@@ -25,6 +25,7 @@ static void expect(const char *call, uint32_t status, uint32_t expected) {
 
 static void handles_that_are_null(void) {
     expect("zk_talk_new", zk_talk_new(NULL, 64, 64, 1, 34), ZK_NULL);
+    expect("zk_talk_renew", zk_talk_renew(NULL), ZK_NULL);
     expect("zk_talk_step", zk_talk_step(NULL, ZK_CLIENT, &byte, 1).status, ZK_NULL);
     expect("zk_talk_pass", zk_talk_pass(NULL, ZK_CLIENT, &byte, 1).status, ZK_NULL);
     expect("zk_talk_waiting", zk_talk_waiting(NULL).status, ZK_NULL);
@@ -37,6 +38,7 @@ static void handles_that_are_null(void) {
     expect("zk_talk_ending_line", zk_talk_ending_line(NULL, out, room).status, ZK_NULL);
     zk_talk_free(NULL);
     expect("zk_speaker_new", zk_speaker_new(NULL, 64, 64, 1, 34), ZK_NULL);
+    expect("zk_speaker_renew", zk_speaker_renew(NULL), ZK_NULL);
     expect("zk_speaker_say", zk_speaker_say(NULL, &byte, 1).status, ZK_NULL);
     expect("zk_speaker_frame", zk_speaker_frame(NULL, out, room).status, ZK_NULL);
     zk_speaker_free(NULL);
@@ -80,7 +82,10 @@ static void messages(void) {
     expect("zk_talk_held, a byte came", zk_talk_held(&talk, ZK_CLIENT).bytes, 1);
     expect("zk_talk_held, of the other side", zk_talk_held(&talk, ZK_SERVER).bytes, 0);
     expect("zk_talk_waiting, nothing waits", zk_talk_waiting(&talk).requests, 0);
+    expect("zk_talk_renew", zk_talk_renew(&talk), ZK_WELL);
+    expect("zk_talk_held, begun anew", zk_talk_held(&talk, ZK_CLIENT).bytes, 0);
     zk_talk_free(&talk);
+    expect("zk_talk_renew, no talk", zk_talk_renew(&talk), ZK_EMPTY);
     expect("zk_talk_pass, no talk", zk_talk_pass(&talk, ZK_CLIENT, &byte, 1).status, ZK_EMPTY);
     expect("zk_talk_waiting, no talk", zk_talk_waiting(&talk).status, ZK_EMPTY);
     expect("zk_talk_held, no talk", zk_talk_held(&talk, ZK_CLIENT).status, ZK_EMPTY);
@@ -96,7 +101,9 @@ static void speakers(void) {
     expect("zk_speaker_frame, no room for no frame", zk_speaker_frame(&speaker, NULL, 0).status, ZK_WELL);
     expect("zk_speaker_frame, no frame", (uint32_t)zk_speaker_frame(&speaker, out, room).length, 0);
     expect("zk_speaker_frame, too long", zk_speaker_frame(&speaker, out, more).status, ZK_RANGE);
+    expect("zk_speaker_renew", zk_speaker_renew(&speaker), ZK_WELL);
     zk_speaker_free(&speaker);
+    expect("zk_speaker_renew, no speaker", zk_speaker_renew(&speaker), ZK_EMPTY);
 }
 
 static void judged_payloads(void) {

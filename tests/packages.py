@@ -1,7 +1,8 @@
 """Builds the packages of examples/ and runs their own tests, where their tools are: Python, Rust and Go.
 
-tests/library.py calls it. Nothing is taken from a network. The names of numbers that a package has are compared with the
-header's, and the calls that it declares with the header's by their parameters' number.
+tests/library.py calls it. Nothing is taken from a network. The library is found in each way that docs/LIBRARY.md names.
+The names of numbers that a package has are compared with the header's. It declares every call of the header, with as
+many parameters. mypy, clippy and `go vet` find nothing to mend.
 """
 
 import os
@@ -60,6 +61,15 @@ def check_python(folder, shared):
     yield result
 
 
+def described(folder, archive):
+    """A folder in which pkg-config finds the library of this one."""
+    named = folder / "described"
+    named.mkdir(exist_ok=True)
+    (named / "zk.pc").write_text(f"Name: zk\nDescription: libzk\nVersion: 0\nCflags: -I{HEADER.parent}\n"
+                                 f"Libs: -L{archive.parent} -lzk\n")
+    return named
+
+
 def check_rust(folder, archive):
     """Both crates are built, and the tests and the examples of their documentation run."""
     if not shutil.which("cargo"):
@@ -67,10 +77,20 @@ def check_rust(folder, archive):
         return
     made = {"CARGO_TARGET_DIR": str(folder / "target"), "LIBZK_DIR": str(archive.parent), "CARGO_NET_OFFLINE": "true",
             "RUSTFLAGS": "-D warnings"}
-    words = ("cargo", "test", "--offline", "--locked", "--workspace")
-    result, said = run("tests of examples/rust", *words, folder=RUST, **made)
+    words = ("--offline", "--locked", "--workspace")
+    result, said = run("tests of examples/rust", "cargo", "test", *words, folder=RUST, **made)
     yield result
-    yield "some", len(re.findall(r"^test .* ok$", said, re.M)) > 8, f"examples/rust has few tests: {said[-500:]}"
+    yield "some", len(re.findall(r"^test .* ok$", said, re.M)) > 16, f"examples/rust has few tests: {said[-500:]}"
+    if subprocess.run(["cargo", "clippy", "--version"], capture_output=True).returncode == 0:
+        result, _ = run("clippy of examples/rust", "cargo", "clippy", *words, "--all-targets", folder=RUST, **made)
+        yield result
+    else:
+        print("skipped: there is no clippy for examples/rust")
+    if shutil.which("pkg-config"):
+        del made["LIBZK_DIR"]
+        result, _ = run("examples/rust by pkg-config", "cargo", "test", *words, "--tests", folder=RUST, **made,
+                        PKG_CONFIG_PATH=str(described(folder, archive)))
+        yield result
 
 
 def check_go(folder, archive):
@@ -78,12 +98,18 @@ def check_go(folder, archive):
     if not shutil.which("go"):
         print("skipped: there is no go for examples/go")
         return
-    made = {"CGO_CFLAGS": f"-I{HEADER.parent} -O2", "CGO_LDFLAGS": f"-L{archive.parent}", "GOFLAGS": "-mod=mod",
-            "GOPROXY": "off", "GOCACHE": str(folder / "cache"), "GODEBUG": "cgocheck=1",
+    made = {"GOFLAGS": "-mod=mod", "GOPROXY": "off", "GOCACHE": str(folder / "cache"), "GODEBUG": "cgocheck=1",
             "LD_LIBRARY_PATH": str(archive.parent)}
-    result, said = run("tests of examples/go", "go", "test", "-count=1", "-v", "./...", folder=GO, **made)
+    named = {"CGO_CFLAGS": f"-I{HEADER.parent} -O2", "CGO_LDFLAGS": f"-L{archive.parent}"}
+    result, said = run("tests of examples/go", "go", "test", "-count=1", "-v", "./...", folder=GO, **made, **named)
     yield result
-    yield "some", said.count("--- PASS") > 4, f"examples/go has few tests: {said[-500:]}"
+    yield "some", said.count("--- PASS") > 12, f"examples/go has few tests: {said[-500:]}"
+    result, _ = run("go vet of examples/go", "go", "vet", "./...", folder=GO, **made, **named)
+    yield result
+    if shutil.which("pkg-config"):
+        result, _ = run("examples/go by pkg-config", "go", "test", "-count=1", "-tags", "pkgconfig", "./...", folder=GO,
+                        **made, PKG_CONFIG_PATH=str(described(folder, archive)))
+        yield result
 
 
 def pairs(text):
@@ -104,7 +130,7 @@ def compare_names(names):
 
 
 def compare_calls(calls):
-    """Whether each call that a package declares has as many parameters as in the header."""
+    """Whether each package declares every call, with as many parameters as in the header; Go's calls are the header's."""
     python = re.findall(r'"(zk_\w+)": \((.*)\),$', (PYTHON / "libzk" / "_calls.py").read_text(), re.M)
     rust = re.findall(r"pub fn (zk_\w+)\((.*?)\)(?: ->|;)", (RUST / "zk-sys" / "src" / "lib.rs").read_text(), re.S)
     found = [("python", name, words.count(",")) for name, words in python]
@@ -112,8 +138,11 @@ def compare_calls(calls):
     for package, name, count in found:
         wanted = len(calls[name][1]) if name in calls else None
         yield name, count == wanted, f"examples/{package}: {name} has {count} parameters, and {wanted} in the header"
-    for package, declared in (("python", python), ("rust", rust)):
-        yield package, len(declared) > 10, f"examples/{package} declares {len(declared)} calls"
+    go = re.findall(r"\bC\.(zk)_safe(_\w+)\(", "".join(path.read_text() for path in sorted(GO.glob("*.go"))))
+    for package, declared in (("python", [name for name, _ in python]), ("rust", [name for name, _ in rust]),
+                              ("go", map("".join, go))):
+        other = {*declared} ^ {*calls}
+        yield package, not other, f"examples/{package} lacks calls of the header, or has others: {sorted(other)}"
 
 
 def compare_versions():

@@ -5,15 +5,38 @@
  */
 #include "verdict.h"
 
+/* Talks that are over, all of these limits: the next connections begin them anew. A capture that begins late, or is
+ * read again, ends as many talks as it has connections, so more aren't kept. */
+enum { SPARES = 16 };
+static struct judge spares[SPARES];
+static unsigned spare_count;
+
 void judge_begin(struct judge *judge, uint32_t limit, uint32_t profile) {
+    while (spare_count > 0 && (spares[0].limit != limit || spares[0].profile != profile)) {
+        zk_talk_free(&spares[--spare_count].talk);
+    }
+    if (spare_count > 0) {
+        *judge = spares[--spare_count];
+        judge->judges = zk_talk_renew(&judge->talk) == ZK_WELL;
+        return;
+    }
+    judge->limit = limit;
+    judge->profile = profile;
     judge->judges = zk_talk_new(&judge->talk, limit, limit, VERDICT_WAITING, profile) == ZK_WELL;
 }
 
 void judge_end(struct judge *judge) {
-    if (judge->judges) {
-        judge->judges = false;
+    static const struct judge none = {ZK_ZEROS, false, 0, 0};
+    if (!judge->judges) {
+        return;
+    }
+    bool alike = spare_count == 0 || (spares[0].limit == judge->limit && spares[0].profile == judge->profile);
+    if (alike && spare_count < SPARES) {
+        spares[spare_count++] = *judge;
+    } else {
         zk_talk_free(&judge->talk);
     }
+    *judge = none; /* a handle isn't used twice */
 }
 
 enum verdict judge_take(struct judge *judge, uint32_t side, const uint8_t *frame, size_t length,

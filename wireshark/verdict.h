@@ -17,6 +17,7 @@ enum verdict { VERDICT_WELL, VERDICT_REFUSED, VERDICT_NONE, VERDICT_LEFT_OUT };
 struct judge {
     struct zk_talk talk;
     bool judges;
+    uint32_t limit, profile;
 };
 
 /* Begins, if there is memory, and `limit` is one that a talk may have. */
@@ -32,7 +33,7 @@ enum verdict judge_take(struct judge *judge, uint32_t side, const uint8_t *frame
 size_t judge_line_length(struct judge *judge, uint32_t side);
 bool judge_line(struct judge *judge, uint32_t side, char *out, size_t length);
 
-/* Judges no more, and gives its memory back. */
+/* Judges no more; its talk is begun anew by a later one, or its memory given back. */
 void judge_end(struct judge *judge);
 
 #endif

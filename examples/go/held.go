@@ -19,6 +19,9 @@ type Limits struct {
 // Usual are limits that are enough for most conversations.
 var Usual = Limits{4194304, 4194304, 65536, Profile34}
 
+// empty is what a call on a closed handle returns.
+var empty = Fault{Status: C.ZK_EMPTY}
+
 // talk is what a Talk points to, so that a copy of the Talk has the same handle. One call at a time uses it.
 type talk struct {
 	sync.Mutex
@@ -49,17 +52,49 @@ func (t Talk) Close() {
 	}
 }
 
+// Renew begins the talk anew with its limits, whatever came before: for one conversation after another.
+func (t Talk) Renew() error {
+	if t.it == nil {
+		return empty
+	}
+	t.it.Lock()
+	defer t.it.Unlock()
+	return fault(C.zk_safe_talk_renew(&t.it.handle), 0)
+}
+
+// Pass takes bytes of a side and judges them as Feed does, but makes no message. It returns how many they complete, and
+// the first fault.
+func (t Talk) Pass(side Side, piece []byte) (whole int, err error) {
+	if t.it == nil {
+		return 0, empty
+	}
+	t.it.Lock()
+	defer t.it.Unlock()
+	for {
+		step := C.zk_safe_talk_pass(&t.it.handle, C.uint32_t(side), start(piece), C.size_t(len(piece)))
+		if err := refusal(step.status, step.fault); err != nil {
+			return whole, err
+		}
+		if step.whole {
+			whole++
+		}
+		if piece = piece[step.used:]; len(piece) == 0 {
+			return whole, nil
+		}
+	}
+}
+
 // Feed returns the messages that these bytes of a side complete, and the first fault.
 func (t Talk) Feed(side Side, piece []byte) ([]*Message, error) {
 	if t.it == nil {
-		return nil, Fault{C.ZK_EMPTY, 0}
+		return nil, empty
 	}
 	t.it.Lock()
 	defer t.it.Unlock()
 	var messages []*Message
 	for {
 		step := C.zk_safe_talk_step(&t.it.handle, C.uint32_t(side), start(piece), C.size_t(len(piece)))
-		if err := fault(step.status, step.fault.place); err != nil {
+		if err := refusal(step.status, step.fault); err != nil {
 			return messages, err
 		}
 		if step.whole {
@@ -93,6 +128,65 @@ func (it *talk) newest(side C.uint32_t) (*Message, error) {
 	return message, err
 }
 
+// Waiting returns how many requests wait for their replies, and their weight: 1 each, and 1 more for each part of a multi.
+func (t Talk) Waiting() (requests, weight uint32, err error) {
+	if t.it == nil {
+		return 0, 0, empty
+	}
+	t.it.Lock()
+	defer t.it.Unlock()
+	waiting := C.zk_safe_talk_waiting(&t.it.handle)
+	return uint32(waiting.requests), uint32(waiting.weight), fault(waiting.status, 0)
+}
+
+// Held returns how many bytes the side has sent of a frame that isn't whole, its length included.
+func (t Talk) Held(side Side) (uint32, error) {
+	if t.it == nil {
+		return 0, empty
+	}
+	t.it.Lock()
+	defer t.it.Unlock()
+	held := C.zk_safe_talk_held(&t.it.handle, C.uint32_t(side))
+	return uint32(held.bytes), fault(held.status, 0)
+}
+
+// EndingKind is how a conversation ends.
+type EndingKind uint32
+
+// The kinds of endings.
+const (
+	Whole   EndingKind = C.ZK_WHOLE
+	Cut     EndingKind = C.ZK_CUT
+	Refused EndingKind = C.ZK_REFUSED
+)
+
+// Ending is how a conversation ends: with so many requests Unanswered where it is whole; cut within a Side's frame of
+// this number, of which Got bytes came; or refused with the Fault.
+type Ending struct {
+	Kind       EndingKind
+	Unanswered uint32
+	Side       Side
+	Frame      uint64
+	Got        uint32
+	Fault      Fault
+}
+
+// Ending returns how the conversation ends if nothing more comes.
+func (t Talk) Ending() (Ending, error) {
+	if t.it == nil {
+		return Ending{}, empty
+	}
+	t.it.Lock()
+	defer t.it.Unlock()
+	found := C.zk_safe_talk_finish(&t.it.handle)
+	ending := Ending{EndingKind(found.kind), uint32(found.unanswered), Side(found.side), uint64(found.frame),
+		uint32(found.got), Fault{}}
+	if found.kind == C.ZK_REFUSED {
+		ending.Fault = refusal(found.status, found.fault).(Fault)
+	}
+	return ending, fault(found.status, 0)
+}
+
 // Line returns the line of the side's newest message.
 func (t Talk) Line(side Side) (string, error) {
 	return t.text(func(out *C.uint8_t, room C.size_t) C.struct_zk_line {
@@ -109,7 +203,7 @@ func (t Talk) EndingLine() (string, error) {
 
 func (t Talk) text(write func(*C.uint8_t, C.size_t) C.struct_zk_line) (string, error) {
 	if t.it == nil {
-		return "", Fault{C.ZK_EMPTY, 0}
+		return "", empty
 	}
 	t.it.Lock()
 	defer t.it.Unlock()
@@ -162,10 +256,20 @@ func (s Speaker) Close() {
 	}
 }
 
+// Renew begins the speaker anew with its limits: it has said nothing.
+func (s Speaker) Renew() error {
+	if s.it == nil {
+		return empty
+	}
+	s.it.Lock()
+	defer s.it.Unlock()
+	return fault(C.zk_safe_speaker_renew(&s.it.handle), 0)
+}
+
 // Say returns the frame of the line's message, which may come next.
 func (s Speaker) Say(line string) ([]byte, error) {
 	if s.it == nil {
-		return nil, Fault{C.ZK_EMPTY, 0}
+		return nil, empty
 	}
 	s.it.Lock()
 	defer s.it.Unlock()

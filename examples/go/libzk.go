@@ -1,11 +1,13 @@
 // Package libzk reads ZooKeeper's client protocol by the proved library libzk: the fields of payloads, conversations,
 // and requests.
 //
-// It is built where the compiler finds zk.h and libzk, as with CGO_CFLAGS and CGO_LDFLAGS or an installed library.
+// It is built where the compiler finds zk.h and libzk: an installed library, or one that CGO_CFLAGS and CGO_LDFLAGS
+// name. With the tag pkgconfig, pkg-config is asked for both.
 // Messages are copies: they have no memory of the library's. Talks and speakers may be used by any goroutine.
 package libzk
 
-// #cgo LDFLAGS: -lzk
+// #cgo !pkgconfig LDFLAGS: -lzk
+// #cgo pkgconfig pkg-config: zk
 // #include <zk.h>
 import "C"
 
@@ -93,10 +95,23 @@ func (message *Message) Get(name string) (Field, bool) {
 	return Field{}, false
 }
 
-// Fault is why bytes are no message, or a call can't be made, and the place in the payload or the column in a line.
+// Fault is why bytes are no message, or a call can't be made, and the place in the payload, the column in a line or the
+// index of a field. Where a talk refuses a conversation, Refused is true, and At says by which byte.
 type Fault struct {
-	Status uint32
-	Place  uint32
+	Status  uint32
+	Place   uint32
+	Refused bool
+	At      At
+}
+
+// At is a byte by which a conversation is refused: who sent it, the number of its frame among those of its side, from 0,
+// and how many bytes the side had sent, this one included. Expected and Got are the xids if a reply comes out of order.
+type At struct {
+	Side     Side
+	Frame    uint64
+	Offset   uint64
+	Expected int32
+	Got      int32
 }
 
 func (fault Fault) Error() string {
@@ -120,7 +135,16 @@ func fault(status, place C.uint32_t) error {
 	if status == C.ZK_WELL {
 		return nil
 	}
-	return Fault{uint32(status), uint32(place)}
+	return Fault{Status: uint32(status), Place: uint32(place)}
+}
+
+// refusal returns why a conversation is refused, or why a call did nothing; nil for a call that did what it is for.
+func refusal(status C.uint32_t, found C.struct_zk_fault) error {
+	if found.reason == 0 {
+		return fault(status, 0)
+	}
+	return Fault{uint32(found.reason), uint32(found.place), true, At{Side(found.side), uint64(found.frame),
+		uint64(found.offset), int32(found.expected), int32(found.got)}}
 }
 
 // start returns a pointer to the bytes, or nil for none, which the header's calls take.
@@ -181,13 +205,18 @@ func ReadConnected(payload []byte) (*Message, error) {
 	})
 }
 
+// firstPart returns a pointer to the parts, or nil for none.
+func firstPart(parts []int32) *C.int32_t {
+	if len(parts) == 0 {
+		return nil
+	}
+	return (*C.int32_t)(unsafe.Pointer(&parts[0]))
+}
+
 // ReadReply reads the payload of a reply to a request of this operation, for a multi of these parts.
 func ReadReply(operation int32, parts []int32, payload []byte) (*Message, error) {
 	payload = copied(payload)
-	var first *C.int32_t
-	if len(parts) > 0 {
-		first = (*C.int32_t)(unsafe.Pointer(&parts[0]))
-	}
+	first := firstPart(parts)
 	return read(payload, func(out *C.struct_zk_field, room C.size_t) C.struct_zk_read {
 		return C.zk_safe_read_reply(C.int32_t(operation), first, C.size_t(len(parts)), start(payload),
 			C.size_t(len(payload)), out, room)

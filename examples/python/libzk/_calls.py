@@ -1,14 +1,14 @@
 """The calls of libzk.so.1, as include/zk.h declares them.
 
 The library is the one that the variable LIBZK names, or the installed one. No call lets another thread of Python run,
-so a handle is never used twice at once.
+so a handle is never used twice at once. BYTES takes bytes, an array of ctypes, or an address.
 """
 
 import ctypes
 import os
 
 U8, U16, U32, U64 = ctypes.c_uint8, ctypes.c_uint16, ctypes.c_uint32, ctypes.c_uint64
-I32, I64, SIZE, BYTES = ctypes.c_int32, ctypes.c_int64, ctypes.c_size_t, ctypes.c_char_p
+I32, I64, SIZE, BYTES = ctypes.c_int32, ctypes.c_int64, ctypes.c_size_t, ctypes.c_void_p
 
 
 class Handle(ctypes.Structure):
@@ -35,12 +35,24 @@ class Ending(ctypes.Structure):
                 ("fault", Fault)]
 
 
+class Waiting(ctypes.Structure):
+    _fields_ = [("status", U32), ("requests", U32), ("weight", U32)]
+
+
+class Held(ctypes.Structure):
+    _fields_ = [("status", U32), ("bytes", U32)]
+
+
 class Line(ctypes.Structure):
     _fields_ = [("status", U32), ("length", SIZE)]
 
 
 class Say(ctypes.Structure):
     _fields_ = [("status", U32), ("length", SIZE), ("column", U32)]
+
+
+class Payload(ctypes.Structure):
+    _fields_ = [("status", U32), ("place", U32)]
 
 
 class Field(ctypes.Structure):
@@ -52,28 +64,49 @@ class Read(ctypes.Structure):
                 ("err", I32), ("zxid", I64)]
 
 
-HANDLE, FIELDS, PARTS = ctypes.POINTER(Handle), ctypes.POINTER(Field), ctypes.POINTER(I32)
+class Written(ctypes.Structure):
+    _fields_ = [("status", U32), ("length", SIZE), ("index", SIZE)]
+
+
+class Piece(ctypes.Structure):
+    _fields_ = [("side", U32), ("length", SIZE)]
+
+
+HANDLE, FIELDS = ctypes.POINTER(Handle), ctypes.POINTER(Field)
+PARTS, PIECES = ctypes.POINTER(I32), ctypes.POINTER(Piece)
 CALLS = {
     "zk_talk_new": (U32, HANDLE, U32, U32, U32, U32),
+    "zk_talk_renew": (U32, HANDLE),
     "zk_talk_step": (Step, HANDLE, U32, BYTES, SIZE),
+    "zk_talk_pass": (Step, HANDLE, U32, BYTES, SIZE),
     "zk_talk_view": (Message, HANDLE, U32),
     "zk_talk_line": (Line, HANDLE, U32, BYTES, SIZE),
     "zk_talk_payload": (Line, HANDLE, U32, BYTES, SIZE),
     "zk_talk_fields": (Read, HANDLE, U32, FIELDS, SIZE),
+    "zk_talk_waiting": (Waiting, HANDLE),
+    "zk_talk_held": (Held, HANDLE, U32),
     "zk_talk_finish": (Ending, HANDLE),
     "zk_talk_ending_line": (Line, HANDLE, BYTES, SIZE),
     "zk_talk_free": (None, HANDLE),
     "zk_speaker_new": (U32, HANDLE, U32, U32, U32, U32),
+    "zk_speaker_renew": (U32, HANDLE),
     "zk_speaker_say": (Say, HANDLE, BYTES, SIZE),
     "zk_speaker_frame": (Line, HANDLE, BYTES, SIZE),
     "zk_speaker_free": (None, HANDLE),
+    "zk_judge_first": (Payload, BYTES, SIZE),
+    "zk_judge_request": (Payload, U32, BYTES, SIZE),
+    "zk_judge_connected": (Payload, BYTES, SIZE),
+    "zk_judge_reply": (Payload, I32, PARTS, SIZE, BYTES, SIZE),
+    "zk_judge_event": (Payload, BYTES, SIZE),
     "zk_read_first": (Read, BYTES, SIZE, FIELDS, SIZE),
     "zk_read_request": (Read, U32, BYTES, SIZE, FIELDS, SIZE),
     "zk_read_connected": (Read, BYTES, SIZE, FIELDS, SIZE),
     "zk_read_reply": (Read, I32, PARTS, SIZE, BYTES, SIZE, FIELDS, SIZE),
     "zk_read_event": (Read, BYTES, SIZE, FIELDS, SIZE),
+    "zk_write_request": (Written, I32, I32, FIELDS, SIZE, BYTES, SIZE, BYTES, SIZE),
+    "zk_write_first": (Written, FIELDS, SIZE, BYTES, SIZE, BYTES, SIZE),
+    "zk_listing": (Line, PIECES, SIZE, BYTES, SIZE, U32, U32, U32, U32, BYTES, SIZE),
 }
-
 
 
 def _typed(calls: ctypes.PyDLL) -> ctypes.PyDLL:

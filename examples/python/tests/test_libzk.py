@@ -6,10 +6,11 @@
 import copy
 import gc
 import pickle
+import time
 import unittest
 
 import libzk
-from libzk import FieldKind, Kind, Profile, Refused, Side, Speaker, Talk
+from libzk import Cut, Fault, FieldKind, Kind, Profile, Refused, Side, Speaker, Talk
 
 HELLO = bytes.fromhex("00000000 0000000000000000 00007530 0000000000000000 00000010 00000000000000000000000000000000 00")
 WELCOME = bytes.fromhex("00000000 00007530 0100000000000001 00000010 000102030405060708090a0b0c0d0e0f 00")
@@ -64,6 +65,23 @@ class Payloads(unittest.TestCase):
         message = libzk.read_reply("getChildren", bytearray(payload))
         self.assertEqual([field.value.encode() for field in message.fields[1:]], names)
 
+    def test_judged(self):
+        for judge, well in ((lambda payload: libzk.judge_first(payload), HELLO),
+                            (lambda payload: libzk.judge_request(Profile.V34, payload), EXISTS),
+                            (lambda payload: libzk.judge_connected(payload), WELCOME),
+                            (lambda payload: libzk.judge_reply("exists", payload), NO_NODE),
+                            (lambda payload: libzk.judge_reply("multi", payload, ("create", "delete")), RESULTS),
+                            (lambda payload: libzk.judge_event(payload), EVENT)):
+            judge(bytearray(well))
+            for damaged, name, place in ((b"", "SHORT", 0), (well + b"\0\0", "TRAILING", None)):
+                with self.assertRaises(Refused) as caught:
+                    judge(damaged)
+                self.assertEqual(caught.exception.name, name)
+                self.assertEqual(caught.exception.place, len(well) if place is None else place)
+        with self.assertRaises(Refused) as caught:
+            libzk.judge_reply("exists", EVENT)
+        self.assertEqual(caught.exception.name, "MISFIT")
+
     def test_faults(self):
         for call, damaged, name, place in ((libzk.read_event, EVENT[:-1], "SHORT", 24),
                                            (libzk.read_event, EVENT + b"\0", "TRAILING", 30),
@@ -77,6 +95,60 @@ class Payloads(unittest.TestCase):
         for operation, parts in (("nothing", ()), ("multi", ("ping",)), ("exists", ("create",))):
             with self.assertRaises(Refused):
                 libzk.read_reply(operation, RESULTS, parts)
+
+
+class Writing(unittest.TestCase):
+    """Frames by the payloads of docs/FORMATS.md."""
+
+    def test_requests(self):
+        items = [(FieldKind.TEXT, "/a"), (FieldKind.BOOL, True)]
+        self.assertEqual(libzk.write_request(1, "exists", items), frame(EXISTS))
+        items = [(FieldKind.TEXT, "/a"), (FieldKind.BLOB, None), (FieldKind.LIST, 1), (FieldKind.INT, 31),
+                 (FieldKind.TEXT, "world"), (FieldKind.TEXT, b"anyone"), (FieldKind.INT, 3)]
+        self.assertEqual(libzk.write_request(1, "create", items), frame(CREATE))
+        hello = [(FieldKind.INT, 0), (FieldKind.LONG, 0), (FieldKind.INT, 30000), (FieldKind.LONG, 0),
+                 (FieldKind.BLOB, bytes(16)), (FieldKind.BOOL, False)]
+        self.assertEqual(libzk.write_first(hello), frame(HELLO))
+        self.assertEqual(libzk.write_request(-2, "ping"), bytes.fromhex("00000008 fffffffe 0000000b"))
+
+    def test_a_multi(self):
+        items = [(FieldKind.PART, "delete"), (FieldKind.TEXT, "/a"), (FieldKind.INT, -1), (FieldKind.PART, 13),
+                 (FieldKind.TEXT, "/b"), (FieldKind.INT, 1)]
+        wanted = bytes.fromhex("00000003 0000000e 00000002 00 ffffffff 00000002 2f61 ffffffff 0000000d 00 ffffffff"
+                               "00000002 2f62 00000001 ffffffff 01 ffffffff")
+        self.assertEqual(libzk.write_request(3, "multi", items), frame(wanted))
+
+    def test_what_was_read_is_written_again(self):
+        for payload in (EXISTS, CREATE):
+            message = libzk.read_request(Profile.V34, payload)
+            self.assertEqual(libzk.write_request(message.xid, message.operation, message.fields), frame(payload))
+        self.assertEqual(libzk.write_first(libzk.read_first(HELLO).fields), frame(HELLO))
+        names = [(FieldKind.LONG, 5), (FieldKind.LIST, 1000), *((FieldKind.TEXT, "a" * 9),) * 1000,
+                 (FieldKind.LIST, 0), (FieldKind.LIST, None)]
+        payload = libzk.write_request(-8, "setWatches", names)[4:]
+        self.assertEqual([field.value for field in libzk.read_request(Profile.V34, payload).fields],
+                         [value for _, value in names])
+
+    def test_fields_that_say_nothing(self):
+        text, number = (FieldKind.TEXT, "/a"), (FieldKind.INT, 1 << 31)
+        for items, name, place in (([text, number], "RANGE", 1), ([text, text, (FieldKind.LONG, 1 << 63)], "RANGE", 2),
+                                   ([(FieldKind.TEXT, b"\xff")], "RANGE", 0), ([(FieldKind.BOOL, 2)], "RANGE", 0)):
+            with self.assertRaises(Refused) as caught:
+                libzk.write_request(1, "exists", items)
+            self.assertEqual((caught.exception.name, caught.exception.place), (name, place))
+        for xid, operation in ((1 << 31, "exists"), (1, "nothing")):
+            with self.assertRaises(Refused):
+                libzk.write_request(xid, operation, [text])
+        for item in ((FieldKind.INT, "1"), (FieldKind.TEXT, 1), (FieldKind.BLOB, "a")):
+            with self.assertRaises(TypeError):
+                libzk.write_request(1, "exists", [item])
+
+    def test_a_client_judges_what_it_writes(self):
+        with Talk() as talk:
+            talk.feed(Side.CLIENT, libzk.write_first(libzk.read_first(HELLO).fields))
+            with self.assertRaises(Refused) as caught:
+                talk.feed(Side.CLIENT, libzk.write_request(-1, "exists", [(FieldKind.TEXT, "/a"), (FieldKind.BOOL, 0)]))
+        self.assertEqual(caught.exception.name, "XID_OP")
 
 
 class Talks(unittest.TestCase):
@@ -98,7 +170,8 @@ class Talks(unittest.TestCase):
                 self.assertEqual([message.frame for message in messages], [0, 0, 1, 1, 2])
                 self.assertEqual((messages[3].operation, messages[3].err, messages[3].zxid), ("exists", -101, 5))
                 self.assertEqual(messages[4]["path"], "/a")
-                self.assertEqual(talk.ending(), (True, ". whole unanswered=0"))
+                self.assertEqual(talk.ending(), (". whole unanswered=0", 0, None, None))
+                self.assertTrue(talk.ending().whole)
 
     def test_many_messages_in_one_piece(self):
         with Talk() as talk:
@@ -110,6 +183,67 @@ class Talks(unittest.TestCase):
             talk.feed(Side.CLIENT, frame(HELLO) + frame(EXISTS + b"\0"))
         self.assertEqual((caught.exception.name, caught.exception.place), ("TRAILING", 15))
         self.assertEqual([message.kind for message in caught.exception.messages], [Kind.CONNECT])
+
+    def test_many_messages_take_time_by_their_number(self):
+        """A piece of ten times as many events takes some ten times as long; it was a hundred times."""
+        took = []
+        for count in (2000, 20000):
+            with Talk() as talk:
+                talk.feed(Side.CLIENT, frame(HELLO))
+                talk.feed(Side.SERVER, frame(WELCOME))
+                piece, begun = frame(EVENT) * count, time.process_time()
+                self.assertEqual(len(talk.feed(Side.SERVER, memoryview(piece))), count)
+                took.append(time.process_time() - begun)
+        self.assertLess(took[1], 40 * took[0])
+
+    def test_a_fault_says_where(self):
+        with Talk() as talk:
+            talk.feed(Side.CLIENT, frame(HELLO) + frame(EXISTS) + frame(b"\0\0\0\2" + EXISTS[4:]))
+            talk.feed(Side.SERVER, frame(WELCOME))
+            with self.assertRaises(Refused) as caught:
+                talk.feed(Side.SERVER, frame(b"\0\0\0\2" + NO_NODE[4:]))
+            wanted = Fault(Side.SERVER, 1, 41 + 20, 0, "XID_ORDER", 1, 2)
+            self.assertEqual(caught.exception.fault, wanted)
+            self.assertEqual((talk.ending().whole, talk.ending().fault, talk.ending().cut), (False, wanted, None))
+            with self.assertRaises(Refused) as again:
+                talk.feed(Side.CLIENT, b"")
+            self.assertEqual(again.exception.fault, wanted)
+        with Talk() as talk, self.assertRaises(Refused) as caught:
+            talk.feed(Side.CLIENT, frame(HELLO) + frame(EXISTS + b"\0"))
+        self.assertEqual(caught.exception.fault, Fault(Side.CLIENT, 1, 49 + 20, 15, "TRAILING", None, None))
+
+    def test_what_waits_and_is_held(self):
+        multi = bytes.fromhex("00000003 0000000e 00000002 00 ffffffff 00000002 2f61 ffffffff ffffffff 01 ffffffff")
+        with Talk() as talk:
+            self.assertEqual(talk.skip(Side.CLIENT, frame(HELLO) + frame(EXISTS) + frame(multi) + b"\0\0\0\x08\xff"), 3)
+            self.assertEqual(talk.waiting(), (2, 3))
+            self.assertEqual((talk.held(Side.CLIENT), talk.held(Side.SERVER)), (5, 0))
+            self.assertEqual(talk.ending(), (". cut side=C frame=3 got=5", None, Cut(Side.CLIENT, 3, 5), None))
+
+    def test_renewed(self):
+        """One talk for one conversation after another, whole, cut or refused."""
+        with Talk(lines=True) as talk:
+            for cut in (1000, 7):
+                self.assertEqual([message.line for message in self.fed(talk, cut)], list(LINES))
+                talk.renew()
+                with self.assertRaises(Refused):
+                    talk.feed(Side.CLIENT, frame(HELLO) + frame(EXISTS + b"\0"))
+                talk.renew()
+                talk.feed(Side.CLIENT, frame(HELLO) + frame(EXISTS) + b"\0\0")
+                talk.renew()
+                self.assertEqual((talk.waiting(), talk.held(Side.CLIENT)), ((0, 0), 0))
+        with Speaker() as speaker:
+            frames = [speaker.say(line) for line in LINES]
+            speaker.renew()
+            self.assertEqual([speaker.say(line) for line in LINES], frames)
+
+    def test_listings(self):
+        pieces = [(Side.CLIENT, frame(HELLO)), (Side.SERVER, frame(WELCOME)), (Side.CLIENT, frame(EXISTS)),
+                  (Side.SERVER, frame(NO_NODE)), (Side.SERVER, frame(EVENT)[:9]), (Side.SERVER, frame(EVENT)[9:])]
+        self.assertEqual(libzk.listing(pieces), [*LINES, ". whole unanswered=0"])
+        self.assertEqual(libzk.listing([]), [". whole unanswered=0"])
+        with self.assertRaises(Refused):
+            libzk.listing(pieces, client=63)
 
     def test_limits(self):
         for limits in ({"client": 63}, {"waiting": 0}, {"client": (1 << 32) + 64}, {"server": -1}):
@@ -128,7 +262,8 @@ class Talks(unittest.TestCase):
                 copied(talk)
         for held in (talk, speaker, talk, speaker):
             held.close()
-        for call in (lambda: talk.feed(Side.CLIENT, b"1"), talk.ending, lambda: speaker.say(LINES[0])):
+        for call in (lambda: talk.feed(Side.CLIENT, b"1"), talk.ending, lambda: speaker.say(LINES[0]), talk.renew,
+                     speaker.renew, talk.waiting, lambda: talk.held(Side.SERVER), lambda: talk.skip(Side.CLIENT, b"")):
             with self.assertRaises(Refused) as caught:
                 call()
             self.assertEqual(caught.exception.name, "EMPTY")

@@ -42,6 +42,18 @@ pub struct zk_step {
 
 #[repr(C)]
 #[derive(Clone, Copy, Debug)]
+pub struct zk_ending {
+    pub status: u32,
+    pub kind: u32,
+    pub unanswered: u32,
+    pub side: u32,
+    pub got: u32,
+    pub frame: u64,
+    pub fault: zk_fault,
+}
+
+#[repr(C)]
+#[derive(Clone, Copy, Debug)]
 pub struct zk_message {
     pub status: u32,
     pub kind: u32,
@@ -51,6 +63,21 @@ pub struct zk_message {
     pub err: i32,
     pub zxid: i64,
     pub frame: u64,
+}
+
+#[repr(C)]
+#[derive(Clone, Copy, Debug)]
+pub struct zk_waiting {
+    pub status: u32,
+    pub requests: u32,
+    pub weight: u32,
+}
+
+#[repr(C)]
+#[derive(Clone, Copy, Debug)]
+pub struct zk_held {
+    pub status: u32,
+    pub bytes: u32,
 }
 
 #[repr(C)]
@@ -66,6 +93,28 @@ pub struct zk_say {
     pub status: u32,
     pub length: usize,
     pub column: u32,
+}
+
+#[repr(C)]
+#[derive(Clone, Copy, Debug)]
+pub struct zk_payload {
+    pub status: u32,
+    pub place: u32,
+}
+
+#[repr(C)]
+#[derive(Clone, Copy, Debug)]
+pub struct zk_written {
+    pub status: u32,
+    pub length: usize,
+    pub index: usize,
+}
+
+#[repr(C)]
+#[derive(Clone, Copy, Debug)]
+pub struct zk_piece {
+    pub side: u32,
+    pub length: usize,
 }
 
 #[repr(C)]
@@ -100,6 +149,11 @@ extern "C" {
         waiting: u32,
         profile: u32,
     ) -> u32;
+    pub fn zk_talk_renew(talk: *mut zk_talk) -> u32;
+    pub fn zk_talk_pass(talk: *mut zk_talk, side: u32, piece: *const u8, length: usize) -> zk_step;
+    pub fn zk_talk_waiting(talk: *mut zk_talk) -> zk_waiting;
+    pub fn zk_talk_held(talk: *mut zk_talk, side: u32) -> zk_held;
+    pub fn zk_talk_finish(talk: *mut zk_talk) -> zk_ending;
     pub fn zk_talk_step(talk: *mut zk_talk, side: u32, piece: *const u8, length: usize) -> zk_step;
     pub fn zk_talk_view(talk: *mut zk_talk, side: u32) -> zk_message;
     pub fn zk_talk_line(talk: *mut zk_talk, side: u32, out: *mut u8, room: usize) -> zk_line;
@@ -119,9 +173,51 @@ extern "C" {
         waiting: u32,
         profile: u32,
     ) -> u32;
+    pub fn zk_speaker_renew(speaker: *mut zk_speaker) -> u32;
     pub fn zk_speaker_say(speaker: *mut zk_speaker, line: *const u8, length: usize) -> zk_say;
     pub fn zk_speaker_frame(speaker: *mut zk_speaker, out: *mut u8, room: usize) -> zk_line;
     pub fn zk_speaker_free(speaker: *mut zk_speaker);
+    pub fn zk_judge_first(bytes: *const u8, length: usize) -> zk_payload;
+    pub fn zk_judge_request(profile: u32, bytes: *const u8, length: usize) -> zk_payload;
+    pub fn zk_judge_connected(bytes: *const u8, length: usize) -> zk_payload;
+    pub fn zk_judge_reply(
+        operation: i32,
+        parts: *const i32,
+        count: usize,
+        bytes: *const u8,
+        length: usize,
+    ) -> zk_payload;
+    pub fn zk_judge_event(bytes: *const u8, length: usize) -> zk_payload;
+    pub fn zk_write_request(
+        xid: i32,
+        operation: i32,
+        fields: *const zk_field,
+        count: usize,
+        content: *const u8,
+        length: usize,
+        out: *mut u8,
+        room: usize,
+    ) -> zk_written;
+    pub fn zk_write_first(
+        fields: *const zk_field,
+        count: usize,
+        content: *const u8,
+        length: usize,
+        out: *mut u8,
+        room: usize,
+    ) -> zk_written;
+    pub fn zk_listing(
+        pieces: *const zk_piece,
+        count: usize,
+        bytes: *const u8,
+        length: usize,
+        client: u32,
+        server: u32,
+        waiting: u32,
+        profile: u32,
+        out: *mut u8,
+        room: usize,
+    ) -> zk_line;
     pub fn zk_read_first(
         payload: *const u8,
         length: usize,

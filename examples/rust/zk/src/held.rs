@@ -1,9 +1,10 @@
-//! Talks and speakers: what holds a handle.
+//! Talks and speakers: what holds a handle; and the listing of a conversation that is in memory.
 
+use crate::ending::refusal;
 use crate::message::{Message, Reader};
-use crate::{well, Fault, Profile, Side, ROOM};
+use crate::{well, Ending, Fault, Profile, Side, Waiting, ROOM};
 use std::ptr::null_mut;
-use zk_sys::{zk_line, zk_speaker, zk_talk};
+use zk_sys::{zk_line, zk_piece, zk_speaker, zk_step, zk_talk};
 
 /// The greatest payloads of the sides in bytes, how many requests may wait, and the operations.
 #[derive(Clone, Copy, Debug)]
@@ -59,6 +60,12 @@ impl Talk {
         well(status, 0).map(|()| talk)
     }
 
+    /// Begins anew with the same limits, whatever came before: for one conversation after another.
+    pub fn renew(&mut self) {
+        // It is refused for an empty handle alone, and this one has a talk.
+        unsafe { zk_sys::zk_talk_renew(&mut self.handle) };
+    }
+
     /// Takes bytes of a side away from the front of `piece`, up to the end of the first message. Returns that message.
     pub fn step<'t>(
         &'t mut self,
@@ -72,9 +79,7 @@ impl Talk {
         } = self;
         let side = side as u32;
         let step = unsafe { zk_sys::zk_talk_step(handle, side, piece.as_ptr(), piece.len()) };
-        well(step.status, step.fault.place)?;
-        *piece = piece.get(step.used..).unwrap_or_default();
-        if !step.whole {
+        if !taken(&step, piece)? {
             return Ok(None);
         }
         let view = unsafe { zk_sys::zk_talk_view(handle, side) };
@@ -86,6 +91,32 @@ impl Talk {
         })?;
         message.frame = view.frame;
         Ok(Some(message))
+    }
+
+    /// The same, and it makes no message. Returns whether one is whole.
+    pub fn pass(&mut self, side: Side, piece: &mut &[u8]) -> Result<bool, Fault> {
+        let (bytes, length) = (piece.as_ptr(), piece.len());
+        let step = unsafe { zk_sys::zk_talk_pass(&mut self.handle, side as u32, bytes, length) };
+        taken(&step, piece)
+    }
+
+    /// What waits for replies; after a fault, before the byte that decided it.
+    pub fn waiting(&mut self) -> Waiting {
+        let waiting = unsafe { zk_sys::zk_talk_waiting(&mut self.handle) };
+        Waiting {
+            requests: waiting.requests,
+            weight: waiting.weight,
+        }
+    }
+
+    /// How many bytes the side has sent of a frame that isn't whole, its length included.
+    pub fn held(&mut self, side: Side) -> u32 {
+        unsafe { zk_sys::zk_talk_held(&mut self.handle, side as u32) }.bytes
+    }
+
+    /// How the conversation ends if nothing more comes.
+    pub fn ending(&mut self) -> Ending {
+        Ending::of(&unsafe { zk_sys::zk_talk_finish(&mut self.handle) })
     }
 
     /// Writes the line of the side's newest message into `text`, in place of what is there.
@@ -140,6 +171,12 @@ impl Speaker {
         well(status, 0).map(|()| speaker)
     }
 
+    /// Begins anew with the same limits: it has said nothing.
+    pub fn renew(&mut self) {
+        // As for a talk.
+        unsafe { zk_sys::zk_speaker_renew(&mut self.handle) };
+    }
+
     /// The frame of the line's message, which may come next.
     pub fn say(&mut self, line: &str) -> Result<&[u8], Fault> {
         let Speaker { handle, frame } = self;
@@ -156,6 +193,46 @@ impl Drop for Speaker {
     fn drop(&mut self) {
         unsafe { zk_sys::zk_speaker_free(&mut self.handle) }
     }
+}
+
+/// Takes away what a step used; whether a frame is whole.
+fn taken(step: &zk_step, piece: &mut &[u8]) -> Result<bool, Fault> {
+    if step.fault.reason != 0 {
+        return Err(refusal(&step.fault));
+    }
+    well(step.status, 0)?;
+    *piece = piece.get(step.used..).unwrap_or_default();
+    Ok(step.whole)
+}
+
+/// Writes the listing of a whole conversation into `text`, in place of what is there: the line of each message and of the
+/// ending, each with a line feed. The pieces are in the order in which they came.
+pub fn listing(limits: Limits, pieces: &[(Side, &[u8])], text: &mut Vec<u8>) -> Result<(), Fault> {
+    let cut: Vec<zk_piece> = pieces
+        .iter()
+        .map(|(side, piece)| zk_piece {
+            side: *side as u32,
+            length: piece.len(),
+        })
+        .collect();
+    let bytes: Vec<u8> = pieces
+        .iter()
+        .flat_map(|(_, piece)| piece.iter().copied())
+        .collect();
+    written(text, |out, room| unsafe {
+        zk_sys::zk_listing(
+            cut.as_ptr(),
+            cut.len(),
+            bytes.as_ptr(),
+            bytes.len(),
+            limits.client,
+            limits.server,
+            limits.waiting,
+            limits.profile as u32,
+            out,
+            room,
+        )
+    })
 }
 
 /// Has a text written into the room that it has, and once more if that is too small.

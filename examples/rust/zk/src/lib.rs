@@ -10,6 +10,21 @@
 //! # Ok::<(), zk::Fault>(())
 //! ```
 //!
+//! A request is written from its values, and judged by a talk before it is sent:
+//!
+//! ```
+//! use zk::{Limits, Side, Talk, Value, Writer};
+//! # let mut talk = Talk::new(Limits::default())?;
+//! # let mut writer = Writer::new();
+//! # let hello = writer.first([Value::Int(0), Value::Long(0), Value::Int(1), Value::Long(0), Value::Null])?.to_vec();
+//! # talk.step(Side::Client, &mut &hello[..])?;
+//! let mut writer = Writer::new();
+//! let frame = writer.request(1, 3, [Value::Text("/a"), Value::Bool(true)])?;
+//! let message = talk.step(Side::Client, &mut &frame[..])?.expect("a whole frame");
+//! assert_eq!(message.get("path"), Some(Value::Text("/a")));
+//! # Ok::<(), zk::Fault>(())
+//! ```
+//!
 //! A message is borrowed from what it was read of, so it can't be kept across the next call:
 //!
 //! ```compile_fail,E0499
@@ -23,12 +38,19 @@
 
 use std::fmt;
 
+mod ending;
 mod held;
+mod judge;
 mod message;
 mod names;
+mod write;
 
-pub use held::{Limits, Speaker, Talk};
+pub use ending::{Ending, Waiting};
+pub use held::{listing, Limits, Speaker, Talk};
+pub use judge::{judge_connected, judge_event, judge_first, judge_reply, judge_request};
 pub use message::{Field, Kind, Message, Reader, Value};
+pub use write::Writer;
+
 pub use names::{error_name, event_name, field_name, operation_name, status_name};
 
 /// Who speaks.
@@ -49,8 +71,30 @@ pub enum Profile {
 #[derive(Clone, Copy, Debug, PartialEq, Eq)]
 pub struct Fault {
     pub status: u32,
-    /// The place in the payload, or the column in a line.
+    /// The place in the payload, the column in a line, or the index of a value.
     pub place: u32,
+    /// The byte by which a talk refuses a conversation.
+    pub at: Option<At>,
+}
+
+/// A byte that a conversation is refused by.
+#[derive(Clone, Copy, Debug, PartialEq, Eq)]
+pub struct At {
+    /// Who sent it.
+    pub side: Side,
+    /// The number of its frame among those of its side, from 0.
+    pub frame: u64,
+    /// How many bytes the side had sent, this one included.
+    pub offset: u64,
+    /// The two xids, if a reply comes out of order.
+    pub order: Option<Order>,
+}
+
+/// The xid of the oldest request that waits, and that of the reply.
+#[derive(Clone, Copy, Debug, PartialEq, Eq)]
+pub struct Order {
+    pub expected: i32,
+    pub got: i32,
 }
 
 impl fmt::Display for Fault {
@@ -67,6 +111,10 @@ pub(crate) const ROOM: u32 = 68;
 pub(crate) fn well(status: u32, place: u32) -> Result<(), Fault> {
     match status {
         0 => Ok(()),
-        _ => Err(Fault { status, place }),
+        _ => Err(Fault {
+            status,
+            place,
+            at: None,
+        }),
     }
 }

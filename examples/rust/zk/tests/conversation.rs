@@ -125,7 +125,8 @@ fn faults_of_payloads() {
         reader.request(Profile::V35, &[]).err(),
         Some(Fault {
             status: 1,
-            place: 0
+            place: 0,
+            at: None
         })
     );
     assert_eq!(
@@ -224,7 +225,8 @@ fn limits_and_lines_that_are_refused() {
         speaker.say("C 1 exists path=1").err(),
         Some(Fault {
             status: 93,
-            place: 17
+            place: 17,
+            at: None
         })
     );
 }

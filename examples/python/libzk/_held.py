@@ -1,0 +1,165 @@
+"""Talks and speakers: what holds a handle."""
+
+import ctypes
+from typing import Callable, Iterator, List, NamedTuple, NoReturn, Optional, Tuple, TypeVar
+
+from . import _calls
+from ._calls import library
+from ._messages import RANGE, Fault, Kind, Message, Profile, Refused, Side, fault_of, fields_of, written
+from ._names import OPERATIONS
+
+_WHOLE, _CUT = 1, 2
+_Self = TypeVar("_Self", bound="_Held")
+
+
+class Waiting(NamedTuple):
+    """How many requests wait for their replies, and their weight: 1 each, and 1 more for each part of a multi."""
+    requests: int
+    weight: int
+
+
+class Cut(NamedTuple):
+    """The side that ends within a frame, the frame's number, and how many bytes of it came, its length included."""
+    side: Side
+    frame: int
+    got: int
+
+
+class Ending(NamedTuple):
+    """How a conversation would end: its line (docs/FORMATS.md, section 11), and what that has. `unanswered` is how many
+    requests have no reply, where it is whole; else it is None, and either `cut` or `fault` isn't."""
+    line: str
+    unanswered: Optional[int]
+    cut: Optional[Cut]
+    fault: Optional[Fault]
+
+    @property
+    def whole(self) -> bool:
+        return self.unanswered is not None
+
+
+class _Held:
+    """What holds a handle: it is freed once, when it is closed or collected, and can't be copied."""
+
+    def __init__(self, new: Callable[..., int], again: Callable[..., int], free: Callable[..., None],
+                 limits: Tuple[int, int, int, int]):
+        self._free, self._again, self._handle = free, again, _calls.Handle()
+        status = new(self._handle, *limits) if all(0 <= limit < 1 << 32 for limit in limits) else RANGE
+        if status:
+            raise Refused(status)
+
+    def renew(self) -> None:
+        """Begins anew with the same limits, whatever came before: for one conversation after another."""
+        status = self._again(self._handle)
+        if status:
+            raise Refused(status)
+
+    def close(self) -> None:
+        self._free(self._handle)
+
+    def __enter__(self: _Self) -> _Self:
+        return self
+
+    def __exit__(self, *_: object) -> None:
+        self.close()
+
+    def __del__(self) -> None:
+        if hasattr(self, "_handle"):  # it has none if its limits were refused before it was made
+            self.close()
+
+    def __reduce__(self) -> NoReturn:
+        raise TypeError("a handle can't be copied")
+
+
+class Talk(_Held):
+    """A conversation as it comes. `client` and `server` are the greatest payloads in bytes, `waiting` is how many
+    requests may wait. With `lines` each message has its line."""
+
+    def __init__(self, client: int = 4194304, server: int = 4194304, waiting: int = 65536,
+                 profile: Profile = Profile.V34, lines: bool = False):
+        super().__init__(library.zk_talk_new, library.zk_talk_renew, library.zk_talk_free,
+                         (client, server, waiting, Profile(profile)))
+        self._lines = lines
+
+    def feed(self, side: Side, piece: bytes) -> List[Message]:
+        """The messages that these bytes of a side complete."""
+        messages: List[Message] = []
+        side = Side(side)
+        try:
+            for _ in self._steps(library.zk_talk_step, side, piece):
+                messages.append(self._newest(side))
+        except Refused as refused:
+            refused.messages = tuple(messages)
+            raise
+        return messages
+
+    def skip(self, side: Side, piece: bytes) -> int:
+        """Takes bytes of a side and judges them as `feed`, but makes no message: how many they complete."""
+        return sum(1 for _ in self._steps(library.zk_talk_pass, Side(side), piece))
+
+    def _steps(self, take: Callable[..., _calls.Step], side: Side, piece: bytes) -> Iterator[None]:
+        """Takes all of the piece, and stops wherever a frame is whole."""
+        piece = bytes(piece)
+        begin, length, at = ctypes.cast(ctypes.c_char_p(piece), ctypes.c_void_p).value or 0, len(piece), 0
+        while True:
+            step = take(self._handle, side, begin + at, length - at)
+            if step.status:
+                raise Refused(step.status, step.fault.place, fault=fault_of(step.fault))
+            at += step.used
+            if step.whole:
+                yield None
+            if at == length:
+                return
+
+    def _newest(self, side: Side) -> Message:
+        view = library.zk_talk_view(self._handle, side)
+        payload = written(lambda *out: library.zk_talk_payload(self._handle, side, *out), max(view.size, 1))
+        _, fields = fields_of(lambda *out: library.zk_talk_fields(self._handle, side, *out), lambda: payload)
+        line = None
+        if self._lines:
+            line = written(lambda *out: library.zk_talk_line(self._handle, side, *out)).decode()
+        operation = OPERATIONS.get(view.operation, "")
+        return Message(Kind(view.kind), view.xid, operation, view.err, view.zxid, fields, payload, view.frame, line)
+
+    def waiting(self) -> Waiting:
+        """What waits for replies; after a fault, before the byte that decided it."""
+        waiting = library.zk_talk_waiting(self._handle)
+        if waiting.status:
+            raise Refused(waiting.status)
+        return Waiting(waiting.requests, waiting.weight)
+
+    def held(self, side: Side) -> int:
+        """How many bytes the side has sent of a frame that isn't whole, its length included."""
+        held = library.zk_talk_held(self._handle, Side(side))
+        if held.status:
+            raise Refused(held.status)
+        count: int = held.bytes
+        return count
+
+    def ending(self) -> Ending:
+        """How the conversation ends if nothing more comes."""
+        ending = library.zk_talk_finish(self._handle)
+        if ending.status:
+            raise Refused(ending.status)
+        line = written(lambda *out: library.zk_talk_ending_line(self._handle, *out)).decode()
+        return Ending(line, ending.unanswered if ending.kind == _WHOLE else None,
+                      Cut(Side(ending.side), ending.frame, ending.got) if ending.kind == _CUT else None,
+                      fault_of(ending.fault))
+
+
+class Speaker(_Held):
+    """Makes the frames of what may be said next; the numbers are those of a talk. Each message of both sides has to be
+    said, so that replies free the places of their requests."""
+
+    def __init__(self, client: int = 4194304, server: int = 4194304, waiting: int = 65536,
+                 profile: Profile = Profile.V34):
+        super().__init__(library.zk_speaker_new, library.zk_speaker_renew, library.zk_speaker_free,
+                         (client, server, waiting, Profile(profile)))
+
+    def say(self, line: str) -> bytes:
+        """The frame of the line's message, which may come next."""
+        text = line.encode()
+        said = library.zk_speaker_say(self._handle, text, len(text))
+        if said.status:
+            raise Refused(said.status, said.column)
+        return written(lambda *out: library.zk_speaker_frame(self._handle, *out), said.length)

@@ -1,0 +1,157 @@
+"""What messages are made of, and why something is refused."""
+
+import ctypes
+import enum
+from dataclasses import dataclass
+from typing import Callable, NamedTuple, Optional, Sequence, Tuple, Union
+
+from . import _calls
+from ._names import FIELDS, OPERATIONS, STATUSES
+
+ROOM, RANGE, XID_ORDER, LAST_REASON = 68, 67, 14, 15
+
+
+class Side(enum.IntEnum):
+    CLIENT = 0
+    SERVER = 1
+
+
+class Profile(enum.IntEnum):
+    """The operations of a release."""
+    V34 = 34
+    V35 = 35
+
+
+class Kind(enum.IntEnum):
+    """Kinds of messages."""
+    CONNECT = 1
+    REQUEST = 2
+    CONNECTED = 3
+    REPLY = 4
+    EVENT = 5
+
+
+class FieldKind(enum.IntEnum):
+    """Kinds of fields. The elements of a list follow it, and so does the record of a part of a multi."""
+    INT = 1
+    LONG = 2
+    BOOL = 3
+    TEXT = 4
+    BLOB = 5
+    LIST = 6
+    PART = 7
+
+
+Value = Union[int, bool, str, bytes, None]
+
+
+class Field(NamedTuple):
+    """A field of a message. The value is None for null; of a list it is the count, and of a part the operation's
+    number, -1 if the result is an error. Its content is the `length` bytes of the payload from `place` on."""
+    name: str
+    kind: FieldKind
+    value: Value
+    place: int
+    length: int
+
+
+@dataclass(frozen=True)
+class Message:
+    """A message. The operation of a reply is that of its request. `frame` is the number of its frame among those of its
+    side, from 0, and `line` its line, if the talk has lines; both are None for a payload by itself."""
+    kind: Kind
+    xid: int
+    operation: str
+    err: int
+    zxid: int
+    fields: Tuple[Field, ...]
+    payload: bytes
+    frame: Optional[int] = None
+    line: Optional[str] = None
+
+    def __getitem__(self, name: str) -> Value:
+        """The value of the first field of this name."""
+        for field in self.fields:
+            if field.name == name:
+                return field.value
+        raise KeyError(name)
+
+
+class Fault(NamedTuple):
+    """Why a conversation is refused, and by which byte: the side that sent it, the number of its frame and of the byte
+    among all of that side, and the place in the payload. `expected` and `got` are the xids of XID_ORDER, else None."""
+    side: Side
+    frame: int
+    offset: int
+    place: int
+    reason: str
+    expected: Optional[int]
+    got: Optional[int]
+
+
+class Refused(ValueError):
+    """Bytes that are no message, or a call that can't be made: why, and the place in the payload, the column in a line
+    or the index of a field.
+
+    `fields` are those before the fault, `messages` those that came before it in the same piece, and `fault` that of
+    the conversation, if a talk has refused it."""
+
+    def __init__(self, status: int, place: int = 0, fields: Sequence[Field] = (), messages: Sequence[Message] = (),
+                 fault: Optional[Fault] = None):
+        self.status, self.place, self.fault = status, place, fault
+        self.name = STATUSES.get(status, "")
+        self.fields, self.messages = tuple(fields), tuple(messages)
+        super().__init__(f"{self.name} at {place}")
+
+
+def fault_of(fault: _calls.Fault) -> Optional[Fault]:
+    """The fault of a conversation, if there is one."""
+    if not fault.reason:
+        return None
+    order = (fault.expected, fault.got) if fault.reason == XID_ORDER else (None, None)
+    return Fault(Side(fault.side), fault.frame, fault.offset, fault.place, STATUSES.get(fault.reason, ""), *order)
+
+
+def number_of(operation: str) -> int:
+    """The number of an operation or of a part of a multi."""
+    for number, name in OPERATIONS.items():
+        if name == operation:
+            return number
+    raise Refused(RANGE)
+
+
+def _value(field: _calls.Field, payload: bytes) -> Value:
+    if field.null:
+        return None
+    if field.kind == FieldKind.TEXT:
+        return payload[field.place:field.place + field.length].decode()
+    if field.kind == FieldKind.BLOB:
+        return payload[field.place:field.place + field.length]
+    number: int = field.number
+    return bool(number) if field.kind == FieldKind.BOOL else number
+
+
+def fields_of(read: Callable[..., _calls.Read],
+              payload: Callable[[], bytes]) -> Tuple[_calls.Read, Tuple[Field, ...]]:
+    """Reads into a room of fields, and once more if there are more of them."""
+    room = (_calls.Field * 64)()
+    answer = read(room, len(room))
+    if answer.count > len(room):
+        room = (_calls.Field * answer.count)()
+        answer = read(room, len(room))
+    content = payload()
+    return answer, tuple(Field(FIELDS.get(field.name, ""), FieldKind(field.kind), _value(field, content), field.place,
+                               field.length) for field in room[:answer.count])
+
+
+def written(write: Callable[..., _calls.Line], room: int = 4096) -> bytes:
+    """What a call writes, in a room that is large enough."""
+    out = ctypes.create_string_buffer(room)
+    line = write(out, room)
+    if line.status == ROOM:
+        room = line.length
+        out = ctypes.create_string_buffer(room)
+        line = write(out, room)
+    if line.status:
+        raise Refused(line.status)
+    return out.raw[:line.length]

@@ -1,0 +1,150 @@
+"""Payloads by themselves: read into fields, judged, and written from fields; and the listing of a whole conversation."""
+
+import ctypes
+from typing import Callable, List, Sequence, Tuple, Union
+
+from . import _calls
+from ._calls import library
+from ._messages import (RANGE, ROOM, Field, FieldKind, Kind, Message, Profile, Refused, Side, Value, fields_of,
+                        number_of, written)
+from ._names import OPERATIONS
+
+Item = Union[Field, Tuple[FieldKind, Value]]
+
+
+def _read(payload: bytes, read: Callable[..., _calls.Read]) -> Message:
+    answer, fields = fields_of(read, lambda: payload)
+    if answer.status:
+        raise Refused(answer.status, answer.place, fields)
+    return Message(Kind(answer.kind), answer.xid, OPERATIONS.get(answer.operation, ""), answer.err, answer.zxid, fields,
+                   payload)
+
+
+def _parts(parts: Sequence[str]) -> "Tuple[ctypes.Array[ctypes.c_int32], int]":
+    return (ctypes.c_int32 * max(len(parts), 1))(*map(number_of, parts)), len(parts)
+
+
+def read_first(payload: bytes) -> Message:
+    """The connect request of this payload."""
+    payload = bytes(payload)
+    return _read(payload, lambda *out: library.zk_read_first(payload, len(payload), *out))
+
+
+def read_request(profile: Profile, payload: bytes) -> Message:
+    """The request of this payload."""
+    payload, profile = bytes(payload), Profile(profile)
+    return _read(payload, lambda *out: library.zk_read_request(profile, payload, len(payload), *out))
+
+
+def read_connected(payload: bytes) -> Message:
+    """The answer to a connect request."""
+    payload = bytes(payload)
+    return _read(payload, lambda *out: library.zk_read_connected(payload, len(payload), *out))
+
+
+def read_reply(operation: str, payload: bytes, parts: Sequence[str] = ()) -> Message:
+    """The reply to a request of this operation, for a multi of these parts."""
+    payload, number, numbers = bytes(payload), number_of(operation), _parts(parts)
+    return _read(payload, lambda *out: library.zk_read_reply(number, *numbers, payload, len(payload), *out))
+
+
+def read_event(payload: bytes) -> Message:
+    """The event of this payload."""
+    payload = bytes(payload)
+    return _read(payload, lambda *out: library.zk_read_event(payload, len(payload), *out))
+
+
+def _judged(answer: _calls.Payload) -> None:
+    if answer.status:
+        raise Refused(answer.status, answer.place)
+
+
+def judge_first(payload: bytes) -> None:
+    """Refuses what is no payload of a connect request; no field is read, as by all that judge."""
+    payload = bytes(payload)
+    _judged(library.zk_judge_first(payload, len(payload)))
+
+
+def judge_request(profile: Profile, payload: bytes) -> None:
+    """Refuses what is no payload of a request."""
+    payload = bytes(payload)
+    _judged(library.zk_judge_request(Profile(profile), payload, len(payload)))
+
+
+def judge_connected(payload: bytes) -> None:
+    """Refuses what is no payload of the answer to a connect request."""
+    payload = bytes(payload)
+    _judged(library.zk_judge_connected(payload, len(payload)))
+
+
+def judge_reply(operation: str, payload: bytes, parts: Sequence[str] = ()) -> None:
+    """Refuses what is no payload of a reply to a request of this operation, for a multi of these parts."""
+    payload = bytes(payload)
+    _judged(library.zk_judge_reply(number_of(operation), *_parts(parts), payload, len(payload)))
+
+
+def judge_event(payload: bytes) -> None:
+    """Refuses what is no payload of an event."""
+    payload = bytes(payload)
+    _judged(library.zk_judge_event(payload, len(payload)))
+
+
+def _item(index: int, kind: FieldKind, value: Value, content: bytearray) -> _calls.Field:
+    """A field to write; the bytes of a text or a blob are appended to the content."""
+    if value is None:
+        return _calls.Field(kind=kind, null=1)
+    if kind == FieldKind.PART and isinstance(value, str):
+        value = number_of(value)
+    if kind == FieldKind.TEXT and isinstance(value, str):
+        value = value.encode()
+    if isinstance(value, (bytes, bytearray, memoryview)) and kind in (FieldKind.TEXT, FieldKind.BLOB):
+        place = len(content)
+        content += value
+        return _calls.Field(kind=kind, place=place, length=len(value))
+    if not isinstance(value, int) or kind in (FieldKind.TEXT, FieldKind.BLOB):
+        raise TypeError(f"{value!r} is no value of the kind {kind.name}")
+    if not -1 << 63 <= value < 1 << 63:
+        raise Refused(RANGE, index)
+    return _calls.Field(kind=kind, number=value)
+
+
+def _write(items: Sequence[Item], write: Callable[..., _calls.Written]) -> bytes:
+    content = bytearray()
+    pairs = [(item.kind, item.value) if isinstance(item, Field) else item for item in items]
+    fields = [_item(index, FieldKind(kind), value, content) for index, (kind, value) in enumerate(pairs)]
+    given = ((_calls.Field * max(len(fields), 1))(*fields), len(fields), bytes(content), len(content))
+    room = len(content) + 32 * len(fields) + 64
+    out = ctypes.create_string_buffer(room)
+    answer = write(*given, out, room)
+    if answer.status == ROOM:
+        out = ctypes.create_string_buffer(answer.length)
+        answer = write(*given, out, answer.length)
+    if answer.status:
+        raise Refused(answer.status, answer.index)
+    return out.raw[:answer.length]
+
+
+def write_request(xid: int, operation: str, items: Sequence[Item] = ()) -> bytes:
+    """The frame of a request: of each field, in order, its kind and its value, as of a message's fields. A null is None,
+    a list its count, a part of a multi its operation. Whether the frame may come next is judged by a talk."""
+    if not -1 << 31 <= xid < 1 << 31:
+        raise Refused(RANGE)
+    return _write(items, lambda *given: library.zk_write_request(xid, number_of(operation), *given))
+
+
+def write_first(items: Sequence[Item]) -> bytes:
+    """The frame of a connect request, of its fields as for a request."""
+    return _write(items, library.zk_write_first)
+
+
+def listing(pieces: Sequence[Tuple[Side, bytes]], client: int = 4194304, server: int = 4194304, waiting: int = 65536,
+            profile: Profile = Profile.V34) -> List[str]:
+    """The line of each message of a conversation, and of its ending; the pieces are in the order in which they came,
+    and the limits are those of a talk."""
+    if not all(0 <= limit < 1 << 32 for limit in (client, server, waiting)):
+        raise Refused(RANGE)
+    cut = (_calls.Piece * max(len(pieces), 1))(*(_calls.Piece(Side(side), len(piece)) for side, piece in pieces))
+    content = b"".join(piece for _, piece in pieces)
+    text = written(lambda *out: library.zk_listing(cut, len(pieces), content, len(content), client, server, waiting,
+                                                   Profile(profile), *out), 64 + 4 * len(content))
+    return text.decode().splitlines()
