@@ -10,7 +10,6 @@ from report import kept, paths
 
 WATCHING = ("exists", "getData", "getChildren", "getChildren2")
 WATCH_LISTS = ("dataWatches", "existWatches", "childWatches")
-MADE_UP = "-1"      # the version in the connect messages that pcap2zkr.py makes up
 NO_CONNECTION = '{"connection": 0'
 MOST_WATCHES = 20_000
 
@@ -178,7 +177,7 @@ class Reading:
     def connect(self, line, made):
         """Takes a connect message, and says whether it is one that pcap2zkr.py made up."""
         connection, fields = self.connection, object_of(line, made)
-        if str(fields.get("version")) == MADE_UP:
+        if made.made_up:
             connection.is_late = True
         elif made.side == "C":
             connection.asked_session = fields.get("session")
