@@ -222,7 +222,7 @@ class Listing(Conversations):
 
     def __iter__(self):
         connection, plain, lanes, lines, n = self.connection, self.plain, self.lanes, iter(self.lines), 0
-        frames = self.times and self.times.frames
+        frames, foreign = self.times and self.times.frames, self.times and self.times.foreign
         for n, line in enumerate(lines, 1):
             found = BEGINNING.match(line)
             if not found or connection.ending:
@@ -234,7 +234,8 @@ class Listing(Conversations):
             made = Message(connection, n, side, xid, op, path, name or number, found.end(3))
             if frames:
                 of_side, of_xid, at = next(frames, NO_FRAME)
-                if of_side != side or of_xid != int(xid or EVENT_XID) and op != CONNECT:
+                if of_side != side or of_xid != int(xid or EVENT_XID) and op != CONNECT or foreign \
+                        and not self.times.is_of(line, made):
                     self.times.refuse(n, of_side, lines)
                 if at is not None:
                     made.at = at
