@@ -43,7 +43,8 @@ def conversations(parser, words, objects, progress, before_read=lambda: None):
 def conversation(parser, words, path, stream, objects, progress, before_read):
     """The conversation of one input."""
     times, name = None, words.recording or path
-    if stream.peek(4)[:4] in (b"ZKR1", b"ZKR2"):
+    is_recording = stream.peek(4)[:4] in (b"ZKR1", b"ZKR2")
+    if is_recording:
         if path == listing.STANDARD_INPUT or words.recording:
             parser.error("this is a recording: name it as the argument, and leave out --recording")
         lines, times = lines_of_show(parser, words, path, before_read), times_of(parser, path, words.times, False)
@@ -59,7 +60,7 @@ def conversation(parser, words, path, stream, objects, progress, before_read):
     lines = itertools.chain([first], lines)
     if objects and first.startswith("{"):
         return joined.Joined(name, lines, progress)
-    return listing.Listing(name, lines, times, progress)
+    return listing.Listing(name, lines, times, progress, is_recording)
 
 
 def lines_of_show(parser, words, path, before_read):

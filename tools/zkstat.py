@@ -82,6 +82,8 @@ class Statistics:
             counts = connections.get(made.connection)
             if counts is None:
                 counts = connections[made.connection] = Counts()
+            if made.made_up:
+                continue
             if asked is None:
                 if made.op == listing.EVENT:
                     self.events[made.error] += 1
@@ -97,6 +99,8 @@ class Statistics:
             for connection in talk.connections():
                 connections.setdefault(connection, Counts())
         for made in self.selection.left(talk):
+            if made.made_up:
+                continue
             self.operations[made.op].asked += 1
             self.connections[made.connection].asked += 1
             self.waiting.append(made)
