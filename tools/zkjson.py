@@ -19,6 +19,7 @@ import json
 import re
 import sys
 
+import columns
 import forms
 import inputs
 import listing
@@ -132,6 +133,18 @@ def write(line, made, asked):
     sys.stdout.writelines(pieces(line, made, asked))
 
 
+def head_of(name):
+    """How each object of a connection begins."""
+    return f'{{"connection": {forms.readable(name)}'
+
+
+def write_columns(talk, chosen):
+    """Writes what is chosen of columns, whose JSON is there already."""
+    sys.stdout.flush()
+    for block, array in chosen.arrays(talk):
+        sys.stdout.buffer.write(block.lines(array))
+
+
 def main():
     parser = zkr.Words(__doc__)
     inputs.add_words(parser)
@@ -139,11 +152,16 @@ def main():
     words = parser.parse_args()
     sys.stdout.reconfigure(encoding="utf-8")
     chosen, progress = selection.Selection(words), zkr.Progress("zkjson", may=not sys.stdout.isatty())
-    for talk in inputs.conversations(parser, words, False, progress, before_read=sys.stdout.flush):
-        head = talk.connection.json = f'{{"connection": {forms.readable(talk.name)}'
+    def fast(name):
+        return [*chosen.options(name), "--json", head_of(name), *["--no-part-paths"] * (chosen.slower is not None)]
+    for talk in inputs.conversations(parser, words, False, progress, before_read=sys.stdout.flush, fast=fast):
+        head = talk.connection.json = head_of(talk.name)
         with talk.complaints():
-            for line, made, asked in chosen.chosen(talk):
-                write(line, made, asked)
+            if isinstance(talk, columns.Columns):
+                write_columns(talk, chosen)
+            else:
+                for line, made, asked in chosen.chosen(talk):
+                    write(line, made, asked)
         if talk.connection.ending:
             waiting = ", ".join(str(made.n) for made in chosen.left(talk))
             print(f'{head}, {json.dumps(talk.connection.ending)[1:-1]}, "waiting": [{waiting}]}}')

@@ -16,6 +16,8 @@ import itertools
 import json
 import sys
 
+import columns
+import counted
 import inputs
 import listing
 import selection
@@ -69,19 +71,41 @@ def cut(path):
 class Statistics:
     """Everything that is counted of conversations."""
 
+    most = SLOWEST
+
     def __init__(self, chosen):
         self.selection = chosen
         self.operations, self.connections = collections.defaultdict(Counts), {}
         self.events, self.waiting = collections.Counter(), []
         self.slowest, self.order, self.least = [], itertools.count(), -1
 
+    def counts_of(self, connection):
+        """What is counted of a connection."""
+        counts = self.connections.get(connection)
+        if counts is None:
+            counts = self.connections[connection] = Counts()
+        return counts
+
     def read(self, talk):
         """Counts what is chosen of a conversation, or of several."""
+        if isinstance(talk, columns.Columns):
+            counted.read(self, talk)
+        else:
+            self.read_messages(talk)
+        if self.selection.all:
+            for connection in talk.connections():
+                self.counts_of(connection)
+        for made in self.selection.left(talk):
+            self.operations[made.op].asked += 1
+            self.connections[made.connection].asked += 1
+            made.path = cut(made.path)
+            self.waiting.append(made)
+
+    def read_messages(self, talk):
+        """Counts the messages of a conversation one by one; counted.add_block does it with columns."""
         operations, connections = self.operations, self.connections
         for line, made, asked in self.selection.chosen(talk):
-            counts = connections.get(made.connection)
-            if counts is None:
-                counts = connections[made.connection] = Counts()
+            counts = connections.get(made.connection) or self.counts_of(made.connection)
             if asked is None:
                 if made.op == listing.EVENT:
                     self.events[made.error] += 1
@@ -92,18 +116,11 @@ class Statistics:
             operations[made.op].add(made.error, microseconds)
             counts.add(made.error, microseconds)
             if microseconds is not None and microseconds > self.least:
-                self.add_slow(talk, line, made, asked)
-        if self.selection.all:
-            for connection in talk.connections():
-                connections.setdefault(connection, Counts())
-        for made in self.selection.left(talk):
-            self.operations[made.op].asked += 1
-            self.connections[made.connection].asked += 1
-            self.waiting.append(made)
+                self.add_slow(talk.zxid(line), made, asked)
 
-    def add_slow(self, talk, line, made, asked):
+    def add_slow(self, zxid, made, asked):
         """Keeps a reply as one of the slowest, in place of the least slow of them."""
-        entry = made.microseconds, -next(self.order), Slow(asked, made, talk.zxid(line))
+        entry = made.microseconds, -next(self.order), Slow(asked, made, zxid)
         if len(self.slowest) < SLOWEST:
             heapq.heappush(self.slowest, entry)
         else:
@@ -162,7 +179,7 @@ def main():
     words = parser.parse_args()
     sys.stdout.reconfigure(errors="backslashreplace")
     found = Statistics(selection.Selection(words))
-    for talk in inputs.conversations(parser, words, True, zkr.Progress("zkstat")):
+    for talk in inputs.conversations(parser, words, True, zkr.Progress("zkstat"), fast=found.selection.options):
         with talk.complaints():
             found.read(talk)
     if words.json:
