@@ -49,13 +49,13 @@ def found_program():
     return next((str(path) for path in PLACES if os.access(path, os.X_OK)), None)
 
 
-def lacks(words):
-    """What is missing for columns, or None."""
+def lacks(words, counted):
+    """What is missing for columns, or None; where they are `counted`, that is numpy too."""
     if words.zkdump != program.usual():
         return "another program is named"
     if not found_program():
         return "zkcolumns isn't there"
-    return None if numpy else "numpy isn't there"
+    return "numpy isn't there" if counted and not numpy else None
 
 
 class Block:

@@ -71,9 +71,10 @@ def columns_of(words, path, fast, progress):
     """The columns of a recording; None where the plain form has to read it."""
     if not fast:
         return None
-    lacking = columns.lacks(words)
+    options = fast(path)
+    lacking = columns.lacks(words, "--lines" not in options)
     if not lacking:
-        return columns.opened(words, path, progress, [*columns.times_options(path, words.times), *fast(path)])
+        return columns.opened(words, path, progress, [*columns.times_options(path, words.times), *options])
     if os.path.getsize(path) >= columns.WORTH_A_LINE and not columns.is_told:
         columns.is_told = True
         zkr.report(f"this takes longer than it could: {lacking} (tools/README.md)")
