@@ -11,6 +11,8 @@ folder, used and removed. A second release has the same bytes. What is skipped, 
 It prints what failed and one last line. The status is 0 where nothing did.
 """
 
+import importlib.machinery
+import importlib.util
 import os
 import pathlib
 import re
@@ -24,6 +26,7 @@ TOP = pathlib.Path(__file__).resolve().parent.parent
 sys.path.append(str(TOP / "packaging"))
 import debian  # noqa: E402
 import distribution  # noqa: E402
+import gate  # noqa: E402
 import install  # noqa: E402
 import make_library  # noqa: E402
 
@@ -102,6 +105,27 @@ def numbers():
     yield "CHANGELOG.md", changes[:2] == ["Unreleased", install.VERSION], f"CHANGELOG.md begins with {changes[:2]}"
     found = run(sys.executable, TOP / "release", install.VERSION + "0")
     yield "another version", found.returncode == 2, f"release: status {found.returncode} for another version"
+
+
+def logs():
+    """Whose log the release takes: that of a gate which passed for this commit, program and library."""
+    loader = importlib.machinery.SourceFileLoader("release", str(TOP / "release"))
+    release = importlib.util.module_from_spec(importlib.util.spec_from_loader("release", loader))
+    loader.exec_module(release)
+    lines = list(gate.lines())
+    passed = "\n".join(["== step", "9 passed, 0 failed", "== python3 packaging/gate.py (after 9 s)", *lines, ""])
+    commit, program, library = (line.rpartition(": ")[2] for line in lines)
+    cases = {"its own": (passed, 0), "another commit's": (passed.replace(commit, "0" * 40), 1),
+             "another program's": (passed.replace(program, "0" * 64), 1),
+             "another library's": (passed.replace(library, "0" * 64), 1), "no log": ("/bin/true\n", 3), "empty": ("", 3),
+             "one of another end": (f"{passed}more\n", 1), "one that failed": (passed.replace("0 failed", "1 failed"), 1)}
+    usual = set(release.faults(None))
+    for name, (log, count) in cases.items():
+        found = [line for line in release.faults(log) if line not in usual]
+        yield f"log, {name}", len(found) == count, f"release, with the log of {name}: {found}"
+    told = run(sys.executable, TOP / "packaging" / "gate.py").stdout.decode().splitlines()
+    yield "gate.py", told == lines, f"gate.py: {told}"
+    yield "BUILD", "no gate stands behind" in release.NO_GATE, "BUILD doesn't say that no gate stands behind it"
 
 
 def completion():
@@ -204,7 +228,7 @@ def main():
         if not path.exists():
             print(f"{path.relative_to(TOP)} is not there: ./test makes it\n0 passed, 1 failed")
             return 1
-    results = [*numbers(), *completion()]
+    results = [*numbers(), *logs(), *completion()]
     with tempfile.TemporaryDirectory() as folder:
         work, dist, again = (pathlib.Path(folder, name) for name in ("work", "dist", "again"))
         for made in (work, dist, again):

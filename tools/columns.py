@@ -208,7 +208,7 @@ class Columns(listing.Listing):
             made.moment = record.moment
         if record.microseconds == record.microseconds:
             made.microseconds = int(record.microseconds)
-        made.chosen = bool(record.flags & CHOSEN)
+        made.chosen, made.made_up = bool(record.flags & CHOSEN), bool(record.flags & MADE_UP)
         return made
 
     def left(self):

@@ -72,6 +72,7 @@ def read(found, talk):
 def add_block(found, talk, block, array, latencies):
     """Counts messages of a block."""
     numpy, counts = columns.numpy, found.counts_of(talk.connection)
+    array = array[array["flags"] & columns.MADE_UP == 0]
     events = array[array["operation"] == columns.EVENT]
     for kind, count in grouped(numpy, events["error"]):
         found.events[talk.kinds.get(kind) or str(kind)] += count

@@ -252,6 +252,9 @@ ANSWERS = {
     "getChildren": "names:texts", "getChildren2": "names:texts stat:stat", "sync": "path:text", "ping": "", "auth": "",
     "setWatches": "", "closeSession": "", "multi": "",
 }
+NUMBERS = {"create": 1, "delete": 2, "exists": 3, "getData": 4, "setData": 5, "getACL": 6, "setACL": 7, "getChildren": 8,
+           "sync": 9, "ping": 11, "getChildren2": 12, "multi": 14, "create2": 15, "auth": 100, "setWatches": 101,
+           "closeSession": -11}
 REQUESTS = {name: Form(fields) for name, fields in ASKS.items()}
 REPLIES = {name: Form("zxid:hexadecimal " + fields) for name, fields in ANSWERS.items()}
 REPLIES["connect"] = Form("version:number timeout:number session:hexadecimal passwd:secret ro:readonly")

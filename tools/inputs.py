@@ -46,7 +46,8 @@ def conversations(parser, words, objects, progress, before_read=lambda: None, fa
 def conversation(parser, words, path, stream, objects, progress, before_read, fast=None):
     """The conversation of one input."""
     times, name = None, words.recording or path
-    if stream.peek(4)[:4] in (b"ZKR1", b"ZKR2"):
+    is_recording = stream.peek(4)[:4] in (b"ZKR1", b"ZKR2")
+    if is_recording:
         if path == listing.STANDARD_INPUT or words.recording:
             parser.error("this is a recording: name it as the argument, and leave out --recording")
         if found := columns_of(words, path, fast, progress):
@@ -64,7 +65,7 @@ def conversation(parser, words, path, stream, objects, progress, before_read, fa
     lines = itertools.chain([first], lines)
     if objects and first.startswith("{"):
         return joined.Joined(name, lines, progress)
-    return listing.Listing(name, lines, times, progress)
+    return listing.Listing(name, lines, times, progress, is_recording)
 
 
 def columns_of(words, path, fast, progress):

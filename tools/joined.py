@@ -9,6 +9,9 @@ import listing
 WORD = re.compile(r"[A-Za-z0-9-]+", re.ASCII)
 SESSION = re.compile("0x[0-9a-f]{1,16}", re.ASCII)
 MOST = 1 << 64
+ALL_ONES = listing.hexadecimal(-1)
+MADE_UP = {"C": {"version": -1, "zxid": ALL_ONES, "timeout": -1, "session": ALL_ONES, "passwd": None, "ro": None},
+           "S": {"version": -1, "timeout": -1, "session": ALL_ONES, "passwd": None, "ro": None}}
 NEEDED = object()
 
 
@@ -143,10 +146,11 @@ class Known:
             raise ValueError("zkjson doesn't write this value of 'at' or of 'ms'")
         xid = value(made, "xid", (int,), None)
         connection.known = connection.known or side == "S"
-        if op == listing.CONNECT:
-            connection.connect(side, session_of(made))
         xid = None if xid is None else str(xid)
         message = listing.Message(connection, n, side, xid, op, path_of(made, "path"), error)
+        if op == listing.CONNECT:
+            message.made_up = all(made.get(name) == found for name, found in MADE_UP[side].items())
+            connection.connect(message, session_of(made))
         if at is not None:
             message.moment = at
             connection.timed(at)

@@ -21,7 +21,7 @@ ENDINGS = ("whole", "cut", "refused", "recording")
 
 # Spellings of a line. A number has no more digits than a long has.
 NUMBER = r"(?:0|-?[1-9]\d{0,18})"
-TEXT = '(?:~|"[ !#-~]*")'
+TEXT = r'(?:~|"[ !#-\[\]-~]*(?:\\[0-9a-f]{2}[ !#-\[\]-~]*)*")'
 NAME = r"(?:/([A-Za-z]+))?"
 # How a message's line begins: its side, xid and operation, and its path, its error or an event's kind.
 HEAD = rf"([CS]) (?:({NUMBER}) )?([A-Za-z][A-Za-z0-9]*)"
@@ -31,7 +31,12 @@ ONLY_HEAD = re.compile(HEAD, re.ASCII)
 FAILED_PART = re.compile(rf"[{{;]fail err=({NUMBER}){NAME}", re.ASCII)
 QUOTED = re.compile('"[^"]*"')
 PATHS = re.compile(rf' path=({TEXT})|"[^"]*"', re.ASCII)
+EVENT_PATH = re.compile(rf" path=({TEXT})$", re.ASCII)
+DIGITS = re.compile("#[0-9a-f]*", re.ASCII)
 SESSION = re.compile(rf" session=({NUMBER})(?= |$)", re.ASCII)
+# What follows the operation in the connect messages that pcap2zkr makes up, by the side.
+MADE_UP = {"C": " version=-1 zxid=-1 timeout=-1 session=-1 passwd=~ ro=-",
+           "S": " version=-1 timeout=-1 session=-1 passwd=~ ro=-"}
 ZXID = re.compile(rf" zxid=({NUMBER})(?= |$)", re.ASCII)
 ENDING = re.compile(rf"\. (?:whole unanswered={NUMBER}|cut side=[CS] frame={NUMBER} got={NUMBER}|"
                     rf"refused side=[CS] frame={NUMBER} offset={NUMBER} place={NUMBER} reason=\w+"
@@ -40,6 +45,21 @@ ENDING = re.compile(rf"\. (?:whole unanswered={NUMBER}|cut side=[CS] frame={NUMB
 
 class NoListing(ValueError):
     """A line that `zkdump show` doesn't write, or doesn't write there."""
+
+
+def check_values(line, n):
+    """Refuses line n where a text of it isn't UTF-8, or data have half a byte; these lie after its beginning, too."""
+    if "\\" in line:
+        for found in QUOTED.finditer(line):
+            try:
+                for _ in parts_of_text(line, *found.span()):
+                    pass
+            except ValueError:
+                raise no_line(n, found.start()) from None
+    if "#" in line and 0 in [len(digits) % 2 for digits in DIGITS.findall(line)]:
+        for found in DIGITS.finditer(QUOTED.sub(lambda text: "~" * len(text[0]), line)):
+            if len(found[0]) % 2 == 0:
+                raise no_line(n, line.rfind(" ", 0, found.start()))
 
 
 def no_line(n, at):
@@ -61,10 +81,10 @@ class Connection:
         self.begun = self.ended = self.ending = None
         self.backwards = 0
 
-    def connect(self, side, session):
-        """Takes the session of a connect message, as a number."""
-        self.known = side == "S"
-        if session:
+    def connect(self, made, session):
+        """Takes a connect message, and its session as a number."""
+        self.known = made.side == "S"
+        if session and not made.made_up:
             self.session = hexadecimal(session)
 
     def timed(self, moment):
@@ -78,7 +98,8 @@ class Message:
     """How a message's line begins: its number, its side, and its xid, operation and path as the line has them; None for
     what it has not.
 
-    `connection` is the Connection that it belongs to. `error` is the name of a reply's error, or its number: of a
+    `connection` is the Connection that it belongs to; `made_up` says that pcap2zkr made it up, at the beginning of what
+    follows a loss. `error` is the name of a reply's error, or its number: of a
     failed multi, that of the part that failed; and of an event, its kind. `at` is the message's time as it is spelled,
     `moment` the same as a number of milliseconds since 1970, and `microseconds`, or `ms`, how long a reply took, unless
     its time is before that of its request. `end` is the place after the operation in the line; `parts` is for the
@@ -86,6 +107,7 @@ class Message:
     """
 
     at = moment = microseconds = chosen = None
+    made_up = False
     parts = ()
     ms = property(lambda self: None if self.microseconds is None else self.microseconds / 1000)
 
@@ -188,28 +210,32 @@ class Listing(Conversations):
 
     Iterating gives the line of each message, the message, and the request that it answers, or None. `connection` is
     what is known of the connection, and `left()` returns the requests that wait. `times` gives the time of each
-    message, where it isn't None (times.Times); `progress` is updated with the number of lines.
+    message, where it isn't None (times.Times); `progress` is updated with the number of lines. `proved` says that the
+    lines are those of zkdump itself, whose values need no check.
     """
 
-    def __init__(self, name, lines, times, progress):
+    def __init__(self, name, lines, times, progress, proved=False):
         super().__init__(name, lines, progress)
-        self.connection, self.times = Connection(name), times
+        self.connection, self.times, self.proved = Connection(name), times, proved
         self.plain = collections.deque()        # the requests that wait, in the lanes in which a server answers them
         self.lanes = {xid: collections.deque() for xid in OWN_LANES}    # (docs/CONVERSATION.md)
 
     def __iter__(self):
         connection, plain, lanes, lines, n = self.connection, self.plain, self.lanes, iter(self.lines), 0
-        frames = self.times and self.times.frames
+        frames, foreign = self.times and self.times.frames, self.times and self.times.foreign
         for n, line in enumerate(lines, 1):
             found = BEGINNING.match(line)
             if not found or connection.ending:
                 self.end(line, n)
                 continue
+            if not self.proved:
+                check_values(line, n)
             side, xid, op, path, number, name = found.groups()
             made = Message(connection, n, side, xid, op, path, name or number, found.end(3))
             if frames:
                 of_side, of_xid, at = next(frames, NO_FRAME)
-                if of_side != side or of_xid != int(xid or EVENT_XID) and op != CONNECT:
+                if of_side != side or of_xid != int(xid or EVENT_XID) and op != CONNECT or foreign \
+                        and not self.times.is_of(line, made):
                     self.times.refuse(n, of_side, lines)
                 if at is not None:
                     made.at = at
@@ -233,7 +259,8 @@ class Listing(Conversations):
                                                  FAILED_PART.findall(QUOTED.sub("", line))])
             if op == CONNECT:
                 session = SESSION.search(line, made.end)
-                connection.connect(side, session and int(session[1]))
+                made.made_up = line[made.end:] == MADE_UP[side]
+                connection.connect(made, session and int(session[1]))
             yield line, made, asked
             if n % 1000 == 0:
                 self.progress.show(f"{n:,} lines")
@@ -259,7 +286,9 @@ class Listing(Conversations):
         return sorted((made for lane in (self.plain, *self.lanes.values()) for made in lane), key=lambda made: made.n)
 
     def paths(self, line, made):
-        """The paths of a request's line: of a multi, those of its parts."""
+        """The paths of the line of a request or an event: of a multi, those of its parts."""
+        if made.op == EVENT:
+            return EVENT_PATH.findall(line, made.end)
         return [path for path in PATHS.findall(line) if path] if made.op == "multi" else [made.path]
 
     def zxid(self, line):

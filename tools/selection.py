@@ -142,7 +142,7 @@ class Selection:
         if self.operations:
             mask &= numpy.isin(array["operation"], codes)
         if self.paths:
-            mask &= (array["flags"] & columns.CHOSEN > 0) & (array["operation"] != columns.EVENT)
+            mask &= array["flags"] & columns.CHOSEN > 0
         at = numpy.floor(numpy.where(is_reply, array["asked_moment"], array["moment"]))
         if self.begin is not None or self.end is not None:
             mask &= at == at

@@ -1,21 +1,62 @@
 """The times of a listing's messages, by the recording that it is of."""
 
 import os
+import re
 import struct
 
+import forms
 import listing
 import zkr
 
 LETTERS = {zkr.CLIENT: "C", zkr.SERVER: "S"}
 LENGTH_AND_XID = struct.Struct(">ii")
 LARGEST = zkr.LIMITS[-1]
+FRONT = 1 << 16         # bytes of a frame that are compared with its line
+CONNECT_FIELDS = re.compile(rf" session=({listing.NUMBER}) passwd=(~|#[0-9a-f]*)", re.ASCII)
+REPLY_FIELDS = re.compile(rf" zxid=({listing.NUMBER})(?: (?:err|kind)=({listing.NUMBER}))?", re.ASCII)
+SESSION_AT = {"C": 16, "S": 8}      # in the payload of a connect message; the password follows
+
+
+def is_of_line(payload, line, made):
+    """Whether a frame with this payload can have this line: by the operation, the first path, and the session and
+    password, or the zxid and the error."""
+    try:
+        if made.op == listing.CONNECT:
+            at, (session, passwd) = SESSION_AT[made.side], CONNECT_FIELDS.search(line).groups()
+            return struct.unpack_from(">q", payload, at)[0] == int(session) and \
+                is_text(payload, at + 8, None if passwd == "~" else bytes.fromhex(passwd[1:]))
+        if made.side == "C":
+            return struct.unpack_from(">i", payload, 4)[0] == forms.NUMBERS[made.op] and \
+                (made.path is None or is_text(payload, 8, bytes_of(made.path)))
+        zxid, code = REPLY_FIELDS.match(line, made.end).groups()
+        if made.op == listing.EVENT:
+            found, = listing.EVENT_PATH.findall(line, made.end)
+            if not is_text(payload, 24, bytes_of(found)):
+                return False
+        at = 16 if made.op == listing.EVENT else 12
+        return struct.unpack_from(">q", payload, 4)[0] == int(zxid) and \
+            struct.unpack_from(">i", payload, at)[0] == int(code or 0)
+    except (AttributeError, struct.error, KeyError, ValueError):
+        return False
+
+
+def bytes_of(spelled):
+    """The bytes of a text of a line; None for null."""
+    return None if spelled == "~" else listing.unescaped(spelled[1:-1])
+
+
+def is_text(payload, at, wanted):
+    """Whether a payload, or its front, has these bytes at this place, after their number; or null for None."""
+    size = struct.unpack_from(">i", payload, at)[0]
+    return size == -1 if wanted is None else size == len(wanted) and \
+        payload[at + 4:at + 4 + size] == wanted[:max(0, len(payload) - at - 4)]
 
 
 class Beginning:
-    """The bytes of a side's frame that isn't whole yet: how many there are, and the first eight of them."""
+    """The bytes of a side's frame that isn't whole yet: how many there are, and the first ones, `kept` of them."""
 
-    def __init__(self):
-        self.got, self.size, self.first = 0, None, b""
+    def __init__(self, kept):
+        self.got, self.size, self.first, self.kept = 0, None, b"", kept
 
     def take(self, data, at):
         """Takes bytes from place `at` on, to the frame's end at most, and returns the place after them. A frame with an
@@ -30,8 +71,8 @@ class Beginning:
             length = int.from_bytes(self.first, "big", signed=True)
             self.size = 4 + length if 0 <= length <= LARGEST else float("inf")
         to = min(len(data), at + self.size - self.got)
-        if self.got < 8:
-            self.first += data[at:min(to, at + 8 - self.got)]
+        if self.got < self.kept:
+            self.first += data[at:min(to, at + self.kept - self.got)]
         self.got += to - at
         return to
 
@@ -44,16 +85,18 @@ class Times:
 
     `frames` gives of each frame, in the order of their last bytes, its side, its xid and its time, or None. `times` are
     those of the recording's pieces, one each; where it is None, those that the pieces have. There 0 is no time. Any
-    difference between the listing and the recording is a NoListing.
+    difference between the listing and the recording is a NoListing. Where the listing is not one that zkdump has just
+    made of the recording, it is `foreign`: `front` is then the beginning of the last frame's payload.
     """
 
-    def __init__(self, pieces, times):
-        self.damage, self.count = None, {"C": 0, "S": 0}
-        self.begun = {"C": Beginning(), "S": Beginning()}
+    def __init__(self, pieces, times, foreign):
+        self.damage, self.count, self.foreign, self.front = None, {"C": 0, "S": 0}, foreign, b""
+        self.kept = 4 + FRONT if foreign else 8
+        self.begun = {"C": Beginning(self.kept), "S": Beginning(self.kept)}
         self.frames = self.read(pieces, times)
 
     def read(self, pieces, times):
-        count, begun, length_and_xid = self.count, self.begun, LENGTH_AND_XID.unpack_from
+        count, begun, length_and_xid, foreign = self.count, self.begun, LENGTH_AND_XID.unpack_from, self.foreign
         try:
             for side, milliseconds, data in pieces:
                 moment = next(times, None) if times else milliseconds or None
@@ -62,6 +105,8 @@ class Times:
                     if end - at >= 8 and not begun[letter].got:
                         length, xid = length_and_xid(data, at)
                         if 4 <= length <= LARGEST and at + 4 + length <= end:
+                            if foreign:
+                                self.front = data[at + 4:at + 4 + min(length, FRONT)]
                             at += 4 + length
                             count[letter] += 1
                             yield letter, xid, moment
@@ -69,11 +114,15 @@ class Times:
                     beginning = begun[letter]
                     at = beginning.take(data, at)
                     if beginning.is_whole():
-                        begun[letter] = Beginning()
+                        begun[letter], self.front = Beginning(self.kept), beginning.first[4:]
                         count[letter] += 1
-                        yield letter, int.from_bytes(beginning.first[4:], "big", signed=True), moment
+                        yield letter, int.from_bytes(beginning.first[4:8], "big", signed=True), moment
         except zkr.Damaged as damage:
             self.damage = damage
+
+    def is_of(self, line, made):
+        """Whether the last frame can have this line."""
+        return not self.foreign or is_of_line(self.front, line, made)
 
     def refuse(self, n, side, lines):
         """Raises a NoListing: why message `n` of the listing, which these lines follow, isn't the recording's next."""
@@ -109,14 +158,14 @@ class Times:
         return fits and not self.damage
 
 
-def times_of(parser, path, beside, needed):
+def times_of(parser, path, beside, foreign):
     """The times of the messages of the recording at this path: in the file `beside`, where that is named; else in the
-    recording, or in the usual file. None if there are none, unless they are `needed`."""
+    recording, or in the usual file. None if there are none, unless the listing is `foreign`, which needs them."""
     pieces = zkr.Reader(open(path, "rb"))
     if pieces.head.form == "zkr2" and not beside:
-        return Times(pieces, None)
+        return Times(pieces, None, foreign)
     if not beside and not os.path.exists(zkr.times_path(path)):
-        if needed:
+        if foreign:
             parser.error(f"{path} has no times: name a file of them with --times FILE")
         return None
-    return Times(pieces, zkr.times_beside(path, beside))
+    return Times(pieces, zkr.times_beside(path, beside), foreign)

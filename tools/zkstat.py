@@ -96,6 +96,8 @@ class Statistics:
             for connection in talk.connections():
                 self.counts_of(connection)
         for made in self.selection.left(talk):
+            if made.made_up:
+                continue
             self.operations[made.op].asked += 1
             self.connections[made.connection].asked += 1
             made.path = cut(made.path)
@@ -106,6 +108,8 @@ class Statistics:
         operations, connections = self.operations, self.connections
         for line, made, asked in self.selection.chosen(talk):
             counts = connections.get(made.connection) or self.counts_of(made.connection)
+            if made.made_up:
+                continue
             if asked is None:
                 if made.op == listing.EVENT:
                     self.events[made.error] += 1

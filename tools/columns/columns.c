@@ -184,15 +184,19 @@ static void put_path(struct state *state, struct record *record, const struct as
     put(&state->paths, path, record->path_length);
 }
 
-static void take_connect(struct state *state, const struct zk_message *view, struct record *record) {
+/* Takes the session of a connect message, unless pcap2zkr made that up: all its numbers are -1. */
+static void take_connect(struct state *state, const struct zk_message *view, struct asked *asked) {
     uint64_t session = 0;
+    bool made_up = true;
     size_t count = read_fields(state, view->kind == ZK_CONNECT ? ZK_CLIENT : ZK_SERVER, true);
     for (size_t i = 0; i < count; i++) {
-        if (state->fields[i].name == ZK_NAME_SESSION_ID) session = (uint64_t)state->fields[i].number;
-        if (state->fields[i].name == ZK_NAME_PROTOCOL_VERSION && state->fields[i].number == -1) record->flags |= FLAG_MADE_UP;
+        const struct zk_field *field = state->fields + i;
+        if (field->name == ZK_NAME_SESSION_ID) session = (uint64_t)field->number;
+        made_up &= field->kind == ZK_KIND_BLOB ? field->null == 1 : field->kind != ZK_KIND_BOOL && field->number == -1;
     }
     state->head.known = view->kind == ZK_CONNECTED;
-    if (session != 0) state->head.session = session;
+    if (made_up) asked->flags |= FLAG_MADE_UP;
+    else if (session != 0) state->head.session = session;
 }
 
 static void take_time(struct state *state, struct record *record) {
@@ -228,7 +232,8 @@ static void take_message(struct state *state, uint32_t side, const uint8_t *end,
     record.flags = ordinary ? FLAG_XID : 0;
     take_time(state, &record);
     size_t count = 0;
-    if (!ordinary && view.kind != ZK_EVENT) take_connect(state, &view, &record);
+    if (!ordinary && view.kind != ZK_EVENT) take_connect(state, &view, &asked);
+    record.flags |= (uint16_t)asked.flags;
     if (state->json != NULL || view.kind != ZK_REPLY || parts)
         count = read_fields(state, side, state->json != NULL || parts);
     if (view.kind == ZK_EVENT) {
@@ -243,7 +248,7 @@ static void take_message(struct state *state, uint32_t side, const uint8_t *end,
         else if (parts) find_failed_part(state, count, &record);
     } else {
         asked.moment = record.moment;
-        if (ordinary && keep_paths(state, payload, count, parts, &asked)) asked.flags = FLAG_CHOSEN;
+        if (ordinary && keep_paths(state, payload, count, parts, &asked)) asked.flags |= FLAG_CHOSEN;
         put_path(state, &record, &asked, state->of_message.at);
         if (ordinary && count == PATH_FIELDS && state->fields[1].name == ZK_NAME_WATCH && state->fields[1].number) record.flags |= FLAG_WATCH;
         ask(lane_of(state->lanes, view.kind, view.xid), asked, ordinary ? &state->of_message : &(struct bytes){0});
@@ -294,7 +299,7 @@ static void write_end(struct state *state, bool refused) {
             struct asked asked = answer(lane, &paths);
             struct record record = {.n = asked.n, .moment = asked.moment, .asked_moment = (double)NAN,
                                     .microseconds = (double)NAN, .xid = asked.xid, .operation = asked.operation, .side = 'C'};
-            record.flags = asked.operation == OP_CONNECT ? 0 : FLAG_XID;
+            record.flags = asked.operation == OP_CONNECT ? asked.flags & FLAG_MADE_UP : FLAG_XID;
             put_path(state, &record, &asked, paths);
             put(&state->records, &record, sizeof record);
         }

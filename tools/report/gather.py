@@ -10,9 +10,9 @@ from report import kept, paths
 
 WATCHING = ("exists", "getData", "getChildren", "getChildren2")
 WATCH_LISTS = ("dataWatches", "existWatches", "childWatches")
-MADE_UP = "-1"      # the version in the connect messages that pcap2zkr.py makes up
 NO_CONNECTION = '{"connection": 0'
 MOST_WATCHES = 20_000
+MOST_SILENT = 200       # connections without a message that are kept
 
 
 class Operation:
@@ -107,10 +107,11 @@ class Connection:
 
 
 class Run:
-    """What is found of all connections of a report. `whole` counts connections, whatever their parts."""
+    """What is found of all connections of a report. `whole` counts connections, whatever their parts, and `silent` those
+    without a message; of these only the first are kept."""
 
     def __init__(self):
-        self.connections, self.by_source, self.warnings, self.whole = [], {}, [], 0
+        self.connections, self.by_source, self.warnings, self.whole, self.silent = [], {}, [], 0, 0
         self.kept, self.density = kept.Kept(), kept.Density()
         self.paths = kept.Counted(Path)
         self.watches = kept.Counted(Watch, MOST_WATCHES)
@@ -137,6 +138,15 @@ class Run:
             self.connection(source, source.name)
         for each in readings.values():
             each.end()
+        last = self.connections[-1] if chosen.all else None
+        if last and last.source is source and not last.messages and len(readings) < 2:
+            self.silent += 1
+            if self.silent > MOST_SILENT:
+                self.connections.pop()
+
+    def silent_left_out(self):
+        """How many connections without a message are not kept."""
+        return max(0, self.silent - MOST_SILENT)
 
     def connection(self, source, name):
         """The next connection, or the next part of one."""
@@ -178,7 +188,7 @@ class Reading:
     def connect(self, line, made):
         """Takes a connect message, and says whether it is one that pcap2zkr.py made up."""
         connection, fields = self.connection, object_of(line, made)
-        if str(fields.get("version")) == MADE_UP:
+        if made.made_up:
             connection.is_late = True
         elif made.side == "C":
             connection.asked_session = fields.get("session")

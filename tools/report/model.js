@@ -42,7 +42,7 @@ function inSession(connection) {
 }
 
 function sessionName(number) {
-  return data.sessions[number].id ?? `unknown (${sessionKeys[number]})`;
+  return data.sessions[number]?.id ?? `unknown (${sessionKeys[number]})`;
 }
 
 function connectionName(number) {

@@ -112,10 +112,12 @@ def is_hole(before, after):
 
 
 def sessions_of(run):
-    """The sessions of a run. A connection whose session isn't known is one by itself."""
+    """The sessions of a run. A connection whose session isn't known is one by itself, and one without a message none."""
     groups = collections.defaultdict(list)
     for connection in run.connections:
-        groups[connection.session_id() or (connection.first or connection).number].append(connection)
+        session = connection.session_id()
+        if session or connection.messages:
+            groups[session or (connection.first or connection).number].append(connection)
     ordered = sorted(groups.items(), key=lambda item: min((each.span()[0] or 0, each.number) for each in item[1]))
     return [Session(number, key if isinstance(key, str) else None, connections)
             for number, (key, connections) in enumerate(ordered)]
@@ -249,7 +251,7 @@ class Summary:
     def rows_left_out(self):
         """By table, how many rows it doesn't have."""
         return {"sessions": len(self.sessions) - len(self.tables["sessions"]),
-                "connections": len(self.run.connections) - len(self.tables["connections"]),
+                "connections": len(self.run.connections) - len(self.tables["connections"]) + self.run.silent_left_out(),
                 "paths": len(self.run.paths.entries) - len(self.tables["paths"]),
                 "watches": len(self.run.watches.entries) - len(self.tables["watches"]),
                 "unanswered": self.run.kept.unanswered_count - len(self.tables["unanswered"])}

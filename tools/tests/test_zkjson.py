@@ -2,6 +2,7 @@
 
 import json
 import pathlib
+import struct
 import subprocess
 import sys
 
@@ -307,6 +308,42 @@ class Times(ToolCase):
             with self.subTest(lines=lines):
                 status, _, err = self.run_tool("zkjson.py", "--recording", path, stdin="\n".join(lines).encode())
                 self.assertEqual((status, err), (1, f"zkjson.py: {told}\n"))
+
+    def test_another_recording_of_the_same_sides_and_xids(self):
+        """Its operations, paths, zxids, errors or sessions differ."""
+        def frame(side, form, *values):
+            payload = struct.pack(form, *values)
+            return side, len(payload).to_bytes(4, "big") + payload
+        path = self.folder / "one.zkr"
+        frames = [frame(b"C", ">iqiqi2s?", 0, 0, 9, 7, 2, b"ab", False), frame(b"S", ">iiqi2s?", 0, 9, 8, 2, b"cd", False),
+                  frame(b"C", ">iii2s?", 1, 3, 2, b"/a", True), frame(b"S", ">iqi", 1, 5, -101),
+                  frame(b"S", ">iqiiii2s", -1, -1, 0, 3, 3, 2, b"/a"), frame(b"C", ">iiii", 2, 4, -1, 0),
+                  frame(b"S", ">iqii68s", 2, 5, 0, -1, bytes(68)), frame(b"C", ">ii", 3, -11), frame(b"S", ">iqi", 3, 6, 0)]
+        head = zkr.Head("zkr2")
+        path.write_bytes(head.to_bytes() + b"".join(head.piece(side, at + 1, data) for at, (side, data) in enumerate(frames)))
+        lines = ["C connect version=0 zxid=0 timeout=9 session=7 passwd=#6162 ro=0",
+                 "S connect version=0 timeout=9 session=8 passwd=#6364 ro=0", 'C 1 exists path="/a" watch=1',
+                 "S 1 exists zxid=5 err=-101/NONODE", 'S event zxid=-1 kind=3/NodeDataChanged state=3 path="/a"',
+                 "C 2 getData path=~ watch=0", f"S 2 getData zxid=5 blob=~ stat=({','.join('0' * 11)})", "C 3 closeSession",
+                 "S 3 closeSession zxid=6"]
+        found = self.run_tool("zkjson.py", "--recording", path, stdin="\n".join(lines).encode())
+        self.assertEqual((found[0], found[1].count('"at": ')), (0, 9), found)
+        for n, old, new in ((1, "session=7", "session=6"), (1, "6162", "6163"), (2, "session=8", "session=0"),
+                            (2, "#6364", "~"), (3, '"/a"', '"/b"'), (3, "exists", "getData"), (3, '"/a"', "~"),
+                            (4, "zxid=5", "zxid=6"), (4, " err=-101/NONODE", " err=-102/NOAUTH"),
+                            (5, "kind=3/NodeDataChanged", "kind=2/NodeDeleted"), (5, '"/a"', '"/aa"'), (6, "~", '"/a"'),
+                            (7, "zxid=5 blob=~ stat=(0,0,0,0,0,0,0,0,0,0,0)", "zxid=5 err=-101/NONODE"),
+                            (8, "closeSession", "ping"), (9, "zxid=6", "zxid=7")):
+            changed = [*lines[:n - 1], lines[n - 1].replace(old, new), *lines[n:]]
+            with self.subTest(n=n, new=new):
+                self.assertNotEqual(changed, lines)
+                if "getData" in new:
+                    changed[3] = changed[3].replace("exists", "getData")
+                if new == "ping":
+                    changed[8] = changed[8].replace("closeSession", "ping")
+                status, out, err = self.run_tool("zkjson.py", "--recording", path, stdin="\n".join(changed).encode())
+                self.assertEqual((status, out.count("\n"), err),
+                                 (1, n - 1, f"zkjson.py: line {n}: the recording has another message there\n"))
 
     def test_a_recording_that_is_cut(self):
         path = self.recording(zkr.Head("zkr2"), range(8))

@@ -94,6 +94,23 @@ class Captures(ToolCase):
         self.assertEqual((status, out), (1, ""))
         self.assertRegex(err, r"^zkreport\.py: .*: no connection to port 2181")
 
+    def test_connections_without_a_message_are_no_sessions(self):
+        """3,000 of them, beside one of a session: the page has some of them, and counts them all."""
+        if not PROGRAM.exists():
+            self.skipTest("the program zkdump is not built")
+        recording = next(each for each in CAPTURES if each.stem == "kazoo_basic")
+        packets = [(wire.BEGUN + number, wire.packet(sent, client=1 + number))
+                   for number in range(3000) for sent in wire.conversation([], close=number % 2)]
+        packets += [(sent.milliseconds, wire.packet(sent)) for sent in wire.conversation(pieces(recording.read_bytes()))]
+        path, page = self.folder / "empty.pcap", self.folder / "empty.html"
+        path.write_bytes(wire.pcap(packets))
+        status, out, err = self.run_tool("zkreport.py", "--text", "-o", page, path)
+        self.assertEqual((status, err), (0, ""))
+        self.assertRegex(out, r"^3001 connections, 1 sessions, \d+ messages, ")
+        self.assertIn("\nand 2800 more\n", out)
+        self.assertEqual(len(out.partition("\nSessions\n")[2].partition("\n\n")[0].splitlines()), 2)
+        self.assertLess(page.stat().st_size, 500_000)
+
     def test_a_recording_without_an_ending(self):
         """One that zkdump can't show is no empty connection."""
         path = self.folder / "a.zkr"

@@ -235,6 +235,41 @@ class Zkstat(ToolCase):
             found = json.loads(self.stat("--json", "--path", path, stdin=lines.encode()))
             self.assertEqual(sum(each["asked"] for each in found["operations"].values()), count, path)
 
+    def test_the_paths_of_events(self):
+        for path, count in (("/a", 2), ("/", 3), ("/ err=-101", 1), ("/ err", 0)):
+            for stdin in (LISTING, self.run_tool("zkjson.py", stdin=LISTING.encode())[1]):
+                found = json.loads(self.stat("--json", "--path", path, stdin=stdin.encode()))
+                self.assertEqual(sum(found["events"].values()), count, path)
+            _, chosen, _ = self.run_tool("zkjson.py", "--path", path, stdin=LISTING.encode())
+            self.assertEqual(json.loads(self.stat("--json", stdin=chosen.encode()))["events"], found["events"])
+
+    def test_the_connect_messages_that_pcap2zkr_makes_up_are_none(self):
+        self.recordings()
+        made_up = ["C connect version=-1 zxid=-1 timeout=-1 session=-1 passwd=~ ro=-",
+                   "S connect version=-1 timeout=-1 session=-1 passwd=~ ro=-"]
+        names = []
+        for number in range(3):
+            names.append(self.folder / f"part{number}.show")
+            names[-1].write_text("\n".join([*made_up, *LINES[2:], ". whole unanswered=0\n"]), "ascii")
+        _, objects, _ = self.run_tool("zkjson.py", *names)
+        for words, stdin in ((names, b""), ([], objects.encode())):
+            found = json.loads(self.stat("--json", *words, stdin=stdin))
+            self.assertEqual({name: each["asked"] for name, each in found["operations"].items()}, {"exists": 3})
+            self.assertEqual([each["session"] for each in found["connections"]], [None] * 3)
+            self.assertEqual([each["asked"] for each in found["connections"]], [1] * 3)
+
+    def test_values_that_no_line_has(self):
+        for line, column in ((r'C 1 exists path="/\c3" watch=0', 17), (r'C 1 exists path="/\zz" watch=0', 11),
+                             ('C 1 setData path="/#6" blob=#6 version=1', 23),
+                             (r'C 1 setACL path="/a" acl=[1:"\ff":"a"] version=1', 29)):
+            for words in (["zkstat.py"], ["zkstat.py", "--path", "/"], ["zkjson.py", "--slower", "5"],
+                          ["zkreport.py", "--text"]):
+                path = self.folder / "wrong.show"
+                path.write_text(f"C -2 ping\n{line}\n", "ascii")
+                status, out, err = self.run_tool(*words, path)
+                self.assertEqual((status, out, err), (1, "", f"{words[0]}: {path}: line 2: this is not a line of a "
+                                                      f"listing from column {column} on\n"))
+
     def test_latencies(self):
         head = zkr.Head("zkr2")
         payloads = [(at, b"C", struct.pack(">iii?", n, 3, -1, False))

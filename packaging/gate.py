@@ -1,0 +1,41 @@
+#!/usr/bin/env python3
+"""What a passed gate says at its end of what it stands for: the commit, and the checksums of the program and the library.
+
+./test prints these lines last, and ./release takes a log only where they are its last lines still.
+"""
+
+import hashlib
+import subprocess
+import sys
+
+from build_library import LIBRARY, TOP
+
+PROGRAM = TOP / "crates" / "zkdump" / "out" / "zkdump"
+
+
+def git(*words):
+    return subprocess.run(["git", *words], cwd=TOP, capture_output=True, text=True, check=True).stdout.strip()
+
+
+def lines():
+    yield f"commit: {'none, since the tree has changes' if git('status', '--porcelain') else git('rev-parse', 'HEAD')}"
+    for path in (PROGRAM, LIBRARY):
+        yield f"sha256 of {path.relative_to(TOP)}: {hashlib.sha256(path.read_bytes()).hexdigest()}"
+
+
+def faults(log):
+    """Why the log of a gate doesn't stand behind this tree, its program and its library."""
+    wanted = list(lines())
+    found = log.splitlines()[-len(wanted):]
+    for line in wanted:
+        if line not in found:
+            name, _, value = line.partition(": ")
+            other = next((each.partition(": ")[2] for each in found if each.startswith(f"{name}: ")), None)
+            yield f"the log ends without {line!r}" if other is None else f"the log is of another {name}: {other}, not {value}"
+
+
+if __name__ == "__main__":
+    try:
+        print("\n".join(lines()))
+    except (OSError, subprocess.CalledProcessError) as error:
+        sys.exit(f"gate.py: {error}")
