@@ -131,7 +131,7 @@ class Dask:
         except ImportError:
             raise OSError("--scheduler needs Dask: on Debian the package python3-distributed") from None
         self.distributed, self.busy = distributed, set()
-        self.client = distributed.Client(address, set_as_default=False)
+        self.client = distributed.Client(address)
         self.count = max(1, sum(self.client.nthreads().values()))
 
     def submit(self, tool, options, path):
@@ -158,13 +158,13 @@ class Dask:
         self.client.close()
 
 
-def of_inputs(parser, words, tool):
-    """The partial results of the inputs of a tool."""
+def of_inputs(parser, words, tool, *more):
+    """The partial results of the inputs of a tool, whose workers get its arguments and `more`."""
     if getattr(words, "recording", None) or getattr(words, "times", None):
         parser.error("--jobs and --scheduler take the times beside each recording: leave out --recording and --times")
     if not words.inputs:
         parser.error("--jobs and --scheduler need files: name them, or their folder")
-    return results(words, tool, sys.argv[1:], expanded(words.inputs))
+    return results(words, tool, [*sys.argv[1:], *more], expanded(words.inputs))
 
 
 def amount(size):
