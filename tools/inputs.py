@@ -1,9 +1,11 @@
 """Opens what a tool is to read: listings, recordings, and lines that zkjson has made, with the times of messages."""
 
 import itertools
+import os
 import shutil
 import subprocess
 
+import columns
 import joined
 import listing
 import program
@@ -21,9 +23,10 @@ def add_words(parser):
     program.add_program(parser)
 
 
-def conversations(parser, words, objects, progress, before_read=lambda: None):
-    """The conversations that these arguments name, each a Listing, or a Joined where `objects` allows those.
-    Before each read `before_read` is called; `progress` is updated with the number of lines."""
+def conversations(parser, words, objects, progress, before_read=lambda: None, fast=None):
+    """The conversations that these arguments name, each a Listing, or a Joined where `objects` allows those, or Columns
+    where that can be and `fast` gives their options. Before each read `before_read` is called; `progress` is updated
+    with the number of lines."""
     if words.recording and len(words.inputs) > 1:
         parser.error("--recording is for one listing: name one file, or none")
     if words.times and not words.recording and len(words.inputs) != 1:
@@ -33,20 +36,22 @@ def conversations(parser, words, objects, progress, before_read=lambda: None):
     for path in words.inputs or [listing.STANDARD_INPUT]:
         try:
             with zkr.standard_input() if path == listing.STANDARD_INPUT else open(path, "rb") as stream:
-                talk = conversation(parser, words, path, stream, objects, progress, before_read)
+                talk = conversation(parser, words, path, stream, objects, progress, before_read, fast)
                 talk.file = path
                 yield talk
         except zkr.Damaged as damage:
             raise ValueError(f"{words.recording or path}: {damage}") from None
 
 
-def conversation(parser, words, path, stream, objects, progress, before_read):
+def conversation(parser, words, path, stream, objects, progress, before_read, fast=None):
     """The conversation of one input."""
     times, name = None, words.recording or path
     is_recording = stream.peek(4)[:4] in (b"ZKR1", b"ZKR2")
     if is_recording:
         if path == listing.STANDARD_INPUT or words.recording:
             parser.error("this is a recording: name it as the argument, and leave out --recording")
+        if found := columns_of(words, path, fast, progress):
+            return found
         lines, times = lines_of_show(parser, words, path, before_read), times_of(parser, path, words.times, False)
     else:
         if words.recording:
@@ -61,6 +66,20 @@ def conversation(parser, words, path, stream, objects, progress, before_read):
     if objects and first.startswith("{"):
         return joined.Joined(name, lines, progress)
     return listing.Listing(name, lines, times, progress, is_recording)
+
+
+def columns_of(words, path, fast, progress):
+    """The columns of a recording; None where the plain form has to read it."""
+    if not fast:
+        return None
+    options = fast(path)
+    lacking = columns.lacks(words, "--lines" not in options)
+    if not lacking:
+        return columns.opened(words, path, progress, [*columns.times_options(path, words.times), *options])
+    if os.path.getsize(path) >= columns.WORTH_A_LINE and not columns.is_told:
+        columns.is_told = True
+        zkr.report(f"this takes longer than it could: {lacking} (tools/README.md)")
+    return None
 
 
 def lines_of_show(parser, words, path, before_read):

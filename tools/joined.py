@@ -179,7 +179,8 @@ class Known:
         waiting = made.pop("waiting", None)
         made.pop("connection", None)
         if made["ending"] not in listing.ENDINGS or not all(
-                type(each) is int or type(each) is str and WORD.fullmatch(each) for each in made.values()):
+                type(each) is int or type(each) is str and (WORD.fullmatch(each) or made["ending"] == listing.UNREAD)
+                for each in made.values()):
             raise ValueError("this is not an ending of zkjson")
         self.connection.ending = made
         if type(waiting) is list:

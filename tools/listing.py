@@ -17,7 +17,8 @@ NO_FRAME = (None, None, None)
 EVENT_XID = -1
 NOT_DONE = ("OK", "RUNTIMEINCONSISTENCY")   # the results of a failed multi's parts that did not fail themselves
 CONNECT, EVENT = "connect", "event"
-ENDINGS = ("whole", "cut", "refused", "recording")
+UNREAD = "unread"       # in place of the ending of one of many recordings, which can't be read
+ENDINGS = ("whole", "cut", "refused", "recording", UNREAD)
 
 # Spellings of a line. A number has no more digits than a long has.
 NUMBER = r"(?:0|-?[1-9]\d{0,18})"

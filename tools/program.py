@@ -7,9 +7,14 @@ import subprocess
 BUILT = pathlib.Path(__file__).resolve().parent.parent / "crates" / "zkdump" / "out" / "zkdump"
 
 
+def usual():
+    """The program where none is named."""
+    return str(BUILT) if BUILT.exists() else "zkdump"
+
+
 def add_program(parser):
     """The option that names the program."""
-    parser.add_argument("--zkdump", metavar="PATH", default=str(BUILT) if BUILT.exists() else "zkdump",
+    parser.add_argument("--zkdump", metavar="PATH", default=usual(),
                         help="the program (that of this repository if it is built, else zkdump on the PATH)")
 
 

@@ -4,6 +4,7 @@ import argparse
 import datetime
 import re
 
+import columns
 import forms
 import listing
 
@@ -111,8 +112,50 @@ class Selection:
             if connection.session in self.sessions:
                 yield from early
 
+    def options(self, _):
+        """The arguments of columns.Columns."""
+        return [word for path in self.paths or () for word in ("--path", listing.unescaped(path))]
+
+    def arrays(self, talk):
+        """The chosen messages of columns: each block, and an array of them. It is the fast form of `chosen`."""
+        held, codes = [], [number for number, name in talk.operations.items() if name in (self.operations or ())]
+        for block in talk.blocks():
+            held.append(block)
+            if not self.sessions or talk.connection.known:
+                yield from self.arrays_of(held, talk, codes)
+                held = []
+        yield from self.arrays_of(held, talk, codes)
+        for made in talk.left():
+            made.chosen = (made.chosen or not self.paths) and self.takes(made, None)
+
+    def arrays_of(self, blocks, talk, codes):
+        if self.sessions and talk.connection.session not in self.sessions:
+            return
+        for block in blocks:
+            array = block.array()
+            yield block, array[self.mask(array, codes)] if self.by_message else array
+
+    def mask(self, array, codes):
+        """Which messages are chosen, but for sessions."""
+        numpy, is_reply = columns.numpy, array["of"] > 0
+        mask = numpy.ones(len(array), bool)
+        if self.operations:
+            mask &= numpy.isin(array["operation"], codes)
+        if self.paths:
+            mask &= array["flags"] & columns.CHOSEN > 0
+        at = numpy.floor(numpy.where(is_reply, array["asked_moment"], array["moment"]))
+        if self.begin is not None or self.end is not None:
+            mask &= at == at
+        if self.begin is not None:
+            mask &= at >= self.begin
+        if self.end is not None:
+            mask &= at <= self.end
+        if self.slower is not None:
+            mask &= is_reply & (array["microseconds"] > self.slower)
+        return mask
+
     def takes(self, made, paths):
-        """Whether a request or an event for these paths is chosen."""
+        """Whether a request or an event for these paths is chosen; None where the paths are."""
         if self.operations and made.op not in self.operations:
             return False
         if self.begin is not None or self.end is not None:
@@ -121,7 +164,7 @@ class Selection:
             at = int(made.moment)
             if self.begin is not None and at < self.begin or self.end is not None and at > self.end:
                 return False
-        return not self.paths or any(path and self.takes_path(path) for path in paths)
+        return not self.paths or paths is None or any(path and self.takes_path(path) for path in paths)
 
     def takes_path(self, spelled):
         return any(spelled.startswith(path, 1) and spelled[len(path) + 1:len(path) + 2] in ('"', "/")

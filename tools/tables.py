@@ -3,6 +3,8 @@
 import json
 import re
 
+import zkr
+
 PERCENTS = (50, 95, 99)
 COUNTS = ("asked", "answered", "failed")
 TIMES = (*(f"p{percent}" for percent in PERCENTS), "max")
@@ -81,6 +83,8 @@ def ending(found):
     if not found:
         return "no ending line"
     (_, word), *fields = found.items()
+    if word == "unread":
+        return f"unread: {zkr.shown(found['reason'])}"
     return " ".join([word, *(f"{name}={value}" for name, value in fields)])
 
 

@@ -15,10 +15,18 @@ If the recording has times, a message has the time of its last byte, `at`, in mi
 how long it took, `ms`. A ZKR2 recording has times within; for others they are in FILE, or in REC.zkr.times.
 """
 
+import argparse
+import gzip
+import io
 import json
+import os
 import re
+import shutil
 import sys
+import tempfile
 
+import columns
+import fleet
 import forms
 import inputs
 import listing
@@ -116,37 +124,100 @@ def parts(line, at, made, asked):
     return at + (2 if sign == "{" else 1)
 
 
-def write(line, made, asked):
+def write(line, made, asked, out):
     """Writes a message as JSON: all of it or, where its line is none, nothing."""
     if len(line) <= listing.BLOCK and not (asked and asked.path and len(asked.path) > listing.BLOCK):
         if made.op != "multi":
             try:
-                sys.stdout.write(short(line, made, asked))
+                out.write(short(line, made, asked))
                 return
             except (KeyError, ValueError):
                 pass    # the place is found step by step
-        sys.stdout.write("".join(pieces(line, made, asked)))
+        out.write("".join(pieces(line, made, asked)))
         return
     for _ in pieces(line, made, asked):
         pass
-    sys.stdout.writelines(pieces(line, made, asked))
+    out.writelines(pieces(line, made, asked))
+
+
+def head_of(name):
+    """How each object of a connection begins."""
+    return f'{{"connection": {forms.readable(name)}'
+
+
+def write_columns(talk, chosen, out):
+    """Writes what is chosen of columns, whose JSON is there already."""
+    out.flush()
+    for block, array in chosen.arrays(talk):
+        out.buffer.write(block.lines(array))
+
+
+def write_all(parser, words, progress, out):
+    """Writes what the arguments choose."""
+    chosen = selection.Selection(words)
+
+    def fast(name):
+        return [*chosen.options(name), "--json", head_of(name), *["--no-part-paths"] * (chosen.slower is not None)]
+    for talk in inputs.conversations(parser, words, False, progress, before_read=out.flush, fast=fast):
+        head = talk.connection.json = head_of(talk.name)
+        with talk.complaints():
+            if isinstance(talk, columns.Columns):
+                write_columns(talk, chosen, out)
+            else:
+                for line, made, asked in chosen.chosen(talk):
+                    write(line, made, asked, out)
+        if talk.connection.ending:
+            waiting = ", ".join(str(made.n) for made in chosen.left(talk))
+            print(f'{head}, {json.dumps(talk.connection.ending)[1:-1]}, "waiting": [{waiting}]}}', file=out)
+
+
+def words_of(arguments=None, kind=zkr.Words):
+    parser = kind(__doc__)
+    inputs.add_words(parser)
+    selection.add_words(parser)
+    fleet.add_words(parser)
+    parser.add_argument("--parts", help=argparse.SUPPRESS)      # where processes write what is then put together
+    return parser, parser.parse_args(arguments)
+
+
+def partial(options, path):
+    """The JSON of one file: a file of it, or where it goes over a network its bytes, compressed."""
+    parser, words = words_of(options, fleet.Strict)
+    words.inputs, packed = [path], io.BytesIO()
+    made = None if words.scheduler else tempfile.NamedTemporaryFile(dir=words.parts, delete=False)
+    try:
+        with io.TextIOWrapper(made or gzip.GzipFile(fileobj=packed, mode="wb", compresslevel=1), "utf-8") as out:
+            write_all(parser, words, zkr.Progress("zkjson", False), out)
+    except BaseException:
+        if made:
+            os.unlink(made.name)
+        raise
+    return made.name if made else packed.getvalue()
+
+
+def write_parts(parser, words, out):
+    """Writes the JSON of many files, in their order; what can't be read has its line. Whether there was such."""
+    unread = False
+    with tempfile.TemporaryDirectory(prefix="zkjson-") as folder:
+        for path, result in fleet.of_inputs(parser, words, "zkjson", "--parts", folder):
+            if isinstance(result, fleet.Unread):
+                unread = True
+                print(f'{head_of(path)}, "ending": "unread", "reason": {forms.readable(result.reason)}}}', file=out, flush=True)
+            elif isinstance(result, bytes):
+                out.buffer.write(gzip.decompress(result))
+            else:
+                with open(result, "rb") as made:
+                    shutil.copyfileobj(made, out.buffer, 1 << 20)
+                os.unlink(result)
+    return unread
 
 
 def main():
-    parser = zkr.Words(__doc__)
-    inputs.add_words(parser)
-    selection.add_words(parser)
-    words = parser.parse_args()
+    parser, words = words_of()
     sys.stdout.reconfigure(encoding="utf-8")
-    chosen, progress = selection.Selection(words), zkr.Progress("zkjson", may=not sys.stdout.isatty())
-    for talk in inputs.conversations(parser, words, False, progress, before_read=sys.stdout.flush):
-        head = talk.connection.json = f'{{"connection": {forms.readable(talk.name)}'
-        with talk.complaints():
-            for line, made, asked in chosen.chosen(talk):
-                write(line, made, asked)
-        if talk.connection.ending:
-            waiting = ", ".join(str(made.n) for made in chosen.left(talk))
-            print(f'{head}, {json.dumps(talk.connection.ending)[1:-1]}, "waiting": [{waiting}]}}')
+    if fleet.is_asked(words):
+        return 1 if write_parts(parser, words, sys.stdout) else 0
+    write_all(parser, words, zkr.Progress("zkjson", may=not sys.stdout.isatty()), sys.stdout)
     return 0
 
 

@@ -17,7 +17,7 @@ import struct
 from typing import NamedTuple, Optional
 
 from running import (Progress, allow_many_files, complain, hold_standard_streams, drop_standard_output,  # noqa: F401
-                     report, standard_input, tool)
+                     report, shown, standard_input, tool)
 
 CLIENT, SERVER = b"C", b"S"
 LARGEST_PIECE = 16_777_220

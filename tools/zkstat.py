@@ -16,6 +16,9 @@ import itertools
 import json
 import sys
 
+import columns
+import counted
+import fleet
 import inputs
 import listing
 import selection
@@ -44,6 +47,12 @@ class Counts:
         if microseconds is not None:
             self.latencies.add(microseconds)
 
+    def merge(self, other):
+        """Adds what another has counted."""
+        self.asked, self.answered = self.asked + other.asked, self.answered + other.answered
+        self.errors.update(other.errors)
+        self.latencies.merge(other.latencies)
+
     def summary(self):
         timed = self.latencies.total()
         ms = timed and {**{f"p{percent}": self.latencies.percentile(percent) / 1000 for percent in tables.PERCENTS},
@@ -52,13 +61,10 @@ class Counts:
                 "ms": ms or None}
 
 
-class Slow:
-    """A request and its reply, with the fields that are reported of the slowest."""
-
-    def __init__(self, asked, made, zxid):
-        self.row = {"time": time(asked.moment), "ms": made.microseconds / 1000,
-                     "connection": made.connection.name, "n": asked.n, "op": made.op, "path": cut(asked.path),
-                     "error": made.error, "zxid": zxid}
+def slow_row(asked, made, zxid):
+    """The row of one of the slowest: a request and its reply."""
+    return {"time": time(asked.moment), "ms": made.microseconds / 1000, "connection": made.connection.name,
+            "n": asked.n, "op": made.op, "path": cut(asked.path), "error": made.error, "zxid": zxid}
 
 
 def cut(path):
@@ -69,19 +75,43 @@ def cut(path):
 class Statistics:
     """Everything that is counted of conversations."""
 
+    most = SLOWEST
+
     def __init__(self, chosen):
         self.selection = chosen
         self.operations, self.connections = collections.defaultdict(Counts), {}
         self.events, self.waiting = collections.Counter(), []
         self.slowest, self.order, self.least = [], itertools.count(), -1
 
+    def counts_of(self, connection):
+        """What is counted of a connection."""
+        counts = self.connections.get(connection)
+        if counts is None:
+            counts = self.connections[connection] = Counts()
+        return counts
+
     def read(self, talk):
         """Counts what is chosen of a conversation, or of several."""
+        if isinstance(talk, columns.Columns):
+            counted.read(self, talk)
+        else:
+            self.read_messages(talk)
+        if self.selection.all:
+            for connection in talk.connections():
+                self.counts_of(connection)
+        for made in self.selection.left(talk):
+            if made.made_up:
+                continue
+            self.operations[made.op].asked += 1
+            self.connections[made.connection].asked += 1
+            made.path = cut(made.path)
+            self.waiting.append(request(made))
+
+    def read_messages(self, talk):
+        """Counts the messages of a conversation one by one; counted.add_block does it with columns."""
         operations, connections = self.operations, self.connections
         for line, made, asked in self.selection.chosen(talk):
-            counts = connections.get(made.connection)
-            if counts is None:
-                counts = connections[made.connection] = Counts()
+            counts = connections.get(made.connection) or self.counts_of(made.connection)
             if made.made_up:
                 continue
             if asked is None:
@@ -94,20 +124,14 @@ class Statistics:
             operations[made.op].add(made.error, microseconds)
             counts.add(made.error, microseconds)
             if microseconds is not None and microseconds > self.least:
-                self.add_slow(talk, line, made, asked)
-        if self.selection.all:
-            for connection in talk.connections():
-                connections.setdefault(connection, Counts())
-        for made in self.selection.left(talk):
-            if made.made_up:
-                continue
-            self.operations[made.op].asked += 1
-            self.connections[made.connection].asked += 1
-            self.waiting.append(made)
+                self.add_slow(talk.zxid(line), made, asked)
 
-    def add_slow(self, talk, line, made, asked):
+    def add_slow(self, zxid, made, asked):
         """Keeps a reply as one of the slowest, in place of the least slow of them."""
-        entry = made.microseconds, -next(self.order), Slow(asked, made, talk.zxid(line))
+        self.put_slow(made.microseconds, slow_row(asked, made, zxid))
+
+    def put_slow(self, microseconds, row):
+        entry = microseconds, -next(self.order), row
         if len(self.slowest) < SLOWEST:
             heapq.heappush(self.slowest, entry)
         else:
@@ -115,13 +139,36 @@ class Statistics:
         if len(self.slowest) == SLOWEST:
             self.least = self.slowest[0][0]
 
+    def unread(self, path, reason):
+        """Takes a recording that can't be read."""
+        connection = listing.Connection(path)
+        connection.ending = {"ending": "unread", "reason": reason}
+        self.counts_of(connection)
+
+    def partial(self):
+        """What was counted, for `merge` in another process."""
+        return (dict(self.operations), self.connections, self.events, self.waiting,
+                [(microseconds, row) for microseconds, _, row in sorted(self.slowest, key=lambda entry: -entry[1])])
+
+    def merge(self, partial):
+        """Adds what was counted of other conversations."""
+        operations, connections, events, waiting, slowest = partial
+        for name, counts in operations.items():
+            self.operations[name].merge(counts)
+        self.connections.update(connections)
+        self.events.update(events)
+        self.waiting += waiting
+        for microseconds, row in slowest:
+            if microseconds > self.least:
+                self.put_slow(microseconds, row)
+
     def summary(self):
         ordered = sorted(self.operations.items(), key=lambda item: -item[1].asked)
         return {"operations": {name: {**counts.summary(), "errors": dict(counts.errors.most_common())}
                                for name, counts in ordered},
                 "events": dict(self.events.most_common()), "connections": list(self.rows()),
-                "unanswered": [request(made) for made in self.waiting],
-                "slowest": [slow.row for *_, slow in sorted(self.slowest, reverse=True)]}
+                "unanswered": self.waiting,
+                "slowest": [row for _, _, row in sorted(self.slowest, key=lambda entry: entry[:2], reverse=True)]}
 
     def rows(self):
         """The row of each connection, those of one session together; of a later one `gap` is the seconds from the end
@@ -158,23 +205,50 @@ def request(made):
     return {name: value for name, value in row.items() if value is not None}
 
 
-def main():
-    parser = zkr.Words(__doc__)
+def words_of(arguments=None, kind=zkr.Words):
+    parser = kind(__doc__)
     inputs.add_words(parser)
     selection.add_words(parser)
+    fleet.add_words(parser)
     parser.add_argument("--json", action="store_true", help="write one object of JSON, with every unanswered request")
-    words = parser.parse_args()
-    sys.stdout.reconfigure(errors="backslashreplace")
-    found = Statistics(selection.Selection(words))
-    for talk in inputs.conversations(parser, words, True, zkr.Progress("zkstat")):
+    return parser, parser.parse_args(arguments)
+
+
+def read(parser, words, found, progress):
+    """Counts what the arguments name."""
+    for talk in inputs.conversations(parser, words, True, progress, fast=found.selection.options):
         with talk.complaints():
             found.read(talk)
+
+
+def partial(options, path):
+    """What is counted of one file."""
+    parser, words = words_of(options, fleet.Strict)
+    words.inputs, found = [path], Statistics(selection.Selection(words))
+    read(parser, words, found, zkr.Progress("zkstat", False))
+    return found.partial()
+
+
+def main():
+    parser, words = words_of()
+    sys.stdout.reconfigure(errors="backslashreplace")
+    found = Statistics(selection.Selection(words))
+    unread = False
+    if fleet.is_asked(words):
+        for path, result in fleet.of_inputs(parser, words, "zkstat"):
+            if isinstance(result, fleet.Unread):
+                found.unread(path, result.reason)
+                unread = True
+            else:
+                found.merge(result)
+    else:
+        read(parser, words, found, zkr.Progress("zkstat"))
     if words.json:
         print(json.dumps(found.summary()))
     else:
         for line in tables.lines(found.summary()):
             print(line.rstrip())
-    return 0
+    return 1 if unread else 0
 
 
 if __name__ == "__main__":

@@ -55,7 +55,7 @@ class Opener:
         with open(source.path, "rb") as stream:
             try:
                 talk = inputs.conversation(self.parser, self.words, source.path, stream, True, self.progress,
-                                                  lambda: None)
+                                           lambda: None, lambda _: ["--lines"])
             except zkr.Damaged as damage:
                 raise ValueError(f"{source.path}: {damage}") from None
             talk.file = source.path

@@ -1,0 +1,254 @@
+"""Reads recordings as columns, which the program zkcolumns writes (columns/columns.c): a record for each message.
+
+It is the fast form of listing.Listing, which reads the lines of `zkdump show`, and says the same. Where the program
+isn't there, the plain form is used. The environment variable ZKCOLUMNS names the program, or is empty for none.
+"""
+
+import collections
+import json
+import os
+import pathlib
+import struct
+import subprocess
+
+import forms
+import listing
+import program
+import zkr
+
+try:
+    import numpy
+except ImportError:
+    numpy = None
+
+TOOLS = pathlib.Path(__file__).resolve().parent
+PLACES = (TOOLS / "columns" / "out" / "zkcolumns", TOOLS.parent.parent.parent / "lib" / "zkdump" / "zkcolumns")
+HEAD, PATCH = struct.Struct("=IIIIQQQQdd"), struct.Struct("=QII")
+NAMES, MESSAGES, END = range(3)
+NOT_READ = 4                    # the status of a recording whose trouble the plain form reports
+ERROR, XID, PATH, NULL_PATH, CHOSEN, WATCH, MADE_UP = (1 << bit for bit in range(7))
+CLIENT = ord("C")
+CONNECT, EVENT = 1000, 1001     # in place of an operation's number
+# The fields of a record, as columns.c has them.
+FIELDS = (("n", "u8"), ("of", "u8"), ("moment", "f8"), ("asked_moment", "f8"), ("microseconds", "f8"), ("zxid", "i8"),
+          ("text", "u8"), ("text_length", "u4"), ("at_length", "u4"), ("path", "u4"), ("path_length", "u4"),
+          ("xid", "i4"), ("operation", "i4"), ("error", "i4"), ("flags", "u2"), ("side", "u1"), ("spare", "u1"))
+LETTERS = {"u8": "Q", "f8": "d", "i8": "q", "u4": "I", "i4": "i", "u2": "H", "u1": "B"}
+RECORD = struct.Struct("=" + "".join(LETTERS[kind] for _, kind in FIELDS))
+Record = collections.namedtuple("Record", [name for name, _ in FIELDS])
+TEXT, WHOLE_TEXT, DATA = 1, 2, 3
+PIPE_SIZE, F_SETPIPE_SZ = 1 << 20, 1031
+WORTH_A_LINE = 1 << 23          # the size of a recording whose reader is told what would make it faster
+is_told = False
+
+
+def found_program():
+    """The path of the program, or None."""
+    if (named := os.environ.get("ZKCOLUMNS")) is not None:
+        return named or None
+    return next((str(path) for path in PLACES if os.access(path, os.X_OK)), None)
+
+
+def lacks(words, counted):
+    """What is missing for columns, or None; where they are `counted`, that is numpy too."""
+    if words.zkdump != program.usual():
+        return "another program is named"
+    if not found_program():
+        return "zkcolumns isn't there"
+    return "numpy isn't there" if counted and not numpy else None
+
+
+class Block:
+    """Messages of a recording: `records` as bytes, `paths`, and `text` with the `patches` that Python has to write."""
+
+    def __init__(self, records, patches, paths, text):
+        self.records, self.patches, self.paths, self.text = records, patches, paths, text
+        self.moved = []     # the places of patches, and how much longer the text is behind each
+
+    def array(self):
+        """The records as an array of numpy."""
+        return numpy.frombuffer(self.records, dtype=list(FIELDS))
+
+    def tuples(self):
+        return map(Record._make, RECORD.iter_unpack(self.records))
+
+    def path(self, record):
+        """The path of a record as a line spells it; None if it has none."""
+        if not record.flags & PATH:
+            return None
+        if record.flags & NULL_PATH:
+            return "~"
+        return listing.spelled(self.paths[record.path:record.path + record.path_length].decode())
+
+    def patch(self):
+        """Writes what the program left to Python."""
+        if not self.patches:
+            return
+        parts, at, longer = [], 0, 0
+        for place, length, kind in PATCH.iter_unpack(self.patches):
+            value = PATCHES[kind](self.text[place:place + length])
+            parts += self.text[at:place], value
+            at, longer = place + length, longer + len(value) - length
+            self.moved.append((place, longer))
+        self.text, self.patches = b"".join((*parts, self.text[at:])), b""
+
+    def lines(self, array):
+        """The lines of these records, of which `array` are all or some."""
+        self.patch()
+        if len(array) == len(self.records) // RECORD.size:
+            return self.text
+        begins = array["text"].astype("i8")
+        ends = begins + array["text_length"]
+        if self.moved:
+            places, longer = map(numpy.array, zip(*self.moved))
+            longer = numpy.concatenate(([0], longer))
+            begins, ends = (each + longer[numpy.searchsorted(places, each)] for each in (begins, ends))
+        return b"".join([self.text[begin:end] for begin, end in zip(begins.tolist(), ends.tolist())])
+
+
+def text_of(value):
+    return "".join(forms.pieces_of_text(value, 0, len(value)))
+
+
+PATCHES = {TEXT: lambda found: text_of(listing.spelled(found.decode())).encode(),
+           WHOLE_TEXT: lambda found: forms.text(listing.spelled(found.decode())).encode(),
+           DATA: lambda found: forms.data("#" + found.hex()).encode()}
+
+
+class Columns(listing.Listing):
+    """The messages of a recording, in blocks; or one by one, as those of a Listing are, where `lines` was asked for."""
+
+    def __init__(self, name, path, words, progress, options):
+        super().__init__(name, (), None, progress)
+        self.file, self.waiting, self.names = path, [], None
+        profile = ["--profile", words.profile] if words.profile else []
+        limit = ["--limit", str(words.limit)] if getattr(words, "limit", None) else []
+        self.program = subprocess.Popen([found_program(), *profile, *limit, *options, path], stdout=subprocess.PIPE,
+                                        stderr=subprocess.PIPE)
+        try:
+            import fcntl
+            fcntl.fcntl(self.program.stdout, F_SETPIPE_SZ, PIPE_SIZE)
+        except OSError:
+            pass        # a smaller pipe is slower, and no more
+        first = self.next_block()
+        if first:
+            names = json.loads(first[1].text)
+            self.operations, self.errors, self.kinds = (
+                {int(number): name for number, name in names[each].items() if number}
+                for each in ("operations", "errors", "events"))
+
+    def exactly(self, size):
+        found = self.program.stdout.read(size)
+        if len(found) != size:
+            raise EOFError
+        return found
+
+    def next_block(self):
+        """The kind of the next block, and the block; None if the program has written none."""
+        head = self.program.stdout.read(HEAD.size)
+        if len(head) == HEAD.size:
+            kind, records, patches, known, paths, text, session, backwards, begun, ended = HEAD.unpack(head)
+            try:
+                block = Block(*(self.exactly(size) for size in
+                                (records * RECORD.size, patches * PATCH.size, paths, text)))
+            except EOFError:
+                kind = None
+            if kind is not None:
+                connection = self.connection
+                connection.known, connection.backwards = bool(known), backwards
+                connection.session = listing.hexadecimal(session) if session else None
+                connection.begun, connection.ended = (None if each != each else each for each in (begun, ended))
+                if kind == END:
+                    self.close()
+                return kind, block
+        self.close()
+        return None
+
+    def close(self):
+        """Waits for the program's end."""
+        self.program.stdout.close()
+        self.trouble = self.program.stderr.read().decode(errors="replace").strip()
+        self.program.stderr.close()
+        self.status = self.program.wait()
+
+    def blocks(self):
+        """The blocks of messages, in order. Then the connection has its ending, and the waiting requests are known."""
+        n = 0
+        try:
+            while found := self.next_block():
+                kind, block = found
+                n += len(block.records) // RECORD.size
+                if kind == END:
+                    self.end(block.text.decode(), n + 1)
+                    self.waiting = [self.message(block, record) for record in block.tuples()]
+                    self.progress.end()
+                    break
+                yield block
+                self.progress.show(f"{n:,} lines")
+            if self.status:
+                raise OSError(f"{self.program.args[0]} has ended with status {self.status}: {self.trouble}")
+        finally:
+            if not self.program.stdout.closed:      # whoever reads has enough
+                self.program.kill()
+                self.close()
+
+    def error(self, record):
+        """The name of a record's error or kind, or its number."""
+        if not record.flags & ERROR:
+            return None
+        names = self.kinds if record.operation == EVENT else self.errors
+        return names.get(record.error) or str(record.error)
+
+    def message(self, block, record):
+        """A message, as a Listing has it. A reply has no path."""
+        made = listing.Message(self.connection, record.n, chr(record.side),
+                               str(record.xid) if record.flags & XID else None, self.operations[record.operation],
+                               None if record.of else block.path(record), self.error(record))
+        if record.moment == record.moment:
+            made.moment = record.moment
+        if record.microseconds == record.microseconds:
+            made.microseconds = int(record.microseconds)
+        made.chosen, made.made_up = bool(record.flags & CHOSEN), bool(record.flags & MADE_UP)
+        return made
+
+    def left(self):
+        """The requests that still wait, in the order in which they came."""
+        return self.waiting
+
+    def __iter__(self):
+        requests = {}
+        for block in self.blocks():
+            text = block.text
+            for record in block.tuples():
+                made = self.message(block, record)
+                made.chosen = None
+                middle = record.text + record.at_length
+                if record.at_length:
+                    made.at = text[record.text:middle].decode()
+                made.end = 2 + (len(made.xid) + 1 if made.xid else 0) + len(made.op)
+                asked = None
+                if record.of:
+                    asked = requests.pop(record.of)
+                elif record.side == CLIENT:
+                    requests[record.n] = made
+                yield text[middle:record.text + record.text_length].decode(), made, asked
+        self.waiting = list(requests.values())
+
+
+def opened(words, path, progress, options):
+    """The columns of a recording; None where the plain form has to read it."""
+    found = Columns(path, path, words, progress, options)
+    if found.program.returncode is not None and found.status:
+        if found.status != NOT_READ:
+            raise OSError(f"{found.program.args[0]} has ended with status {found.status}: {found.trouble}")
+        return None
+    return found
+
+
+def times_options(path, beside):
+    """The arguments that name a recording's times, as times.times_of finds them."""
+    if not beside:
+        with open(path, "rb") as recording:
+            if recording.read(4) == b"ZKR2" or not os.path.exists(zkr.times_path(path)):
+                return []
+    return ["--times", beside or zkr.times_path(path)]

@@ -1,0 +1,124 @@
+/* What the files of zkcolumns share: growing bytes, the recording that is read, the requests that wait, and JSON. */
+#ifndef COLUMNS_H
+#define COLUMNS_H
+
+#include "zk.h"
+
+#include <math.h>
+#include <stdio.h>
+#include <stdlib.h>
+#include <string.h>
+
+/* Statuses beside 0: what Python alone reports, before anything was written, and what the system refuses. */
+enum { STATUS_WORDS = 2, STATUS_SYSTEM = 3, STATUS_NOT_READ = 4 };
+enum { LARGEST_PIECE = 16777220, LONGEST_TIME = 32, BLOCK = 1 << 16 };
+
+/* Ends the program with a line on standard error. */
+_Noreturn void stop(int status, const char *what);
+
+/* Bytes that grow as they are put. Those before `begin` have been taken. */
+struct bytes {
+    uint8_t *at;
+    size_t begin, end, room;
+};
+
+/* Room for `more` bytes at the end, and where they go. */
+uint8_t *room_for(struct bytes *bytes, size_t more);
+void put(struct bytes *bytes, const void *from, size_t length);
+void put_text(struct bytes *bytes, const char *text);
+void put_number(struct bytes *bytes, int64_t number);
+
+/* ---- The recording, and the times of its pieces (recording.c) */
+
+/* A file that is read in blocks. */
+struct source {
+    FILE *file;
+    uint8_t *at, *block;
+    size_t left;
+};
+
+/* A recording that is being read, and what is known of its present piece: its side, its size, how many of its bytes are
+ * still to come, and its time, which is NAN if there is none, with its spelling. `damage` is the reason of a damage, at `offset`. */
+struct recording {
+    struct source bytes, times;
+    bool is_zkr2, has_times;
+    uint32_t client, server, waiting, profile, side;
+    uint64_t offset;
+    size_t size, left;
+    double moment;
+    char spelled[LONGEST_TIME];
+    const char *damage;
+};
+
+/* Opens a recording and the file of its times, if there is one. STATUS_NOT_READ if the head is damaged, or the times
+ * aren't one for each piece. */
+void open_recording(struct recording *recording, const char *path, const char *times);
+
+/* Goes to the next piece; false at the end and at a damage. */
+bool next_piece(struct recording *recording);
+
+/* The next bytes of the piece, at most `*length`; none at its end and at a damage. */
+const uint8_t *piece_bytes(struct recording *recording, size_t *length);
+
+/* ---- The requests that wait for their replies (waiting.c) */
+
+/* A request that waits. `paths` is the size of its paths, `count` of them, of which the lane's bytes have the length (-1
+ * for null) and the bytes of each. */
+struct asked {
+    uint64_t n;
+    double moment;
+    int32_t xid, operation;
+    uint32_t flags, count;
+    size_t paths;
+};
+
+/* Requests in the order in which they are answered. */
+struct lane {
+    struct bytes asked, paths;
+};
+
+enum { LANES = 5 };
+
+/* The lane of a message. */
+struct lane *lane_of(struct lane *lanes, uint32_t kind, int32_t xid);
+void ask(struct lane *lane, struct asked asked, const struct bytes *paths);
+
+/* Takes the oldest request of a lane, which has one. `*paths` are its paths, until the lane's next change. */
+struct asked answer(struct lane *lane, const uint8_t **paths);
+
+/* The next of several paths; its length is -1 for null. */
+const uint8_t *next_path(const uint8_t **paths, int32_t *length);
+
+/* ---- JSON (json.c) */
+
+/* What Python writes in place of bytes of the text, which isn't ASCII: a text that is part of a value, one as a whole,
+ * or data. */
+enum { PATCH_TEXT = 1, PATCH_WHOLE_TEXT = 2, PATCH_DATA = 3 };
+
+struct patch {
+    uint64_t at;
+    uint32_t length, kind;
+};
+
+/* A message with its fields. `paths` are those of the request that it answers, if `asked` isn't null; `line` is the
+ * length of its line as `zkdump show` writes it, or 0 where that is at most BLOCK. */
+struct message {
+    struct zk_message view;
+    uint64_t n;
+    uint32_t side;
+    const uint8_t *payload;
+    const struct zk_field *fields;
+    size_t count, line;
+    const char *at;
+    double microseconds;
+    const struct asked *asked;
+    const uint8_t *paths;
+};
+
+/* Writes a message as zkjson.py does (short and pieces there), after `head`, which names the connection. */
+void put_json(struct bytes *out, struct bytes *patches, const char *head, const struct message *message, bool part_paths);
+
+/* The name of an operation, of a connect message or of an event. */
+const char *name_of(const struct zk_message *view);
+
+#endif

@@ -1,0 +1,110 @@
+"""Counts the messages of a block of columns for zkstat, in arrays of numpy.
+
+It is the fast form of what Statistics.read in zkstat.py does with one message after the other: whatever depends on an
+order, as that of equally frequent errors, comes in the order of the messages.
+"""
+
+import collections
+
+import columns
+import listing
+from histogram import Histogram
+
+MOST_EXACT = 2 ** 52
+
+
+def grouped(numpy, keys):
+    """The different keys in the order in which each comes first, and how often each comes."""
+    found, first, counts = numpy.unique(keys, return_index=True, return_counts=True)
+    order = first.argsort()
+    return zip(found[order].tolist(), counts[order].tolist())
+
+
+class Latencies:
+    """Latencies by operation: how many there are in each class of equivalent ones, by the rule of Histogram."""
+
+    def __init__(self):
+        self.counts, self.greatest = {}, {}
+        self.long = collections.defaultdict(Histogram)      # those that an array has no exact number for
+
+    def add(self, numpy, timed):
+        for number in numpy.unique(timed["operation"]).tolist():
+            latencies = timed["microseconds"][timed["operation"] == number]
+            if latencies.max() >= MOST_EXACT:
+                for latency in latencies[latencies >= MOST_EXACT].tolist():
+                    self.long[number].add(int(latency))
+                latencies = latencies[latencies < MOST_EXACT]
+                if not len(latencies):
+                    continue
+            exact = latencies.astype("i8")
+            shift = numpy.maximum(numpy.frexp(latencies)[1] - Histogram.BITS, 0)
+            counts = numpy.bincount((shift << Histogram.BITS - 1) + (exact >> shift))
+            known = self.counts.get(number, counts[:0])
+            if len(known) > len(counts):
+                known, counts = counts, known
+            counts[:len(known)] += known
+            self.counts[number] = counts
+            self.greatest[number] = max(int(exact.max()), self.greatest.get(number, 0))
+
+    def histograms(self):
+        """The operations, each with its histogram."""
+        for number, counts in self.counts.items():
+            made, half = Histogram(), 1 << Histogram.BITS - 1
+            for place in counts.nonzero()[0].tolist():
+                shift = max(0, place // half - 1)
+                made.counts[place - shift * half << shift] = int(counts[place])
+            made.greatest = self.greatest[number]
+            yield number, made
+        yield from self.long.items()
+
+
+def read(found, talk):
+    """Counts what is chosen of columns: `found` is a zkstat.Statistics."""
+    latencies = Latencies()
+    for block, array in found.selection.arrays(talk):
+        if len(array):
+            add_block(found, talk, block, array, latencies)
+    for number, made in latencies.histograms():
+        for each in (found.operations[talk.operations[number]], found.counts_of(talk.connection)):
+            each.latencies.merge(made)
+
+
+def add_block(found, talk, block, array, latencies):
+    """Counts messages of a block."""
+    numpy, counts = columns.numpy, found.counts_of(talk.connection)
+    array = array[array["flags"] & columns.MADE_UP == 0]
+    events = array[array["operation"] == columns.EVENT]
+    for kind, count in grouped(numpy, events["error"]):
+        found.events[talk.kinds.get(kind) or str(kind)] += count
+    replies = array[array["of"] > 0]
+    for number, count in grouped(numpy, replies["operation"]):
+        for each in (found.operations[talk.operations[number]], counts):
+            each.asked += count
+            each.answered += count
+    failed = replies[replies["flags"] & columns.ERROR > 0]
+    keys = (failed["operation"].astype("i8") << 33) + failed["error"]
+    for key, count in grouped(numpy, keys):
+        number = key + (1 << 32) >> 33
+        error = key - (number << 33)
+        name = talk.errors.get(error) or str(error)
+        for each in (found.operations[talk.operations[number]], counts):
+            each.errors[name] += count
+    timed = replies[replies["microseconds"] == replies["microseconds"]]
+    if len(timed):
+        latencies.add(numpy, timed)
+        add_slowest(numpy, found, talk, block, timed)
+
+
+def add_slowest(numpy, found, talk, block, timed):
+    """Keeps those that may be of the slowest, the first of equally slow ones."""
+    slow = timed[timed["microseconds"] > found.least]
+    if len(slow) > found.most:
+        slow = slow[numpy.sort(numpy.argsort(-slow["microseconds"], kind="stable")[:found.most])]
+    for row in slow.tolist():
+        record = columns.Record._make(row)
+        if record.microseconds > found.least:
+            made = talk.message(block, record)
+            asked = listing.Message(talk.connection, record.of, "C", made.xid, made.op, block.path(record), None)
+            asked.moment = record.asked_moment
+            zxid = None if record.operation == columns.CONNECT else listing.hexadecimal(record.zxid)
+            found.add_slow(zxid, made, asked)
