@@ -1,7 +1,9 @@
-//! `front_reply`: a reply judged by where its body ends; no frame is made.
-ghost use Rattle.std.specs.Prelude.{◌≢◌, ◌≤◌, ℕ, List, length, negsuc, IfSome, IsTrue};
+//! `front_reply`, `front_event`: replies and events judged by where their bodies end; no frame is made.
+ghost use Rattle.std.specs.Prelude.{◌≡◌, ◌≢◌, ◌≤◌, ℕ, List, length, negsuc, IfSome, IsTrue};
 ghost use Rattle.zk_answers.specs.Faults.{IsHead};
-ghost use Rattle.zk_answers.specs.Held.{Body};
+ghost use Rattle.zk_answers.specs.Held.{Body, ServerFrame};
+ghost use Rattle.zk_answers.specs.Frames.{IsEvent, IsSent};
+ghost use Rattle.zk_answers.specs.Frames as sent;
 ghost use Rattle.zk_answers.specs.Scanned.{IsBodyAt};
 ghost use Rattle.zk_answers.specs.Fronts.{IsBodyAlone, IsReplyUnder};
 
@@ -9,7 +11,9 @@ use crate::done_list::results_ref;
 use crate::frame::body_rows;
 use zk_asks::Asked;
 use zk_jute::{Ends, Payload, TextList, TextRef};
-use zk_records::{AclBodyRef, ChildrenBodyRef, CreateBodyRef, DataBodyRef, Op, ReplyHeader, Stat};
+use zk_records::{
+    AclBodyRef, ChildrenBodyRef, CreateBodyRef, DataBodyRef, Op, ReplyHeader, Stat, WatcherEventRef,
+};
 
 /// The bytes of a reply's header.
 pub(crate) const HEADER: usize = 16;
@@ -62,5 +66,21 @@ pub fn front_reply<F: Asked>(form: &F, head: &ReplyHeader, payload: &[u8]) -> bo
     match body_end(payload, HEADER, form.op()) {
         Some(end) => end == payload.len(),
         None => front_results(form, payload, HEADER),
+    }
+}
+
+/// Whether `payload`, which begins with the header `head`, is an event; false: undecided, as `borrow_event_under` decides.
+#[inline(always)]
+pub fn front_event(head: &ReplyHeader, payload: &[u8]) -> bool
+    requires head { (rest : List ℕ) × IsHead payload.now head.now rest }
+    requires event { head.now.xid ≡ negsuc 0 }
+    ensures { IsTrue result → (s : ServerFrame) × IsEvent s × IsSent s × (payload.now ≡ sent.payload s) }
+{
+    if head.err != 0 {
+        return false;
+    }
+    match <WatcherEventRef<'_> as Ends>::end_at(payload, HEADER) {
+        Some(after) => after == payload.len(),
+        None => false,
     }
 }

@@ -7,8 +7,8 @@
 //! - `read_connected`, `read_reply` and `read_event` read a payload as an owned `ServerFrame`; `borrow_connected`,
 //!   `borrow_reply` and `borrow_event` decide the same and borrow, without memory; `connected_ref`, `reply_ref` and
 //!   `event_ref` borrow what is already judged.
-//! - `scan_connected`, `scan_reply` and `scan_event` only decide. `front_reply` decides by where the body ends, and may
-//!   return false: undecided.
+//! - `scan_connected`, `scan_reply` and `scan_event` only decide. `front_reply` and `front_event` decide by where the body
+//!   ends, and may return false: undecided.
 //! - `write_server` writes a frame's payload; `fits` says whether a reply fits a request.
 //!
 //! The records are those of zookeeper.jute, and the results of a multi those of `MultiResponse`. A payload that is
@@ -55,7 +55,7 @@ pub use frame::{
     Body, BodyOf, BodyRef, Failure, Outcome, OutcomeOf, OutcomeRef, PartDone, PartDoneOf,
     PartDoneRef, Reply, ReplyOf, ReplyRef, ServerFrame, ServerFrameOf, ServerRef,
 };
-pub use front::front_reply;
+pub use front::{front_event, front_reply};
 pub use known::{connected_ref, event_ref, reply_ref};
 pub use laws::{connected_laws, event_laws, form_laws, head_laws, opening_laws, reply_laws};
 pub use layout::Layout;

@@ -16,7 +16,7 @@ ghost use Rattle.zk_asks.specs.Shown.{parts_at};
 use crate::frame::{PartOf, PartRef};
 use crate::multi::{Mark, mark_of};
 use std::marker::Model;
-use zk_jute::{Ends, ItemFault, KnownPayload, Payload, PayloadOf, Reason, read_ref};
+use zk_jute::{Ends, ItemFault, KnownPayload, PayloadOf, Reason, read_ref};
 use zk_records::{
     CheckAskRef, CreateAskRef, DeleteAskRef, MultiHeader, PartOp, SetDataAskRef, part_of,
 };

@@ -3,7 +3,6 @@ ghost use Rattle.std.specs.Prelude.{◌≡◌, ◌≢◌, ◌+◌, ◌^◌, ◌<
 ghost use Rattle.zk_talk.specs.Held.{Message};
 ghost use Rattle.zk_talk.specs.Ending.{IsEnding};
 ghost use Rattle.zk_talk.specs.History.{History, on};
-ghost use Rattle.zk_talk.specs.Stands.{Stands};
 ghost use Rattle.zk_talk.specs.declared.message.Fault.{Fault as fault_of};
 ghost use Rattle.zk_records.specs.declared.op.Op.TheVariants as ops;
 ghost use Rattle.zk_answers.specs.declared.layout.Layout.TheVariants as layouts;

@@ -1,5 +1,5 @@
 //! `Summary`, `Status`: how a recording ends, and its last line.
-ghost use Rattle.std.specs.Prelude.{◌≡◌, ◌++◌, ◌∷◌, [], IfOk, string_bytes};
+ghost use Rattle.std.specs.Prelude.{◌≡◌, IfOk};
 ghost use Rattle.zk_listings.specs.Lines.{damage_word, damage_text, summary_text, last_line, status_of};
 
 use std::alloc::{AllocError, Global};

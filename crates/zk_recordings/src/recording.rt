@@ -8,7 +8,7 @@ ghost use Rattle.zk_recordings.specs.Reader.{Content, state_of};
 ghost use Rattle.zk_recordings.specs.Recording.{Recording, Breaks, AtLetters, Cut, damage_of, limits_of, place_of, side_byte};
 ghost use Rattle.zk_recordings.specs.Heads.{PassesHead};
 ghost use Rattle.zk_recordings.specs.Pieces.{ReadsPiece};
-ghost use Rattle.zk_recordings.specs.Reading.{GoesOnFrom, Accepts, IsAt, IsBetweenOf, IsNeverBetween, IsDamagedBy, IsUndamaged, IsHeaded, IsSound, ReadsOn, chosen, place_in, then_at};
+ghost use Rattle.zk_recordings.specs.Reading.{GoesOnFrom, Accepts, IsAt, IsBetweenOf, IsNeverBetween, IsDamagedBy, IsUndamaged, IsHeaded, IsSound, ReadsOn, place_in, then_at};
 
 use crate::heads::{WholePiece, head_in, head_limits, piece_in, profile_of};
 use crate::parts::{Bytes, Damage, DamageAt, Format, Part, number, word};

@@ -2,8 +2,8 @@
 ghost use Rattle.std.specs.Prelude.{◌≡◌, refl};
 ghost use Rattle.zk_records.specs.Records.{watcher_event, watcher_event_of};
 
-use crate::fields::{decode, fields};
-use zk_jute::{Form, ItemFault, Origin, Output, Spell, Stands, Text, TextRef, Wire};
+use crate::fields::{decode, ends, fields};
+use zk_jute::{Ends, Form, ItemFault, Origin, Output, Spell, Stands, Text, TextRef, Wire};
 
 /// A change that a watch saw: `WatcherEvent`.
 #[derive(Debug, Drop)]
@@ -37,6 +37,13 @@ impl<T: Form> Form for WatcherEventOf<T> {
 impl<P: Origin, T: Stands<P>> Stands<P> for WatcherEventOf<T> {
     fn decode(src: &P, place: usize) -> Result<(Self, usize), ItemFault> {
         decode!(src, place => WatcherEventOf { kind, state, path })
+    }
+}
+
+impl<T: Ends> Ends for WatcherEventOf<T> {
+    #[inline(always)]
+    fn end_at(payload: &[u8], place: usize) -> Option<usize> {
+        ends!(payload, place => i32, i32, T)
     }
 }
 

@@ -1,5 +1,5 @@
 -- Where a run that builds halts by no failed read or write, neither has failed.
-use Rattle.std.proofs.Common.{Result, Ok, Err, IfOk, IfErr, IsErrOf}
+use Rattle.std.proofs.Common.{Result, Ok, Err, IfOk, IfErr}
 use Rattle.zk_runs.specs.declared.builder.Halt.{Halt}
 use Rattle.zk_runs.specs.declared.builder.Halt.TheVariants.{Refused, Fails}
 use Rattle.zk_listings.specs.declared.listing.RunFault.TheVariants.{Read, Write, Memory}
@@ -18,9 +18,3 @@ spared-result (Err halt) P p = spared-halt halt P p
 pub open-answer : (halt : Halt) (P : Type 0) → IfSpared halt P → IfOk (answer_of halt) (λ _. P)
 open-answer (Refused built) P p = p
 open-answer (Fails fault) P p = tt
-
-pub spared-answer : (halt : Halt) (P : Type 0) → IfSpared halt P → IsErrOf (answer_of halt) Memory → P
-spared-answer (Refused built) P p e = absurd cc
-spared-answer (Fails Memory) P p e = p
-spared-answer (Fails Read) P p e = absurd cc
-spared-answer (Fails Write) P p e = absurd cc

@@ -2,11 +2,9 @@
 ghost use Rattle.std.specs.Prelude.{◌≡◌, ◌≢◌, ◌+◌, ◌^◌, ◌<◌, ◌≤◌, ◌++◌, ℕ, List, [], true, false, IfOk, IfErr, IsErrOf, Err, OnOk, OnErr, IsTrue, ◌↔◌, length, take, slice_index};
 ghost use Rattle.std.specs.List.{All};
 ghost use Rattle.std.specs.Int.{to_be_bytes};
-ghost use Rattle.std.specs.Io.KnownBytes.{Appends};
 ghost use Rattle.zk_talk.specs.declared.limits.Limits.{Limits};
 ghost use Rattle.zk_talk.specs.Held.{Message};
 ghost use Rattle.zk_talk.specs.Said as said;
-ghost use Rattle.zk_talk.specs.Said.{Says};
 ghost use Rattle.zk_lines.specs.Lines.{Fits, line};
 ghost use Rattle.zk_runs.specs.declared.builder.Halt.TheVariants.{Fails};
 ghost use Rattle.zk_listings.specs.declared.listing.RunFault.TheVariants.{Read, Write, Memory};

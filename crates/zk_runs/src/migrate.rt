@@ -1,5 +1,5 @@
 //! `migrate_run`: the engine that makes a recording of the second format from one of either.
-ghost use Rattle.std.specs.Prelude.{◌≡◌, ◌+◌, ◌^◌, ◌<◌, ◌≤◌, ◌++◌, ℕ, List, [], ◌≢◌, Option, None, Some, Err, false, true, IfOk, OnOk, OnErr, IsErrOf, length, take, drop};
+ghost use Rattle.std.specs.Prelude.{◌≡◌, ◌+◌, ◌^◌, ◌<◌, ◌≤◌, ◌++◌, ℕ, List, [], Option, None, Some, Err, false, true, IfOk, OnOk, OnErr, IsErrOf, length, take, drop};
 ghost use Rattle.zk_talk.specs.declared.limits.Limits.{Limits};
 ghost use Rattle.zk_runs.specs.Migrating as migrating;
 ghost use Rattle.zk_runs.specs.Migrating.{HasBegunMigrating, HasMigrated, HasMigratedSoFar, HasMigratedTo, MovesOn, MovesBy};
@@ -12,7 +12,6 @@ use std::fmt::Display;
 use std::{fmt, mem};
 use zk_listings::{BLOCK, MOST_READS, RunFault, Sink, Source, damage_name, rest, write_whole};
 use zk_recordings::{Damage, DamageAt, Format, RecordingReader};
-use zk_records::Profile;
 use zk_talk::Limits;
 
 /// How a recording was migrated: whole, or up to a damage.

@@ -1,6 +1,6 @@
 -- What the quick way finds, as the exact way would.
-use Rattle.std.proofs.Common.{◌≡◌, ℕ, ◌+◌, ◌≤◌, List, length, sym, ap, subst, arith}
-use Rattle.std.specs.Prelude.{ℤ, Some, slice_get, Result, Ok, Err, IsOk, OnOk}
+use Rattle.std.proofs.Common.{◌≡◌, ℕ, ◌+◌, ◌≤◌, List, length, refl, sym, ap, subst, arith}
+use Rattle.std.specs.Prelude.{ℤ, Some, None, slice_get, Result, Ok, Err, IsOk, OnOk}
 use Rattle.std.proofs.lemmas.Bool.{false≢true}
 use Rattle.zk_records.specs.declared.op.Op.{Op}
 use Rattle.zk_records.specs.declared.op.PartOp.{PartOp}
@@ -13,7 +13,7 @@ use Rattle.zk_asks.specs.Rows.{op_of_ask}
 use Rattle.zk_asks.specs.Fronts.{IsAsked}
 use Rattle.zk_answers.specs.Held.{Outcome, Reply, ServerFrame}
 use Rattle.zk_answers.specs.declared.frame.OutcomeOf.TheVariants as outcome
-use Rattle.zk_answers.specs.declared.frame.ServerFrameOf.TheVariants.{Answered}
+use Rattle.zk_answers.specs.declared.frame.ServerFrameOf.TheVariants.{Connected, Answered, Event}
 use Rattle.zk_answers.specs.Faults.{IsHead}
 use Rattle.zk_answers.specs.Frames as answers
 use Rattle.zk_answers.specs.Fronts.{IsReplyUnder}
@@ -73,7 +73,7 @@ module _ (w : Lanes) (p : List ℕ) (header : ReplyHeader) (rest : List ℕ) (h 
       )
 
 module _ (count : ℕ) (p : List ℕ) (op : Op) (old new : Lanes) where
-  pub reply_settled : (xid : ℤ) → (count ≡ 0 → ⊥) → (q : Reply) × IsDueReply xid p op old q → IsDropped (lane_of xid) old new → (s : ServerFrame) × IsSettled count p op old new s
+  pub reply_settled : (xid : ℤ) → (count ≡ 0 → ⊥) → (q : Reply) × IsDueReply xid p op old q → IsDropped (lane_of xid) old new → (s : ServerFrame) × IsSettled count p (Some op) old new s
   reply_settled xid later k dropped =
       let d = k.1 in (
         Answered k.0,
@@ -87,3 +87,18 @@ module _ (count : ℕ) (p : List ℕ) (op : Op) (old new : Lanes) where
           may = λ asked v e. d.may asked count v later e;
         },
       )
+
+-- ---- an event
+
+pub event_settled : (count : ℕ) (p : List ℕ) (w : Lanes) → (count ≡ 0 → ⊥) → (s : ServerFrame) → answers.IsEvent s → answers.IsSent s → p ≡ answers.payload s → IsSettled count p None w w s
+event_settled count p w later (Connected hello flag) event sent is = absurd event
+event_settled count p w later (Answered reply) event sent is = absurd event
+event_settled count p w later (Event zxid change) event sent is = record {
+  turn = ((λ z. absurd (later z)), (λ n c. c));
+  operation = refl;
+  due = tt;
+  sent = sent;
+  is = server_is (Event zxid change) p is;
+  forgotten = refl;
+  may = λ asked v d. J.event_may asked count w v d (Event zxid change) later event sent;
+}

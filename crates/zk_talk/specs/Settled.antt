@@ -1,5 +1,5 @@
 -- What is known of a frame that is judged without being made.
-use Rattle.std.specs.Prelude.{◌≡◌, ℕ, ℤ, List, Some}
+use Rattle.std.specs.Prelude.{◌≡◌, ℕ, ℤ, List, Option}
 use Rattle.zk_records.specs.declared.op.Op.{Op}
 use Rattle.zk_records.specs.declared.profile.Profile.{Profile}
 use Rattle.zk_asks.specs.Held.{ClientFrame}
@@ -30,10 +30,11 @@ pub record IsDueReply (number : ℤ) (p : List ℕ) (asked : Op) (waiting : Lane
   pub is : server_payload (Answered r) ≡ p
   pub may : (n m : ℕ) (v : Conversation) → (m ≡ 0 → ⊥) → Describes n m waiting v → ServerMay v.client v.server (Answered r)
 
--- the server's frame with this payload, after `count` frames, may come now; it answers this operation, which is dropped
-pub record IsSettled (count : ℕ) (p : List ℕ) (op : Op) (old new : Lanes) (s : ServerFrame) : Type 0 where
+-- the server's frame with this payload, after `count` frames, may come now; it answers this operation, which is dropped,
+-- or none
+pub record IsSettled (count : ℕ) (p : List ℕ) (answered : Option Op) (old new : Lanes) (s : ServerFrame) : Type 0 where
   pub turn : (count ≡ 0 → answers.IsConnected s) × ((count ≡ 0 → ⊥) → answers.IsConnected s → ⊥)
-  pub operation : answered_by s ≡ Some op
+  pub operation : answered_by s ≡ answered
   pub due : IsDue s old
   pub sent : answers.IsSent s
   pub is : server_payload s ≡ p

@@ -141,41 +141,41 @@ fn answered(frame: &ServerRef<'_>) -> Option<Op>
     }
 }
 
-/// Keeps the server's whole frame, whose last `used` bytes are new, if it is a reply that may come next, and returns the
-/// operation of its request; `None`: undecided, and nothing changed.
+/// Keeps the server's whole frame, whose last `used` bytes are new, if it is a reply or an event that may come next, and
+/// returns the operation of its request, if it is a reply; `None`: undecided, and nothing changed.
 #[inline(always)]
-pub fn keep_server(stream: &mut Stream, waiting: &mut Awaited, used: usize) -> Option<Op>
+pub fn keep_server(stream: &mut Stream, waiting: &mut Awaited, used: usize) -> Option<Option<Op>>
     requires { IsAtFrame stream.old used }
     ensures max { waiting.new.max ≡ waiting.old.max }
-    ensures found { (asked : ℕ) → IfSome result (λ op. (s : answers.ServerFrame) × KeepsServer asked stream.old waiting.old (Some op) s waiting.new stream.new) }
-    ensures kept { IfSome result (λ op. stream.new ≡ kept_now stream.old used) }
+    ensures found { (asked : ℕ) → IfSome result (λ answered. (s : answers.ServerFrame) × KeepsServer asked stream.old waiting.old answered s waiting.new stream.new) }
+    ensures kept { IfSome result (λ answered. stream.new ≡ kept_now stream.old used) }
     ensures same { IfNone result ((waiting.new ≡ waiting.old) × (stream.new ≡ stream.old)) }
 {
-    let op = forget_front(stream.count(), waiting, stream.payload())?;
+    let answered = forget_front(stream.count(), waiting, stream.payload())?;
     stream.keep(used);
-    Some(op)
+    Some(answered)
 }
 
-/// Passes the server's frame `piece[..used]` if it is a reply that may come next, and returns the operation of its
-/// request; `None`: undecided, and nothing changed. Copies nothing.
+/// Passes the server's frame `piece[..used]` if it is a reply or an event that may come next, and returns the operation of
+/// its request, if it is a reply; `None`: undecided, and nothing changed. Copies nothing.
 #[inline(always)]
 pub fn pass_server(
     stream: &mut Stream,
     waiting: &mut Awaited,
     piece: &[u8],
     used: usize,
-) -> Option<Op>
+) -> Option<Option<Op>>
     requires part { used ≤ length piece.now }
     requires front { IsAtFrame (held_in stream.old (take used piece.now)) used }
     requires none { (stream.old.held ≡ []) × (stream.old.kept ≡ []) }
     ensures max { waiting.new.max ≡ waiting.old.max }
-    ensures found { (asked : ℕ) → IfSome result (λ op. (s : answers.ServerFrame) × PassesServer asked stream.old waiting.old (take used piece.now) s waiting.new) }
-    ensures passed { IfSome result (λ op. stream.new ≡ passed stream.old used) }
+    ensures found { (asked : ℕ) → IfSome result (λ answered. (s : answers.ServerFrame) × PassesServer asked stream.old waiting.old (take used piece.now) s waiting.new) }
+    ensures passed { IfSome result (λ answered. stream.new ≡ passed stream.old used) }
     ensures same { IfNone result ((waiting.new ≡ waiting.old) × (stream.new ≡ stream.old)) }
 {
-    let op = forget_front(stream.count(), waiting, carried(piece, used))?;
+    let answered = forget_front(stream.count(), waiting, carried(piece, used))?;
     stream.pass_front(used);
-    Some(op)
+    Some(answered)
 }
 
 /// Judges the server's whole frame, whose last `used` bytes are new, where the client has sent `asked` frames; keeps it,
@@ -194,8 +194,8 @@ pub fn server_step(
     ensures same { IfErr result (λ e. (waiting.new ≡ waiting.old) × (stream.new ≡ stream.old)) }
     ensures fault { IfErr result (λ e. (e.reason ≢ NoMemory) × TellsServer asked stream.old.count waiting.old (drop 4 stream.old.held) e) }
 {
-    if let Some(op) = keep_server(stream, waiting, used) {
-        return Ok(Some(op));
+    if let Some(answered) = keep_server(stream, waiting, used) {
+        return Ok(answered);
     }
     let frame = next_server(asked, stream.count(), waiting, stream.payload())?;
     let answered = answered(&frame);

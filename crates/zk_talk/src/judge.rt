@@ -17,7 +17,7 @@ ghost use Rattle.zk_talk.specs.Judged.{TellsLater, TellsClient, TellsServer, IsI
 use std::alloc::Global;
 use zk_answers::{
     ServerFrame, ServerFrameOf, ServerRef, borrow_connected, borrow_event_under,
-    borrow_reply_under, form_of, front_reply, reply_head,
+    borrow_reply_under, form_of, front_event, front_reply, reply_head,
 };
 use zk_asks::{
     Asked, ClientFrame, ClientFrameOf, ClientRef, RequestRef, borrow_ask, borrow_first, front_ask,
@@ -205,12 +205,13 @@ fn front_answer(head: &ReplyHeader, waiting: &Awaited, payload: &[u8]) -> Option
     }
 }
 
-/// Drops the request that the server's payload after `count` frames replies to, if it is a reply that may come next, and
-/// returns its operation; `None`: undecided, and nothing changed. No fault and no frame is made.
+/// Judges the server's payload after `count` frames: if it is a reply that may come next, drops the request and returns
+/// its operation; `Some(None)` if it is an event that may. `None`: undecided, and nothing changed. No fault and no frame
+/// is made.
 #[inline(always)]
-pub fn forget_front(count: u64, waiting: &mut Awaited, payload: &[u8]) -> Option<Op>
+pub fn forget_front(count: u64, waiting: &mut Awaited, payload: &[u8]) -> Option<Option<Op>>
     ensures max { waiting.new.max ≡ waiting.old.max }
-    ensures found { IfSome result (λ op. (s : answered.ServerFrame) × IsSettled count payload.now op waiting.old waiting.new s) }
+    ensures found { IfSome result (λ its. (s : answered.ServerFrame) × IsSettled count payload.now its waiting.old waiting.new s) }
     ensures same { IfNone result (waiting.new ≡ waiting.old) }
 {
     if count == 0 {
@@ -220,12 +221,15 @@ pub fn forget_front(count: u64, waiting: &mut Awaited, payload: &[u8]) -> Option
         return None;
     };
     if head.xid == -1 {
+        if front_event(&head, payload) {
+            return Some(None);
+        }
         return None;
     }
     let lane = lane_of(head.xid);
     let op = front_answer(&head, waiting, payload)?;
     waiting.drop_oldest(lane);
-    Some(op)
+    Some(Some(op))
 }
 
 /// Drops the request that `frame` replies to.

@@ -3,7 +3,6 @@ ghost use Rattle.std.specs.Prelude.{◌≡◌, ◌≢◌, ◌≤◌, ◌↔◌, 
 ghost use Rattle.zk_records.specs.declared.op.Op.TheVariants as ops;
 ghost use Rattle.zk_answers.specs.declared.layout.Layout.TheVariants as layouts;
 ghost use Rattle.zk_frames.specs.Framing.{frame};
-ghost use Rattle.zk_frames.specs.Held.{IsWhole};
 ghost use Rattle.zk_talk.specs.declared.message.Side.TheVariants.{Client, Server};
 ghost use Rattle.zk_talk.specs.Conversation.{Conversation};
 ghost use Rattle.zk_talk.specs.Describes.{Describes};
@@ -13,7 +12,6 @@ ghost use Rattle.zk_talk.specs.Refused.{IsBodyOf, IsInBody, AnswersNone, Answers
 use crate::message::{Fault, Side};
 use zk_answers::{Layout, reply_head};
 use zk_asks::Asked;
-use zk_frames::Frames;
 use zk_jute::{Reason, int_at};
 use zk_records::{Op, Profile, op_of};
 use zk_waiting::{Awaited, lane_of};

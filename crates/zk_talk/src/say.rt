@@ -1,5 +1,5 @@
 //! `say_client`, `say_server`, `SayFault`: whether one message more may be said, and its frame.
-ghost use Rattle.std.specs.Prelude.{◌≡◌, ◌≤◌, ◌<◌, ◌+◌, ◌^◌, ◌++◌, ◌⊎◌, ◌∷◌, [], pos, length, true, OnOk, OnErr, IfErr, MatchBool, IsTrue, ◌↔◌};
+ghost use Rattle.std.specs.Prelude.{◌≡◌, ◌≤◌, ◌<◌, ◌+◌, ◌^◌, ◌++◌, ◌⊎◌, pos, length, true, OnOk, OnErr, IfErr, MatchBool, IsTrue, ◌↔◌};
 ghost use Rattle.zk_jute.specs.Item.{Fit, int_bytes};
 ghost use Rattle.zk_records.specs.Codes.{HasOp};
 ghost use Rattle.zk_asks.specs.Frames as asks;

@@ -1,8 +1,8 @@
 //! `Stream`: one side's bytes, and what a piece does to its frame.
-ghost use Rattle.std.specs.Prelude.{◌≡◌, ◌≤◌, ◌<◌, ◌+◌, ◌^◌, ◌++◌, ℕ, List, [], length, take, IfOk, IfSome, IfNone, MatchOption};
+ghost use Rattle.std.specs.Prelude.{◌≡◌, ◌≤◌, ◌<◌, ◌+◌, ◌^◌, ℕ, [], length, take, IfOk, IfSome, IfNone, MatchOption};
 ghost use Rattle.zk_frames.specs.Framing.{frame, IsBeginning, IsFrame};
 ghost use Rattle.zk_talk.specs.Advance.{IsAdvance};
-ghost use Rattle.zk_talk.specs.Streams.{IsAtFrame, TakenBack, passed, kept_now, held_in};
+ghost use Rattle.zk_talk.specs.Streams.{IsAtFrame, TakenBack, passed, kept_now};
 ghost use Rattle.zk_talk.specs.declared.stream.Advance.TheVariants.{Within, Whole};
 
 use std::alloc::{AllocError, Global};

@@ -190,8 +190,8 @@ impl Talk {
             Side::Server => {
                 let used = self.server.take_front(piece)?;
                 match keep_server(&mut self.server, &mut self.waiting, used) {
-                    Some(op) => {
-                        self.answered = Some(op);
+                    Some(answered) => {
+                        self.answered = answered;
                         Some(used)
                     }
                     None => {

@@ -5,7 +5,7 @@ use Rattle.zk_talk.proofs.frame.pass_server.Goals as goal
 
 pub returns-clause-found : goal.returns-clause-found
 returns-clause-found c = λ asked.
-    let found = c.in_ok-op.ensures.found in
+    let found = c.in_ok-answered.ensures.found in
     let s = found.0 in
     let k = found.1 in
     let old = held_in c.args.stream.now (take c.args.used c.args.piece.now) in

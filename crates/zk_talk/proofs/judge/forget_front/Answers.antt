@@ -1,9 +1,19 @@
-use Rattle.std.proofs.Common.{w32, subst, FitsSigned, ◌≡◌}
-use Rattle.std.proofs.lemmas.Int.{to_z-of_z}
+use Rattle.std.proofs.Common.{w32, subst, FitsSigned, arith, ◌≡◌}
+use Rattle.std.proofs.lemmas.Int.{to_z-of_z, ints}
 use Rattle.zk_waiting.specs.Lane.{lane_of}
 use Rattle.zk_waiting.specs.Waiting.{IsDropped}
-use Rattle.zk_talk.proofs.Settling.{reply_settled}
+use Rattle.zk_talk.proofs.Settling.{event_settled, reply_settled}
 use Rattle.zk_talk.proofs.judge.forget_front.Goals as goal
+
+pub front_event-requires-clause-event : goal.front_event-requires-clause-event
+front_event-requires-clause-event c =
+    let fits : FitsSigned w32 c.in-Ok.head.xid = c.in-Ok.ensures.found.1.0.0 in
+    omega (arith, ints, c.if-head.true)
+
+pub returns-then-front_event-clause-found : goal.returns-then-front_event-clause-found
+returns-then-front_event-clause-found c =
+    let k = c.front_event.ensures c.if-front_event.true in
+    (k.0, event_settled c.args.count c.args.payload.now c.args.waiting.now c.if-count-eq0.false k.0 k.1 k.2 k.3)
 
 pub returns-clause-found : goal.returns-clause-found
 returns-clause-found c =
