@@ -7,6 +7,7 @@ and many connections at once; what it prints is compared with the listings. The 
 
 import os
 import pathlib
+import platform
 import re
 import shutil
 import signal
@@ -305,6 +306,33 @@ def listers(folder, programs, archive, shared):
     yield "listing.rs", listing
 
 
+# ---- Memory
+
+# What tests/memory.c does, how often, and the most kilobytes that may then stay with the process (docs/PERF.md). Where
+# little may stay, all goes back to the system; else the memory of one handle stays, however many there were.
+STAYS = (
+    ("talk 4194304 4194304 65536", 20, 1024), ("talk 16777216 16777216 65536", 5, 1024),
+    ("talk 65536 65536 1024", 20, 1024), ("talk 1048576 4194304 65536", 20, 6016 + 512),
+    ("talk 64 16777216 1048576", 5, 29760 + 512), ("speaker 4194304 4194304 65536", 20, 832 + 512),
+    ("speaker 4194304 4194304 1048576", 5, 13312 + 512), ("talk 4194304 4194304 65536", 20, 1024, "renew"),
+)
+
+
+def measure_memory(folder, archive, cc):
+    """Whether no more memory stays after the last close than the table says."""
+    if platform.libc_ver()[0] != "glibc":
+        print("skipped: what stays of closed talks is known of glibc alone")
+        return
+    program = os.path.join(folder, "memory")
+    words = [cc, "-O2", *STRICT, f"-I{TOP / 'include'}", "-o", program, TOP / "tests" / "memory.c", archive]
+    subprocess.run(words, check=True)
+    for what, rounds, most, *renew in STAYS:
+        done = subprocess.run([program, *what.split(), str(rounds), *renew], capture_output=True, text=True)
+        found = done.stdout.split()
+        good = done.returncode == 0 and int(found[-1]) <= most
+        yield what, good, f"memory {what} {rounds} {renew}: {done.stdout.strip()} kB stay, and {most} may"
+
+
 def check(folder, archive, shared, cc):
     """What the programs do."""
     programs = compiled(folder, archive, cc)
@@ -322,6 +350,7 @@ def check(folder, archive, shared, cc):
     yield ends_well("client frames", programs["client_frames"])
     yield ends_well("null pointers", programs["nulls"])
     yield ends_well("handles that go from thread to thread", programs["threads"])
+    yield from measure_memory(folder, archive, cc)
 
 
 def call_at_random(folder, seed, count):

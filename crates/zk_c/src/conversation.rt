@@ -13,6 +13,10 @@ use zk_fields::Field;
 use zk_lines::{ending_line, put_line_ref};
 use zk_talk::{Ending, Fault, Limits, MessageOf, Side, Stepped, Talk};
 
+/// The first room of a line, more than glibc's malloc keeps for itself of small blocks. Such a block would lie above those
+/// of the talk, and then nothing below it goes back to the system when the talk is freed.
+const FIRST_ROOM: usize = 1056;
+
 /// A talk, and a buffer for a line.
 #[derive(Drop)]
 pub struct Conversation {
@@ -111,6 +115,9 @@ impl Conversation {
             return LineAnswer::none(NO_MESSAGE);
         };
         self.line.clear();
+        let Ok(()) = self.line.reserve(FIRST_ROOM) else {
+            return LineAnswer::none(NO_MEMORY);
+        };
         let Ok(()) = put_line_ref(&mut self.line, &message) else {
             return LineAnswer::none(NO_MEMORY);
         };

@@ -10,6 +10,9 @@ use zk_items::put_int;
 use zk_jute::{Reason, reason_name};
 use zk_talk::{Ending, Fault, Side};
 
+/// Room for each ending's line: no numbers that it may have are longer.
+const ROOM: usize = 192;
+
 /// Appends `word` and the letter of `side`.
 #[tactic(auto, unfolding(crate::specs::Endings::sided))]
 fn put_side(out: &mut Vec<u8>, word: &[u8], side: Side) -> Result<(), AllocError>
@@ -96,7 +99,7 @@ fn put_ending(out: &mut Vec<u8>, ending: &Ending) -> Result<(), AllocError>
 pub fn ending_line(alloc: Global, ending: &Ending) -> Result<Vec<u8>, AllocError>
     ensures { IfOk result (λ line. line.items ≡ ending_text ending.now) }
 {
-    let mut line = Vec::new(alloc);
+    let mut line = Vec::with_capacity(alloc, ROOM)?;
     put_ending(&mut line, ending)?;
     Ok(line)
 }

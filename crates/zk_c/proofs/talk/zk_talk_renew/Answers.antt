@@ -6,10 +6,10 @@ use Rattle.zk_c.proofs.talk.zk_talk_renew.Goals as goal
 
 pub returns-clause-renew : goal.returns-clause-renew
 returns-clause-renew c t is_talk = (
-    refl,
-    record {
-      talk = c.renew.new.self;
-      held = c.put.ensures;
-      is = subst (λ (o : TalkState). IsRenewed o c.renew.new.self) (c.deref_mut.ensures.value ∙ same_value (sym c.in-Some.ensures.talk ∙ is_talk)) c.renew.ensures;
-    },
-  )
+  refl,
+  record {
+    talk = c.renew.new.self;
+    held = c.put.ensures;
+    is = subst (λ (o : TalkState). IsRenewed o c.renew.new.self) (c.deref_mut.ensures.value ∙ same_value (sym c.in-Some.ensures.talk ∙ is_talk)) c.renew.ensures;
+  },
+)
