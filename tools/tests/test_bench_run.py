@@ -29,15 +29,16 @@ class Turns(ToolCase):
     def test_a_row_for_each_job(self):
         script = 'echo "$@" >> ../log; echo the sum of $1'
         old, new = self.checkout("old", script), self.checkout("new", script)
-        status, out, err = self.run_jobs(old, new)
+        status, out, err = self.run_jobs(old, new, "7")
         self.assertEqual((status, err), (0, ""))
         rows = [re.split(r" *\| *", line)[1:-1] for line in out.splitlines()]
         self.assertEqual(rows[0], ["Job", "seconds, old", "seconds, new", "old over new"])
         self.assertEqual([row[0] for row in rows[2:8]], NAMES)
         for checkout in (old, new):
             lines = pathlib.Path(checkout, "log").read_text().splitlines()
-            # Nine turns of each job.
+            # Nine turns of each job, whose seeds are 64 apart.
             self.assertEqual([line.split()[0] for line in lines], [name for name in NAMES for _ in range(9)])
+            self.assertEqual([line.split()[1] for line in lines], [str(7 + 64 * turn) for turn in range(9)] * 6)
 
     def test_what_prints_nothing_or_another_sum_or_fails(self):
         good = "echo the sum"
