@@ -34,6 +34,12 @@ class Turns(ToolCase):
         rows = [re.split(r" *\| *", line)[1:-1] for line in out.splitlines()]
         self.assertEqual(rows[0], ["Job", "seconds, old", "seconds, new", "old over new"])
         self.assertEqual([row[0] for row in rows[2:8]], NAMES)
+        self.assertEqual(out.splitlines()[8:10], ["", "Least seconds and quartiles:"])
+        number = r"\d+\.\d+"
+        for name, line in zip(NAMES, out.splitlines()[10:]):
+            self.assertRegex(line, f"^{name}: old {number}, {number} to {number}; new {number}, {number} to {number}; "
+                                   f"old over new {number} to {number}$")
+        self.assertEqual(len(out.splitlines()), 16)
         for checkout in (old, new):
             lines = pathlib.Path(checkout, "log").read_text().splitlines()
             # Nine turns of each job, whose seeds are 64 apart.
