@@ -8,7 +8,7 @@ that does less, over nothing or of one turn of a job, so that the start and the 
 Other work changes nothing, so runs go side by side. costs.txt has a number for each row, and costs_functions.txt the
 functions that had a hundredth of it or more. A row fails if it has 2% more than its number, or 2% less, so that what was
 gained is kept. --update writes the numbers of those rows and of new ones, and leaves the others; all are written if the
-tools or the inputs are others than before.
+tools are others than before.
 
 With words, only rows whose names have one of them are counted. --checkout names another checkout of this repository
 whose programs are counted in place of those built here. --install installs Debian's valgrind first; without valgrind
@@ -113,8 +113,8 @@ class Cost(NamedTuple):
 # ---- counting
 
 
-class NotCounted(Exception):
-    """Why a row can't be counted, in one line."""
+class NotThere(Exception):
+    """What isn't there, in one line."""
 
 
 def place_programs(folder, checkout, names):
@@ -123,7 +123,7 @@ def place_programs(folder, checkout, names):
         crate = "zk_c" if name in LIBRARY_PROGRAMS else name
         built = checkout / "crates" / crate / "out" / ("libzk_c.a" if crate == "zk_c" else name)
         if not built.exists():
-            raise NotCounted(f"{built} is not there: {'rt lib' if crate == 'zk_c' else 'rt run'} in its crate builds it")
+            raise NotThere(f"{built} is not there: {'rt lib' if crate == 'zk_c' else 'rt run'} in its crate builds it")
         if crate == "zk_c":
             measure_library.compiled(folder / name, TOP / "bench" / f"{name}.c", built, kit() / "c" / "liblibc_c.a",
                                      "-Wl,--wrap=malloc,--wrap=realloc", "-pthread")
@@ -176,23 +176,23 @@ def read_functions(path):
 
 
 def count(run, number, folder):
-    """The instructions of each function in a run."""
+    """The instructions of each function in a run; none if the run fails."""
     words = [shutil.which("valgrind"), *CALLGRIND, f"--callgrind-out-file=callgrind.{number}", f"./{run.program}"]
     with open(folder / run.read, "rb") as source:
         done = subprocess.run([*words, *run.words], cwd=folder, env=SURROUNDINGS, stdin=source, capture_output=True)
-    if done.returncode != run.status or not done.stdout:
-        raise NotCounted(f"{run}: it ended with status {done.returncode}, and wrote {len(done.stdout)} bytes")
-    return read_functions(folder / f"callgrind.{number}")
+    good = done.returncode == run.status and done.stdout
+    return read_functions(folder / f"callgrind.{number}") if good else collections.Counter()
 
 
 def count_all(rows, folder):
-    """The rows' costs, counted side by side."""
+    """The rows' costs, counted side by side; that of a run that fails is nothing."""
     runs = list(dict.fromkeys(run for row in rows for run in (row.run, row.less) if run))
     with concurrent.futures.ThreadPoolExecutor(min(MOST, len(os.sched_getaffinity(0)))) as pool:
         found = dict(zip(runs, pool.map(lambda run: count(run, runs.index(run), folder), runs)))
     costs = {}
     for row in rows:
-        functions = found[row.run] - found.get(row.less, collections.Counter())
+        failed = not found[row.run] or row.less and not found[row.less]
+        functions = collections.Counter() if failed else found[row.run] - found.get(row.less, collections.Counter())
         costs[row.name] = Cost(sum(functions.values()), functions)
     return costs
 
@@ -269,6 +269,8 @@ def percent(kept, now):
 
 def fault(name, kept, now):
     """What is wrong with a row; empty if nothing is."""
+    if not now.count:
+        return f"{name}: a run failed"
     if kept is None:
         return f"{name}: {now.count:,} instructions, and costs.txt has no number"
     change = f"{name}: {kept.count:,} instructions came to {now.count:,} ({percent(kept, now):+.1f}%)"
@@ -289,11 +291,11 @@ def compare(rows, kept, costs):
 
 
 def update(kept, costs, used, sums):
-    """Keeps the rows that are new or differ; all of them, if other tools or inputs were used than before."""
-    anew = (kept.tools, kept.inputs) != (used, sums)
+    """Keeps the rows that are new or differ; all of them, if other tools were used than before."""
+    anew = kept.tools != used
     kept.tools, kept.inputs = used, sums
     for name, now in costs.items():
-        if anew or name not in kept.costs or differs(kept.costs[name], now):
+        if now.count and (anew or name not in kept.costs or differs(kept.costs[name], now)):
             kept.costs[name] = now
     kept.write()
 
@@ -312,6 +314,8 @@ def main():
         return 0
     rows = [row for row in ROWS if not words.words or any(word in row.name for word in words.words)]
     kept, used, sums = Kept(KEPT), tools(), digest()
+    if words.update and words.words and kept.tools != used:
+        parser.error("the tools are others than before: all rows are written, so give no words")
     for what, here, there in (("tools", used, kept.tools), ("inputs", sums, kept.inputs)):
         if there not in ("", here):
             print(f"costs.txt was counted with other {what}: {there}; these are {here}")
@@ -321,13 +325,12 @@ def main():
             place_programs(folder, words.checkout.resolve(), {"zkdump", *(row.run.program for row in rows)})
             place_inputs(folder, rows)
             costs = count_all(rows, folder)
-    except NotCounted as why:
+    except NotThere as why:
         print(f"costs.py: {why}\n0 passed, {len(rows)} failed")
         return 1
-    faults = compare(rows, kept, costs)
     if words.update:
         update(kept, costs, used, sums)
-        faults = []
+    faults = compare(rows, kept, costs)
     print(*faults, f"{len(rows) - len(faults)} passed, {len(faults)} failed", sep="\n")
     return 1 if faults else 0
 

@@ -8,6 +8,7 @@
  * prints the messages, the ending, the CPU seconds of the steps and the number of allocations between the first message
  * and the last. bench/README.md says how to compile it. */
 #define _POSIX_C_SOURCE 200809L
+#pragma weak zk_talk_renew /* so that an older library, which lacks it, can be measured without it */
 #include "zk.h"
 
 #include <pthread.h>

@@ -70,6 +70,10 @@ class Rows(ToolCase):
         for change in (-20_000, 0, 20_000):
             self.assertEqual(costs.fault(ROW, KEPT, cost(memcpy=change)), "")
 
+    def test_a_run_that_failed(self):
+        for kept in (KEPT, None):
+            self.assertEqual(costs.fault(ROW, kept, costs.Cost(0, {})), "check small: a run failed")
+
     def test_a_row_without_a_number(self):
         self.assertRegex(costs.fault(ROW, None, KEPT), "^check small: 1,000,000 instructions, and .* no number$")
 
