@@ -1,11 +1,14 @@
 /* How fast the library for C is, and how often it allocates.
  *
- *     handle step|line|view [THREADS] < RECORDING
+ *     handle step|line|view|open|renew [THREADS [TIMES]] < RECORDING
  *
  * Steps through the recording (format ZKR1), and with `line` writes each message's line, with `view` asks for its
- * numbers. With THREADS that many threads do so at once, each with a handle of its own. It prints the messages, the
- * ending, the CPU seconds of the steps and the number of allocations between the first message and the last.
- * bench/README.md says how to compile it. */
+ * numbers. With THREADS that many threads do so at once, each with a handle of its own. With TIMES the recording is read
+ * that often: with `open` by a new talk each time, which is closed after it, and else by one that is begun anew. It
+ * prints the messages, the ending, the CPU seconds of the steps and the number of allocations between the first message
+ * and the last. bench/README.md says how to compile it. */
+#define _POSIX_C_SOURCE 200809L
+#pragma weak zk_talk_renew /* so that an older library, which lacks it, can be measured without it */
 #include "zk.h"
 
 #include <pthread.h>
@@ -31,6 +34,7 @@ void *__wrap_realloc(void *block, size_t size) {
 static uint8_t *recording;
 static size_t size;
 static char what;
+static int times = 1;
 
 struct result {
     long messages, kinds, growths;
@@ -38,32 +42,49 @@ struct result {
     char ending[200];
 };
 
-static void *run(void *to) {
-    struct result *result = to;
-    struct zk_talk talk = {0};
-    size_t room = 1 << 24;
-    uint8_t *text = __real_malloc(room);
-    if (zk_talk_new(&talk, 4194304, 4194304, 65536, ZK_PROFILE_34) != ZK_WELL) exit(2);
-    struct timespec begin, end;
-    clock_gettime(CLOCK_THREAD_CPUTIME_ID, &begin);
-    long before = growths;
+static void open_talk(struct zk_talk *talk) {
+    if (zk_talk_new(talk, 4194304, 4194304, 65536, ZK_PROFILE_34) != ZK_WELL) exit(2);
+}
+
+/* Gives the talk the recording, up to its end or to a fault. */
+static void read_once(struct zk_talk *talk, struct result *result, uint8_t *text, size_t room) {
     for (size_t at = 4; at + 5 <= size;) {
         const uint8_t *head = recording + at, *bytes = head + 5;
         size_t left = (size_t)head[1] << 24 | (size_t)head[2] << 16 | (size_t)head[3] << 8 | head[4];
         uint32_t side = head[0] == 'C' ? ZK_CLIENT : ZK_SERVER;
         at += 5 + left;
         while (left > 0) {
-            struct zk_step step = zk_talk_step(&talk, side, bytes, left);
-            if (step.status != ZK_WELL) goto ended;
+            struct zk_step step = zk_talk_step(talk, side, bytes, left);
+            if (step.status != ZK_WELL) return;
             bytes += step.used;
             left -= step.used;
             if (!step.whole) continue;
             result->messages++;
-            if (what == 'v') result->kinds += zk_talk_view(&talk, side).kind;
-            if (what == 'l') result->kinds += (long)zk_talk_line(&talk, side, text, room).length;
+            if (what == 'v') result->kinds += zk_talk_view(talk, side).kind;
+            if (what == 'l') result->kinds += (long)zk_talk_line(talk, side, text, room).length;
         }
     }
-ended:
+}
+
+static void *run(void *to) {
+    struct result *result = to;
+    struct zk_talk talk = {0};
+    size_t room = 1 << 24;
+    uint8_t *text = __real_malloc(room);
+    open_talk(&talk);
+    struct timespec begin, end;
+    clock_gettime(CLOCK_THREAD_CPUTIME_ID, &begin);
+    long before = growths;
+    read_once(&talk, result, text, room);
+    for (int time = 1; time < times; time++) {
+        if (what == 'o') {
+            zk_talk_free(&talk);
+            open_talk(&talk);
+        } else {
+            zk_talk_renew(&talk);
+        }
+        read_once(&talk, result, text, room);
+    }
     result->growths = growths - before;
     clock_gettime(CLOCK_THREAD_CPUTIME_ID, &end);
     result->seconds = (double)(end.tv_sec - begin.tv_sec) + (double)(end.tv_nsec - begin.tv_nsec) / 1e9;
@@ -75,15 +96,17 @@ ended:
 
 int main(int count, char **words) {
     int threads = count > 2 ? atoi(words[2]) : 1;
-    if (count < 2 || threads < 1 || threads > 64) return 2;
+    if (count > 3) times = atoi(words[3]);
+    if (count < 2 || threads < 1 || threads > 64 || times < 1) return 2;
     what = words[1][0];
     size_t room = 1 << 28;
     recording = malloc(room);
     size = fread(recording, 1, room, stdin);
     static struct result results[64];
     pthread_t ids[64];
-    for (int i = 0; i < threads; i++) pthread_create(&ids[i], NULL, run, &results[i]);
-    for (int i = 0; i < threads; i++) pthread_join(ids[i], NULL);
+    for (int i = 1; i < threads; i++) pthread_create(&ids[i], NULL, run, &results[i]);
+    run(&results[0]);
+    for (int i = 1; i < threads; i++) pthread_join(ids[i], NULL);
     for (int i = 0; i < threads; i++)
         printf("%ld messages, %s, %.3f s, %ld growths, sum %ld\n", results[i].messages, results[i].ending, results[i].seconds, results[i].growths, results[i].kinds);
     return 0;
