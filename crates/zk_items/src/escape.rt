@@ -20,7 +20,7 @@ fn lay(room: &mut [u8], at: usize, block: u8x16)
     block.copy_to_slice(&mut room[at..]);
 }
 
-/// Three blocks, one behind the other.
+/// Three blocks, one after the other.
 #[inline(always)]
 fn in_row(first: u8x16, middle: u8x16, last: u8x16) -> [u8; 48]
     ensures { result ≡ first ++ (middle ++ last) }
@@ -57,7 +57,7 @@ fn escapes(bytes: u8x16) -> [u8; 48]
     in_row(first, middle, last)
 }
 
-/// The bytes, and zeros behind them.
+/// The bytes, and zeros after them.
 fn block_of(bytes: &[u8]) -> u8x16
     requires { length bytes.now ≤ 16 }
     ensures { result ≡ bytes.now ++ replicate (16 - length bytes.now) 0 }
