@@ -7,7 +7,7 @@ It prints each page's words (those of `wc -w`, without the parts that scripts wr
 sentence. With --check it prints only what is wrong: a page or docs/ above its limit of words, a sentence above the
 page's, a word of DIALECT more often than its number allows, a date, a machine or an hour outside of bench/README.md and
 CHANGELOG.md, a link between pages whose file or heading isn't there, and a word of DIALECT in a script's comments or
-texts, which are its messages and help.
+texts, which are its messages and help, or in a comment of a crate's sources. There a fast form "stands for" a plain one.
 
 A sentence ends with a full stop, a question or an exclamation mark; a table's cell, an item of a list and a heading are
 sentences of their own. Code within a sentence is one word; blocks of code are none.
@@ -129,6 +129,16 @@ def in_scripts():
                                 for found in dialect.finditer(token.string))
 
 
+def in_sources():
+    """The words of DIALECT in the comments of the crates' sources; names in backticks are code."""
+    dialect = re.compile(rf"\b(?:{'|'.join(DIALECT)})\b(?! for)", re.I)
+    for path in sorted(TOP.glob("crates/*/src/**/*.rt")):
+        for number, line in enumerate(path.read_text().splitlines(), 1):
+            comment = re.search(r"(?:^|\s)//[/!]? (.*)", line)
+            for found in dialect.finditer(re.sub(r"`[^`]*`", "code", comment[1])) if comment else ():
+                yield f"{name_of(path)}:{number}: plainer words: {found[0]}"
+
+
 def judged(texts):
     """What is wrong."""
     sizes = {name_of(path): len(GENERATED.sub("", text).split()) for path, text in texts.items()}
@@ -150,6 +160,7 @@ def judged(texts):
         if count > limit:
             yield f"the pages have \"{word}\" {count} times, and at most {limit} are allowed"
     yield from in_scripts()
+    yield from in_sources()
 
 
 def main():

@@ -67,7 +67,7 @@ fn copy(from: &[u8], room: &mut [u8]) -> usize
 }
 
 impl Feed {
-    /// The recording of a script's conversation, of so many turns.
+    /// The recording of `turns` turns of a script's conversation.
     pub(crate) fn new(
         alloc: Global,
         streams: Streams,
@@ -231,7 +231,7 @@ pub(crate) struct Lines {
 }
 
 impl Lines {
-    /// The lines of a script's conversation, of so many turns.
+    /// The lines of `turns` turns of a script's conversation.
     pub(crate) fn new(alloc: Global, script: Script, turns: u64) -> Result<Lines, AllocError>
         ensures count { IfOk result (λ f. ⟦<Lines as Source>⟧.read_count f ≡ 0) }
         ensures live { IfOk result (λ f. ⟦<Lines as Source>⟧.has_failed f ≡ false) }

@@ -1,4 +1,4 @@
-//! The jobs: each makes its input from a seed, in so many turns, and returns a sum of all that comes out.
+//! The jobs: each makes its input from a seed, in a number of turns, and returns a sum of all that it makes of it.
 ghost use Rattle.std.specs.Prelude.{◌≡◌, IfOk};
 
 use crate::digest::Digest;
@@ -27,7 +27,7 @@ fn add_status(digest: &mut Digest, status: Status) {
     digest.add_number(u64::from(matches!(status, Status::Good)));
 }
 
-/// The recording of a conversation of so many turns.
+/// The recording of a conversation of `turns` turns.
 fn recording(alloc: Global, mix: Mix, cut: Cut, seed: u64, turns: u64) -> Result<Feed>
     ensures { IfOk result (λ f. ⟦<Feed as Source>⟧.read_count f ≡ 0) }
 {

@@ -1,6 +1,6 @@
 //! The places of a conversation's numbers that differ from turn to turn.
 
-/// What stands at a place.
+/// What is at a place.
 #[derive(Clone, Copy)]
 pub(crate) enum Mark {
     Xid,

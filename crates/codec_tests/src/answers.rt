@@ -203,7 +203,7 @@ fn judged(
     Ok(())
 }
 
-/// A row's call, its request, its payload, and what is told of it.
+/// A row's call, its request, its payload, and the answer.
 fn parts(row: &str) -> Option<(&str, &str, &str, &str)> {
     let (asked, want) = row.split_once(" = ")?;
     let (call, rest) = asked.split_once(' ')?;
@@ -211,7 +211,7 @@ fn parts(row: &str) -> Option<(&str, &str, &str, &str)> {
     Some((call, request, digits, want))
 }
 
-/// A row is told as it is wanted.
+/// A row is judged as it says.
 fn row_judged(rt: &impl Abort, alloc: Global, row: &str) -> Result<(), Fail> {
     let (call, request, digits, want) = parts(row).ok_or("no row")?;
     let form = match request {

@@ -136,7 +136,7 @@ fn judged(
     Ok(())
 }
 
-/// A row is told as it is wanted.
+/// A row is judged as it says.
 fn row_judged(rt: &impl Abort, alloc: Global, row: &str) -> Result<(), Fail> {
     let (kind, payload, want) = parsed(alloc, row)?;
     judged(rt, alloc, kind, &payload, want)

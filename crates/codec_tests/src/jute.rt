@@ -20,7 +20,7 @@ const TWO: Payload = Payload {
     bytes: b"\0\0\0\x02\0\0\0\x02/a\xff\xff\xff\xff",
 };
 
-/// A text where it lies.
+/// A text, borrowed from its payload.
 #[test]
 fn text(rt: HostRuntime) -> Result<(), Fail> {
     let (text, end) = TextRef::read_in(&TWO, 4)?;

@@ -1,7 +1,7 @@
-//! What C calls: a conversation that is read as it comes, or said, behind a handle that C keeps.
+//! What C calls: a conversation that is read as it comes, or said, of which C keeps a handle.
 //!
 //! `zk_talk_new`, `zk_talk_step` and their like wrap a `Talk` (`zk_talk`), `zk_speaker_new` and `zk_speaker_say` a
-//! `Speaker`; each is in a box behind a handle, which is all zeros while it holds nothing. `zk_judge_first` and its like
+//! `Speaker`; each is in a box that a handle owns, which is all zeros while it holds nothing. `zk_judge_first` and its like
 //! judge single payloads without a handle, and `zk_write_request` writes a frame from its fields. `zk_listing` lists a
 //! conversation that is there whole.
 //!
@@ -20,7 +20,7 @@
 //!
 //! # Choices
 //!
-//! **A handle is a struct that owns what is behind its pointer** (`TalkBox`): its `also_owns` is that of a box, or
+//! **A handle is a struct that owns what its pointer leads to** (`TalkBox`): its `also_owns` is that of a box, or
 //! nothing. A struct that crosses to C may not hold a `Vec` or a `Box`, so the pointer is one to bytes, and a ghost
 //! field has the value. Only three functions make or open it, with proofs by hand. Each call takes the box out, works
 //! on it as safe code does, and puts it back.

@@ -5,7 +5,7 @@ ghost use Rattle.std.specs.Box.Ownership.{box_owns};
 use std::alloc::Allocator;
 use std::marker::Model;
 
-/// A box as its pointer: it owns the value behind it, and the right to free its block.
+/// A box as its pointer: it owns the value there, and the right to free its block.
 pub struct Loose<T, A: Allocator> {
     pub(crate) at: *mut T,
     pub(crate) alloc: A,

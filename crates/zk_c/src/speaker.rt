@@ -1,4 +1,4 @@
-//! `zk_speaker_new` and its like: a speaker behind a handle.
+//! `zk_speaker_new` and its like: a speaker that a handle owns.
 ghost use Rattle.std.specs.Prelude.{◌≡◌, ◌≢◌, ◌⊎◌, Some, None, IsSome, MatchOption};
 ghost use Rattle.std.specs.Option.{is_some};
 ghost use Rattle.zk_c.specs.Answer.{no_line};
@@ -108,7 +108,7 @@ pub extern "C" fn zk_speaker_new(
 pub extern "C" fn zk_speaker_renew(alloc: Global, handle: &mut SpeakerHandle) -> u32
     // With no speaker nothing is done.
     ensures empty { handle.old.held.value ≡ None → (result ≡ 65) × (handle.new.held.value ≡ None) }
-    // The speaker has said nothing, and stays behind the handle.
+    // The speaker has said nothing, and the handle keeps it.
     ensures renew { (v : VoiceState) → handle.old.held.value ≡ Some v → (result ≡ 0) × Renews v handle.new.held.value }
 {
     let Some(mut voice) = handle.take(alloc) else {
@@ -128,7 +128,7 @@ pub extern "C" fn zk_speaker_say(
 ) -> SayAnswer
     // With no speaker nothing is said.
     ensures empty { handle.old.held.value ≡ None → (result ≡ say_answer 65 0 0) × (handle.new.held.value ≡ None) }
-    // The speaker says the line, and stays behind the handle.
+    // The speaker says the line, and the handle keeps it.
     ensures say { (v : VoiceState) → handle.old.held.value ≡ Some v → SaysLine v line.now result handle.new.held.value }
 {
     let Some(mut voice) = handle.take(alloc) else {

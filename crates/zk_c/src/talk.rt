@@ -1,4 +1,4 @@
-//! `zk_talk_new` and its like: a conversation behind a handle.
+//! `zk_talk_new` and its like: a conversation that a handle owns.
 ghost use Rattle.std.specs.Prelude.{◌≡◌, ◌≢◌, ◌⊎◌, Option, Some, None, IsSome, IfSome, MatchOption};
 ghost use Rattle.std.specs.Option.{is_some};
 ghost use Rattle.zk_talk.specs.declared.message.Side.{Side};
@@ -124,7 +124,7 @@ pub extern "C" fn zk_talk_new(
 pub extern "C" fn zk_talk_renew(alloc: Global, handle: &mut TalkHandle) -> u32
     // With no talk nothing is done.
     ensures empty { handle.old.held.value ≡ None → (result ≡ 65) × (handle.new.held.value ≡ None) }
-    // The talk has come through the empty history, and stays behind the handle.
+    // The talk has come through the empty history, and the handle keeps it.
     ensures renew { (t : TalkState) → handle.old.held.value ≡ Some t → (result ≡ 0) × Renews t handle.new.held.value }
 {
     let Some(mut talk) = handle.take(alloc) else {
@@ -147,7 +147,7 @@ pub extern "C" fn zk_talk_step(
     ensures range { side_of side ≡ None → (result ≡ no_step 67) × (handle.new ≡ handle.old) }
     // With no talk there is no step.
     ensures empty { handle.old.held.value ≡ None → IsSome (side_of side) → (result ≡ no_step 65) × (handle.new.held.value ≡ None) }
-    // The talk makes the step, and stays behind the handle.
+    // The talk makes the step, and the handle keeps it.
     ensures step { (s : Side) (t : TalkState) → side_of side ≡ Some s → handle.old.held.value ≡ Some t → Tells IsStep t s piece.now result handle.new.held.value }
 {
     let Some(side) = side_of(side) else {
@@ -173,7 +173,7 @@ pub extern "C" fn zk_talk_pass(
     ensures range { side_of side ≡ None → (result ≡ no_step 67) × (handle.new ≡ handle.old) }
     // With no talk no byte is used.
     ensures empty { handle.old.held.value ≡ None → IsSome (side_of side) → (result ≡ no_step 65) × (handle.new.held.value ≡ None) }
-    // The talk passes over the bytes, and stays behind the handle.
+    // The talk passes over the bytes, and the handle keeps it.
     ensures pass { (s : Side) (t : TalkState) → side_of side ≡ Some s → handle.old.held.value ≡ Some t → Tells IsPass t s piece.now result handle.new.held.value }
 {
     let Some(side) = side_of(side) else {

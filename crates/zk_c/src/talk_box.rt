@@ -15,7 +15,7 @@ use std::marker::Model;
 #[derive(Drop)]
 pub struct TalkBox {
     at: *mut u8,
-    /// The talk behind the pointer.
+    /// The talk that the pointer owns.
     pub ghost value: { Option TalkState } by { coded_option the_row.coded },
 }
 

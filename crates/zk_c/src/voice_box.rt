@@ -15,7 +15,7 @@ use std::marker::Model;
 #[derive(Drop)]
 pub struct VoiceBox {
     at: *mut u8,
-    /// The speaker behind the pointer.
+    /// The speaker that the pointer owns.
     pub ghost value: { Option VoiceState } by { coded_option the_row.coded },
 }
 

@@ -107,7 +107,7 @@ fn blob_value<'a>(field: &Field, content: &'a [u8]) -> Option<Value<'a>>
     }
 }
 
-/// The number, if a list can have so many elements.
+/// The number, if a list can have that number of elements.
 fn count_of(number: i64) -> Option<i32>
     ensures { result ≡ option_map pos (count_said number) }
 {

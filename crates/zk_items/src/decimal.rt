@@ -26,14 +26,14 @@ fn digits_ahead(bytes: &[u8]) -> (u64, usize)
     (value, count)
 }
 
-/// Whether a digit or a sign stands at `at`.
+/// Whether a digit or a sign is at `at`.
 fn goes_on(bytes: &[u8], at: usize) -> bool
     ensures { result ≡ false → at < length bytes.now → in_number (slice_index bytes.now at) ≡ false }
 {
     at < bytes.len() && is_in_number(bytes[at])
 }
 
-/// Whether so many digits begin with a zero that their number doesn't need.
+/// Whether `count` digits begin with a zero that their number doesn't need.
 fn is_padded(digits: &[u8], count: usize) -> bool
     requires { (0 < count) × (count ≤ length digits.now) }
     ensures { result ≡ false → slice_index digits.now 0 ≡ 48 → count ≤ 1 }
@@ -42,7 +42,7 @@ fn is_padded(digits: &[u8], count: usize) -> bool
 }
 
 /// The number that begins `bytes`, without a sign, and the length of its spelling; `None` where nineteen digits at most,
-/// none of them a leading zero, don't tell.
+/// none of them a leading zero, don't decide.
 fn unsigned_ahead(bytes: &[u8]) -> Option<(u64, usize)>
     ensures { IfSome result (λ q. (take q.1 bytes.now ≡ decimal q.0) × (prefix_len in_number bytes.now ≡ q.1) × (q.1 ≤ length bytes.now)) }
 {
@@ -73,7 +73,7 @@ fn below_zero(value: u64) -> Option<i64>
     }
 }
 
-/// The long that begins `bytes`, and the length of its spelling; `None` where its digits alone don't tell.
+/// The long that begins `bytes`, and the length of its spelling; `None` where its digits alone don't decide.
 // Stands for `long_of` of the run in front.
 pub fn long_ahead(bytes: &[u8]) -> Option<(i64, usize)>
     ensures read { IfSome result (λ q. num_at 63 bytes.now ≡ Some (q.0, drop q.1 bytes.now)) }
@@ -96,7 +96,7 @@ fn narrow(n: i64) -> Option<i32>
     i32::try_from(n).ok()
 }
 
-/// The int that begins `bytes`, and the length of its spelling; `None` where its digits alone don't tell.
+/// The int that begins `bytes`, and the length of its spelling; `None` where its digits alone don't decide.
 // Stands for `int_of` of the run in front.
 pub fn int_ahead(bytes: &[u8]) -> Option<(i32, usize)>
     ensures read { IfSome result (λ q. num_at 31 bytes.now ≡ Some (q.0, drop q.1 bytes.now)) }

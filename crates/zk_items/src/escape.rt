@@ -22,7 +22,7 @@ fn lay(room: &mut [u8], at: usize, block: u8x16)
     block.copy_to_slice(&mut room[at..]);
 }
 
-/// Three blocks, one behind the other.
+/// Three blocks, one after the other.
 #[inline(always)]
 fn in_row(first: u8x16, middle: u8x16, last: u8x16) -> [u8; 48]
     ensures { result ≡ first ++ (middle ++ last) }
@@ -67,7 +67,7 @@ fn escapes(bytes: u8x16) -> [u8; 48]
     in_row(five_escapes(bytes), middle, last)
 }
 
-/// The first sixteen bytes; where there are fewer, zeros behind them.
+/// The first sixteen bytes; where there are fewer, zeros after them.
 #[inline(always)]
 pub fn block_of(bytes: &[u8]) -> u8x16
     ensures { (n : ℕ) → n ≤ 16 → n ≤ length bytes.now → take n result ≡ take n bytes.now }

@@ -46,7 +46,7 @@ pub fn text_of(bytes: Vec<u8>) -> Option<String>
 {
     match String::from_utf8(bytes) {
         Ok(text) => {
-            // Its `&str` tells the proof that the bytes are UTF-8.
+            // Its `&str` gives the proof that the bytes are UTF-8.
             text.as_str();
             Some(text)
         }

@@ -44,7 +44,7 @@
 //! there is its invariant, so `count` is exact.
 //!
 //! **What is known of a type is one ghost member**, the `wired` of its `Form`: its layout, its items, that these are of
-//! the layout, and that they tell values apart. All else is proved once, over layouts.
+//! the layout, and that values of equal items are equal. All else is proved once, over layouts.
 //!
 //! **A value is written once, to any output.** `put` gives its bytes to an `Output`: a `Vec`, or a count. So `write`
 //! and `size_within` are each one call over `put`, and can't disagree. `put` has no condition; for a value without

@@ -88,7 +88,7 @@ fn is_zero(block: u8x16) -> bool
     block.simd_ne(u8x16::splat(0)).to_bitmask() == 0
 }
 
-/// The block's bytes, each moved on by one place, behind a zero.
+/// The block's bytes, each moved on by one place, after a zero.
 #[inline(always)]
 fn one_back(block: u8x16) -> u8x16
     ensures { (i : ℕ) → i < 16 → slice_index result i ≡ slice_index (0 ∷ 0 ∷ 0 ∷ block) (suc (suc i)) }
@@ -136,7 +136,7 @@ fn first_faults(bytes: &[u8]) -> u8x16
     faults(three, two, one, block)
 }
 
-/// Zero where each of the sixteen bytes behind the first three may follow the three before it.
+/// Zero where each of the sixteen bytes after the first three may follow the three before it.
 #[inline(always)]
 fn next_faults(bytes: &[u8]) -> u8x16
     requires { 19 ≤ length bytes.now }
@@ -175,7 +175,7 @@ fn is_text_by_windows(bytes: &[u8]) -> bool
     ends(bytes) && is_zero(either(wrong, next_faults(&bytes[last..])))
 }
 
-/// The bytes, three zeros before them, and zeros behind them up to one window.
+/// The bytes, three zeros before them, and zeros after them up to one window.
 #[inline(always)]
 fn one_window(bytes: &[u8]) -> [u8; 19]
     requires { length bytes.now ≤ 13 }

@@ -57,7 +57,7 @@ impl<P: Origin> Stands<P> for Stat {
 const SIZE: usize = 68;
 
 impl Ends for Stat {
-    /// Any 68 bytes are a `Stat`: one look at how many are left stands for reading the fields.
+    /// Any 68 bytes are a `Stat`: one look at how many are left replaces reading the fields.
     #[inline(always)]
     fn end_at(payload: &[u8], place: usize) -> Option<usize> {
         if payload.len() - place < SIZE {

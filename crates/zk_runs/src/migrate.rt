@@ -58,7 +58,7 @@ fn put_head(limits: Limits, head: &mut Vec<u8>) -> Result<(), AllocError>
 }
 
 /// Appends the first bytes after a head or a piece of this format, or more bytes of what is begun. A piece that has no
-/// time gets the time 0 behind its side's byte.
+/// time gets the time 0 after its side's byte.
 fn put_taken(after: Option<Format>, bytes: &[u8], held: &mut Vec<u8>) -> Result<(), AllocError>
     requires { 0 < length bytes.now }
     ensures { OnOk result (held.new.items ≡ held.old.items ++ migrating.taken after bytes.now) }
