@@ -133,10 +133,11 @@ def in_sources():
     """The words of DIALECT in the comments of the crates' sources; names in backticks are code."""
     dialect = re.compile(rf"\b(?:{'|'.join(DIALECT)})\b(?! for)", re.I)
     for path in sorted(TOP.glob("crates/*/src/**/*.rt")):
-        for number, line in enumerate(path.read_text().splitlines(), 1):
-            comment = re.search(r"(?:^|\s)//[/!]? (.*)", line)
-            for found in dialect.finditer(re.sub(r"`[^`]*`", "code", comment[1])) if comment else ():
-                yield f"{name_of(path)}:{number}: plainer words: {found[0]}"
+        text = path.read_text()
+        for block in re.finditer(r"(?:^[ \t]*//.*\n)+|//.*\n", text, re.M):
+            words = re.sub(r"\s*//[/!]?\s*", " ", block[0])
+            for found in dialect.finditer(re.sub(r"`[^`]*`", "code", words)):
+                yield f"{name_of(path)}:{text.count(chr(10), 0, block.start()) + 1}: plainer words: {found[0]}"
 
 
 def judged(texts):

@@ -143,7 +143,7 @@ impl Feed {
         self.turn < self.turns
     }
 
-    /// The size of a piece at the front of so many bytes.
+    /// The size of a piece at the front of `available` bytes.
     fn size_of(&mut self, available: usize) -> usize {
         match self.cut {
             Cut::Frames => available,

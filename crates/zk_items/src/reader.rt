@@ -275,7 +275,7 @@ impl<'a> Reader<'a> {
         (bytes, found.min(self.ahead.len() / 3))
     }
 
-    /// Passes so many bytes.
+    /// Passes `count` bytes.
     fn pass(&mut self, count: usize)
         requires { count ≤ length self.old }
         ensures { self.new ≡ drop count self.old }

@@ -7,7 +7,7 @@ use crate::class::{Class, Odd, first_set};
 use crate::escape::five_escapes;
 use std::simd::prelude::*;
 
-/// The bytes that five escapes in front spell, if there are so many.
+/// The bytes that five escapes in front spell, if there are five.
 fn decoded(chars: u8x16) -> u8x16 {
     let letters = chars.simd_gt(u8x16::splat(b'9'));
     let values = (chars & u8x16::splat(15)) + letters.select(u8x16::splat(9), u8x16::splat(0));
