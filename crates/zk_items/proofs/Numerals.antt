@@ -74,7 +74,7 @@ below rest value len is run small =
     ∙ ap (λ (k : ℕ). num_of 63 (take k (45 ∷ rest)) (drop k (45 ∷ rest))) one
     ∙ num_of_some 63 (negsuc value) (45 ∷ take len rest) (drop len rest) fit fit (ap (λ (l : List ℕ). 45 ∷ l) is)
 
-pub read_minus : (bytes rest : List ℕ) (value len : ℕ) (n : ℤ) → bytes ≡ 45 ∷ rest → take len rest ≡ decimal value → prefix_len in_number rest ≡ len → (n ≡ neg_ℤ (pos value)) × (0 < value) × (value < 2 ^ 63)
+pub read_minus : (bytes rest : List ℕ) (value len : ℕ) (n : ℤ) → bytes ≡ 45 ∷ rest → take len rest ≡ decimal value → prefix_len in_number rest ≡ len → (n ≡ neg_ℤ (pos value)) × (0 < value) × (value ≤ 2 ^ 63)
     → num_at 63 bytes ≡ Some (to_z w64 (of_z w64 n), drop (len + 1) bytes)
 read_minus bytes rest zero len n front is run (same, some, small) = absurd (omega arith)
 read_minus bytes rest (suc value) len n front is run (same, some, small) =

@@ -26,7 +26,7 @@ fn same_len(a: u8x16, b: u8x16) -> usize
 }
 
 /// The bytes of the escapes in front, at most five, and how many these are.
-// What was decoded is spelled again: so only the one spelling of each byte is taken.
+// It stands for `Reader::symbol`. What was decoded is spelled again: so only the one spelling of each byte is taken.
 #[inline(always)]
 pub fn escapes_in(chars: u8x16) -> (u8x16, usize)
     ensures few { result.1 ≤ 5 }
