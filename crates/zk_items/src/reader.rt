@@ -293,7 +293,7 @@ impl<'a> Reader<'a> {
                 bytes.extend_from_slice(self.plain())?;
                 continue;
             }
-            if *first == b'\\' {
+            if *first == b'\\' && self.ahead.len() > 8 {
                 let (block, count) = self.escapes();
                 if count > 0 {
                     append_front(&mut bytes, block.as_array(), count)?;
