@@ -115,9 +115,11 @@ impl Conversation {
             return LineAnswer::none(NO_MESSAGE);
         };
         self.line.clear();
-        let Ok(()) = self.line.reserve(FIRST_ROOM) else {
-            return LineAnswer::none(NO_MEMORY);
-        };
+        if self.line.capacity() == 0 {
+            let Ok(()) = self.line.reserve(FIRST_ROOM) else {
+                return LineAnswer::none(NO_MEMORY);
+            };
+        }
         let Ok(()) = put_line_ref(&mut self.line, &message) else {
             return LineAnswer::none(NO_MEMORY);
         };
