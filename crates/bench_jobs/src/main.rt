@@ -1,7 +1,8 @@
 //! The jobs that users of zkdump wait for, over conversations that are made in memory from a seed: what bench/run measures.
 //!
 //! `bench_jobs JOB SEED TURNS` does one of them and prints a sum of all that came out, the same at each run; the job `all`
-//! is each of them. Another job is refused.
+//! is each of them. Another job is refused. The stored run has more turns than there are clients: in those above them,
+//! conversations are relayed.
 #![tactic(auto)]
 
 mod digest;
