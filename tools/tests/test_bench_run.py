@@ -1,4 +1,4 @@
-"""Tests of bench/run, over scripts in the place of the programs of two checkouts."""
+"""Tests of bench/run, over scripts in the place of the programs of two checkouts, and of the jobs that it runs."""
 
 import pathlib
 import re
@@ -7,6 +7,7 @@ import sys
 
 from support import TOP, ToolCase
 
+JOBS = TOP / "crates" / "bench_jobs" / "out" / "bench_jobs"
 NAMES = ["check", "single", "show", "build", "clients", "archive"]
 
 
@@ -54,3 +55,14 @@ class Turns(ToolCase):
             status, out, err = self.run_jobs(old, new)
             self.assertEqual((status, out.count("\n"), err.count("\n")), (1, 2, 1), (script, err))
             self.assertRegex(err, f"^check: .*{told}$")
+
+
+class Jobs(ToolCase):
+    def run_job(self, *words):
+        if not JOBS.exists():
+            self.skipTest("the program bench_jobs is not built")
+        done = subprocess.run([JOBS, *words], capture_output=True, text=True, check=False)
+        return done.returncode, done.stdout, done.stderr
+
+    def test_a_job_that_there_is_not(self):
+        self.assertEqual(self.run_job("chek", "1", "1"), (1, "", "Error: no such job\n"))

@@ -1,7 +1,8 @@
 //! The jobs that users of zkdump wait for, over conversations that are made in memory from a seed: what bench/run measures.
 //!
 //! `bench_jobs JOB SEED TURNS` does one of them and prints a sum of all that came out, the same at each run; the job `all`
-//! is each of them.
+//! is each of them. Another job is refused. The stored run has more turns than there are clients: in those above them,
+//! conversations are relayed.
 #![tactic(auto)]
 
 mod digest;
@@ -37,11 +38,14 @@ fn main(rt: HostRuntime) -> Result<()> {
     ensure!(words.len() == 4, "usage: bench_jobs JOB SEED TURNS");
     let seed = words[2].as_str().parse::<u64>()?;
     let turns = words[3].as_str().parse::<u64>()?;
+    let mut done = false;
     for job in JOBS {
         if words[1].as_str() == job || words[1].as_str() == "all" {
             let sum = run(rt.alloc(), job, seed, turns)?;
             println!(rt; "{job} {sum:016x}")?;
+            done = true;
         }
     }
+    ensure!(done, "no such job");
     Ok(())
 }
