@@ -165,6 +165,15 @@ impl Stream {
         self.frames.payload()
     }
 
+    /// The frame that is whole and isn't counted, its length included.
+    #[inline(always)]
+    pub fn frame(&self) -> &[u8]
+        requires { IsFrame self.now.limit self.now.held }
+        ensures { result.now ≡ self.now.held }
+    {
+        self.frames.bytes()
+    }
+
     /// The payload of the frame that is whole and isn't counted; `None` if there is none.
     pub fn refused_payload(&self) -> Option<&[u8]>
         ensures { MatchOption result (IsFrame self.now.limit self.now.held → ⊥) (λ p. (self.now.held ≡ frame p.now) × (length p.now ≤ self.now.limit)) }

@@ -23,7 +23,7 @@ use crate::frame::{
 };
 use crate::limits::Limits;
 use crate::message::{Ending, Fault, Message, MessageOf, MessageRef, Side};
-use crate::receive::{receive, refuse};
+use crate::received::{receive, refuse};
 use crate::refused::{answered_body, asked_body, is_in_body};
 use crate::stream::Stream;
 use crate::view::{shown_client, shown_server};
