@@ -1,9 +1,9 @@
 -- Values whose ends are reached: one after the other, those of a list, and short texts.
-use Rattle.std.proofs.Common.{to_z, of_z, ◌≡◌, ℕ, zero, suc, take-add, ◌+◌, ◌-◌, ◌/◌, ◌%◌, ◌<◌, ◌≤◌, false, ltb, List, [], ◌∷◌, ◌++◌, length, take, drop, Option, Some, None, Ok, refl, sym, ap, subst, ◌∙◌, append_assoc, arith}
-use Rattle.std.specs.Prelude.{ℤ, pos, negsuc, nat_abs, IfSome}
-use Rattle.std.specs.Int.{w32, w64, from_be_bytes, cast_signed, FitsUnsignedBits}
+use Rattle.std.proofs.Common.{◌≡◌, ℕ, zero, suc, take-add, ◌+◌, ◌-◌, ◌/◌, ◌%◌, ◌<◌, ◌≤◌, false, ltb, List, [], ◌∷◌, ◌++◌, length, take, drop, Option, Some, None, Ok, refl, sym, ap, subst, ◌∙◌, append_assoc, arith}
+use Rattle.std.specs.Prelude.{ℤ, pos, negsuc, IfSome}
+use Rattle.std.specs.Int.{w32, w64, from_be_bytes, cast_signed, cast_unsigned}
 use Rattle.std.specs.Int.RustNames.{FitsSigned}
-use Rattle.std.proofs.lemmas.Int.{to_z-of_z, ints}
+use Rattle.std.proofs.lemmas.Int.{ints}
 use Rattle.std.specs.List.{flat_map}
 use Rattle.std.specs.Str.{IsAscii, IsUtf8}
 use Rattle.std.proofs.lemmas.Bool.{le-ltb}
@@ -102,19 +102,16 @@ low_bytes : (n : ℕ) → HasLow n → int_bytes (pos n) ≡ 0 ∷ 0 ∷ n / 256
 low_bytes n low = be_bytes_4 (0 ∷ 0 ∷ n / 256 ∷ n % 256 ∷ []) n refl (λ i. omega (arith, low_size n low i)) (omega (arith, div-add-mod' n 256, low.0))
 
 -- an int that is a length
-pub int_size : (number : ℤ) (n : ℕ) → FitsSigned w32 number → FitsUnsignedBits 64 (to_z w32 (of_z w32 number)) → n ≡ nat_abs (to_z w32 (of_z w32 number)) → number ≡ pos n
-int_size number n fits whole size = above number (subst (FitsUnsignedBits 64) (to_z-of_z w32 number fits) whole) (size ∙ ap nat_abs (to_z-of_z w32 number fits))
-  where
-    above : (z : ℤ) → FitsUnsignedBits 64 z → n ≡ nat_abs z → z ≡ pos n
-    above (pos m) whole same = ap pos (sym same)
-    above (negsuc m) whole same = absurd (omega (arith, ints, whole))
+pub int_size : (number : ℤ) (n : ℕ) → FitsSigned w32 number → n ≡ cast_unsigned w32 number → n < 32768 → number ≡ pos n
+int_size (pos m) n fits is small = let same : m ≡ n = omega (arith, ints, is) in ap pos same
+int_size (negsuc m) n fits is small = absurd (omega (arith, ints, is, small))
 
 -- a run whose length is read and fits
-pub low_run : (src : List ℕ) (place after n : ℕ) (number : ℤ) → int_at src place ≡ Ok (number, after) → number ≡ pos n → n < 32768 → n % 256 < 128 → n ≤ length src - after → IsLow src place (after + n)
+pub low_run : (src : List ℕ) (place after n : ℕ) (number : ℤ) → int_at src place ≡ Ok (number, after) → number ≡ pos n → n < 32768 → n % 256 < 128 → after + n ≤ length src → IsLow src place (after + n)
 low_run src place after n number read is less low there =
     let bytes = take n (drop after src) in
-    let len : length bytes ≡ n = omega (arith, length-take n (drop after src), length-drop after src) in
-    let test : ltb (length src - after) n ≡ false = le-ltb _ _ there in
+    let len : length bytes ≡ n = omega (arith, there, length-take n (drop after src), length-drop after src) in
+    let test : ltb (length src - after) n ≡ false = le-ltb _ _ (omega (arith, there)) in
     (bytes, omega arith, subst (λ (m : ℕ). m % 256 < 128) (sym len) low, rw (read, is, test) refl)
 
 -- a null text

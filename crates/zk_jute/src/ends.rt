@@ -1,16 +1,15 @@
 //! `Ends`: where a value ends in a payload, found without making the value.
-ghost use Rattle.std.specs.Prelude.{◌≡◌, ℕ, ◌≤◌, ◌<◌, ◌+◌, length, option_copied, IsTrue, IfOk, IfSome};
+ghost use Rattle.std.specs.Prelude.{◌≡◌, ℕ, ◌≤◌, ◌<◌, ◌%◌, ◌+◌, length, option_copied, IsTrue, IfOk, IfSome};
 ghost use Rattle.zk_jute.specs.Reading as reading;
 ghost use Rattle.zk_jute.specs.Shown.{Stretch};
 ghost use Rattle.zk_jute.specs.Values.{text_items, blob_items, list_items};
 ghost use Rattle.zk_jute.specs.Ends.{EndsAt, AreText, AreTexts, IsLow};
 
 use crate::number::int_at;
-use crate::origin::Payload;
 use crate::run::{run_at, size_at};
 use crate::series::{Element, Series};
-use crate::stands::{Form, Stands};
-use crate::utf8::is_text;
+use crate::stands::{Form, end_of};
+use crate::utf8::is_long_text;
 use crate::value::{BlobRef, TextRef};
 
 /// How many texts of a list get one look.
@@ -40,37 +39,24 @@ pub trait Ends: Form {
     }
 }
 
-/// As `end_of`, for a value that is one item.
-#[inline(always)]
-fn item_end<'a, T: Stands<Payload<'a>>>(payload: &'a [u8], place: usize) -> Option<usize>
-    requires { place ≤ length payload.now }
-    ensures some { IfSome result (λ end. EndsAt T.wired.items payload.now place end) }
-    ensures within { IfSome result (λ end. end ≤ length payload.now) }
-{
-    match T::read_in(&Payload { bytes: payload }, place) {
-        Ok((_, end)) => Some(end),
-        Err(_) => None,
-    }
-}
-
 impl Ends for i32 {
     #[inline(always)]
     fn end_at(payload: &[u8], place: usize) -> Option<usize> {
-        item_end::<i32>(payload, place)
+        end_of::<i32>(payload, place)
     }
 }
 
 impl Ends for i64 {
     #[inline(always)]
     fn end_at(payload: &[u8], place: usize) -> Option<usize> {
-        item_end::<i64>(payload, place)
+        end_of::<i64>(payload, place)
     }
 }
 
 impl Ends for bool {
     #[inline(always)]
     fn end_at(payload: &[u8], place: usize) -> Option<usize> {
-        item_end::<bool>(payload, place)
+        end_of::<bool>(payload, place)
     }
 }
 
@@ -81,7 +67,7 @@ impl<'a> Ends for BlobRef<'a> {
         ensures some { IfSome result (λ end. EndsAt blob_items payload.now place end) }
         ensures within { IfSome result (λ end. end ≤ length payload.now) }
     {
-        item_end::<BlobRef<'_>>(payload, place)
+        end_of::<BlobRef<'_>>(payload, place)
     }
 }
 
@@ -94,6 +80,14 @@ impl<A: Ends, B: Ends> Ends for (A, B) {
     }
 }
 
+/// Whether the four bytes of a length are ASCII.
+#[inline(always)]
+fn is_low_size(size: usize) -> bool
+    ensures { IsTrue result → (size < 32768) × (size % 256 < 128) }
+{
+    size < 32768 && size % 256 < 128
+}
+
 /// The place after the run at `place` if its length is four bytes of ASCII; `None`: it isn't, as null's, or not whole.
 #[inline(always)]
 fn low_end(payload: &[u8], place: usize) -> Option<usize>
@@ -104,11 +98,10 @@ fn low_end(payload: &[u8], place: usize) -> Option<usize>
     let Ok((number, after)) = int_at(payload, place) else {
         return None;
     };
-    let Ok(size) = usize::try_from(number) else {
-        return None;
-    };
-    if size < 32768 && size % 256 < 128 && size <= payload.len() - after {
-        Some(after + size)
+    let size = number.cast_unsigned() as usize;
+    let end = after + size;
+    if is_low_size(size) && end <= payload.len() {
+        Some(end)
     } else {
         None
     }
@@ -140,26 +133,26 @@ fn are_text(payload: &[u8], place: usize, end: usize) -> bool
     if place == end {
         return true;
     }
-    is_text(&payload[place..end])
+    is_long_text(&payload[place..end])
 }
 
-/// One text more, the one at `at`: from where on the bytes are still to be looked at, until now from `from` on, and the
-/// place after it; `None`: undecided. A length that is ASCII is looked at with the texts, since no character reaches
-/// over it; before one that isn't, a look is due.
+/// One text more, the one at `place`: from where on the bytes are still to be looked at, until now from `from` on, and
+/// the place after the text; `None`: undecided. A length that is ASCII is looked at with the texts, since no character
+/// reaches over it; before any other, a look is due.
 #[inline(always)]
-fn next_text(payload: &[u8], from: usize, at: usize) -> Option<(usize, usize)>
-    requires { (from ≤ at) × (at ≤ length payload.now) }
-    ensures one { IfSome result (λ x. (place count : ℕ) → AreTexts payload.now from place at count → AreTexts payload.now x.0 place x.1 (count + 1)) }
+fn next_text(payload: &[u8], from: usize, place: usize) -> Option<(usize, usize)>
+    requires { (from ≤ place) × (place ≤ length payload.now) }
+    ensures one { IfSome result (λ x. (first count : ℕ) → AreTexts payload.now from first place count → AreTexts payload.now x.0 first x.1 (count + 1)) }
     ensures within { IfSome result (λ x. (x.0 ≤ x.1) × (x.1 ≤ length payload.now)) }
 {
-    if let Some(end) = low_end(payload, at) {
+    if let Some(end) = low_end(payload, place) {
         return Some((from, end));
     }
-    let Ok((_, end)) = run_at::<false>(payload, at) else {
+    let Ok((_, end)) = run_at::<false>(payload, place) else {
         return None;
     };
-    if are_text(payload, from, at) {
-        Some((at + 4, end))
+    if are_text(payload, from, place) {
+        Some((place + 4, end))
     } else {
         None
     }
@@ -210,7 +203,7 @@ impl<'a> Ends for TextRef<'a> {
         ensures some { IfSome result (λ end. EndsAt text_items payload.now place end) }
         ensures within { IfSome result (λ end. end ≤ length payload.now) }
     {
-        item_end::<TextRef<'_>>(payload, place)
+        end_of::<TextRef<'_>>(payload, place)
     }
 
     fn ends_at(payload: &[u8], count: usize, place: usize) -> Option<usize>
@@ -218,6 +211,9 @@ impl<'a> Ends for TextRef<'a> {
         ensures some { IfSome result (λ end. Stretch text_items payload.now place end count) }
         ensures within { IfSome result (λ end. end ≤ length payload.now) }
     {
+        if count == 1 {
+            return Self::end_at(payload, place);
+        }
         let mut at = place;
         let mut left = count;
         while left > 0 {

@@ -1,5 +1,5 @@
-//! Tests whether short bytes are UTF-8, sixteen at a time: each by a look-up of the pair that it ends, and by the two
-//! bytes before that. It stands for `simdutf8`, which judges less than 64 bytes one by one.
+//! Tests whether bytes are UTF-8: less than 256 sixteen at a time, each by a look-up of the pair that it ends, and by the
+//! two bytes before that. It stands for `simdutf8`, which judges less than 64 bytes one by one, and is asked of more.
 //!
 //! After Keiser and Lemire, "Validating UTF-8 In Less Than One Instruction Per Byte", whose tables these are.
 ghost use Rattle.std.specs.Prelude.{◌≡◌, ℕ, suc, ◌-◌, ◌<◌, ◌≤◌, ◌∷◌, ◌++◌, length, map, replicate, slice_index, IsTrue, IsUtf8};
@@ -152,7 +152,7 @@ fn next_faults(bytes: &[u8]) -> u8x16
 
 /// Whether no character is left open at the end.
 #[inline(always)]
-fn ends(bytes: &[u8]) -> bool
+fn is_closed(bytes: &[u8]) -> bool
     requires { 3 ≤ length bytes.now }
     ensures { IsTrue result → EndsClosed bytes.now }
 {
@@ -172,7 +172,7 @@ fn is_text_by_windows(bytes: &[u8]) -> bool
         wrong = either(wrong, next_faults(&bytes[at..]));
         at += 16;
     }
-    ends(bytes) && is_zero(either(wrong, next_faults(&bytes[last..])))
+    is_closed(bytes) && is_zero(either(wrong, next_faults(&bytes[last..])))
 }
 
 /// The bytes, three zeros before them, and zeros after them up to one window.
@@ -222,29 +222,44 @@ fn is_short_text(bytes: &[u8]) -> bool
         0..6 => false,
         6..14 => is_text_in_one(bytes),
         14..19 => is_text_in_two(bytes),
-        19..128 => is_text_by_windows(bytes),
+        19..256 => is_text_by_windows(bytes),
         _ => false,
     }
 }
 
-/// Whether the bytes are UTF-8.
+/// Whether the bytes are UTF-8, of which some aren't ASCII.
+fn is_odd_text(bytes: &[u8]) -> bool
+    ensures { IsTrue result → IsUtf8 bytes.now }
+{
+    is_short_text(bytes) || is_utf8(bytes)
+}
+
+/// The same of bytes that don't begin with sixty-four of ASCII.
 #[tactic(auto, using(crate::proofs::Primitives::ascii_text))]
 #[inline(always)]
 fn is_any_text(bytes: &[u8]) -> bool
     ensures { IsTrue result → IsUtf8 bytes.now }
 {
-    bytes.len() < 128 && (is_plain(bytes) || is_short_text(bytes)) || is_utf8(bytes)
+    bytes.len() < 64 && is_plain(bytes) || is_odd_text(bytes)
 }
 
 /// Whether the bytes are UTF-8; what is ASCII in front is passed over.
-fn is_long_text(bytes: &[u8]) -> bool
+#[inline(always)]
+pub(crate) fn is_long_text(bytes: &[u8]) -> bool
     ensures { IsTrue result → IsUtf8 bytes.now }
 {
     let front = plain_front(bytes);
     is_any_text(&bytes[front..])
 }
 
-/// Whether the bytes are UTF-8; false: undecided, and too few to gain by it.
+/// The same by a call.
+fn is_far_text(bytes: &[u8]) -> bool
+    ensures { IsTrue result → IsUtf8 bytes.now }
+{
+    is_long_text(bytes)
+}
+
+/// Whether the bytes are UTF-8; false: undecided.
 #[tactic(auto, using(crate::proofs::Primitives::ascii_text))]
 #[inline(always)]
 pub(crate) fn is_text(bytes: &[u8]) -> bool
@@ -253,6 +268,6 @@ pub(crate) fn is_text(bytes: &[u8]) -> bool
     if bytes.len() < 64 {
         is_plain(bytes) || is_short_text(bytes)
     } else {
-        is_long_text(bytes)
+        is_far_text(bytes)
     }
 }

@@ -13,10 +13,10 @@ loop-at-preserved c =
           further bytes at at i (omega arith) (c.loop-at.invariant.1 both.0) (rw (take_rest) at (c.next_faults.ensures both.1)) (omega arith),
     )
 
-pub returns-then-ends : goal.returns-then-ends
-returns-then-ends c = λ t.
+pub returns-then-is_closed : goal.returns-then-is_closed
+returns-then-is_closed c = λ t.
     let bytes = c.args.bytes.now in
     let both = c.either.ensures (c.is_zero.ensures t) in
     let follows : (i : ℕ) → i < length bytes → FollowsAt (0 ∷ 0 ∷ 0 ∷ bytes) i =
-    λ i h. further bytes c.loop-at.at (length bytes - 19) i (omega arith) (c.loop-at.invariant.1 both.0) (rw (take_rest) at (c.next_faults-then-ends.ensures both.1)) (omega arith) in
-    is_text bytes (omega arith) follows (c.ends.ensures c.if-ends.true)
+    λ i h. further bytes c.loop-at.at (length bytes - 19) i (omega arith) (c.loop-at.invariant.1 both.0) (rw (take_rest) at (c.next_faults-then-is_closed.ensures both.1)) (omega arith) in
+    is_text bytes (omega arith) follows (c.is_closed.ensures c.if-is_closed.true)
