@@ -24,6 +24,15 @@ pub struct Conversation {
     line: Vec<u8>,
 }
 
+/// Makes the first room of a line.
+#[cold]
+#[inline(never)]
+fn make_room(line: &mut Vec<u8>) -> Result<(), AllocError>
+    ensures { line.new.items ≡ line.old.items }
+{
+    line.reserve(FIRST_ROOM)
+}
+
 impl Model for Conversation {
     ghost use Rattle.zk_talk.specs.Stands.{TalkState};
 
@@ -114,12 +123,10 @@ impl Conversation {
         let Some(message) = self.talk.view(side) else {
             return LineAnswer::none(NO_MESSAGE);
         };
-        self.line.clear();
-        if self.line.capacity() == 0 {
-            let Ok(()) = self.line.reserve(FIRST_ROOM) else {
-                return LineAnswer::none(NO_MEMORY);
-            };
+        if self.line.capacity() == 0 && make_room(&mut self.line).is_err() {
+            return LineAnswer::none(NO_MEMORY);
         }
+        self.line.clear();
         let Ok(()) = put_line_ref(&mut self.line, &message) else {
             return LineAnswer::none(NO_MEMORY);
         };
