@@ -246,6 +246,7 @@ class Writer:
 
     def __init__(self, path, head, times, gather=0):
         self.path, self.head, self.gather = path, head, gather
+        self.usual = PIECE_HEADS["zkr1"].pack if head.form == "zkr1" else None
         self.count = {CLIENT: 0, SERVER: 0}
         self.recording, self.times = NewFile(path), None
         try:
@@ -259,6 +260,16 @@ class Writer:
 
     def piece(self, side, milliseconds, data):
         """Writes any number of bytes of a side as pieces. Their time is the same in both files, to a microsecond."""
+        size, waiting = len(data), self.recording.waiting
+        if self.usual and 0 < size <= LARGEST_PIECE:    # the loop below in a shorter form
+            waiting += self.usual(side, size)
+            waiting += data
+            if self.times:
+                self.times.waiting += b"%.3f\n" % milliseconds
+            self.count[side] += size
+            if len(waiting) >= self.gather:
+                self.flush()
+            return
         milliseconds = round(milliseconds, 3)
         for at in range(0, len(data), LARGEST_PIECE):
             self.recording.waiting += self.head.piece(side, milliseconds, data[at:at + LARGEST_PIECE])
