@@ -216,22 +216,27 @@ class Columns(listing.Listing):
         return self.waiting
 
     def __iter__(self):
-        requests = {}
+        requests, connection, operations, unpack, nothing = {}, self.connection, self.operations, Record._make, None
         for block in self.blocks():
             text = block.text
-            for record in block.tuples():
-                made = self.message(block, record)
-                made.chosen = None
-                middle = record.text + record.at_length
-                if record.at_length:
-                    made.at = text[record.text:middle].decode()
-                made.end = 2 + (len(made.xid) + 1 if made.xid else 0) + len(made.op)
-                asked = None
-                if record.of:
-                    asked = requests.pop(record.of)
-                elif record.side == CLIENT:
-                    requests[record.n] = made
-                yield text[middle:record.text + record.text_length].decode(), made, asked
+            for record in map(unpack, RECORD.iter_unpack(block.records)):
+                n, of, moment, _, microseconds, _, begin, length, at_length, _, _, xid, op, _, flags, side, _ = record
+                name, xid = operations[op], str(xid) if flags & XID else nothing
+                made = listing.Message(connection, n, "C" if side == CLIENT else "S", xid, name,
+                                       block.path(record) if flags & PATH and not of else nothing,
+                                       self.error(record) if flags & ERROR else nothing, len(name) + (len(xid) + 3 if xid else 2))
+                if moment == moment:
+                    made.moment, made.at = moment, text[begin:begin + at_length].decode()
+                    if microseconds == microseconds:
+                        made.microseconds = int(microseconds)
+                asked = nothing
+                if of:
+                    asked = requests.pop(of)
+                elif side == CLIENT:
+                    requests[n] = made
+                if flags & MADE_UP:
+                    made.made_up = True
+                yield text[begin + at_length:begin + length].decode(), made, asked
         self.waiting = list(requests.values())
 
 

@@ -136,7 +136,9 @@ def unescaped(spelled):
 
 def text(spelled):
     """A text of a line; None for null."""
-    return None if spelled == "~" else "".join(parts_of_text(spelled, 0, len(spelled)))
+    if "\\" not in spelled:
+        return None if spelled == "~" else spelled[1:-1]
+    return "".join(parts_of_text(spelled, 0, len(spelled)))
 
 
 def parts_of_text(line, at, end):
