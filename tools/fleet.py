@@ -119,7 +119,7 @@ class Processes:
 
     def close(self):
         for process in (*self.idle, *self.busy.values()):
-            process.shutdown(wait=False, cancel_futures=True)
+            process.shutdown(cancel_futures=True)
 
 
 class Dask:
