@@ -7,6 +7,8 @@ connect request and connect response, with -1 for every number.
 
 import struct
 
+import contents
+import facts
 import resync
 import zkr
 from streams import SIDES
@@ -21,11 +23,12 @@ MOST_STRETCHES, LEAST_REQUEST = 256, 12
 class Conversation:
     """The sink of a connection's stream."""
 
-    __slots__ = ("series", "name", "late", "first", "began", "stream", "cutter", "stretches", "connected", "sought",
-                 "trusted", "unfinished", "holes", "number", "part", "resent", "left_out")
+    __slots__ = ("series", "client", "server", "late", "first", "began", "stream", "cutter", "stretches", "connected",
+                 "sought", "trusted", "unfinished", "holes", "number", "part", "resent", "left_out", "session")
 
-    def __init__(self, series, name, late, number, milliseconds):
-        self.series, self.name, self.late, self.first, self.began = series, name, late, number, milliseconds
+    def __init__(self, series, client, server, late, number, milliseconds):
+        self.series, self.late, self.first, self.began = series, late, number, milliseconds
+        self.client, self.server, self.session = client, server, None
         self.stream = self.cutter = self.number = self.holes = None
         self.part, self.resent, self.unfinished, self.left_out = 1, 0, 0, False
         self.stretches = ()
@@ -65,6 +68,8 @@ class Conversation:
         for frame, size in zip(frames, sizes):
             if side in self.connected:
                 stretch.note(side, frame.payload[:4], place, size, number, milliseconds)
+            elif side == zkr.SERVER:
+                self.session = contents.session_in(frame.payload)
             self.connected.add(side)
             place += size
         if side in self.cutter.broken:
@@ -239,11 +244,11 @@ class Conversation:
 
     def finish(self):
         """Ends all stretches: the connection is over."""
-        stream, how, ended = self.stream, [], self.stream.last_time
+        stream, how, ended = self.stream, {}, self.stream.last_time
         if stream.reset:
-            how, ended = [f"reset={stream.reset.decode()}"], stream.reset_time
+            how, ended = {"reset": stream.reset.decode()}, stream.reset_time
         if closer := stream.closer():
-            how, ended = [f"closed={closer.side.decode()}", *how], closer.fin.milliseconds
+            how, ended = {"closed": closer.side.decode(), **how}, closer.fin.milliseconds
         *others, last = self.stretches or [Stretch(self.put, self.first, self.began, not self.late)]
         for stretch in others:
             stretch.end(True)
@@ -254,30 +259,36 @@ class Conversation:
             last.skipped[side] += self.waits(side)
         holes = self.holes or {half.side: half.lacks() for half in stream.halves}
         last.holes |= {side for side in SIDES if holes[side]}
-        self.report(last, stream.last, ended, how or ["open"])
+        self.report(last, stream.last, ended, how or {"open": True})
         self.stretches = ()
 
-    def report(self, stretch, last, ended, how=()):
-        """Ends the recording of a stretch, where there is one, and prints its line."""
-        recording, notes, lost = stretch.recording, [], any(stretch.lost.values())
+    def report(self, stretch, last, ended, how=None):
+        """Ends the recording of a stretch, where there is one; writes its facts, and prints its line. `how` has those of
+        the connection's end, if that is known."""
+        recording, lost, whole = stretch.recording, any(stretch.lost.values()), self.series.join or not self.late
         path, count = "-", dict.fromkeys(SIDES, 0)
         if recording:
             recording.close()
             self.series.open -= 1
             path, count = recording.path, recording.count
         first, began = (recording.first, recording.began) if lost and recording else (stretch.first, stretch.began)
-        if lost:
-            notes.append("lost=C:{},S:{}".format(*stretch.lost.values()))
-        elif self.late:
-            notes.append("late")
-        if self.series.join or not self.late:
-            if not stretch.whole:
-                notes += ["skipped=C:{},S:{}".format(*stretch.skipped.values()), f"unasked={stretch.unasked}"]
-            notes += [f"hole={side.decode()}" for side in SIDES if side in stretch.holes]
-        notes += ["snapped"] * self.stream.snapped
-        self.left_out |= bool(notes)
+        known = facts.Facts(
+            tool="pcap2zkr", client=self.client, server=self.server, connected=self.began, begun=began, ended=ended,
+            part=self.part, session=self.session, profile=self.series.profile(), late=self.late and not lost,
+            snapped=self.stream.snapped, lost=by_letter(stretch.lost), unasked=stretch.unasked,
+            skipped=by_letter(stretch.skipped) if whole and not stretch.whole else None,
+            hole=tuple(side.decode() for side in SIDES if side in stretch.holes and whole), **how or {})
+        if recording:
+            recording.write_facts(known)
+        words = known.words()
+        self.left_out |= len(words) > len(how or ())
         self.series.say(" ".join([
-            path, self.name, "begun", zkr.clock(began), "ended", zkr.clock(ended), f"client={count[zkr.CLIENT]}",
-            f"server={count[zkr.SERVER]}", f"packets={first}-{last}", f"resent={self.stream.resent - self.resent}",
-            *how, *notes]))
+            path, f"{self.client} > {self.server}", "begun", zkr.clock(began), "ended", zkr.clock(ended),
+            f"client={count[zkr.CLIENT]}", f"server={count[zkr.SERVER]}", f"packets={first}-{last}",
+            f"resent={self.stream.resent - self.resent}", *words]))
         self.resent = self.stream.resent
+
+
+def by_letter(found):
+    """What there is of each side, by the side's letter."""
+    return {side.decode(): count for side, count in found.items()}

@@ -122,6 +122,10 @@ class Series:
             self.open += 1
             return made, number, part
 
+    def profile(self):
+        """The release that the head of each recording names, if any."""
+        return zkr.RELEASES[self.head.profile] if self.head.form == "zkr2" else None
+
     def say(self, line):
         """Prints a line; where nobody reads it any more, the rest continues."""
         try:

@@ -43,7 +43,7 @@ class Stretch:
 
     `ordinary` has the requests that wait for their replies, the oldest first, and `waiting` those of pings, auth and
     setWatches by themselves: of each its xid, where its frame begins among the client's bytes in the recording, its
-    of that, and its packet's number and time. `lost` counts the bytes of each side that were not captured before it,
+    size, and its packet's number and time. `lost` counts the bytes of each side that were not captured before it,
     `skipped` those that were and are left out, and `unasked` the replies that are left out, whose bytes `skipped`
     doesn't count. `holes` are the sides of which bytes are missing after it.
     """
