@@ -15,6 +15,7 @@ import struct
 import sys
 from typing import NamedTuple
 
+import contents
 import zkr
 
 FIN, SYN, RST, PUSH, ACK = 1, 2, 4, 8, 16
@@ -102,7 +103,7 @@ def nanoseconds(text):
 def timed(path, reader):
     """The pieces of a recording, each with its time in nanoseconds."""
     beside = zkr.times_path(path)
-    times = zkr.times_beside(path) if os.path.exists(beside) else None
+    times = contents.times_beside(path) if os.path.exists(beside) else None
     try:
         for number, piece in enumerate(reader):
             if times:

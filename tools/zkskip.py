@@ -16,6 +16,7 @@ import os
 import struct
 import sys
 
+import contents
 import zkr
 
 OPERATIONS = {1, 2, 3, 4, 5, 6, 7, 8, 9, 11, 12, 14, 100, 101, -11}
@@ -154,7 +155,7 @@ def main():
     if words.source and not words.target:
         parser.error("name the new recording, too: REC.zkr PLAIN.zkr")
     recording = zkr.Reader(open(words.source, "rb") if words.source else zkr.standard_input())
-    times = zkr.times_beside(words.source) if words.source and os.path.exists(zkr.times_path(words.source)) else None
+    times = contents.times_beside(words.source) if words.source and os.path.exists(zkr.times_path(words.source)) else None
     skipping = Skipping(OF_PROFILE[words.profile or zkr.RELEASES[recording.head.profile]])
     if words.target:
         out = zkr.Writer(words.target, recording.head, times is not None, GATHERED)
