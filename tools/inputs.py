@@ -75,7 +75,8 @@ def columns_of(words, path, fast, progress):
     options = fast(path)
     lacking = columns.lacks(words, "--lines" not in options)
     if not lacking:
-        return columns.opened(words, path, progress, [*columns.times_options(path, words.times), *options])
+        times = columns.times_options(path, words.times)
+        return None if times is None else columns.opened(words, path, progress, [*times, *options])
     if os.path.getsize(path) >= columns.WORTH_A_LINE and not columns.is_told:
         columns.is_told = True
         zkr.report(f"this takes longer than it could: {lacking} (tools/README.md)")

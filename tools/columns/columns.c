@@ -56,7 +56,7 @@ _Noreturn void stop(int status, const char *what) {
 /* ---- Blocks */
 
 static void write_bytes(struct bytes *bytes) {
-    if (fwrite(bytes->at, 1, bytes->end, stdout) != bytes->end) stop(STATUS_SYSTEM, "write failed");
+    if (bytes->end > 0 && fwrite(bytes->at, 1, bytes->end, stdout) != bytes->end) stop(STATUS_SYSTEM, "write failed");
     bytes->end = 0;
 }
 
