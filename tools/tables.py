@@ -3,6 +3,8 @@
 import json
 import re
 
+import facts
+
 PERCENTS = (50, 95, 99)
 COUNTS = ("asked", "answered", "failed")
 TIMES = (*(f"p{percent}" for percent in PERCENTS), "max")
@@ -47,7 +49,9 @@ def lines(found):
     yield f"{timed:>8} of {answered} replies timed"
     if backwards := sum(each["backwards"] for each in found["connections"]):
         yield f"{backwards:>8} replies have a time before that of their request"
-    yield from unanswered(found["unanswered"])
+    yield from unanswered(found["unanswered"], "requests unanswered")
+    if "notCaptured" in found:
+        yield from unanswered(found["notCaptured"], "replies not captured, if there were any")
     yield ""
     yield from connections(found["connections"], heads)
     if found["slowest"]:
@@ -55,8 +59,8 @@ def lines(found):
         yield from slowest(found["slowest"])
 
 
-def unanswered(waiting):
-    yield f"{len(waiting):>8} requests unanswered"
+def unanswered(waiting, what):
+    yield f"{len(waiting):>8} {what}"
     for made in waiting[:SHOWN]:
         name = "" if made["connection"] == "-" else plain(made["connection"]) + " "
         request = " ".join(str(made[each]) for each in ("xid", "op", "path") if each in made)
@@ -72,16 +76,17 @@ def connections(found, heads):
             rows.append(f"    the same session, {each['gap']:.10g} s later" if each["gap"] >= 0 else
                         f"    the same session, {-each['gap']:.10g} s before that ended")
         rows.append([plain(each["connection"]), each["session"] or "-", each["begun"] or "-", each["ended"] or "-",
-                     *cells(each), ending(each["ending"])])
+                     *cells(each), ending(each["ending"], each.get("facts"))])
     return aligned(rows, {0, 1, 2, 3, len(rows[0]) - 1})
 
 
-def ending(found):
-    """An ending line without its point."""
+def ending(found, known):
+    """An ending line without its point, and the words of what is known of the recording."""
+    words = facts.from_object(known).words() if known else []
     if not found:
-        return "no ending line"
+        return " ".join(["no ending line", *words])
     (_, word), *fields = found.items()
-    return " ".join([word, *(f"{name}={value}" for name, value in fields)])
+    return " ".join([word, *(f"{name}={value}" for name, value in fields), *words])
 
 
 def slowest(found):

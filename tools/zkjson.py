@@ -13,6 +13,9 @@ requests without a reply.
 
 If the recording has times, a message has the time of its last byte, `at`, in milliseconds since 1970, and a reply has
 how long it took, `ms`. A ZKR2 recording has times within; for others they are in FILE, or in REC.zkr.times.
+
+If there are facts beside the recording (REC.facts.json), the ending has them, as `facts`. Where they say that bytes are
+missing, the status is 1, and `notCaptured` lists the requests whose replies may be among them.
 """
 
 import json
@@ -139,15 +142,25 @@ def main():
     words = parser.parse_args()
     sys.stdout.reconfigure(encoding="utf-8")
     chosen, progress = selection.Selection(words), zkr.Progress("zkjson", may=not sys.stdout.isatty())
+    has_hole = False
     for talk in inputs.conversations(parser, words, False, progress, before_read=sys.stdout.flush):
         head = talk.connection.json = f'{{"connection": {forms.readable(talk.name)}'
         with talk.complaints():
             for line, made, asked in chosen.chosen(talk):
                 write(line, made, asked)
+        has_hole |= talk.connection.has_hole()
         if talk.connection.ending:
-            waiting = ", ".join(str(made.n) for made in chosen.left(talk))
-            print(f'{head}, {json.dumps(talk.connection.ending)[1:-1]}, "waiting": [{waiting}]}}')
-    return 0
+            print(f"{head}, {json.dumps(ending_of(talk, chosen))[1:]}")
+    return 1 if has_hole else 0
+
+
+def ending_of(talk, chosen):
+    """The ending of a connection, with the requests without a reply, and what is known of the recording."""
+    connection, left = talk.connection, chosen.left(talk)
+    made = {**connection.ending, "waiting": [each.n for each in left if each.captured]}
+    if connection.loses_replies():
+        made["notCaptured"] = [each.n for each in left]
+    return {**made, "facts": connection.facts.to_object()} if connection.facts else made
 
 
 if __name__ == "__main__":

@@ -10,7 +10,7 @@ has any number of connections. Captures have times; recordings have them within 
 each row of which leads to the messages around it. --text writes the tables to standard output. --trace writes the
 requests as trace events, which Perfetto (ui.perfetto.dev) and Chrome open. --against compares the run with another one,
 without xids, zxids, sessions and times; it is given once for each file of the other run. The status is 1 if the runs
-differ.
+differ, or if bytes of a connection are missing; requests whose replies may be among these count by themselves.
 
 The page has no passwords of sessions and no credentials, but it has data of nodes: its owner alone may read it.
 """
@@ -129,7 +129,7 @@ def main():
             out.waiting += page_of(reader, found, compared, title(words.inputs)).encode()
     if words.text:
         write_text(found, compared)
-    return 1 if found.run.warnings or compared and compared["first"] else 0
+    return 1 if found.run.warnings or found.has_hole() or compared and compared["first"] else 0
 
 
 if __name__ == "__main__":

@@ -8,6 +8,9 @@ It reads listings, recordings, whose listings zkdump show makes, and the lines o
 without a FILE it reads a listing, or lines of zkjson, from standard input. If there are times, there are latencies:
 from a request's last byte to its reply's. p50, p95 and p99 are those of HdrHistogram with three significant digits, in
 microseconds; max is exact. A multi has failed if one of its parts has. Connections of one session are grouped.
+
+Where the facts beside a recording (NAME.facts.json) say that bytes are missing of it, the status is 1, and requests
+whose replies may be among them count by themselves.
 """
 
 import collections
@@ -72,7 +75,7 @@ class Statistics:
     def __init__(self, chosen):
         self.selection = chosen
         self.operations, self.connections = collections.defaultdict(Counts), {}
-        self.events, self.waiting = collections.Counter(), []
+        self.events, self.waiting, self.lost, self.has_hole = collections.Counter(), [], [], False
         self.slowest, self.order, self.least = [], itertools.count(), -1
 
     def read(self, talk):
@@ -103,7 +106,8 @@ class Statistics:
                 continue
             self.operations[made.op].asked += 1
             self.connections[made.connection].asked += 1
-            self.waiting.append(made)
+            (self.waiting if made.captured else self.lost).append(made)
+        self.has_hole |= any(connection.has_hole() for connection in talk.connections())
 
     def add_slow(self, talk, line, made, asked):
         """Keeps a reply as one of the slowest, in place of the least slow of them."""
@@ -121,6 +125,7 @@ class Statistics:
                                for name, counts in ordered},
                 "events": dict(self.events.most_common()), "connections": list(self.rows()),
                 "unanswered": [request(made) for made in self.waiting],
+                **({"notCaptured": [request(made) for made in self.lost]} if self.lost else {}),
                 "slowest": [slow.row for *_, slow in sorted(self.slowest, reverse=True)]}
 
     def rows(self):
@@ -134,12 +139,12 @@ class Statistics:
             last = None
             for each in group:
                 gap = None
-                if last and each.begun is not None and last.ended is not None:
+                if last and each.begun is not None and last.ended is not None and not is_part(each, last):
                     gap = round((each.begun - last.ended) / 1000, 6)
                 ending = each.ending and {name: value for name, value in each.ending.items() if name != "waiting"}
                 yield {"connection": each.name, "session": each.session, "gap": gap, "begun": time(each.begun),
                        "ended": time(each.ended), **self.connections[each].summary(), "backwards": each.backwards,
-                       "ending": ending}
+                       "ending": ending, **({"facts": each.facts.to_object()} if each.facts else {})}
                 last = each
 
 
@@ -147,12 +152,17 @@ def begun(connection):
     return float("inf") if connection.begun is None else connection.begun
 
 
+def is_part(one, other):
+    """Whether these are parts of one connection."""
+    return bool(one.facts and other.facts) and one.facts.connection() == other.facts.connection()
+
+
 def time(moment):
     return None if moment is None else zkr.clock(moment)
 
 
 def request(made):
-    """The row of a request that was never answered."""
+    """The row of a request without a reply."""
     row = {"connection": made.connection.name, "n": made.n, "xid": made.xid and int(made.xid), "op": made.op,
             "path": made.path}
     return {name: value for name, value in row.items() if value is not None}
@@ -174,7 +184,7 @@ def main():
     else:
         for line in tables.lines(found.summary()):
             print(line.rstrip())
-    return 0
+    return 1 if found.has_hole else 0
 
 
 if __name__ == "__main__":
