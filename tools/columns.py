@@ -119,12 +119,11 @@ PATCHES = {TEXT: lambda found: text_of(listing.spelled(found.decode())).encode()
 class Columns(listing.Listing):
     """The messages of a recording, in blocks; or one by one, as those of a Listing are, where `lines` was asked for."""
 
-    def __init__(self, name, path, words, progress, options):
-        super().__init__(name, (), None, progress)
-        self.file, self.waiting, self.names = path, [], None
-        profile = ["--profile", words.profile] if words.profile else []
+    def __init__(self, path, words, known, progress, options):
+        super().__init__(path, (), None, progress, True, known)
+        self.file, self.waiting, self.usual = path, [], (self.connection.known, self.connection.session)
         limit = ["--limit", str(words.limit)] if getattr(words, "limit", None) else []
-        self.program = subprocess.Popen([found_program(), *profile, *limit, *options, path], stdout=subprocess.PIPE,
+        self.program = subprocess.Popen([found_program(), *limit, *options, path], stdout=subprocess.PIPE,
                                         stderr=subprocess.PIPE)
         try:
             import fcntl
@@ -156,8 +155,8 @@ class Columns(listing.Listing):
                 kind = None
             if kind is not None:
                 connection = self.connection
-                connection.known, connection.backwards = bool(known), backwards
-                connection.session = listing.hexadecimal(session) if session else None
+                connection.known, connection.backwards = bool(known) or self.usual[0], backwards
+                connection.session = listing.hexadecimal(session) if session else self.usual[1]
                 connection.begun, connection.ended = (None if each != each else each for each in (begun, ended))
                 if kind == END:
                     self.close()
@@ -214,6 +213,9 @@ class Columns(listing.Listing):
 
     def left(self):
         """The requests that still wait, in the order in which they came."""
+        if self.connection.loses_replies():
+            for made in self.waiting:
+                made.captured = False
         return self.waiting
 
     def __iter__(self):
@@ -241,9 +243,9 @@ class Columns(listing.Listing):
         self.waiting = list(requests.values())
 
 
-def opened(words, path, progress, options):
-    """The columns of a recording; None where the plain form has to read it."""
-    found = Columns(path, path, words, progress, options)
+def opened(words, path, known, progress, options):
+    """The columns of a recording, of which these facts are known; None where the plain form has to read it."""
+    found = Columns(path, words, known, progress, options)
     if found.program.returncode is not None and found.status:
         if found.status != NOT_READ:
             raise OSError(f"{found.program.args[0]} has ended with status {found.status}: {found.trouble}")

@@ -263,8 +263,8 @@ class Conversation:
         self.stretches = ()
 
     def report(self, stretch, last, ended, how=None):
-        """Ends the recording of a stretch, where there is one; writes its facts, and prints its line. `how` has those of
-        the connection's end, if that is known."""
+        """Ends the recording of a stretch, where there is one; writes its facts, and prints its line. `how` has the
+        facts of the connection's end, where it ends here."""
         recording, lost, whole = stretch.recording, any(stretch.lost.values()), self.series.join or not self.late
         path, count = "-", dict.fromkeys(SIDES, 0)
         if recording:

@@ -52,6 +52,10 @@ class Facts(NamedTuple):
     skipped: Optional[dict] = None
     unasked: int = 0
 
+    def connection(self):
+        """What is the same of all parts of a connection, and of no others."""
+        return self.client, self.server, self.connected
+
     def has_hole(self):
         """Whether bytes are missing before or after it."""
         return bool(self.hole) or any(self.lost.values())
@@ -179,8 +183,8 @@ def facts_of(path):
 
 
 def are_of(path, times):
-    """Whether the file of times is that of the recording at this path, by the facts beside either; None where they don't
-    say. The second value is the recording whose times they are, by the facts beside them."""
+    """Whether the file of times is that of the recording at this path, by the facts beside either; None where they
+    don't say. The second value is the recording whose times they are, by the facts beside them."""
     own, its, said, other = mark_of(path), mark_of(times), None, None
     for recording in dict.fromkeys((os.fspath(path), os.fspath(times).removesuffix(".times"))):
         try:

@@ -93,7 +93,7 @@ def main():
         found.add(ending, size)
         if words.all or ending["ending"] != "whole":
             print(json.dumps({"recording": path, **ending}) if words.json else
-                  f"{tables.plain(path)}: {tables.ending(ending)}")
+                  f"{tables.plain(path)}: {tables.ending(ending, None)}")
     print(json.dumps(found.summary()) if words.json else "\n".join(found.lines()))
     return 0 if set(found.endings) <= {"whole"} else 1
 

@@ -11,7 +11,7 @@ has any number of connections. Captures have times; recordings have them within 
 each row of which leads to the messages around it. --text writes the tables to standard output. --trace writes the
 requests as trace events, which Perfetto (ui.perfetto.dev) and Chrome open. --against compares the run with another one,
 without xids, zxids, sessions and times; it is given once for each file of the other run. The status is 1 if the runs
-differ.
+differ, or if bytes of a connection are missing; requests whose replies may be among these count by themselves.
 
 The page has no passwords of sessions and no credentials, but it has data of nodes: its owner alone may read it.
 """
@@ -36,12 +36,13 @@ class Reader:
 
     def __init__(self, parser, words, folder):
         self.port, self.folder, self.chosen = words.port, folder, selection.Selection(words)
-        self.opener = sources.Opener(parser, words.zkdump)
+        self.opener, self.sources = sources.Opener(parser, words.zkdump), []
 
     def run(self, inputs, tracing=None):
         """What is found of all connections of these files."""
         run = gather.Run()
         for source in sources.sources_of(inputs, self.folder, self.port, run.warnings):
+            self.sources.append(source)
             run.read(source, self.opener, self.chosen, tracing)
         return run
 
@@ -125,22 +126,23 @@ def words_of(arguments=None, kind=zkr.Words):
 
 
 def partial(options, path):
-    """What is found of one file."""
+    """What is found of one file, and its sources."""
     parser, words = words_of(options, fleet.Strict)
     with tempfile.TemporaryDirectory(prefix="zkreport-") as folder:
-        return Reader(parser, words, folder).run([path])
+        reader = Reader(parser, words, folder)
+        return reader.run([path]), reader.sources
 
 
 def read_all(parser, words):
     """The summary of many files; what can't be read is a connection without a message. And whether there was such."""
-    run, unread = gather.Run(), False
+    found, unread = merged.Merged(), False
     for path, result in fleet.of_inputs(parser, words, "zkreport"):
         if isinstance(result, fleet.Unread):
-            merged.add_unread(run, sources.Source(path, os.path.basename(path)), result.reason)
+            found.add_unread(sources.Source(path, os.path.basename(path)), result.reason)
             unread = True
         else:
-            merged.merge(run, result)
-    return summary.Summary(run), unread
+            found.add(*result)
+    return summary.Summary(found.run), unread
 
 
 def main():
@@ -148,7 +150,7 @@ def main():
     if fleet.is_asked(words):
         found, unread = read_all(parser, words)
         write_text(found, None)
-        return 1 if unread or found.run.warnings else 0
+        return 1 if unread or found.run.warnings or found.has_hole() else 0
     with contextlib.ExitStack() as stack:
         reader = Reader(parser, words, stack.enter_context(tempfile.TemporaryDirectory(prefix="zkreport-")))
         out, traced = (stack.enter_context(new_file(path)) for path in (words.output, words.trace))
@@ -161,7 +163,7 @@ def main():
             out.waiting += page_of(reader, found, compared, title(words.inputs)).encode()
     if words.text:
         write_text(found, compared)
-    return 1 if found.run.warnings or compared and compared["first"] else 0
+    return 1 if found.run.warnings or found.has_hole() or compared and compared["first"] else 0
 
 
 if __name__ == "__main__":
