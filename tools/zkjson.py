@@ -193,7 +193,12 @@ def words_of(arguments=None, kind=zkr.Words):
     return parser, parser.parse_args(arguments)
 
 
-def partial(options, path):
+def partial(options, paths):
+    """The JSON of one file, or an Unread."""
+    return fleet.attempt(lambda path: part_of(options, path), *paths)
+
+
+def part_of(options, path):
     """The JSON of one file: a file of it, or where it goes over a network its bytes, compressed. And whether bytes of a
     connection are missing."""
     parser, words = words_of(options, fleet.Strict)
@@ -213,7 +218,7 @@ def write_parts(parser, words, out):
     """Writes the JSON of many files, in their order; what can't be read has its line. Whether something is missing."""
     missing = False
     with tempfile.TemporaryDirectory(prefix="zkjson-") as folder:
-        for path, result in fleet.of_inputs(parser, words, "zkjson", "--parts", folder):
+        for (path,), result in fleet.of_inputs(parser, words, "zkjson", "--parts", folder):
             if isinstance(result, fleet.Unread):
                 missing = True
                 print(f'{head_of(path)}, "ending": "unread", "reason": {forms.readable(result.reason)}}}',

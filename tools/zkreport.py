@@ -125,18 +125,20 @@ def words_of(arguments=None, kind=zkr.Words):
     return parser, words
 
 
-def partial(options, path):
-    """What is found of one file, and its sources."""
-    parser, words = words_of(options, fleet.Strict)
-    with tempfile.TemporaryDirectory(prefix="zkreport-") as folder:
-        reader = Reader(parser, words, folder)
-        return reader.run([path]), reader.sources
+def partial(options, paths):
+    """What is found of one file, and its sources; or an Unread."""
+    def one(path):
+        parser, words = words_of(options, fleet.Strict)
+        with tempfile.TemporaryDirectory(prefix="zkreport-") as folder:
+            reader = Reader(parser, words, folder)
+            return reader.run([path]), reader.sources
+    return fleet.attempt(one, *paths)
 
 
 def read_all(parser, words):
     """The summary of many files; what can't be read is a connection without a message. And whether there was such."""
     found, unread = merged.Merged(), False
-    for path, result in fleet.of_inputs(parser, words, "zkreport"):
+    for (path,), result in fleet.of_inputs(parser, words, "zkreport"):
         if isinstance(result, fleet.Unread):
             found.add_unread(sources.Source(path, os.path.basename(path)), result.reason)
             unread = True

@@ -64,6 +64,16 @@ class Counts:
                 "ms": ms or None}
 
 
+class Finished:
+    """The summary of what was counted of a connection of which nothing more comes."""
+
+    def __init__(self, counts):
+        self.found = counts.summary()       # one that is finished stays as it is
+
+    def summary(self):
+        return self.found
+
+
 def slow_row(asked, made, zxid):
     """The row of one of the slowest: a request and its reply."""
     return {"time": time(asked.moment), "ms": made.microseconds / 1000, "connection": made.connection.name,
@@ -84,7 +94,7 @@ class Statistics:
         self.selection = chosen
         self.operations, self.connections = collections.defaultdict(Counts), {}
         self.events, self.waiting, self.lost, self.has_hole = collections.Counter(), [], [], False
-        self.slowest, self.order, self.least = [], itertools.count(), -1
+        self.slowest, self.order, self.least, self.has_unread = [], itertools.count(), -1, False
 
     def counts_of(self, connection):
         """What is counted of a connection."""
@@ -143,27 +153,32 @@ class Statistics:
         if len(self.slowest) == SLOWEST:
             self.least = self.slowest[0][0]
 
-    def unread(self, path, reason):
-        """Takes a recording that can't be read."""
+    def take(self, path, partial):
+        """Adds what was counted of a recording, or a row for one that can't be read."""
+        if not isinstance(partial, fleet.Unread):
+            self.merge(partial)
+            return
         connection = listing.Connection(path)
-        connection.ending = {"ending": "unread", "reason": reason}
+        connection.ending = {"ending": listing.UNREAD, "reason": partial.reason}
         self.counts_of(connection)
+        self.has_unread = True
 
     def partial(self):
         """What was counted, for `merge` in another process."""
-        return (dict(self.operations), self.connections, self.events, self.waiting, self.lost, self.has_hole,
+        connections = {connection: Finished(counts) for connection, counts in self.connections.items()}
+        return (dict(self.operations), connections, self.events, self.waiting, self.lost, self.has_hole, self.has_unread,
                 [(microseconds, row) for microseconds, _, row in sorted(self.slowest, key=lambda entry: -entry[1])])
 
     def merge(self, partial):
         """Adds what was counted of other conversations."""
-        operations, connections, events, waiting, lost, has_hole, slowest = partial
+        operations, connections, events, waiting, lost, has_hole, has_unread, slowest = partial
         for name, counts in operations.items():
             self.operations[name].merge(counts)
         self.connections.update(connections)
         self.events.update(events)
         self.waiting += waiting
         self.lost += lost
-        self.has_hole |= has_hole
+        self.has_hole, self.has_unread = self.has_hole or has_hole, self.has_unread or has_unread
         for microseconds, row in slowest:
             if microseconds > self.least:
                 self.put_slow(microseconds, row)
@@ -232,26 +247,27 @@ def read(parser, words, found, progress):
             found.read(talk)
 
 
-def partial(options, path):
-    """What is counted of one file."""
+def partial(options, paths):
+    """What is counted of files."""
     parser, words = words_of(options, fleet.Strict)
-    words.inputs, found = [path], Statistics(selection.Selection(words))
-    read(parser, words, found, zkr.Progress("zkstat", False))
-    return found.partial()
+    together = Statistics(selection.Selection(words))
+
+    def one(path):
+        words.inputs, found = [path], Statistics(together.selection)
+        read(parser, words, found, zkr.Progress("zkstat", False))
+        return found.partial()
+    for path in paths:
+        together.take(path, fleet.attempt(one, path))
+    return together.partial()
 
 
 def main():
     parser, words = words_of()
     sys.stdout.reconfigure(errors="backslashreplace")
     found = Statistics(selection.Selection(words))
-    unread = False
     if fleet.is_asked(words):
-        for path, result in fleet.of_inputs(parser, words, "zkstat"):
-            if isinstance(result, fleet.Unread):
-                found.unread(path, result.reason)
-                unread = True
-            else:
-                found.merge(result)
+        for paths, result in fleet.of_inputs(parser, words, "zkstat", together=True):
+            found.take(paths[0], result)
     else:
         read(parser, words, found, zkr.Progress("zkstat"))
     if words.json:
@@ -259,7 +275,7 @@ def main():
     else:
         for line in tables.lines(found.summary()):
             print(line.rstrip())
-    return 1 if found.has_hole or unread else 0
+    return 1 if found.has_hole or found.has_unread else 0
 
 
 if __name__ == "__main__":

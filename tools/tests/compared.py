@@ -11,11 +11,13 @@ import itertools
 import os
 import pathlib
 import random
+import struct
 import subprocess
 import sys
 import unittest.mock
 
-sys.path.insert(0, str(pathlib.Path(__file__).resolve().parent.parent))
+TOOLS = pathlib.Path(__file__).resolve().parent.parent
+sys.path.insert(0, str(TOOLS))
 
 import columns  # noqa: E402
 import zkjson  # noqa: E402
@@ -91,6 +93,25 @@ def cut(data, chance):
     return bytes(made), times
 
 
+def lossy_recordings(folder, paths):
+    """Recordings with their facts and times, of captures of these, from which packets are missing."""
+    chance = random.Random(3)
+    for number, path in enumerate(paths):
+        capture, prefix = folder / f"{number}.pcap", folder / f"lossy{number}"
+        subprocess.run([sys.executable, TOOLS / "zkr2pcap.py", path, capture], check=True)
+        whole = capture.read_bytes()
+        kept, at = bytearray(whole[:24]), 24
+        while at < len(whole):
+            end = at + 16 + struct.unpack_from("<I", whole, at + 8)[0]
+            if at < 500 or chance.random() > 0.06:
+                kept += whole[at:end]
+            at = end
+        capture.write_bytes(kept)
+        subprocess.run([sys.executable, TOOLS / "pcap2zkr.py", "--times", "--late", capture, prefix], stdout=subprocess.DEVNULL,
+                       check=False)
+    return sorted(folder.glob("lossy*.zkr"))
+
+
 def random_head(chance):
     if chance.random() < 0.5:
         return zkr.Head()
@@ -104,6 +125,7 @@ def recordings(zkdump, folder, paths):
     made.write_bytes(subprocess.run([zkdump, "build"], input="\n".join(values()).encode(), stdout=subprocess.PIPE,
                                     check=True).stdout)
     yield from (*paths, made)
+    yield from lossy_recordings(folder, [path for path in paths if path.stat().st_size < 30_000])
     chance = random.Random(17)
     for number, path in enumerate(chance.choices([path for path in paths if path.stat().st_size < 100_000], k=50)):
         path, (data, times) = folder / f"{number}.zkr", cut(path.read_bytes(), chance)

@@ -13,6 +13,7 @@ import unittest
 
 from support import CAPTURES, PROGRAM, TOOLS, ToolCase
 
+import compared
 import fleet
 
 HERE = pathlib.Path(__file__).resolve().parent
@@ -43,10 +44,18 @@ class FleetCase(ToolCase):
         self.names.sort()
         self.fleet = self.folder / "fleet"
 
-    def output(self, *words, **more):
+    def output(self, *words):
+        """The status of a tool, its standard output and its standard error."""
         done = subprocess.run([sys.executable, TOOLS / words[0], *map(str, words[1:])], capture_output=True, check=False,
-                              timeout=200, **more)
+                              timeout=200)
         return done.returncode, done.stdout, done.stderr
+
+    @staticmethod
+    def in_small_chunks(tool, *words):
+        """The command that runs a tool with each recording as a chunk."""
+        run = (f"import sys; sys.path.insert(0, {str(TOOLS)!r}); import fleet, zkr, {tool[:-3]} as tool; "
+               f"fleet.LEAST_CHUNK = 1; sys.argv[0] = {tool!r}; sys.exit(zkr.tool(tool.main))")
+        return [sys.executable, "-c", run, *map(str, words)]
 
     def test_number_of_workers(self):
         """As many files one after the other, one at a time, and three at once."""
@@ -54,6 +63,8 @@ class FleetCase(ToolCase):
             wanted = self.output(*tool, *self.names)
             for jobs in (1, 3):
                 self.assertEqual(self.output(*tool, "--jobs", jobs, self.fleet), wanted, tool)
+            done = subprocess.run(self.in_small_chunks(*tool, "--jobs", 2, self.fleet), capture_output=True, check=False)
+            self.assertEqual((done.returncode, done.stdout, done.stderr), wanted, tool)
         checked = [self.output("zkfleet.py", "check", "--jobs", jobs, self.fleet) for jobs in (1, 4)]
         self.assertEqual(checked[0], checked[1])
 
@@ -63,6 +74,17 @@ class FleetCase(ToolCase):
         for tool in TOOLS_WITH_WORDS:
             for choice in (("--path", "/"), ("--op", "create", "--op", "event"), ("--session", "0x100003780a60004")):
                 self.assertEqual(self.output(*tool, *choice, "--jobs", 2, f"@{listed}"), self.output(*tool, *choice, *self.names))
+
+    def test_parts_of_connections(self):
+        """The recordings of connections that were not captured whole."""
+        folder = self.folder / "lossy"
+        folder.mkdir()
+        names = compared.lossy_recordings(folder, self.names[:8])
+        self.assertGreater(len(names), 20)
+        for tool in TOOLS_WITH_WORDS:
+            wanted = self.output(*tool, *names)
+            self.assertEqual(wanted[0], 1)
+            self.assertEqual(self.output(*tool, "--jobs", 3, folder), wanted, tool)
 
     def test_unread(self):
         """What can't be read is a row with its reason."""
@@ -90,8 +112,8 @@ class FleetCase(ToolCase):
         """A worker that dies has its recording done again."""
         for tool in TOOLS_WITH_WORDS:
             wanted = self.output(*tool, "--jobs", 1, self.fleet)
-            running = subprocess.Popen([sys.executable, TOOLS / tool[0], *tool[1:], "--jobs", "2", self.fleet],
-                                       stdout=subprocess.PIPE, stderr=subprocess.PIPE)
+            running = subprocess.Popen(self.in_small_chunks(*tool, "--jobs", "2", self.fleet), stdout=subprocess.PIPE,
+                                       stderr=subprocess.PIPE)
             killed = False
             while running.poll() is None and not killed:
                 workers = [pid for pid in children(running.pid) if b"forkserver" in self.words(pid)][1:]
@@ -100,18 +122,26 @@ class FleetCase(ToolCase):
                     killed = True
                 time.sleep(0.01)
             out, err = running.communicate()
+            err = err.replace(b"zkdump: write failed\n", b"")       # what the dead worker had begun
             self.assertEqual((killed, running.returncode, out, err), (True, *wanted), tool)
 
     def test_deadly_recording(self):
-        """One that ends each of its workers is a row; the others are done."""
-        (self.folder / "deadly.py").write_text("import os, signal\n\ndef partial(options, path):\n"
-                                               "    if path == 'b':\n        os.kill(os.getpid(), signal.SIGKILL)\n"
-                                               "    return options, path\n")
+        """One that ends each of its workers is a row; those of its chunk are done."""
+        (self.folder / "deadly.py").write_text("import os, signal\n\ndef partial(options, paths):\n"
+                                               "    if 'b' in paths:\n        os.kill(os.getpid(), signal.SIGKILL)\n"
+                                               "    return options, paths\n")
         sys.path.insert(0, str(self.folder))
         self.addCleanup(sys.path.remove, str(self.folder))
-        found = list(fleet.results(argparse.Namespace(jobs=2, scheduler=None), "deadly", ["x"], ["a", "b", "c", "d"]))
-        wanted = {path: (["x"], path) for path in "acd"}
-        self.assertEqual(found, [(path, wanted.get(path, fleet.Unread("its worker died 3 times"))) for path in "abcd"])
+        for together in (False, True):
+            found = list(fleet.results(argparse.Namespace(jobs=2, scheduler=None), "deadly", ["x"], ["a", "b", "c", "d"], together))
+            wanted = {path: (["x"], [path]) for path in "acd"}
+            self.assertEqual(found, [([path], wanted.get(path, fleet.Unread("its worker died again and again"))) for path in "abcd"])
+
+    def test_chunks(self):
+        sizes = {"a": fleet.LEAST_CHUNK - 1, "b": 1, "c": 1, "d": fleet.LEAST_CHUNK + 5, "e": 0}
+        self.assertEqual(fleet.chunks(list("abcde"), sizes), [["a", "b"], ["c"], ["d"], ["e"]])
+        many = [str(number) for number in range(2 * fleet.MOST_IN_CHUNK + 1)]
+        self.assertEqual([len(each) for each in fleet.chunks(many, dict.fromkeys(many, 0))], [1024, 1024, 1])
 
     @staticmethod
     def words(pid):
