@@ -11,6 +11,7 @@ INSTALL = python3 packaging/install.py --destdir "$(DESTDIR)" --prefix "$(PREFIX
 all:
 	./zkdump check < crates/zkdump/stdin
 	python3 packaging/build_library.py
+	python3 packaging/make_columns.py
 
 install:
 	$(INSTALL)

@@ -9,10 +9,12 @@ import shutil
 import subprocess
 
 import archive
+import make_columns
 from build_library import TOP
 from install import OWN, VERSION, install
 
 LIBDIR = "lib/x86_64-linux-gnu"
+PROGRAMS = ("zkdump", make_columns.NAME)
 TOOLS = ("dpkg-deb", "objdump")
 # Which files below /usr a package has, by the first row that fits; and its fields.
 FILES = (("libzk1", f"{LIBDIR}/libzk.so.*"), ("libzk-dev", f"{LIBDIR}/*"), ("libzk-dev", "include/*"),
@@ -21,7 +23,8 @@ FILES = (("libzk1", f"{LIBDIR}/libzk.so.*"), ("libzk-dev", f"{LIBDIR}/*"), ("lib
 FIELDS = {
     "zkdump": """Section: net
 Depends: {libc}
-Recommends: python3
+Recommends: python3, python3-numpy
+Suggests: python3-distributed
 Description: proved dissector of conversations on ZooKeeper's client port
  It shows, checks, builds and migrates recordings of what a ZooKeeper client
  and its server said to each other, and has tools that record them.
@@ -98,7 +101,8 @@ def describe(package, folder):
     (page / "copyright").write_text(COPYRIGHT)
     archive.compress(TOP / "CHANGELOG.md", page / "CHANGELOG.md.gz")
     files = [path for path in sorted(folder.rglob("*")) if path.is_file() and not path.is_symlink()]
-    used = [path for path in files if path.name == "zkdump" and path.parent.name == "bin" or ".so." in path.name]
+    used = [path for path in files if path.name in PROGRAMS and path.parent.name in ("bin", "zkdump")
+            or ".so." in path.name]
     fields = FIELDS[package].format(libc=libc(*used) if used else "", version=VERSION)
     (control / "control").write_text(f"Package: {package}\nSource: zkdump\nVersion: {VERSION}\nArchitecture: amd64\n"
                                      "Maintainer: the maintainers of zkdump\nPriority: optional\n"

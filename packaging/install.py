@@ -17,6 +17,7 @@ import sys
 import tempfile
 from typing import NamedTuple, Union
 
+import make_columns
 import make_library
 import make_manual
 from build_library import LIBRARY, TOP
@@ -61,6 +62,7 @@ def layout(libdir="lib"):
         f"{libdir}/libzk.so.1": Made("libzk.so.1"),
         f"{libdir}/libzk.so": Link("libzk.so.1"),
         f"{OWN}/BUILD": Made("BUILD"),
+        f"lib/zkdump/{make_columns.NAME}": Made(make_columns.NAME),
         "share/bash-completion/completions/zkdump": TOP / "completion" / "zkdump.bash",
     }
     files.update((f"{libdir}/{folder}/{name}", Made(name)) for name, folder in TEMPLATES.items())
@@ -84,9 +86,10 @@ def toolchain():
 def make(folder, libdir, gate):
     """Makes in a folder the files that are made. A line for each part that is left out."""
     if make_library.missing() or not LIBRARY.exists():
-        yield f"the libraries, since {', '.join(make_library.missing()) or LIBRARY.relative_to(TOP)} is missing"
+        lacking = ", ".join(make_library.missing()) or LIBRARY.relative_to(TOP)
+        yield f"the libraries and {make_columns.NAME}, since {lacking} is missing"
     else:
-        make_library.make(folder)
+        make_columns.make(folder, make_library.make(folder)[0])
     for name, below in TEMPLATES.items():
         text = (TOP / "packaging" / f"{name}.in").read_text()
         values = {"UP": os.path.relpath(".", f"{libdir}/{below}"), "LIBDIR": libdir, "VERSION": VERSION,
@@ -131,7 +134,7 @@ def remove(top, libdir="lib"):
     """Takes away what was installed below this folder, and the folders that are the installation's alone."""
     for where in layout(libdir):
         pathlib.Path(top, where).unlink(missing_ok=True)
-    for own in (OWN, f"{libdir}/cmake/zk"):
+    for own in (OWN, "lib/zkdump", f"{libdir}/cmake/zk"):
         shutil.rmtree(pathlib.Path(top, own), ignore_errors=True)
 
 

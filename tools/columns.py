@@ -11,6 +11,7 @@ import pathlib
 import struct
 import subprocess
 
+import facts
 import forms
 import listing
 import program
@@ -118,12 +119,11 @@ PATCHES = {TEXT: lambda found: text_of(listing.spelled(found.decode())).encode()
 class Columns(listing.Listing):
     """The messages of a recording, in blocks; or one by one, as those of a Listing are, where `lines` was asked for."""
 
-    def __init__(self, name, path, words, progress, options):
-        super().__init__(name, (), None, progress)
-        self.file, self.waiting, self.names = path, [], None
-        profile = ["--profile", words.profile] if words.profile else []
+    def __init__(self, path, words, known, progress, options):
+        super().__init__(path, (), None, progress, True, known)
+        self.file, self.waiting, self.usual = path, [], (self.connection.known, self.connection.session)
         limit = ["--limit", str(words.limit)] if getattr(words, "limit", None) else []
-        self.program = subprocess.Popen([found_program(), *profile, *limit, *options, path], stdout=subprocess.PIPE,
+        self.program = subprocess.Popen([found_program(), *limit, *options, path], stdout=subprocess.PIPE,
                                         stderr=subprocess.PIPE)
         try:
             import fcntl
@@ -155,8 +155,8 @@ class Columns(listing.Listing):
                 kind = None
             if kind is not None:
                 connection = self.connection
-                connection.known, connection.backwards = bool(known), backwards
-                connection.session = listing.hexadecimal(session) if session else None
+                connection.known, connection.backwards = bool(known) or self.usual[0], backwards
+                connection.session = listing.hexadecimal(session) if session else self.usual[1]
                 connection.begun, connection.ended = (None if each != each else each for each in (begun, ended))
                 if kind == END:
                     self.close()
@@ -213,31 +213,39 @@ class Columns(listing.Listing):
 
     def left(self):
         """The requests that still wait, in the order in which they came."""
+        if self.connection.loses_replies():
+            for made in self.waiting:
+                made.captured = False
         return self.waiting
 
     def __iter__(self):
-        requests = {}
+        requests, connection, operations, unpack, nothing = {}, self.connection, self.operations, Record._make, None
         for block in self.blocks():
             text = block.text
-            for record in block.tuples():
-                made = self.message(block, record)
-                made.chosen = None
-                middle = record.text + record.at_length
-                if record.at_length:
-                    made.at = text[record.text:middle].decode()
-                made.end = 2 + (len(made.xid) + 1 if made.xid else 0) + len(made.op)
-                asked = None
-                if record.of:
-                    asked = requests.pop(record.of)
-                elif record.side == CLIENT:
-                    requests[record.n] = made
-                yield text[middle:record.text + record.text_length].decode(), made, asked
+            for record in map(unpack, RECORD.iter_unpack(block.records)):
+                n, of, moment, _, microseconds, _, begin, length, at_length, _, _, xid, op, _, flags, side, _ = record
+                name, xid = operations[op], str(xid) if flags & XID else nothing
+                made = listing.Message(connection, n, "C" if side == CLIENT else "S", xid, name,
+                                       block.path(record) if flags & PATH and not of else nothing,
+                                       self.error(record) if flags & ERROR else nothing, len(name) + (len(xid) + 3 if xid else 2))
+                if moment == moment:
+                    made.moment, made.at = moment, text[begin:begin + at_length].decode()
+                    if microseconds == microseconds:
+                        made.microseconds = int(microseconds)
+                asked = nothing
+                if of:
+                    asked = requests.pop(of)
+                elif side == CLIENT:
+                    requests[n] = made
+                if flags & MADE_UP:
+                    made.made_up = True
+                yield text[begin + at_length:begin + length].decode(), made, asked
         self.waiting = list(requests.values())
 
 
-def opened(words, path, progress, options):
-    """The columns of a recording; None where the plain form has to read it."""
-    found = Columns(path, path, words, progress, options)
+def opened(words, path, known, progress, options):
+    """The columns of a recording, of which these facts are known; None where the plain form has to read it."""
+    found = Columns(path, words, known, progress, options)
     if found.program.returncode is not None and found.status:
         if found.status != NOT_READ:
             raise OSError(f"{found.program.args[0]} has ended with status {found.status}: {found.trouble}")
@@ -246,9 +254,14 @@ def opened(words, path, progress, options):
 
 
 def times_options(path, beside):
-    """The arguments that name a recording's times, as times.times_of finds them."""
+    """The arguments that name a recording's times, as times.times_of finds them; None where the plain form has to say
+    what is wrong with them."""
     if not beside:
         with open(path, "rb") as recording:
             if recording.read(4) == b"ZKR2" or not os.path.exists(zkr.times_path(path)):
                 return []
-    return ["--times", beside or zkr.times_path(path)]
+    beside = beside or zkr.times_path(path)
+    try:
+        return None if facts.are_of(path, beside)[0] is False else ["--times", beside]
+    except OSError:
+        return None

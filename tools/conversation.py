@@ -7,6 +7,8 @@ connect request and connect response, with -1 for every number.
 
 import struct
 
+import contents
+import facts
 import resync
 import zkr
 from streams import SIDES
@@ -15,17 +17,18 @@ from stretches import EVENT, Message, Stretch
 # A connect request and a connect response that no peer sends: every number is -1, and the password is null.
 MADE_UP = {zkr.CLIENT: struct.pack(">iiqiqi", 28, -1, -1, -1, -1, -1),
            zkr.SERVER: struct.pack(">iiiqi", 20, -1, -1, -1, -1)}
-MOST_STRETCHES = 256
+MOST_STRETCHES, LEAST_REQUEST = 256, 12
 
 
 class Conversation:
     """The sink of a connection's stream."""
 
-    __slots__ = ("series", "name", "late", "first", "began", "stream", "cutter", "stretches", "connected", "sought",
-                 "trusted", "unfinished", "holes", "number", "part", "resent", "left_out")
+    __slots__ = ("series", "client", "server", "late", "first", "began", "stream", "cutter", "stretches", "connected",
+                 "sought", "trusted", "unfinished", "holes", "number", "part", "resent", "left_out", "session")
 
-    def __init__(self, series, name, late, number, milliseconds):
-        self.series, self.name, self.late, self.first, self.began = series, name, late, number, milliseconds
+    def __init__(self, series, client, server, late, number, milliseconds):
+        self.series, self.late, self.first, self.began = series, late, number, milliseconds
+        self.client, self.server, self.session = client, server, None
         self.stream = self.cutter = self.number = self.holes = None
         self.part, self.resent, self.unfinished, self.left_out = 1, 0, 0, False
         self.stretches = ()
@@ -34,6 +37,7 @@ class Conversation:
         """Begins the first stretch. The client continues with the last one; those before it wait for replies."""
         self.cutter = zkr.Cutter(self.series.head)
         self.stretches = [Stretch(self.put, self.first, self.began, not self.late)]
+        self.stretches[0].owed += self.late
         # The sides whose connect message has passed; the sides whose frames were not found yet, with the bytes in which
         # they may be; and those whose frames were certainly found.
         self.connected, self.sought, self.trusted = set(), {}, set(SIDES)
@@ -51,17 +55,23 @@ class Conversation:
         stretch = self.stretches[0]
         if not (self.sought or self.unfinished or self.cutter.held[side]) and side in self.connected \
                 and stretch is self.stretches[-1] and int.from_bytes(data[:4], "big") == len(data) - 4 > 4 \
-                and stretch.passes(side, data[4:8]):
-            self.record(stretch, side, number, milliseconds, data)  # it is just one frame, as nearly always
+                and stretch.passes(side, number, milliseconds, data):
+            stretch.recording.take(side, number, milliseconds, data)  # it is just one frame, as nearly always
             return
         if not stretch.whole or stretch.holes:
             self.take(side, number, milliseconds, data)
             return
         self.record(stretch, side, number, milliseconds, data)
-        for frame in self.cutter.take(zkr.Piece(side, milliseconds, data)):
+        frames = self.cutter.take(zkr.Piece(side, milliseconds, data))
+        sizes = [4 + len(frame.payload) for frame in frames]
+        place = stretch.recording.count[side] - len(self.cutter.held[side]) - sum(sizes)
+        for frame, size in zip(frames, sizes):
             if side in self.connected:
-                stretch.note(side, frame.payload[:4])
+                stretch.note(side, frame.payload[:4], place, size, number, milliseconds)
+            elif side == zkr.SERVER:
+                self.session = contents.session_in(frame.payload)
             self.connected.add(side)
+            place += size
         if side in self.cutter.broken:
             self.cutter.held[side].clear()
 
@@ -132,8 +142,10 @@ class Conversation:
         if message.side == zkr.CLIENT:
             last.ask(message)
         elif message.payload[:4] == EVENT:
-            stretches[0].take_event(message)
+            stretches[stretches[0].is_suspended()].take_event(message)
         else:
+            if stretches[0].is_suspended():
+                self.resume(message)
             taker = next((stretch for stretch in stretches if stretch.answer(message, stretch is last)), None)
             if taker:
                 self.trusted.add(zkr.SERVER)
@@ -144,6 +156,21 @@ class Conversation:
             else:
                 last.unasked += 1
             self.end_settled()
+
+    def resume(self, reply):
+        """Where a reply is to a request from before the loss of the server's bytes that follows the first stretch: what
+        was asked from that request on becomes the beginning of what follows the loss."""
+        first, *others = self.stretches
+        if any(reply.payload[:4] in other.asked for other in others):
+            return
+        asked = first.take_back(reply)
+        if asked and zkr.CLIENT in first.holes:
+            made = Stretch(self.put, *asked[0][1:3], False)
+            made.holes.add(zkr.CLIENT)
+            losing = next(other for other in others if other.lost[zkr.SERVER])
+            made.lost[zkr.SERVER], losing.lost[zkr.SERVER] = losing.lost[zkr.SERVER], 0
+            self.stretches.insert(1, made)
+        self.stretches[1].hold(asked)
 
     def complete(self, message):
         """Takes a frame of the server whose beginning is in the first stretch already."""
@@ -183,14 +210,19 @@ class Conversation:
             self.unfinished = 0
             for stretch in self.stretches:
                 stretch.lose_replies()
+            if whole and zkr.CLIENT in self.connected and (begun := len(self.cutter.held[zkr.CLIENT])):
+                # The client's frame continues after the loss, and is whole there.
+                last.recording.take_back([(last.recording.count[zkr.CLIENT] - begun, begun)])
         elif whole:
             self.unfinished = len(self.cutter.held[zkr.SERVER])
-        if last.anchored or zkr.CLIENT in lost and last.back:
+        if last.anchored or zkr.CLIENT in lost and (last.back or last is self.stretches[first.is_suspended()]):
             if zkr.CLIENT in lost:
                 last.holes.add(zkr.CLIENT)
             self.stretches.append(Stretch(self.put, number, milliseconds, False))
+            self.stretches[-1].owed = sum(stretch.pings() for stretch in self.stretches)
+        self.stretches[-1].owed += holes[zkr.CLIENT] // LEAST_REQUEST
         self.stretches[-1].lose(holes)
-        if first.anchored and zkr.SERVER in lost or len(self.stretches) > MOST_STRETCHES:
+        if first.is_suspended() and not first.ordinary or len(self.stretches) > MOST_STRETCHES:
             self.end_first()
         self.end_settled()
 
@@ -206,51 +238,57 @@ class Conversation:
         if stretch.whole:
             self.unfinished = 0
         if stretch.recording:
-            self.report(stretch, stretch.recording.last, stretch.recording.ended)
+            self.report(stretch, *stretch.recording.last())
         else:
             self.stretches[0].join(stretch)
 
     def finish(self):
         """Ends all stretches: the connection is over."""
-        stream, how, ended = self.stream, [], self.stream.last_time
+        stream, how, ended = self.stream, {}, self.stream.last_time
         if stream.reset:
-            how, ended = [f"reset={stream.reset.decode()}"], stream.reset_time
+            how, ended = {"reset": stream.reset.decode()}, stream.reset_time
         if closer := stream.closer():
-            how, ended = [f"closed={closer.side.decode()}", *how], closer.fin.milliseconds
+            how, ended = {"closed": closer.side.decode(), **how}, closer.fin.milliseconds
         *others, last = self.stretches or [Stretch(self.put, self.first, self.began, not self.late)]
         for stretch in others:
             stretch.end(True)
             if stretch.recording:
-                self.report(stretch, stretch.recording.last, stretch.recording.ended)
+                self.report(stretch, *stretch.recording.last())
         last.end(True)
         for side in SIDES if self.stretches else ():
             last.skipped[side] += self.waits(side)
         holes = self.holes or {half.side: half.lacks() for half in stream.halves}
         last.holes |= {side for side in SIDES if holes[side]}
-        self.report(last, stream.last, ended, how or ["open"])
+        self.report(last, stream.last, ended, how or {"open": True})
         self.stretches = ()
 
-    def report(self, stretch, last, ended, how=()):
-        """Ends the recording of a stretch, where there is one, and prints its line."""
-        recording, notes, lost = stretch.recording, [], any(stretch.lost.values())
+    def report(self, stretch, last, ended, how=None):
+        """Ends the recording of a stretch, where there is one; writes its facts, and prints its line. `how` has the
+        facts of the connection's end, where it ends here."""
+        recording, lost, whole = stretch.recording, any(stretch.lost.values()), self.series.join or not self.late
         path, count = "-", dict.fromkeys(SIDES, 0)
         if recording:
             recording.close()
             self.series.open -= 1
             path, count = recording.path, recording.count
         first, began = (recording.first, recording.began) if lost and recording else (stretch.first, stretch.began)
-        if lost:
-            notes.append("lost=C:{},S:{}".format(*stretch.lost.values()))
-        elif self.late:
-            notes.append("late")
-        if self.series.join or not self.late:
-            if not stretch.whole:
-                notes += ["skipped=C:{},S:{}".format(*stretch.skipped.values()), f"unasked={stretch.unasked}"]
-            notes += [f"hole={side.decode()}" for side in SIDES if side in stretch.holes]
-        notes += ["snapped"] * self.stream.snapped
-        self.left_out |= bool(notes)
+        known = facts.Facts(
+            tool="pcap2zkr", client=self.client, server=self.server, connected=self.began, begun=began, ended=ended,
+            part=self.part, session=self.session, profile=self.series.profile(), late=self.late and not lost,
+            snapped=self.stream.snapped, lost=by_letter(stretch.lost), unasked=stretch.unasked,
+            skipped=by_letter(stretch.skipped) if whole and not stretch.whole else None,
+            hole=tuple(side.decode() for side in SIDES if side in stretch.holes and whole), **how or {})
+        if recording:
+            recording.write_facts(known)
+        words = known.words()
+        self.left_out |= len(words) > len(how or ())
         self.series.say(" ".join([
-            path, self.name, "begun", zkr.clock(began), "ended", zkr.clock(ended), f"client={count[zkr.CLIENT]}",
-            f"server={count[zkr.SERVER]}", f"packets={first}-{last}", f"resent={self.stream.resent - self.resent}",
-            *how, *notes]))
+            path, f"{self.client} > {self.server}", "begun", zkr.clock(began), "ended", zkr.clock(ended),
+            f"client={count[zkr.CLIENT]}", f"server={count[zkr.SERVER]}", f"packets={first}-{last}",
+            f"resent={self.stream.resent - self.resent}", *words]))
         self.resent = self.stream.resent
+
+
+def by_letter(found):
+    """What there is of each side, by the side's letter."""
+    return {side.decode(): count for side, count in found.items()}

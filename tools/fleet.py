@@ -1,10 +1,12 @@
 """Does the same work with many recordings: over the cores of this machine, or over the workers of a Dask scheduler.
 
-A tool gives each recording's `partial` result, and merges them in the order of the recordings, so what it prints is the
-same for any number of workers. A recording whose worker dies is done again; one that can't be read has an Unread for
-its result, and so has one whose worker died three times.
+Recordings that follow one another are a chunk, whatever the number of workers. A tool's function `partial` gives what is
+found of a chunk, and the tool merges that in the order of the recordings, so what it prints is the same for any number
+of workers. A chunk whose worker dies is done again, recording by recording. One that can't be read has an Unread for its
+result, and so has one whose worker died three times.
 """
 
+import collections
 import concurrent.futures
 import importlib
 import multiprocessing
@@ -19,8 +21,8 @@ from typing import NamedTuple
 import zkr
 
 TOOLS = str(pathlib.Path(__file__).resolve().parent)
-AHEAD = 4           # for each worker, how many recordings may be done before one that comes first
-TRIES = 3
+AHEAD = 4           # for each worker, how many chunks may be done before one that comes first
+LEAST_CHUNK, CHUNKS, MOST_IN_CHUNK = 1 << 23, 2048, 1024
 UNITS = ((1 << 30, "GB"), (1 << 20, "MB"), (1 << 10, "kB"))
 
 
@@ -68,10 +70,15 @@ class Strict(zkr.Words):
         raise ValueError(message)
 
 
-def work(tool, options, path):
-    """What a worker does: the partial result of a recording, or an Unread."""
+def work(tool, options, paths):
+    """What a worker does: the partial result of a chunk."""
+    return importlib.import_module(tool).partial(options, paths)
+
+
+def attempt(function, path):
+    """What a function returns for a recording, or an Unread."""
     try:
-        return importlib.import_module(tool).partial(options, path)
+        return function(path)
     except OSError as error:
         return Unread(error.strerror or str(error))
     except ValueError as error:
@@ -89,16 +96,18 @@ def executor():
 class Processes:
     """Processes of this machine. Each is an executor of its own, so that of a dead one it is known what it did."""
 
-    def __init__(self, count):
-        self.count, self.idle, self.busy = count, [], {}
+    tries = 3
 
-    def submit(self, tool, options, path):
+    def __init__(self, count):
+        self.count, self.most, self.idle, self.busy = count, count, [], {}
+
+    def submit(self, tool, options, paths):
         process = self.idle.pop() if self.idle else executor()
         try:
-            future = process.submit(work, tool, options, path)
+            future = process.submit(work, tool, options, paths)
         except BrokenProcessPool:       # it died while it was idle
             process = executor()
-            future = process.submit(work, tool, options, path)
+            future = process.submit(work, tool, options, paths)
         self.busy[future] = process
         return future
 
@@ -119,11 +128,13 @@ class Processes:
 
     def close(self):
         for process in (*self.idle, *self.busy.values()):
-            process.shutdown(wait=False, cancel_futures=True)
+            process.shutdown(cancel_futures=True)
 
 
 class Dask:
-    """The workers of a Dask scheduler, which does a dead worker's tasks again by itself."""
+    """The workers of a Dask scheduler, which does a dead worker's tasks again by itself, three times."""
+
+    tries = 1
 
     def __init__(self, address):
         try:
@@ -133,13 +144,14 @@ class Dask:
         self.distributed, self.busy = distributed, set()
         self.client = distributed.Client(address)
         self.count = max(1, sum(self.client.nthreads().values()))
+        self.most = 2 * self.count
 
-    def submit(self, tool, options, path):
+    def submit(self, tool, options, paths):
         def task(tools, *words):        # a function within a function is sent as its code
             if tools not in sys.path:
                 sys.path.insert(0, tools)
             return importlib.import_module("fleet").work(*words)
-        future = self.client.submit(task, TOOLS, tool, options, path, pure=False)
+        future = self.client.submit(task, TOOLS, tool, options, paths, pure=False)
         self.busy.add(future)
         return future
 
@@ -152,19 +164,19 @@ class Dask:
         try:
             return future.result()
         except self.distributed.scheduler.KilledWorker:
-            return Unread("its workers have died")
+            raise Died from None
 
     def close(self):
         self.client.close()
 
 
-def of_inputs(parser, words, tool, *more):
+def of_inputs(parser, words, tool, *more, together=False):
     """The partial results of the inputs of a tool, whose workers get its arguments and `more`."""
     if getattr(words, "recording", None) or getattr(words, "times", None):
         parser.error("--jobs and --scheduler take the times beside each recording: leave out --recording and --times")
     if not words.inputs:
         parser.error("--jobs and --scheduler need files: name them, or their folder")
-    return results(words, tool, [*sys.argv[1:], *more], expanded(words.inputs))
+    return results(words, tool, [*sys.argv[1:], *more], expanded(words.inputs), together)
 
 
 def amount(size):
@@ -180,11 +192,11 @@ class Shown:
 
     def __init__(self, what, paths):
         self.progress, self.begun, self.done, self.bytes = zkr.Progress(what), time.monotonic(), 0, 0
-        self.sizes = list(map(size_of, paths))
-        self.all = sum(self.sizes)
+        self.sizes = dict(zip(paths, map(size_of, paths)))
+        self.all = sum(self.sizes.values())
 
-    def add(self, number):
-        self.done, self.bytes = self.done + 1, self.bytes + self.sizes[number]
+    def add(self, paths):
+        self.done, self.bytes = self.done + len(paths), self.bytes + sum(self.sizes[path] for path in paths)
         self.progress.show(self.text)
 
     def text(self):
@@ -201,35 +213,61 @@ def size_of(path):
         return 0
 
 
-def results(words, tool, options, paths):
-    """The partial results of these recordings, each with its path, in their order."""
+def chunks(paths, sizes):
+    """The recordings in chunks, so that there are some thousands at most."""
+    largest, found, size = max(LEAST_CHUNK, sum(sizes.values()) // CHUNKS), [], 0
+    for path in paths:
+        size += sizes[path]
+        if not found or size > largest or len(found[-1]) == MOST_IN_CHUNK:
+            found.append([])
+            size = sizes[path]
+        found[-1].append(path)
+    return found
+
+
+class Task(NamedTuple):
+    """Recordings that are done together: those of a chunk, or one of these; `tries` is how often it was done before."""
+    chunk: int
+    part: int
+    paths: list
+    tries: int = 0
+
+
+def results(words, tool, options, paths, together=True):
+    """The partial results of these recordings, each with the paths of its recordings, in their order. Where they aren't
+    done `together`, each is a chunk."""
     shown = Shown(tool, paths)
-    engine = Dask(words.scheduler) if words.scheduler else Processes(words.jobs)
-    tries, numbers, found, first, next_one = {}, {}, {}, 0, 0
+    parts = chunks(paths, shown.sizes) if together else [[path] for path in paths]
+    waiting, busy, found = collections.deque(Task(number, 0, each) for number, each in enumerate(parts)), {}, {}
+    engine, first = Dask(words.scheduler) if words.scheduler else Processes(words.jobs), 0
     try:
-        while first < len(paths):
-            while next_one < min(len(paths), first + AHEAD * engine.count) and len(engine.busy) < most(engine):
-                numbers[engine.submit(tool, options, paths[next_one])] = next_one
-                next_one += 1
+        while first < len(parts):
+            while waiting and len(busy) < engine.most and waiting[0].chunk < first + AHEAD * engine.count:
+                task = waiting.popleft()
+                found.setdefault(task.chunk, {0: None})
+                busy[engine.submit(tool, options, task.paths)] = task
             for future in engine.wait():
-                number = numbers.pop(future)
+                task = busy.pop(future)
                 try:
-                    found[number] = engine.result(future)
+                    found[task.chunk][task.part] = task.paths, engine.result(future)
                 except Died:
-                    tries[number] = tries.get(number, 0) + 1
-                    if tries[number] < TRIES:
-                        numbers[engine.submit(tool, options, paths[number])] = number
+                    if again := tasks_again(task, engine.tries):
+                        found[task.chunk].update((each.part, None) for each in again)
+                        waiting.extendleft(reversed(again))
                         continue
-                    found[number] = Unread(f"its worker died {TRIES} times")
-                shown.add(number)
-            while first in found:
-                yield paths[first], found.pop(first)
+                    found[task.chunk][task.part] = task.paths, Unread("its worker died again and again")
+                shown.add(task.paths)
+            while first in found and None not in found[first].values():
+                yield from (found[first][part] for part in sorted(found[first]))
+                del found[first]
                 first += 1
         shown.progress.end()
     finally:
         engine.close()
 
 
-def most(engine):
-    """How many recordings may be under way at once."""
-    return engine.count if isinstance(engine, Processes) else 2 * engine.count
+def tasks_again(task, tries):
+    """What is done again of a task whose worker has died."""
+    if len(task.paths) > 1:
+        return [Task(task.chunk, part, [path]) for part, path in enumerate(task.paths)]
+    return [task._replace(tries=task.tries + 1)] if task.tries + 1 < tries else []

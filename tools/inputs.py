@@ -6,11 +6,14 @@ import shutil
 import subprocess
 
 import columns
+import facts
 import joined
 import listing
 import program
 import zkr
 from times import times_of
+
+UNREAD = object()
 
 
 def add_words(parser):
@@ -43,16 +46,20 @@ def conversations(parser, words, objects, progress, before_read=lambda: None, fa
             raise ValueError(f"{words.recording or path}: {damage}") from None
 
 
-def conversation(parser, words, path, stream, objects, progress, before_read, fast=None):
-    """The conversation of one input."""
+def conversation(parser, words, path, stream, objects, progress, before_read, fast=None, known=UNREAD):
+    """The conversation of one input; `known` are the facts of the recording, where they were read before."""
     times, name = None, words.recording or path
     is_recording = stream.peek(4)[:4] in (b"ZKR1", b"ZKR2")
+    if known is UNREAD:
+        known = facts.facts_of(name) if words.recording or is_recording and path != listing.STANDARD_INPUT else None
     if is_recording:
         if path == listing.STANDARD_INPUT or words.recording:
             parser.error("this is a recording: name it as the argument, and leave out --recording")
-        if found := columns_of(words, path, fast, progress):
+        profile = words.profile or known and known.profile
+        if found := columns_of(words, path, fast, profile, known, progress):
             return found
-        lines, times = lines_of_show(parser, words, path, before_read), times_of(parser, path, words.times, False)
+        lines = lines_of_show(parser, words, path, profile, before_read)
+        times = times_of(parser, path, words.times, False)
     else:
         if words.recording:
             times = times_of(parser, words.recording, words.times, True)
@@ -65,28 +72,30 @@ def conversation(parser, words, path, stream, objects, progress, before_read, fa
     lines = itertools.chain([first], lines)
     if objects and first.startswith("{"):
         return joined.Joined(name, lines, progress)
-    return listing.Listing(name, lines, times, progress, is_recording)
+    return listing.Listing(name, lines, times, progress, is_recording, known)
 
 
-def columns_of(words, path, fast, progress):
+def columns_of(words, path, fast, profile, known, progress):
     """The columns of a recording; None where the plain form has to read it."""
     if not fast:
         return None
     options = fast(path)
     lacking = columns.lacks(words, "--lines" not in options)
     if not lacking:
-        return columns.opened(words, path, progress, [*columns.times_options(path, words.times), *options])
+        times = columns.times_options(path, words.times)
+        options = [*(["--profile", profile] if profile else []), *(times or ()), *options]
+        return None if times is None else columns.opened(words, path, known, progress, options)
     if os.path.getsize(path) >= columns.WORTH_A_LINE and not columns.is_told:
         columns.is_told = True
         zkr.report(f"this takes longer than it could: {lacking} (tools/README.md)")
     return None
 
 
-def lines_of_show(parser, words, path, before_read):
-    """The lines of a recording."""
+def lines_of_show(parser, words, path, profile, before_read):
+    """The lines of a recording, judged by this profile, if any."""
     if not shutil.which(words.zkdump):
         parser.error(f"there is no program {words.zkdump}: name it with --zkdump PATH")
-    options = ["--profile", words.profile] if words.profile else []
+    options = ["--profile", profile] if profile else []
     if limit := getattr(words, "limit", None):
         options += ["--limit", str(limit)]
     with open(path, "rb") as recording:

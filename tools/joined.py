@@ -4,6 +4,7 @@ import json
 import math
 import re
 
+import facts
 import listing
 
 WORD = re.compile(r"[A-Za-z0-9-]+", re.ASCII)
@@ -126,7 +127,8 @@ class Known:
     """What is known of one of the connections."""
 
     def __init__(self, name):
-        self.connection, self.last, self.requests, self.waiting = listing.Connection(name), 0, {}, None
+        self.connection, self.last, self.requests = listing.Connection(name), 0, {}
+        self.waiting, self.lost, self.is_part = None, (), False
 
     def message(self, made):
         """The message of an object."""
@@ -145,12 +147,14 @@ class Known:
         if not all(number is None or number >= 0 and math.isfinite(number) for number in (at, ms)):
             raise ValueError("zkjson doesn't write this value of 'at' or of 'ms'")
         xid = value(made, "xid", (int,), None)
-        connection.known = connection.known or side == "S"
         xid = None if xid is None else str(xid)
         message = listing.Message(connection, n, side, xid, op, path_of(made, "path"), error)
         if op == listing.CONNECT:
             message.made_up = all(made.get(name) == found for name, found in MADE_UP[side].items())
             connection.connect(message, session_of(made))
+        # The session of a part comes with the ending.
+        self.is_part |= message.made_up
+        connection.known = (connection.known or side == "S") and not self.is_part
         if at is not None:
             message.moment = at
             connection.timed(at)
@@ -176,19 +180,33 @@ class Known:
         """Takes the ending."""
         if self.connection.ending:
             raise ValueError("a line after the ending line")
-        waiting = made.pop("waiting", None)
+        waiting, lost = made.pop("waiting", None), made.pop("notCaptured", ())
+        found = made.pop("facts", None)
         made.pop("connection", None)
         if made["ending"] not in listing.ENDINGS or not all(
                 type(each) is int or type(each) is str and (WORD.fullmatch(each) or made["ending"] == listing.UNREAD)
                 for each in made.values()):
             raise ValueError("this is not an ending of zkjson")
         self.connection.ending = made
-        if type(waiting) is list:
-            self.waiting = set(filter(lambda each: type(each) is int, waiting))
+        if found is not None:
+            self.take_facts(found)
+        if type(waiting) is list and type(lost) in (list, tuple):
+            self.lost = {each for each in lost if type(each) is int}
+            self.waiting = {each for each in waiting if type(each) is int} | self.lost
+
+    def take_facts(self, found):
+        """Takes the facts of the recording, which an ending has."""
+        if not isinstance(found, dict):
+            raise ValueError("this is not an ending of zkjson")
+        self.connection.facts = facts.from_object(found)
+        self.connection.session = self.connection.session or self.connection.facts.session
 
     def left(self):
         """The requests to which no reply has come: those that the ending lists, if it does."""
-        return [made for made in self.requests.values() if self.waiting is None or made.n in self.waiting]
+        left = [made for made in self.requests.values() if self.waiting is None or made.n in self.waiting]
+        for made in left:
+            made.captured = made.n not in self.lost
+        return left
 
 
 def path_of(made, name):

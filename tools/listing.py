@@ -74,19 +74,29 @@ class Connection:
     `name` is what it is called, and `session` the number of its session in hexadecimal: that of the connect response,
     else that which the client asked for, else None. `begun` and `ended` are the times of its first and its last
     message, in milliseconds since 1970; `ending` is its ending line, its numbers as numbers; and `backwards` counts the
-    replies whose time is before that of their request. `known` says that the session no longer changes.
+    replies whose time is before that of their request. `known` says that the session no longer changes. `facts` has the
+    facts beside its recording, or None.
     """
 
-    def __init__(self, name):
-        self.name, self.session, self.known = name, None, False
+    def __init__(self, name, facts=None):
+        self.name, self.facts, self.session = name, facts, facts and facts.session
+        self.known = bool(self.session)
         self.begun = self.ended = self.ending = None
         self.backwards = 0
 
     def connect(self, made, session):
         """Takes a connect message, and its session as a number."""
-        self.known = made.side == "S"
+        self.known |= made.side == "S"
         if session and not made.made_up:
             self.session = hexadecimal(session)
+
+    def has_hole(self):
+        """Whether bytes of it are known not to be in its recording."""
+        return bool(self.facts) and self.facts.has_hole()
+
+    def loses_replies(self):
+        """Whether replies to the requests that wait at its end may have been lost."""
+        return bool(self.facts) and "S" in self.facts.hole
 
     def timed(self, moment):
         """Takes a message's time."""
@@ -99,6 +109,7 @@ class Message:
     """How a message's line begins: its number, its side, and its xid, operation and path as the line has them; None for
     what it has not.
 
+    `captured` says of a request that waits that its reply, if there was one, is not among bytes that are missing.
     `connection` is the Connection that it belongs to; `made_up` says that pcap2zkr made it up, at the beginning of what
     follows a loss. `error` is the name of a reply's error, or its number: of a
     failed multi, that of the part that failed; and of an event, its kind. `at` is the message's time as it is spelled,
@@ -108,7 +119,7 @@ class Message:
     """
 
     at = moment = microseconds = chosen = None
-    made_up = False
+    captured, made_up = True, False
     parts = ()
     ms = property(lambda self: None if self.microseconds is None else self.microseconds / 1000)
 
@@ -136,7 +147,9 @@ def unescaped(spelled):
 
 def text(spelled):
     """A text of a line; None for null."""
-    return None if spelled == "~" else "".join(parts_of_text(spelled, 0, len(spelled)))
+    if "\\" not in spelled:
+        return None if spelled == "~" else spelled[1:-1]
+    return "".join(parts_of_text(spelled, 0, len(spelled)))
 
 
 def parts_of_text(line, at, end):
@@ -212,12 +225,12 @@ class Listing(Conversations):
     Iterating gives the line of each message, the message, and the request that it answers, or None. `connection` is
     what is known of the connection, and `left()` returns the requests that wait. `times` gives the time of each
     message, where it isn't None (times.Times); `progress` is updated with the number of lines. `proved` says that the
-    lines are those of zkdump itself, whose values need no check.
+    lines are those of zkdump itself, whose values need no check; `facts` are those of the recording.
     """
 
-    def __init__(self, name, lines, times, progress, proved=False):
+    def __init__(self, name, lines, times, progress, proved=False, facts=None):
         super().__init__(name, lines, progress)
-        self.connection, self.times, self.proved = Connection(name), times, proved
+        self.connection, self.times, self.proved = Connection(name, facts), times, proved
         self.plain = collections.deque()        # the requests that wait, in the lanes in which a server answers them
         self.lanes = {xid: collections.deque() for xid in OWN_LANES}    # (docs/CONVERSATION.md)
 
@@ -284,7 +297,11 @@ class Listing(Conversations):
 
     def left(self):
         """The requests that still wait, in the order in which they came."""
-        return sorted((made for lane in (self.plain, *self.lanes.values()) for made in lane), key=lambda made: made.n)
+        left = sorted((made for lane in (self.plain, *self.lanes.values()) for made in lane), key=lambda made: made.n)
+        if self.connection.loses_replies():
+            for made in left:
+                made.captured = False
+        return left
 
     def paths(self, line, made):
         """The paths of the line of a request or an event: of a multi, those of its parts."""

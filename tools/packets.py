@@ -23,6 +23,8 @@ LINKS = {0: 4, 108: 4, 113: 16, 276: 20, 12: 0, 14: 0, 101: 0, 228: 0, 229: 0}
 ETHERNET, VLANS, IP_KINDS = 1, (b"\x81\x00", b"\x88\xa8", b"\x91\x00"), (b"\x08\x00", b"\x86\xdd")
 FRAGMENTED, EXTENSIONS, TCP = 0x3FFF, (0, 43, 60), 6
 IPV4, TCP_HEAD = struct.Struct(">2xH2xHxB"), struct.Struct(">HHIIBB")
+# Ethernet, IPv4 without options, and TCP: the heads of nearly all packets.
+USUAL, IPV4_KIND, IPV4_PLAIN = struct.Struct(">12xHBxH2xHxB10xHHIIBB"), 0x0800, 0x45
 SECTION, INTERFACE, OLD_PACKETS, PACKET = 0x0A0D0D0A, 1, (2, 3), 6
 
 
@@ -60,14 +62,20 @@ def segments(stream):
     source, number = Source(stream), 0
     mark = source.exactly(4) if source.more(0) else b""
     packets = packets_of_pcapng(source) if mark == b"\x0a\x0d\x0d\x0a" else packets_of_pcap(source, mark)
-    unpack_ip, unpack_tcp = IPV4.unpack_from, TCP_HEAD.unpack_from
+    unpack_ip, unpack_tcp, unpack_usual, usual = IPV4.unpack_from, TCP_HEAD.unpack_from, USUAL.unpack_from, USUAL.size
     for number, (milliseconds, link, packet, at, end) in enumerate(packets, 1):
         if not 0 <= milliseconds < LATEST:
             raise NotRead(f"packet {number} has no time between the years 1970 and 9999")
-        if link == ETHERNET and packet[at + 12:at + 14] == b"\x08\x00":
-            at += 14
-        else:
-            at = network_place(link, packet, at)
+        if link == ETHERNET and end - at >= usual:
+            kind, version, size, fragment, protocol, source_port, target_port, sequence, acknowledged, length, flags = \
+                unpack_usual(packet, at)
+            if kind == IPV4_KIND and version == IPV4_PLAIN and protocol == TCP and not fragment & FRAGMENTED:
+                if length >= 0x50:
+                    whole = at + 14 + size if size else end
+                    yield (number, milliseconds, packet[at + 26:at + 38], source_port, target_port, sequence, acknowledged,
+                           flags, packet[at + 34 + (length >> 4) * 4:whole if whole < end else end], whole > end)
+                continue
+        at = network_place(link, packet, at)
         if end - at >= 40 and packet[at] == 0x45:
             size, fragment, kind = unpack_ip(packet, at)
             if kind != TCP or fragment & FRAGMENTED:

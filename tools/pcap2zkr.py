@@ -120,8 +120,8 @@ class Capture:
             self.over.pop(back, None)
         from_client = self.is_from_client(segment)
         client = ends if from_client else back
-        conversation = Conversation(self.series, f"{address_text(client, 0)} > {address_text(client, 1)}", not begins,
-                                    number, milliseconds)
+        conversation = Conversation(self.series, address_text(client, 0), address_text(client, 1), not begins, number,
+                                    milliseconds)
         stream = conversation.stream = Stream(conversation, self.budget, number, milliseconds)
         stream.ends = client, back if from_client else ends
         self.halves.update(zip(stream.ends, stream.halves))

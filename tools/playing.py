@@ -57,7 +57,7 @@ class Play:
     """One connection. `pings` counts the client's pings that were answered and not recorded, `spare` those of them that
     no recorded ping has been set against, and `missed` the recorded pings whose replies are still to be left out."""
 
-    def __init__(self, open_recording, own, connection, wait, faults=Faults()):
+    def __init__(self, open_recording, own, connection, wait, faults=Faults(), writer=None):
         self.open_recording, self.own, self.connection, self.wait = open_recording, own, connection, wait
         self.delay, self.end, self.reset = faults.delay, faults.end, faults.reset
         self.flips = dict(faults.flips)
@@ -65,6 +65,7 @@ class Play:
         self.at = {zkr.CLIENT: Position(), zkr.SERVER: Position()}
         self.heard, self.has_ended, self.zxid = bytearray(), False, bytes(8)
         self.pings = self.spare = self.missed = 0
+        self.writer, self.ended = writer, {}    # a recording of what is said, and the facts of the connection's end
         connection.setsockopt(socket.IPPROTO_TCP, socket.TCP_NODELAY, 1)
 
     def run(self):
@@ -81,6 +82,7 @@ class Play:
                           "so no fault was made there")
         if not is_end:
             if self.own == zkr.CLIENT:
+                self.ended = self.ended or {"closed": "C"}
                 self.connection.shutdown(socket.SHUT_WR)
             self.hear_end()
 
@@ -113,10 +115,16 @@ class Play:
 
     def send(self, data):
         self.connection.settimeout(self.wait)
+        self.record(self.own, data)
         try:
             self.connection.sendall(data)
         except OSError as error:
             raise self.refused(f"it can't be sent more: {error.strerror or error}") from None
+
+    def record(self, side, data):
+        """Writes what is said to the recording, if there is one."""
+        if self.writer and data:
+            self.writer.piece(side, time.time() * 1000, bytes(data))
 
     def before_the_end(self, at, size):
         """How many of a part's bytes are still sent, where the side ends in it."""
@@ -134,6 +142,7 @@ class Play:
 
     def end_here(self):
         """Ends the own side, or resets the connection."""
+        self.ended = self.ended or {"reset" if self.reset else "closed": self.own.decode()}
         if self.reset:
             self.connection.setsockopt(socket.SOL_SOCKET, socket.SO_LINGER, struct.pack("ii", 1, 0))
         else:
@@ -165,9 +174,14 @@ class Play:
         except socket.timeout:
             return "nothing came"
         except OSError as error:
+            if isinstance(error, ConnectionResetError):
+                self.ended = self.ended or {"reset": self.peer.decode()}
             return error.strerror
+        self.record(self.peer, got)
         self.heard += got
         self.has_ended = not got
+        if self.has_ended:
+            self.ended = self.ended or {"closed": self.peer.decode()}
         return None if got else "it ended"
 
     def hear(self, due):

@@ -17,6 +17,8 @@ import sys
 import time
 
 import addresses
+import contents
+import facts
 import proxy
 import zkr
 
@@ -30,15 +32,15 @@ class Recording:
 
     def __init__(self, recorder, connection):
         self.recorder, self.connection, self.writer, self.words = recorder, connection, None, []
-        self.path = "-"
+        self.path, self.recorded, self.begun = "-", None, now()
         try:
-            self.writer = recorder.series.next()
+            self.writer = self.recorded = recorder.series.next()
             self.path = self.writer.path
         except OSError as error:
             recorder.status = 3
             recorder.complaints.print_once(f"{recorder.series.prefix}: {error.strerror}; new connections go on without "
                                           "a recording")
-        recorder.say(f"{self.path} {connection.peer} begun {zkr.clock(now())}")
+        recorder.say(f"{self.path} {connection.peer} begun {zkr.clock(self.begun)}")
 
     def piece(self, side, data):
         if self.writer:
@@ -63,16 +65,34 @@ class Recording:
         incomplete = ["incomplete"] if self.words else []
         if self.writer:
             self.close()
-        self.recorder.say(" ".join([self.path, self.connection.peer, "ended", zkr.clock(now()), *self.words,
-                                    *self.connection.ended_words(), *incomplete]))
+        ended, how = now(), self.connection.ended_words()
+        self.recorder.say(" ".join([self.path, self.connection.peer, "ended", zkr.clock(ended), *self.words, *how,
+                                    *incomplete]))
+        if self.recorded:
+            self.write_facts(ended, how, incomplete)
+
+    def write_facts(self, ended, how, incomplete):
+        """Writes what is known of the connection beside its recording."""
+        known = {word: value or True for word, _, value in (each.partition("=") for each in how)}
+        try:
+            session, head = contents.session_of(self.path), self.recorded.head
+            self.recorded.write_facts(facts.Facts(
+                tool="record", client=self.connection.peer, server=self.recorder.server_text, connected=self.begun,
+                begun=self.begun, ended=ended, session=session, hole=facts.SIDES if incomplete else (),
+                profile=zkr.RELEASES[head.profile] if head.form == "zkr2" else None, **known))
+        except OSError as error:
+            self.recorder.status = 3
+            self.recorder.complaints.print(f"{error.filename or self.path}: {error.strerror}; the facts of "
+                                           f"{self.path} are not written")
 
 
 class Recorder(proxy.Proxy):
     """Accepts clients' connections and records them; `status` is 3 if a recording could not be written."""
 
-    def __init__(self, server, series):
+    def __init__(self, server, series, server_text=None):
         super().__init__("record.py", server)
         self.series, self.status, self.descriptors = series, 0, 2 if series.times else 1
+        self.server_text = server_text
 
     def observer_of(self, connection):
         return Recording(self, connection)
@@ -103,7 +123,7 @@ def main():
     except OSError as error:
         print(f"record.py: {error.filename or words.prefix}: {error.strerror}", file=sys.stderr)
         return 3
-    recorder = Recorder(server, zkr.Series(words.prefix, head, words.times))
+    recorder = Recorder(server, zkr.Series(words.prefix, head, words.times), addresses.address_text(words.server))
     for listener in listeners:
         recorder.complaints.print(f"listens on {addresses.address_text(listener.getsockname())}; Ctrl-C ends it")
     recorder.run(listeners)

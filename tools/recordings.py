@@ -1,16 +1,26 @@
 """The recordings of the connections in a capture: their names, and their files."""
 
+import collections
+import io
+
 import zkr
 
 GATHERED, MOST_GATHERED, LEAST_GATHERED = 1 << 16, 1 << 23, 1 << 11
+BLOCKS = 64         # of a recording's end, in which something can be taken back
 
 
 class Recording(zkr.Writer):
-    """A new recording, whose files are open only while something is written: there may be any number of them."""
+    """A new recording, whose files are open only while something is written: there may be any number of them.
+
+    `blocks` has of each of the last places up to which it was written the size of the recording, that of its times, and
+    the numbers of the client's and the server's bytes.
+    """
 
     def __init__(self, path, head, times, gather):
+        self.blocks = collections.deque([(len(head.to_bytes()), 0, 0, 0)], BLOCKS)
         super().__init__(path, head, times, gather)
-        self.first = self.last = self.began = self.ended = None
+        self.first, self.began = None, None
+        self.ends = {}      # by side, the number and the time of its last packet
         for file in self.files():
             file.file.close()
 
@@ -25,13 +35,65 @@ class Recording(zkr.Writer):
                         file.flush()
                 except OSError as error:
                     raise OSError(error.errno, error.strerror, file.path) from error
+        self.blocks.append((self.recording.size, self.times.size if self.times else 0, *self.count.values()))
 
     def take(self, side, number, milliseconds, data):
         """Writes bytes of the packet of this number."""
         if self.first is None:
             self.first, self.began = number, milliseconds
-        self.last, self.ended = number, milliseconds
+        self.ends[side] = number, milliseconds
         self.piece(side, milliseconds, data)
+
+    def last(self):
+        """The number and the time of its last packet."""
+        return max(self.ends.values())
+
+    def take_back(self, spans, accept=bool):
+        """Takes bytes of the client out of the recording's end again, and returns them: `spans` has where each part of
+        them begins among the client's bytes, and its size, in order. Returns none, and changes nothing, where that is
+        too long ago, or where `accept` is false for the first of them."""
+        self.flush()
+        block = next((block for block in reversed(self.blocks) if block[2] <= spans[0][0]), None)
+        if not block:
+            return []
+        tails = []
+        for file, size in zip(self.files(), block):
+            with open(file.path, "rb") as stream:
+                stream.seek(size)
+                tails.append(stream.read())
+        pieces = list(zkr.Reader(io.BytesIO(self.head.to_bytes() + tails[0])))
+        times = map(float, tails[1].split()) if self.times else (piece.milliseconds or 0 for piece in pieces)
+        kept, taken = split_client(pieces, times, block[2], spans)
+        if not accept(taken[0]):
+            return []
+        for file, size in zip(self.files(), block):
+            with open(file.path, "r+b") as stream:
+                stream.truncate(size)
+            file.size = size
+        self.count = dict(zip(self.count, block[2:]))
+        while self.blocks[-1] is not block:
+            self.blocks.pop()
+        for side, milliseconds, data in kept:
+            self.piece(side, milliseconds, data)
+        return taken
+
+
+def split_client(pieces, times, place, spans):
+    """Pieces with their times, without these spans of the client's bytes, of which the first one is at this place; and
+    the bytes of each span."""
+    kept, taken = [], [bytearray() for _ in spans]
+    for (side, _, data), milliseconds in zip(pieces, times):
+        left = bytearray(data)
+        if side == zkr.CLIENT:
+            end = place + len(data)
+            for (begin, size), found in zip(reversed(spans), reversed(taken)):
+                part = slice(max(0, begin - place), max(0, min(begin + size, end) - place))
+                found += left[part]
+                del left[part]
+            place = end
+        if left:
+            kept.append((side, milliseconds, bytes(left)))
+    return kept, list(map(bytes, taken))
 
 
 class Series:
@@ -59,6 +121,10 @@ class Series:
                 continue
             self.open += 1
             return made, number, part
+
+    def profile(self):
+        """The release that the head of each recording names, if any."""
+        return zkr.RELEASES[self.head.profile] if self.head.form == "zkr2" else None
 
     def say(self, line):
         """Prints a line; where nobody reads it any more, the rest continues."""

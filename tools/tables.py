@@ -3,6 +3,7 @@
 import json
 import re
 
+import facts
 import zkr
 
 PERCENTS = (50, 95, 99)
@@ -49,7 +50,9 @@ def lines(found):
     yield f"{timed:>8} of {answered} replies timed"
     if backwards := sum(each["backwards"] for each in found["connections"]):
         yield f"{backwards:>8} replies have a time before that of their request"
-    yield from unanswered(found["unanswered"])
+    yield from unanswered(found["unanswered"], "requests unanswered")
+    if "notCaptured" in found:
+        yield from unanswered(found["notCaptured"], "replies not captured, if there were any")
     yield ""
     yield from connections(found["connections"], heads)
     if found["slowest"]:
@@ -57,8 +60,8 @@ def lines(found):
         yield from slowest(found["slowest"])
 
 
-def unanswered(waiting):
-    yield f"{len(waiting):>8} requests unanswered"
+def unanswered(waiting, what):
+    yield f"{len(waiting):>8} {what}"
     for made in waiting[:SHOWN]:
         name = "" if made["connection"] == "-" else plain(made["connection"]) + " "
         request = " ".join(str(made[each]) for each in ("xid", "op", "path") if each in made)
@@ -74,18 +77,19 @@ def connections(found, heads):
             rows.append(f"    the same session, {each['gap']:.10g} s later" if each["gap"] >= 0 else
                         f"    the same session, {-each['gap']:.10g} s before that ended")
         rows.append([plain(each["connection"]), each["session"] or "-", each["begun"] or "-", each["ended"] or "-",
-                     *cells(each), ending(each["ending"])])
+                     *cells(each), ending(each["ending"], each.get("facts"))])
     return aligned(rows, {0, 1, 2, 3, len(rows[0]) - 1})
 
 
-def ending(found):
-    """An ending line without its point."""
+def ending(found, known):
+    """An ending line without its point, and the words of what is known of the recording."""
+    words = facts.from_object(known).words() if known else []
     if not found:
-        return "no ending line"
+        return " ".join(["no ending line", *words])
     (_, word), *fields = found.items()
     if word == "unread":
         return f"unread: {zkr.shown(found['reason'])}"
-    return " ".join([word, *(f"{name}={value}" for name, value in fields)])
+    return " ".join([word, *(f"{name}={value}" for name, value in fields), *words])
 
 
 def slowest(found):

@@ -4,6 +4,7 @@ import os
 import re
 import struct
 
+import contents
 import forms
 import listing
 import zkr
@@ -168,4 +169,4 @@ def times_of(parser, path, beside, foreign):
         if foreign:
             parser.error(f"{path} has no times: name a file of them with --times FILE")
         return None
-    return Times(pieces, zkr.times_beside(path, beside), foreign)
+    return Times(pieces, contents.times_beside(path, beside), foreign)

@@ -35,9 +35,14 @@ def words_of(arguments=None, kind=zkr.Words):
     return parser, parser.parse_args(arguments)
 
 
-def partial(options, path):
-    """The ending of a recording."""
+def partial(options, paths):
+    """The ending of each recording and its size, or an Unread."""
     _, words = words_of(options, fleet.Strict)
+    return [fleet.attempt(lambda path: check(words, path), path) for path in paths]
+
+
+def check(words, path):
+    """The ending of a recording, and its size."""
     profile = ["--profile", words.profile] if words.profile else []
     with open(path, "rb") as recording:
         checked = subprocess.run([words.zkdump, "check", *profile], stdin=recording, stdout=subprocess.PIPE,
@@ -88,12 +93,13 @@ def main():
         program.prove_runs(parser, words.zkdump)
         words.jobs = words.jobs or os.cpu_count() or 1
     found = Counts()
-    for path, result in fleet.results(words, "zkfleet", sys.argv[1:], paths_of(words.inputs)):
-        ending, size = ({"ending": "unread", "reason": result.reason}, 0) if isinstance(result, fleet.Unread) else result
+    checked = fleet.results(words, "zkfleet", sys.argv[1:], paths_of(words.inputs))
+    for path, result in (each for paths, found in checked for each in zip(paths, [found] if isinstance(found, fleet.Unread) else found)):
+        ending, size = ({"ending": listing.UNREAD, "reason": result.reason}, 0) if isinstance(result, fleet.Unread) else result
         found.add(ending, size)
         if words.all or ending["ending"] != "whole":
             print(json.dumps({"recording": path, **ending}) if words.json else
-                  f"{tables.plain(path)}: {tables.ending(ending)}")
+                  f"{tables.plain(path)}: {tables.ending(ending, None)}")
     print(json.dumps(found.summary()) if words.json else "\n".join(found.lines()))
     return 0 if set(found.endings) <= {"whole"} else 1
 

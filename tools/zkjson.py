@@ -13,6 +13,9 @@ requests without a reply.
 
 If the recording has times, a message has the time of its last byte, `at`, in milliseconds since 1970, and a reply has
 how long it took, `ms`. A ZKR2 recording has times within; for others they are in FILE, or in REC.zkr.times.
+
+If there are facts beside the recording (REC.facts.json), the ending has them, as `facts`. Where they say that bytes are
+missing, the status is 1, and `notCaptured` lists the requests whose replies may be among them.
 """
 
 import argparse
@@ -152,9 +155,18 @@ def write_columns(talk, chosen, out):
         out.buffer.write(block.lines(array))
 
 
+def ending_of(talk, chosen):
+    """The ending of a connection, with the requests without a reply, and what is known of the recording."""
+    connection, left = talk.connection, chosen.left(talk)
+    made = {**connection.ending, "waiting": [each.n for each in left if each.captured]}
+    if connection.loses_replies():
+        made["notCaptured"] = [each.n for each in left]
+    return {**made, "facts": connection.facts.to_object()} if connection.facts else made
+
+
 def write_all(parser, words, progress, out):
-    """Writes what the arguments choose."""
-    chosen = selection.Selection(words)
+    """Writes what the arguments choose; whether bytes of a connection are missing."""
+    chosen, has_hole = selection.Selection(words), False
 
     def fast(name):
         return [*chosen.options(name), "--json", head_of(name), *["--no-part-paths"] * (chosen.slower is not None)]
@@ -166,9 +178,10 @@ def write_all(parser, words, progress, out):
             else:
                 for line, made, asked in chosen.chosen(talk):
                     write(line, made, asked, out)
+        has_hole |= talk.connection.has_hole()
         if talk.connection.ending:
-            waiting = ", ".join(str(made.n) for made in chosen.left(talk))
-            print(f'{head}, {json.dumps(talk.connection.ending)[1:-1]}, "waiting": [{waiting}]}}', file=out)
+            print(f"{head}, {json.dumps(ending_of(talk, chosen))[1:]}", file=out)
+    return has_hole
 
 
 def words_of(arguments=None, kind=zkr.Words):
@@ -180,36 +193,46 @@ def words_of(arguments=None, kind=zkr.Words):
     return parser, parser.parse_args(arguments)
 
 
-def partial(options, path):
-    """The JSON of one file: a file of it, or where it goes over a network its bytes, compressed."""
+def partial(options, paths):
+    """The JSON of one file, or an Unread."""
+    return fleet.attempt(lambda path: part_of(options, path), *paths)
+
+
+def part_of(options, path):
+    """The JSON of one file: a file of it, or where it goes over a network its bytes, compressed. And whether bytes of a
+    connection are missing."""
     parser, words = words_of(options, fleet.Strict)
     words.inputs, packed = [path], io.BytesIO()
     made = None if words.scheduler else tempfile.NamedTemporaryFile(dir=words.parts, delete=False)
     try:
         with io.TextIOWrapper(made or gzip.GzipFile(fileobj=packed, mode="wb", compresslevel=1), "utf-8") as out:
-            write_all(parser, words, zkr.Progress("zkjson", False), out)
+            has_hole = write_all(parser, words, zkr.Progress("zkjson", False), out)
     except BaseException:
         if made:
             os.unlink(made.name)
         raise
-    return made.name if made else packed.getvalue()
+    return made.name if made else packed.getvalue(), has_hole
 
 
 def write_parts(parser, words, out):
-    """Writes the JSON of many files, in their order; what can't be read has its line. Whether there was such."""
-    unread = False
+    """Writes the JSON of many files, in their order; what can't be read has its line. Whether something is missing."""
+    missing = False
     with tempfile.TemporaryDirectory(prefix="zkjson-") as folder:
-        for path, result in fleet.of_inputs(parser, words, "zkjson", "--parts", folder):
+        for (path,), result in fleet.of_inputs(parser, words, "zkjson", "--parts", folder):
             if isinstance(result, fleet.Unread):
-                unread = True
-                print(f'{head_of(path)}, "ending": "unread", "reason": {forms.readable(result.reason)}}}', file=out, flush=True)
-            elif isinstance(result, bytes):
-                out.buffer.write(gzip.decompress(result))
+                missing = True
+                print(f'{head_of(path)}, "ending": "unread", "reason": {forms.readable(result.reason)}}}',
+                      file=out, flush=True)
+                continue
+            part, has_hole = result
+            missing |= has_hole
+            if isinstance(part, bytes):
+                out.buffer.write(gzip.decompress(part))
             else:
-                with open(result, "rb") as made:
+                with open(part, "rb") as made:
                     shutil.copyfileobj(made, out.buffer, 1 << 20)
-                os.unlink(result)
-    return unread
+                os.unlink(part)
+    return missing
 
 
 def main():
@@ -217,8 +240,7 @@ def main():
     sys.stdout.reconfigure(encoding="utf-8")
     if fleet.is_asked(words):
         return 1 if write_parts(parser, words, sys.stdout) else 0
-    write_all(parser, words, zkr.Progress("zkjson", may=not sys.stdout.isatty()), sys.stdout)
-    return 0
+    return 1 if write_all(parser, words, zkr.Progress("zkjson", may=not sys.stdout.isatty()), sys.stdout) else 0
 
 
 if __name__ == "__main__":

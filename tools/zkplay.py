@@ -12,7 +12,8 @@ recorded are answered, and recorded ones may be missing. After the last piece it
 --client it plays the client to a server: two of them are the two ends of a bench for proxies.
 
 A listing may be given in place of a recording: `zkdump build` makes a recording of it. --then RECORDING plays another
-one to the next connection. --connections N plays them to N connections, and begins again with the first one.
+one to the next connection. --connections N plays them to N connections, and begins again with the first one. --record
+PREFIX records what is said, as record.py does, with times and facts.
 
 Options make faults, on each connection, in what this side sends. FRAMEs are counted from 0; PLACE is a byte of the
 frame's payload, as in zkdump's ending lines, and a FRAME alone is the place before its length.
@@ -26,8 +27,11 @@ import socket
 import subprocess
 import sys
 import threading
+import time
 
 import addresses
+import contents
+import facts
 import playing
 import program
 import zkr
@@ -52,6 +56,9 @@ def opener(parser, path, words):
         file.seek(0)
         if not is_listing:
             zkr.Reader(file)
+            known = facts.facts_of(path)
+            if known and known.skipped is not None:
+                zkr.complain(f"{path} doesn't begin with its connection: its connect messages were made up")
             return lambda: open(path, "rb")
         program.prove_runs(parser, words.zkdump)
         built = subprocess.run([words.zkdump, "build"], stdin=file, capture_output=True, check=False)
@@ -67,6 +74,7 @@ class Bench:
     def __init__(self, openers, words):
         self.openers, self.words, self.status, self.printing = openers, words, 0, threading.Lock()
         self.own = zkr.CLIENT if words.client else zkr.SERVER
+        self.series = zkr.Series(words.record, zkr.Head(), True) if words.record else None
         self.faults = playing.Faults(words.delay, words.flip, words.cut_at or words.reset_at, bool(words.reset_at))
 
     def run(self, connections):
@@ -84,13 +92,27 @@ class Bench:
         head = f"#{number + 1} " if self.words.connections > 1 else ""
         try:
             with connection:
+                writer = self.series.next() if self.series else None
                 play = playing.Play(self.openers[number % len(self.openers)], self.own, connection, self.words.wait,
-                                    self.faults)
-                play.run()
+                                    self.faults, writer)
+                ends = [addresses.address_text(each()) for each in (connection.getpeername, connection.getsockname)]
+                begun = time.time() * 1000
+                try:
+                    play.run()
+                finally:
+                    if writer:
+                        self.end(writer, play, begun, *(ends if self.own == zkr.SERVER else reversed(ends)))
             self.print(sys.stdout, f"{head}played: {play.counts()}")
         except (ValueError, OSError) as error:
             self.status = max(self.status, 3 if isinstance(error, OSError) else 1)
             self.print(sys.stderr, f"zkplay.py: {head}{error}")
+
+    def end(self, writer, play, begun, client, server):
+        """Ends a recording, and writes its facts."""
+        writer.close()
+        writer.write_facts(facts.Facts(
+            tool="zkplay", client=client, server=server, connected=begun, begun=begun, ended=time.time() * 1000,
+            session=contents.session_of(writer.path), **(play.ended or {"open": True})))
 
     def print(self, stream, line):
         """Prints a line, if the stream is open."""
@@ -140,6 +162,7 @@ def words_of():
     parser.add_argument("--then", metavar="RECORDING", action="append", default=[], help="play this one to the next "
                         "connection; may be given several times")
     parser.add_argument("--client", action="store_true", help="play the client, to the server at HOST:PORT")
+    parser.add_argument("--record", metavar="PREFIX", help="record what is said as PREFIX-1.zkr and so on, with times")
     option("--wait", seconds, "SECONDS", default=10, help="how long it waits for a byte (10)")
     parser.add_number("--connections", MOST_CONNECTIONS,
                       help="how many connections it plays to (one for each recording)")

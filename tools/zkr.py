@@ -11,11 +11,13 @@ milliseconds since 1970 in decimal, with a fraction. All times in this module ar
 
 import argparse
 import datetime
+import errno
 import os
 import re
 import struct
 from typing import NamedTuple, Optional
 
+import facts
 from running import (Progress, allow_many_files, complain, hold_standard_streams, drop_standard_output,  # noqa: F401
                      report, shown, standard_input, tool)
 
@@ -246,7 +248,10 @@ class Writer:
 
     def __init__(self, path, head, times, gather=0):
         self.path, self.head, self.gather = path, head, gather
+        self.usual = PIECE_HEADS["zkr1"].pack if head.form == "zkr1" else None
         self.count = {CLIENT: 0, SERVER: 0}
+        if os.path.exists(facts.facts_path(path)):
+            raise FileExistsError(errno.EEXIST, "File exists", facts.facts_path(path))
         self.recording, self.times = NewFile(path), None
         try:
             self.times = NewFile(times_path(path)) if times else None
@@ -259,6 +264,16 @@ class Writer:
 
     def piece(self, side, milliseconds, data):
         """Writes any number of bytes of a side as pieces. Their time is the same in both files, to a microsecond."""
+        size, waiting = len(data), self.recording.waiting
+        if self.usual and 0 < size <= LARGEST_PIECE:    # the loop below in a shorter form
+            waiting += self.usual(side, size)
+            waiting += data
+            if self.times:
+                self.times.waiting += b"%.3f\n" % milliseconds
+            self.count[side] += size
+            if len(waiting) >= self.gather:
+                self.flush()
+            return
         milliseconds = round(milliseconds, 3)
         for at in range(0, len(data), LARGEST_PIECE):
             self.recording.waiting += self.head.piece(side, milliseconds, data[at:at + LARGEST_PIECE])
@@ -280,6 +295,10 @@ class Writer:
             self.recording.file.close()
             if self.times:
                 self.times.file.close()
+
+    def write_facts(self, found):
+        """Writes the facts of the recording, which is closed."""
+        facts.write(self.path, found, self.times and self.times.path)
 
     def remove(self):
         """Removes the recording and its times."""

@@ -4,9 +4,10 @@
     zkr2pcap.py [--port N] REC.zkr [REC.zkr ..] CAPTURE.pcap
 
 Each recording becomes a TCP connection over IPv4, from a port of its own at 10.0.0.1 to port 2181, or N, at 10.0.0.2,
-with a made-up beginning and end. A packet has the time of its piece: those of a ZKR2 recording are within, others in
-REC.zkr.times, if that exists; else the packets are a millisecond apart, from the beginning of 1970 on. The capture may
-not exist already, and its owner alone may read it: it has everything that was said.
+with a made-up beginning and end; it has no end where the facts beside the recording say that none was seen. A packet
+has the time of its piece: those of a ZKR2 recording are within, others in REC.zkr.times, if that exists; else the
+packets are a millisecond apart, from the beginning of 1970 on. The capture may not exist already, and its owner alone
+may read it: it has everything that was said.
 """
 
 import heapq
@@ -15,6 +16,8 @@ import struct
 import sys
 from typing import NamedTuple
 
+import contents
+import facts
 import zkr
 
 FIN, SYN, RST, PUSH, ACK = 1, 2, 4, 8, 16
@@ -102,7 +105,7 @@ def nanoseconds(text):
 def timed(path, reader):
     """The pieces of a recording, each with its time in nanoseconds."""
     beside = zkr.times_path(path)
-    times = zkr.times_beside(path) if os.path.exists(beside) else None
+    times = contents.times_beside(path) if os.path.exists(beside) else None
     try:
         for number, piece in enumerate(reader):
             if times:
@@ -116,7 +119,8 @@ def timed(path, reader):
 
 def packets(path, reader, client, server):
     """The packets of a recording, each with its time in nanoseconds and the port of its client."""
-    for sent in conversation(timed(path, reader)):
+    known = facts.facts_of(path)
+    for sent in conversation(timed(path, reader), close=not (known and (known.open or known.hole))):
         yield sent.milliseconds, client, ETHERNET_HEAD + ipv4(sent.side, tcp(sent, client, server))
 
 

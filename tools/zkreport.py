@@ -2,6 +2,7 @@
 """Reports what happened on many connections, as a page for a browser, as text, or as a trace.
 
     zkreport.py [-o REPORT.html] [--text] [--trace TRACE.json] [--against OTHER] [--port N] [CHOICE ..] INPUT ..
+    zkreport.py --text --jobs N|--scheduler ADDRESS [--port N] [CHOICE ..] INPUT|DIR|@LIST ..
 
 An INPUT is a capture of tcpdump or Wireshark, a recording, or a listing of one, also as the lines of zkjson; a capture
 has any number of connections. Captures have times; recordings have them within (ZKR2) or beside (RECORDING.times).
@@ -10,7 +11,7 @@ has any number of connections. Captures have times; recordings have them within 
 each row of which leads to the messages around it. --text writes the tables to standard output. --trace writes the
 requests as trace events, which Perfetto (ui.perfetto.dev) and Chrome open. --against compares the run with another one,
 without xids, zxids, sessions and times; it is given once for each file of the other run. The status is 1 if the runs
-differ.
+differ, or if bytes of a connection are missing; requests whose replies may be among these count by themselves.
 
 The page has no passwords of sessions and no credentials, but it has data of nodes: its owner alone may read it.
 """
@@ -21,10 +22,11 @@ import os
 import sys
 import tempfile
 
+import fleet
 import program
 import selection
 import zkr
-from report import against, gather, messages, page, sources, summary, text, trace
+from report import against, gather, merged, messages, page, sources, summary, text, trace
 
 NAMED = 6       # the files that a page's title names
 
@@ -34,14 +36,19 @@ class Reader:
 
     def __init__(self, parser, words, folder):
         self.port, self.folder, self.chosen = words.port, folder, selection.Selection(words)
-        self.opener = sources.Opener(parser, words.zkdump)
+        self.opener, self.sources = sources.Opener(parser, words.zkdump), []
+
+    def run(self, inputs, tracing=None):
+        """What is found of all connections of these files."""
+        run = gather.Run()
+        for source in sources.sources_of(inputs, self.folder, self.port, run.warnings):
+            self.sources.append(source)
+            run.read(source, self.opener, self.chosen, tracing)
+        return run
 
     def read(self, inputs, tracing=None):
         """The summary of all connections of these files."""
-        run = gather.Run()
-        for source in sources.sources_of(inputs, self.folder, self.port, run.warnings):
-            run.read(source, self.opener, self.chosen, tracing)
-        return summary.Summary(run)
+        return summary.Summary(self.run(inputs, tracing))
 
     def windows(self, found, links):
         """The messages around these; of a short run all."""
@@ -97,8 +104,8 @@ def write_text(found, compared):
     print("\n".join(lines))
 
 
-def words_of():
-    parser = zkr.Words(__doc__)
+def words_of(arguments=None, kind=zkr.Words):
+    parser = kind(__doc__)
     parser.add_argument("inputs", metavar="INPUT", nargs="+", help="a capture, a recording or a listing")
     parser.add_argument("-o", "--output", metavar="FILE", help="the page to write")
     parser.add_argument("--text", action="store_true", help="write the tables to standard output")
@@ -107,16 +114,45 @@ def words_of():
     parser.add_number("--port", range(1, 65536), default=2181, help="the server's port in captures (2181)")
     program.add_program(parser)
     selection.add_words(parser)
-    words = parser.parse_args()
+    fleet.add_words(parser)
+    words = parser.parse_args(arguments)
     if not (words.output or words.text or words.trace):
         parser.error("choose what to write: -o FILE, --text or --trace FILE")
     if words.against and (words.session, words.slower, words.begin, words.end) != (None,) * 4:
         parser.error("--against compares what --path and --op choose: leave out the other choices")
+    if fleet.is_asked(words) and (words.output or words.trace or words.against):
+        parser.error("--jobs and --scheduler are for --text")
     return parser, words
+
+
+def partial(options, paths):
+    """What is found of one file, and its sources; or an Unread."""
+    def one(path):
+        parser, words = words_of(options, fleet.Strict)
+        with tempfile.TemporaryDirectory(prefix="zkreport-") as folder:
+            reader = Reader(parser, words, folder)
+            return reader.run([path]), reader.sources
+    return fleet.attempt(one, *paths)
+
+
+def read_all(parser, words):
+    """The summary of many files; what can't be read is a connection without a message. And whether there was such."""
+    found, unread = merged.Merged(), False
+    for (path,), result in fleet.of_inputs(parser, words, "zkreport"):
+        if isinstance(result, fleet.Unread):
+            found.add_unread(sources.Source(path, os.path.basename(path)), result.reason)
+            unread = True
+        else:
+            found.add(*result)
+    return summary.Summary(found.run), unread
 
 
 def main():
     parser, words = words_of()
+    if fleet.is_asked(words):
+        found, unread = read_all(parser, words)
+        write_text(found, None)
+        return 1 if unread or found.run.warnings or found.has_hole() else 0
     with contextlib.ExitStack() as stack:
         reader = Reader(parser, words, stack.enter_context(tempfile.TemporaryDirectory(prefix="zkreport-")))
         out, traced = (stack.enter_context(new_file(path)) for path in (words.output, words.trace))
@@ -129,7 +165,7 @@ def main():
             out.waiting += page_of(reader, found, compared, title(words.inputs)).encode()
     if words.text:
         write_text(found, compared)
-    return 1 if found.run.warnings or compared and compared["first"] else 0
+    return 1 if found.run.warnings or found.has_hole() or compared and compared["first"] else 0
 
 
 if __name__ == "__main__":

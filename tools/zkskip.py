@@ -16,6 +16,8 @@ import os
 import struct
 import sys
 
+import contents
+import facts
 import zkr
 
 OPERATIONS = {1, 2, 3, 4, 5, 6, 7, 8, 9, 11, 12, 14, 100, 101, -11}
@@ -154,8 +156,11 @@ def main():
     if words.source and not words.target:
         parser.error("name the new recording, too: REC.zkr PLAIN.zkr")
     recording = zkr.Reader(open(words.source, "rb") if words.source else zkr.standard_input())
-    times = zkr.times_beside(words.source) if words.source and os.path.exists(zkr.times_path(words.source)) else None
-    skipping = Skipping(OF_PROFILE[words.profile or zkr.RELEASES[recording.head.profile]])
+    has_times = words.source and os.path.exists(zkr.times_path(words.source))
+    times = contents.times_beside(words.source) if has_times else None
+    known = facts.facts_of(words.source) if words.source else None
+    profile = words.profile or known and known.profile or zkr.RELEASES[recording.head.profile]
+    skipping = Skipping(OF_PROFILE[profile])
     if words.target:
         out = zkr.Writer(words.target, recording.head, times is not None, GATHERED)
     else:
@@ -164,6 +169,8 @@ def main():
         skip(recording, times, out, skipping)
     finally:
         out.close()
+        if known and words.target:
+            out.write_facts(known)
         zkr.report(f"left out: {skipping.requests} requests, {skipping.replies} replies")
     return 0
 

@@ -8,6 +8,9 @@ It reads listings, recordings, whose listings zkdump show makes, and the lines o
 without a FILE it reads a listing, or lines of zkjson, from standard input. If there are times, there are latencies:
 from a request's last byte to its reply's. p50, p95 and p99 are those of HdrHistogram with three significant digits, in
 microseconds; max is exact. A multi has failed if one of its parts has. Connections of one session are grouped.
+
+Where the facts beside a recording (NAME.facts.json) say that bytes are missing of it, the status is 1, and requests
+whose replies may be among them count by themselves.
 """
 
 import collections
@@ -61,6 +64,16 @@ class Counts:
                 "ms": ms or None}
 
 
+class Finished:
+    """The summary of what was counted of a connection of which nothing more comes."""
+
+    def __init__(self, counts):
+        self.found = counts.summary()       # one that is finished stays as it is
+
+    def summary(self):
+        return self.found
+
+
 def slow_row(asked, made, zxid):
     """The row of one of the slowest: a request and its reply."""
     return {"time": time(asked.moment), "ms": made.microseconds / 1000, "connection": made.connection.name,
@@ -80,8 +93,8 @@ class Statistics:
     def __init__(self, chosen):
         self.selection = chosen
         self.operations, self.connections = collections.defaultdict(Counts), {}
-        self.events, self.waiting = collections.Counter(), []
-        self.slowest, self.order, self.least = [], itertools.count(), -1
+        self.events, self.waiting, self.lost, self.has_hole = collections.Counter(), [], [], False
+        self.slowest, self.order, self.least, self.has_unread = [], itertools.count(), -1, False
 
     def counts_of(self, connection):
         """What is counted of a connection."""
@@ -105,7 +118,8 @@ class Statistics:
             self.operations[made.op].asked += 1
             self.connections[made.connection].asked += 1
             made.path = cut(made.path)
-            self.waiting.append(request(made))
+            (self.waiting if made.captured else self.lost).append(request(made))
+        self.has_hole |= any(connection.has_hole() for connection in talk.connections())
 
     def read_messages(self, talk):
         """Counts the messages of a conversation one by one; counted.add_block does it with columns."""
@@ -139,25 +153,32 @@ class Statistics:
         if len(self.slowest) == SLOWEST:
             self.least = self.slowest[0][0]
 
-    def unread(self, path, reason):
-        """Takes a recording that can't be read."""
+    def take(self, path, partial):
+        """Adds what was counted of a recording, or a row for one that can't be read."""
+        if not isinstance(partial, fleet.Unread):
+            self.merge(partial)
+            return
         connection = listing.Connection(path)
-        connection.ending = {"ending": "unread", "reason": reason}
+        connection.ending = {"ending": listing.UNREAD, "reason": partial.reason}
         self.counts_of(connection)
+        self.has_unread = True
 
     def partial(self):
         """What was counted, for `merge` in another process."""
-        return (dict(self.operations), self.connections, self.events, self.waiting,
+        connections = {connection: Finished(counts) for connection, counts in self.connections.items()}
+        return (dict(self.operations), connections, self.events, self.waiting, self.lost, self.has_hole, self.has_unread,
                 [(microseconds, row) for microseconds, _, row in sorted(self.slowest, key=lambda entry: -entry[1])])
 
     def merge(self, partial):
         """Adds what was counted of other conversations."""
-        operations, connections, events, waiting, slowest = partial
+        operations, connections, events, waiting, lost, has_hole, has_unread, slowest = partial
         for name, counts in operations.items():
             self.operations[name].merge(counts)
         self.connections.update(connections)
         self.events.update(events)
         self.waiting += waiting
+        self.lost += lost
+        self.has_hole, self.has_unread = self.has_hole or has_hole, self.has_unread or has_unread
         for microseconds, row in slowest:
             if microseconds > self.least:
                 self.put_slow(microseconds, row)
@@ -167,7 +188,7 @@ class Statistics:
         return {"operations": {name: {**counts.summary(), "errors": dict(counts.errors.most_common())}
                                for name, counts in ordered},
                 "events": dict(self.events.most_common()), "connections": list(self.rows()),
-                "unanswered": self.waiting,
+                "unanswered": self.waiting, **({"notCaptured": self.lost} if self.lost else {}),
                 "slowest": [row for _, _, row in sorted(self.slowest, key=lambda entry: entry[:2], reverse=True)]}
 
     def rows(self):
@@ -181,12 +202,12 @@ class Statistics:
             last = None
             for each in group:
                 gap = None
-                if last and each.begun is not None and last.ended is not None:
+                if last and each.begun is not None and last.ended is not None and not is_part(each, last):
                     gap = round((each.begun - last.ended) / 1000, 6)
                 ending = each.ending and {name: value for name, value in each.ending.items() if name != "waiting"}
                 yield {"connection": each.name, "session": each.session, "gap": gap, "begun": time(each.begun),
                        "ended": time(each.ended), **self.connections[each].summary(), "backwards": each.backwards,
-                       "ending": ending}
+                       "ending": ending, **({"facts": each.facts.to_object()} if each.facts else {})}
                 last = each
 
 
@@ -194,12 +215,17 @@ def begun(connection):
     return float("inf") if connection.begun is None else connection.begun
 
 
+def is_part(one, other):
+    """Whether these are parts of one connection."""
+    return bool(one.facts and other.facts) and one.facts.connection() == other.facts.connection()
+
+
 def time(moment):
     return None if moment is None else zkr.clock(moment)
 
 
 def request(made):
-    """The row of a request that was never answered."""
+    """The row of a request without a reply."""
     row = {"connection": made.connection.name, "n": made.n, "xid": made.xid and int(made.xid), "op": made.op,
             "path": made.path}
     return {name: value for name, value in row.items() if value is not None}
@@ -221,26 +247,27 @@ def read(parser, words, found, progress):
             found.read(talk)
 
 
-def partial(options, path):
-    """What is counted of one file."""
+def partial(options, paths):
+    """What is counted of files."""
     parser, words = words_of(options, fleet.Strict)
-    words.inputs, found = [path], Statistics(selection.Selection(words))
-    read(parser, words, found, zkr.Progress("zkstat", False))
-    return found.partial()
+    together = Statistics(selection.Selection(words))
+
+    def one(path):
+        words.inputs, found = [path], Statistics(together.selection)
+        read(parser, words, found, zkr.Progress("zkstat", False))
+        return found.partial()
+    for path in paths:
+        together.take(path, fleet.attempt(one, path))
+    return together.partial()
 
 
 def main():
     parser, words = words_of()
     sys.stdout.reconfigure(errors="backslashreplace")
     found = Statistics(selection.Selection(words))
-    unread = False
     if fleet.is_asked(words):
-        for path, result in fleet.of_inputs(parser, words, "zkstat"):
-            if isinstance(result, fleet.Unread):
-                found.unread(path, result.reason)
-                unread = True
-            else:
-                found.merge(result)
+        for paths, result in fleet.of_inputs(parser, words, "zkstat", together=True):
+            found.take(paths[0], result)
     else:
         read(parser, words, found, zkr.Progress("zkstat"))
     if words.json:
@@ -248,7 +275,7 @@ def main():
     else:
         for line in tables.lines(found.summary()):
             print(line.rstrip())
-    return 1 if unread else 0
+    return 1 if found.has_hole or found.has_unread else 0
 
 
 if __name__ == "__main__":

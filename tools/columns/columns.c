@@ -56,7 +56,7 @@ _Noreturn void stop(int status, const char *what) {
 /* ---- Blocks */
 
 static void write_bytes(struct bytes *bytes) {
-    if (fwrite(bytes->at, 1, bytes->end, stdout) != bytes->end) stop(STATUS_SYSTEM, "write failed");
+    if (bytes->end > 0 && fwrite(bytes->at, 1, bytes->end, stdout) != bytes->end) stop(STATUS_SYSTEM, "write failed");
     bytes->end = 0;
 }
 
@@ -127,12 +127,25 @@ static void put_line(struct state *state, uint32_t side, struct bytes *to) {
     to->end += line.length;
 }
 
-/* Whether the line of a message is longer than BLOCK; then its length. A byte of a payload has 4 in a line at most. */
-static size_t long_line(struct state *state, uint32_t side, uint32_t size) {
-    if (size < BLOCK / 4 - 64) return 0;
+/* Whether a text has more than BLOCK characters in a line, with its quotes. */
+static bool is_long_text(const uint8_t *at, int32_t length) {
+    int64_t spelled = 2;
+    for (int32_t i = 0; i < length; i++) spelled += at[i] < 0x20 || at[i] > 0x7e || at[i] == '"' || at[i] == '\\' ? 3 : 1;
+    return spelled > BLOCK;
+}
+
+/* Whether the line of a message is longer than BLOCK, or the path that it answers. A byte of a payload has 4 characters
+ * in a line at most. */
+static bool is_long(struct state *state, uint32_t side, uint32_t size, const struct asked *asked, const uint8_t *paths) {
+    if (asked != NULL && asked->count > 0 && asked->operation != MULTI) {
+        int32_t length;
+        const uint8_t *path = next_path(&paths, &length);
+        if (is_long_text(path, length)) return true;
+    }
+    if (size < BLOCK / 4 - 64) return false;
     state->line.end = 0;
     put_line(state, side, &state->line);
-    return state->line.end > BLOCK ? state->line.end : 0;
+    return state->line.end > BLOCK;
 }
 
 static bool takes_path(const struct state *state, const uint8_t *path, int32_t length) {
@@ -256,9 +269,9 @@ static void take_message(struct state *state, uint32_t side, const uint8_t *end,
     record.text = state->text.end;
     const char *spelled = isnan(record.moment) ? "" : state->recording.spelled;
     if (state->json != NULL) {
-        struct message message = {view, state->n, side, payload, state->fields, count, 0, spelled, record.microseconds,
+        struct message message = {view, state->n, side, payload, state->fields, count, false, spelled, record.microseconds,
                                   is_asked ? &asked : NULL, paths};
-        message.line = long_line(state, side, view.size);
+        message.is_long = is_long(state, side, view.size, message.asked, paths);
         put_json(&state->text, &state->patches, state->json, &message, state->part_paths);
     } else if (state->lines) {
         put_text(&state->text, spelled);

@@ -100,15 +100,16 @@ struct patch {
     uint32_t length, kind;
 };
 
-/* A message with its fields. `paths` are those of the request that it answers, if `asked` isn't null; `line` is the
- * length of its line as `zkdump show` writes it, or 0 where that is at most BLOCK. */
+/* A message with its fields. `paths` are those of the request that it answers, if `asked` isn't null; `is_long` says that
+ * its line as `zkdump show` writes it, or its request's path there, has more than BLOCK characters. */
 struct message {
     struct zk_message view;
     uint64_t n;
     uint32_t side;
     const uint8_t *payload;
     const struct zk_field *fields;
-    size_t count, line;
+    size_t count;
+    bool is_long;
     const char *at;
     double microseconds;
     const struct asked *asked;

@@ -166,7 +166,7 @@ static int32_t length_of(const struct zk_field *field) { return field->null ? -1
 static void put_texts(struct walk *walk, int64_t count) {
     const struct message *message = walk->message;
     const struct zk_field *elements = message->fields + walk->next;
-    bool plain = message->line == 0;
+    bool plain = !message->is_long;
     for (int64_t i = 0; i < count && plain; i++) plain = is_plain(message, elements + i);
     put_text(walk->out, "[");
     for (int64_t i = 0; i < count; i++) {
@@ -338,7 +338,7 @@ void put_json(struct bytes *out, struct bytes *patches, const char *head, const 
             int32_t length;
             const uint8_t *path = next_path(&paths, &length);
             put_text(out, ", \"asked\": ");
-            put_string(out, patches, path, length, message->line != 0 ? PATCH_TEXT : PATCH_WHOLE_TEXT);
+            put_string(out, patches, path, length, PATCH_TEXT);
         }
     }
     put_text(out, "}\n");

@@ -51,7 +51,7 @@ struct asked answer(struct lane *lane, const uint8_t **paths) {
     struct asked asked;
     if (lane->asked.end - lane->asked.begin < sizeof asked) stop(STATUS_SYSTEM, "a reply without its request");
     memcpy(&asked, lane->asked.at + lane->asked.begin, sizeof asked);
-    *paths = lane->paths.at + lane->paths.begin;
+    *paths = lane->paths.at == NULL ? NULL : lane->paths.at + lane->paths.begin;
     lane->asked.begin += sizeof asked;
     lane->paths.begin += asked.paths;
     return asked;

@@ -20,7 +20,7 @@ class Operation:
     or of its first where there are no times; `failures` has the first request that failed with each error."""
 
     def __init__(self):
-        self.asked = self.answered = self.unanswered = 0
+        self.asked = self.answered = self.unanswered = self.not_captured = 0
         self.errors, self.latencies = collections.Counter(), Histogram()
         self.slowest, self.failures = None, {}
 
@@ -37,7 +37,7 @@ class Operation:
 
     def merge(self, other):
         self.asked, self.answered = self.asked + other.asked, self.answered + other.answered
-        self.unanswered += other.unanswered
+        self.unanswered, self.not_captured = self.unanswered + other.unanswered, self.not_captured + other.not_captured
         self.errors.update(other.errors)
         self.latencies.merge(other.latencies)
         if other.slowest and (self.slowest is None or other.slowest[0] > self.slowest[0]):
@@ -92,7 +92,8 @@ class Connection:
         for number in (self.session, self.asked_session):
             if number not in (None, "0x0") and not self.is_late:
                 return number
-        return None
+        found = self.source.facts or self.known and self.known.facts
+        return found and found.session
 
     def span(self):
         """When it begins and ends, by its capture or else by its messages."""
@@ -107,8 +108,8 @@ class Connection:
 
 
 class Run:
-    """What is found of all connections of a report. `whole` counts connections, whatever their parts, and `silent` those
-    without a message; of these only the first are kept."""
+    """What is found of all connections of a report. `whole` counts connections, whatever their parts, and `silent`
+    those without a message; of these only the first are kept."""
 
     def __init__(self):
         self.connections, self.by_source, self.warnings, self.whole, self.silent = [], {}, [], 0, 0
@@ -278,16 +279,20 @@ class Reading:
             self.tracing.event(self.connection, made, path)
 
     def left(self, made):
-        """Takes a request that was never answered."""
+        """Takes a request without a reply."""
         connection = self.connection
         if connection.is_late and made.op == listing.CONNECT:
             return
         operation = connection.operations[made.op]
         operation.asked += 1
-        operation.unanswered += 1
-        self.run.kept.put_unanswered(
-            kept.Request(connection.number, made.n, None, made.moment, None, made.op, None, made.path))
-        if made.moment is not None:
+        request = kept.Request(connection.number, made.n, None, made.moment, None, made.op, None, made.path)
+        if made.captured:
+            operation.unanswered += 1
+            self.run.kept.put_unanswered(request)
+        else:
+            operation.not_captured += 1
+            self.run.kept.put_not_captured(request)
+        if made.moment is not None and made.captured:
             self.run.density.add(connection.number, made.moment, None, 2)
         if self.tracing:
             self.tracing.request(connection, made, None)

@@ -72,6 +72,7 @@ class Kept:
     def __init__(self):
         self.slowest, self.failed, self.others = Slowest(SLOWEST), Slowest(SLOWEST_FAILED), Chance(OTHER_FAILED)
         self.unanswered, self.unanswered_count, self.answered = [], 0, 0
+        self.not_captured, self.not_captured_count = [], 0
         self.least = -1
 
     def takes(self, ms, error):
@@ -91,13 +92,21 @@ class Kept:
         if len(self.unanswered) < MOST_UNANSWERED:
             self.unanswered.append(request)
 
+    def put_not_captured(self, request):
+        """Takes a request whose reply may be among bytes that are missing."""
+        self.not_captured_count += 1
+        if len(self.not_captured) < MOST_UNANSWERED:
+            self.not_captured.append(request)
+
     def requests(self):
-        return [*self.slowest.requests(), *self.failed.requests(), *self.others.kept, *self.unanswered]
+        return [*self.slowest.requests(), *self.failed.requests(), *self.others.kept, *self.unanswered,
+                *self.not_captured]
 
     def is_complete(self):
         """Whether every request of the run is kept."""
         return (self.answered == len(self.slowest.heap) and self.others.count == len(self.others.kept)
-                and self.unanswered_count == len(self.unanswered))
+                and self.unanswered_count == len(self.unanswered)
+                and self.not_captured_count == len(self.not_captured))
 
 
 class Density:

@@ -3,7 +3,7 @@
 const data = JSON.parse(document.getElementById("data").textContent);
 const timed = data.begun !== null;
 const requests = unpack(data.requests);
-const OK = 0, FAILED = 1, UNANSWERED = 2, OUTCOMES = ["ok", "failed", "unanswered"];
+const OK = 0, FAILED = 1, UNANSWERED = 2, NOT_CAPTURED = 3, OUTCOMES = ["ok", "failed", "unanswered", "uncaptured"];
 const sessionOf = [];       // by connection, the number of its session
 data.sessions.forEach((session, number) => session.connections.forEach(each => { sessionOf[each] = number; }));
 
@@ -23,7 +23,8 @@ function unpack(columns) {
 }
 
 function outcome(i) {
-  return requests.reply[i] === null ? UNANSWERED : requests.error[i] >= 0 ? FAILED : OK;
+  if (requests.reply[i] === null) return requests.lost?.[i] ? NOT_CAPTURED : UNANSWERED;
+  return requests.error[i] >= 0 ? FAILED : OK;
 }
 
 // The part of the run that is drawn when no time is chosen.
@@ -112,11 +113,11 @@ function slowestOf(indices) {
 const derive = {
   operations(indices) {
     return [...groups(indices, i => requests.op[i])].map(([op, all]) => {
-      const answered = all.filter(i => outcome(i) !== UNANSWERED);
+      const answered = all.filter(i => outcome(i) < UNANSWERED), lost = all.filter(i => outcome(i) === NOT_CAPTURED).length;
       const times = answered.map(i => requests.ms[i]).filter(ms => !Number.isNaN(ms)).sort((a, b) => a - b);
       return [data.ops[op], all.length, answered.length, all.filter(i => outcome(i) === FAILED).length,
-        all.length - answered.length, quantile(times, 0.5), quantile(times, 0.95), quantile(times, 0.99),
-        quantile(times, 1), ...link(slowestOf(all))];
+        all.length - answered.length - lost, quantile(times, 0.5), quantile(times, 0.95), quantile(times, 0.99),
+        quantile(times, 1), ...(requests.lost ? [lost] : []), ...link(slowestOf(all))];
     }).sort((a, b) => b[1] - a[1] || (a[0] < b[0] ? -1 : 1));
   },
   errors(indices) {
@@ -140,12 +141,14 @@ const derive = {
           Number.isNaN(requests.ms[slowest]) ? null : requests.ms[slowest], data.paths[path], ...link(slowest)];
       });
   },
-  unanswered(indices) {
-    return indices.filter(i => outcome(i) === UNANSWERED).slice(0, 50).map(i => [
+  unanswered(indices, kind = UNANSWERED) {
+    return indices.filter(i => outcome(i) === kind).slice(0, 50).map(i => [
       timed && !Number.isNaN(requests.x[i]) ? data.begun + requests.x[i] : null, connectionName(requests.connection[i]),
       requests.n[i], data.ops[requests.op[i]], data.paths[requests.path[i]] ?? null, ...link(i)]);
   },
 };
+
+derive.notCaptured = indices => derive.unanswered(indices, NOT_CAPTURED);
 
 // The rows of a table under the filters, and what they don't go by, if anything.
 function rowsOf(name, indices) {
@@ -155,7 +158,7 @@ function rowsOf(name, indices) {
   if (!isFiltered()) return table.rows;
   if (name === "sessions" || name === "connections") return table.rows.filter(bySession);
   if (name === "watches") return table.rows.filter(row => bySession(row) && byPath(row));
-  if (data.complete || name === "slowest" || name === "unanswered") return derive[name](indices);
+  if (data.complete || ["slowest", "unanswered", "notCaptured"].includes(name)) return derive[name](indices);
   if (name === "paths") return table.rows.filter(byPath);
   const rows = filter.session === "" ? table.rows : data.bySession[sessionKeys.indexOf(filter.session)]?.[name] ?? [];
   return filter.op === "" ? rows : rows.filter(row => row[0] === filter.op);

@@ -97,7 +97,7 @@ function head() {
   document.getElementById("counts").append(
     one("sessions", data.sessions.length), one("connections", data.counts.connections), one("requests", data.counts.asked),
     one("failed", data.counts.failed, "failed"), one("unanswered", data.counts.unanswered, "unanswered"),
-    one("events", data.counts.events), one("messages", data.counts.messages));
+    ...(data.counts.notCaptured ? [one("replies not captured", data.counts.notCaptured)] : []), one("events", data.counts.events), one("messages", data.counts.messages));
   data.sessions.forEach((_, number) => field("session").append(element("option", { value: sessionKeys[number], text: visible(sessionName(number)) })));
   [...data.tables.operations.rows].map(row => row[0]).sort().forEach(op => field("op").append(element("option", { value: op, text: visible(op) })));
   field("from").placeholder = timed ? place(0) : "1";

@@ -43,7 +43,7 @@ def data_of(title, found):
     """What the page's script is given, but for messages."""
     run, names = found.run, Names()
     requests = requests_of(found, names)
-    tables = {name: {"heading": summary.HEADINGS[name], "columns": summary.COLUMNS[name],
+    tables = {name: {"heading": summary.HEADINGS[name], "columns": found.columns[name],
                      "rows": [[plain(value) for value in row] for row in rows]}
               for name, rows in found.tables.items()}
     return {
@@ -85,6 +85,7 @@ def requests_of(found, names):
     begun = found.begun or 0
     requests = sorted(found.run.kept.requests(), key=lambda each: (each.at or 0, each.connection, each.n))
     columns = {name: [] for name in ("connection", "n", "reply", "at", "ms", "op", "error", "path")}
+    lost = {(each.connection, each.n) for each in found.run.kept.not_captured}
     last = 0
     for each in requests:
         at = None if each.at is None else round((each.at - begun) * 1000)
@@ -97,6 +98,8 @@ def requests_of(found, names):
         columns["op"].append(names.number(names.ops, each.op))
         columns["error"].append(names.number(names.errors, each.error))
         columns["path"].append(names.number(names.paths, each.path))
+    if lost:
+        columns["lost"] = [int((each.connection, each.n) in lost) for each in requests]
     return columns
 
 
@@ -138,6 +141,6 @@ def by_session(found):
     rows = {}
     for session in busiest[:summary.MOST_SESSIONS]:
         operations = summary.operations_of(session.connections)
-        rows[session.number] = {"operations": list(summary.operation_rows(operations)),
+        rows[session.number] = {"operations": list(summary.operation_rows(operations, found.run)),
                                 "errors": summary.error_rows(operations)}
     return rows

@@ -1,5 +1,6 @@
 """Paths as a report keeps them: a text, or the front of a long one with its length."""
 
+import hashlib
 from typing import NamedTuple
 
 import listing
@@ -21,7 +22,8 @@ def path_of(spelled):
         return None
     if len(spelled) <= LONGEST:
         return listing.text(spelled)
-    return Cut(front_of(spelled, FRONT), length_of(spelled), hash(spelled))
+    digest = hashlib.blake2b(spelled.encode(), digest_size=8).digest()
+    return Cut(front_of(spelled, FRONT), length_of(spelled), int.from_bytes(digest, "big"))
 
 
 def front_of(spelled, most):

@@ -10,6 +10,7 @@ import subprocess
 import sys
 import tempfile
 
+import facts
 import inputs
 import listing
 import zkr
@@ -33,8 +34,28 @@ class Source:
 
     def __init__(self, path, name, mark=b""):
         self.path, self.name, self.has_objects = path, name, mark.startswith(b"{")
-        self.server = self.begun = self.ended = self.first = None
-        self.part, self.notes = 1, {}
+        self.server = self.begun = self.ended = self.first = self.facts = None
+        self.part, self.notes, self.is_of_parts = 1, {}, False
+
+    def take_words(self, words):
+        """Takes what is known of the connection, as pcap2zkr prints it."""
+        for word, equals, value in (each.partition("=") for each in words):
+            self.notes[word] = value if equals else None
+
+    def take_facts(self, parts):
+        """Takes the facts beside the recording. `parts` has the first part of each connection that has several."""
+        self.facts = known = facts.facts_of(self.path)
+        if known:
+            self.server, self.begun, self.ended, self.part = known.server, known.begun, known.ended, known.part
+            self.take_words(known.words())
+            self.is_of_parts = known.connected is not None
+            self.join(parts)
+
+    def join(self, parts):
+        """Joins the parts of its connection."""
+        if self.is_of_parts:
+            first = parts.setdefault(self.facts.connection(), self)
+            self.first = None if first is self else first
 
 
 class Opener:
@@ -55,7 +76,7 @@ class Opener:
         with open(source.path, "rb") as stream:
             try:
                 talk = inputs.conversation(self.parser, self.words, source.path, stream, True, self.progress,
-                                           lambda: None, lambda _: ["--lines"])
+                                           lambda: None, lambda _: ["--lines"], source.facts)
             except zkr.Damaged as damage:
                 raise ValueError(f"{source.path}: {damage}") from None
             talk.file = source.path
@@ -79,12 +100,15 @@ class Nothing(listing.Conversations):
 def sources_of(paths, folder, port, warnings):
     """The sources of all these files, in order. Recordings that are made of captures go to the folder; what could not
     be read of a capture goes to the warnings."""
+    parts = {}
     for path in paths:
         with open(path, "rb") as stream:
             mark = stream.read(4)
         name = os.path.basename(path)
         if mark in RECORDINGS:
-            yield Source(path, name.removesuffix(".zkr"))
+            found = Source(path, name.removesuffix(".zkr"))
+            found.take_facts(parts)
+            yield found
         elif mark.startswith(CAPTURES):
             yield from captured(path, name, os.path.join(tempfile.mkdtemp(dir=folder), "capture"), port, warnings)
         elif LISTINGS.match(mark):
@@ -112,9 +136,9 @@ def source_of(line, name, prefix, parts):
     recording, client, server, begun, ended, words = CAPTURED.fullmatch(line).groups()
     found = Source(None if recording == "-" else recording, f"{name} {client}")
     found.server, found.begun, found.ended = server, milliseconds(begun), ended and milliseconds(ended)
-    for word, equals, value in (each.partition("=") for each in words.split()):
-        found.notes[word] = value if equals else None
+    found.take_words(words.split())
     if found.path:
+        found.facts = facts.facts_of(found.path) if os.path.exists(found.path) else None
         number, part = PART.fullmatch(recording.removeprefix(prefix)).groups()
         found.part = int(part or 1)
         first = parts.setdefault(number, found)

@@ -58,9 +58,12 @@ COLUMNS = {
         Column("at", "asked at", "time"), Column("connection", "connection", "connection"),
         Column("n", "message", "count"), Column("op", "operation", "op"), Column("path", "path", "path")],
 }
+COLUMNS["notCaptured"] = COLUMNS["unanswered"]
+NOT_CAPTURED = Column("notCaptured", "not captured", "count")
 HEADINGS = {
     "sessions": "Sessions", "connections": "Connections", "operations": "Operations", "errors": "Errors",
     "slowest": "Slowest requests", "paths": "Busiest paths", "watches": "Watches", "unanswered": "Unanswered requests",
+    "notCaptured": "Requests whose replies, if there were any, were not captured",
 }
 
 
@@ -112,7 +115,7 @@ def is_hole(before, after):
 
 
 def sessions_of(run):
-    """The sessions of a run. A connection whose session isn't known is one by itself, and one without a message none."""
+    """The sessions of a run. A connection whose session isn't known is one by itself; one without a message is none."""
     groups = collections.defaultdict(list)
     for connection in run.connections:
         session = connection.session_id()
@@ -160,10 +163,11 @@ def operations_of(connections):
     return dict(sorted(merged.items(), key=lambda item: (-item[1].asked, item[0])))
 
 
-def operation_rows(operations):
+def operation_rows(operations, run):
     for name, operation in operations.items():
         yield [name, operation.asked, operation.answered, operation.failed(), operation.unanswered,
                *map(operation.ms, tables.PERCENTS), operation.longest(),
+               *([operation.not_captured] if run.kept.not_captured else ()),
                *(operation.slowest[1:] if operation.slowest else (None, None))]
 
 
@@ -212,8 +216,8 @@ def watch_rows(run):
     return sorted(rows, key=lambda row: (-row[2], -row[0], row[6], row[7]))[:ROWS]
 
 
-def unanswered_rows(run):
-    for each in run.kept.unanswered[:ROWS]:
+def unanswered_rows(run, unanswered):
+    for each in unanswered[:ROWS]:
         yield [each.at, run.connections[each.connection].label, each.n, each.op, each.path, each.connection, each.n]
 
 
@@ -232,11 +236,15 @@ class Summary:
         run.density.finish()
         self.tables = {
             "sessions": session_rows(self.sessions), "connections": connection_rows(run),
-            "operations": operation_rows(self.operations), "errors": error_rows(self.operations),
+            "operations": operation_rows(self.operations, run), "errors": error_rows(self.operations),
             "slowest": slowest_rows(run), "paths": path_rows(run), "watches": watch_rows(run),
-            "unanswered": unanswered_rows(run),
+            "unanswered": unanswered_rows(run, run.kept.unanswered),
         }
         self.tables = {name: list(rows) for name, rows in self.tables.items()}
+        self.columns = COLUMNS
+        if run.kept.not_captured:
+            self.tables["notCaptured"] = list(unanswered_rows(run, run.kept.not_captured))
+            self.columns = {**COLUMNS, "operations": [*COLUMNS["operations"], NOT_CAPTURED]}
         self.begun, self.ended = span(run.connections)
         self.counts = {
             "messages": sum(each.messages for each in run.connections),
@@ -245,6 +253,7 @@ class Summary:
             "timed": sum(each.latencies.total() for each in self.operations.values()),
             "failed": sum(each.failed() for each in self.operations.values()),
             "unanswered": sum(each.unanswered for each in self.operations.values()),
+            "notCaptured": run.kept.not_captured_count,
             "events": sum(each.events for each in run.connections),
         }
 
@@ -254,7 +263,13 @@ class Summary:
                 "connections": len(self.run.connections) - len(self.tables["connections"]) + self.run.silent_left_out(),
                 "paths": len(self.run.paths.entries) - len(self.tables["paths"]),
                 "watches": len(self.run.watches.entries) - len(self.tables["watches"]),
-                "unanswered": self.run.kept.unanswered_count - len(self.tables["unanswered"])}
+                "unanswered": self.run.kept.unanswered_count - len(self.tables["unanswered"]),
+                "notCaptured": self.run.kept.not_captured_count - len(self.tables.get("notCaptured", ()))}
+
+    def has_hole(self):
+        """Whether bytes of a connection are missing."""
+        return any(word in each.source.notes for each in self.run.connections for word in ("hole", "lost")) or \
+            any(each.known and each.known.has_hole() for each in self.run.connections)
 
     def links(self):
         """The connection and the message that each row leads to, without repetition."""

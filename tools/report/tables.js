@@ -6,7 +6,8 @@ const HELP = {
   operations: "p50, p95 and p99: the latency that 50, 95 or 99 of a hundred replies didn't exceed.",
   paths: "A part of a multi counts as a request of its path.",
   watches: "Set: by a request that asked for a watch and could set one, or again by setWatches after a reconnection.",
-  unanswered: "Requests that had no reply when the recording or the connection ended. Where a recording has a hole, the reply may have been among the bytes that are missing.",
+  unanswered: "Requests that had no reply when the recording or the connection ended.",
+  notCaptured: "Their replies may be among the bytes that are missing. The pictures leave them out.",
 };
 
 function cellText(kind, value) {

@@ -13,7 +13,8 @@ def lines_of(found):
     counts = found.counts
     yield (f"{found.run.whole} connections, {len(found.sessions)} sessions, {counts['messages']} messages, "
            f"{counts['asked']} requests, {counts['failed']} failed, {counts['unanswered']} unanswered, "
-           f"{counts['events']} events")
+           + (f"{counts['notCaptured']} replies not captured, " if counts["notCaptured"] else "")
+           + f"{counts['events']} events")
     if found.begun is not None:
         yield f"from {zkr.clock(found.begun)} to {zkr.clock(found.ended)}"
     if 0 < counts["timed"] < counts["answered"]:
@@ -26,7 +27,7 @@ def lines_of(found):
             yield ""
             yield summary.HEADINGS[name]
             shown = rows if name in WHOLE else rows[:ROWS]
-            yield from table(summary.COLUMNS[name], shown)
+            yield from table(found.columns[name], shown)
             if more := left_out.get(name, 0) + len(rows) - len(shown):
                 yield f"and {more} more"
     if found.run.paths.short:

@@ -149,13 +149,43 @@ class AfterLoss(JoinedCase):
         self.assertRegex(ends[1], r" lost=C:19,S:0 skipped=C:0,S:0 unasked=1$")
 
     def test_lost_replies_of_many_requests_under_way(self):
-        """Replies to requests from before the loss can't be in the recording after it, since their requests are in the
-        one before; replies to requests after a lost request can."""
+        """What was asked from the request of the first reply after the loss on is in the recording after it."""
         said = [*map(ask, range(1, 9)), *map(reply, range(1, 9))]
-        _, _, made = self.parts(said, 10)
-        self.assert_parts(made, [*said[:8], reply(1), reply(2)])
+        _, ends, made = self.parts(said, 10)
+        self.assert_parts(made, [*said[:3], reply(1), reply(2)], [*said[3:8], *map(reply, range(4, 9))])
+        self.assertRegex(ends[0], r"^packets=1-15 resent=0 hole=S$")
+        self.assertRegex(ends[1], r"^packets=9-\d+ .* lost=C:0,S:20 skipped=C:0,S:0 unasked=0$")
         _, _, made = self.parts(said, 3, 8, 13)
-        self.assert_parts(made, said[:3], [*said[4:8], reply(5)])
+        self.assert_parts(made, said[:1], [*said[1:3], reply(2), reply(3)], [*said[4:6], reply(5)],
+                          [*said[6:8], reply(7), reply(8)])
+
+    def test_what_is_asked_after_the_loss_joins_what_is_asked_before_it(self):
+        said = [*map(ask, range(1, 5)), reply(1), reply(2), EVENT, ask(5), reply(3), PING, reply(4), reply(5), PONG]
+        _, _, made = self.parts(said, 5)
+        self.assert_parts(made, [ask(1), ask(2), reply(1)], [ask(3), ask(4), EVENT, *said[7:]])
+
+    def test_a_lost_request_and_lost_replies(self):
+        """What was asked before a lost request and is answered after lost replies has a recording of its own."""
+        said = [*map(ask, range(1, 8)), *map(reply, range(1, 8))]
+        for gone, parts in (((4, 8), [[*said[:2], reply(1)], [*said[2:4], reply(3), reply(4)],
+                                      [*said[5:7], reply(6), reply(7)]]),
+                            ((4, 8, 12), [[*said[:2], reply(1)], [*said[2:4], reply(3), reply(4)], [ask(7), reply(7)]])):
+            names, ends, made = self.parts(said, *gone)
+            self.assert_parts(made, *parts)
+            self.assertEqual([re.sub(" skipped.*|.*resent=0 ", "", end) for end in ends],
+                             ["hole=C hole=S", "lost=C:0,S:20", f"closed=C lost=C:19,S:{20 * (len(gone) - 2)}"])
+            self.assertTrue(ends[1].endswith(" hole=C"))
+
+    def test_a_request_that_begins_before_the_loss_and_ends_after_it(self):
+        cut = [ask(2)._replace(data=ask(2).data[:7]), ask(2)._replace(data=ask(2).data[7:])]
+        said = [ask(1), cut[0], reply(1), EVENT, cut[1], reply(2)]
+        _, _, made = self.parts(said, 2)
+        self.assert_parts(made, [ask(1)], [EVENT, ask(2), reply(2)])
+
+    def test_xids_that_come_twice_say_nothing(self):
+        said = [ask(1), ask(1), reply(1), reply(1), ask(1), reply(1)]
+        _, _, made = self.parts(said, 2)
+        self.assert_parts(made, said[:2], said[4:])
 
     def test_what_follows_the_last_loss_has_no_reply(self):
         said = [ask(1), reply(1), ask(2), reply(2), ask(3), ask(4)]

@@ -1,0 +1,51 @@
+"""What a recording's bytes say of it as a whole, and whether a file of times is of it."""
+
+import itertools
+
+import facts
+import zkr
+
+LARGEST_CONNECTED = 1 << 10
+
+
+def session_of(path):
+    """The session that the connect response in the recording at this path has, in hexadecimal; None if it has none."""
+    cutter = zkr.Cutter(zkr.LARGEST_FRAMES)
+    try:
+        with open(path, "rb") as recording:
+            for piece in zkr.Reader(recording):
+                frames = cutter.take(piece) if piece.side == zkr.SERVER else ()
+                if frames:
+                    return session_in(frames[0].payload)
+                if len(cutter.held[zkr.SERVER]) > LARGEST_CONNECTED:
+                    break
+    except zkr.Damaged:
+        pass
+    return None
+
+
+def session_in(payload):
+    """The session of a connect response; None where it has none."""
+    session = payload[8:16]
+    return f"0x{int.from_bytes(session, 'big'):x}" if any(session) else None
+
+
+def times_beside(path, beside=None):
+    """The times of the pieces of the recording at this path, in the file `beside`, by default the one beside it. A
+    ValueError where that has another number of times than the recording has pieces, or is of another recording."""
+    beside = beside or zkr.times_path(path)
+    times = zkr.times_beside(path, beside)
+    said, other = facts.are_of(path, beside)
+    if said is False and not (other and have_the_same_pieces(path, other)):
+        raise ValueError(f"{beside} has the times of another recording than {path}, by the facts beside them")
+    return times
+
+
+def have_the_same_pieces(path, other):
+    """Whether these recordings differ in their format at most, as after a migration."""
+    try:
+        with open(path, "rb") as one, open(other, "rb") as two:
+            return all(mine and its and mine[::2] == its[::2]
+                       for mine, its in itertools.zip_longest(zkr.Reader(one), zkr.Reader(two)))
+    except (OSError, zkr.Damaged):
+        return False

@@ -1,0 +1,172 @@
+"""Many recordings at once: the same output for any number of workers, whatever happens to one."""
+
+import argparse
+import json
+import os
+import pathlib
+import shutil
+import signal
+import subprocess
+import sys
+import time
+import unittest
+
+from support import CAPTURES, PROGRAM, TOOLS, ToolCase
+
+import compared
+import fleet
+
+HERE = pathlib.Path(__file__).resolve().parent
+TOOLS_WITH_WORDS = (("zkstat.py", "--json"), ("zkstat.py",), ("zkjson.py",), ("zkreport.py", "--text"))
+
+
+def children(pid):
+    """The processes below this one."""
+    found = []
+    for task in pathlib.Path(f"/proc/{pid}/task").glob("*/children"):
+        for child in map(int, task.read_text().split()):
+            found += [child, *children(child)]
+    return found
+
+
+class FleetCase(ToolCase):
+    def setUp(self):
+        super().setUp()
+        signal.alarm(300)
+        if not PROGRAM.exists():
+            self.skipTest("the program zkdump is not built")
+        self.names = []
+        for number, path in enumerate(CAPTURES):
+            name = self.folder / "fleet" / f"{number % 3}" / path.name
+            name.parent.mkdir(parents=True, exist_ok=True)
+            shutil.copy(path, name)
+            self.names.append(name)
+        self.names.sort()
+        self.fleet = self.folder / "fleet"
+
+    def output(self, *words):
+        """The status of a tool, its standard output and its standard error."""
+        done = subprocess.run([sys.executable, TOOLS / words[0], *map(str, words[1:])], capture_output=True, check=False,
+                              timeout=200)
+        return done.returncode, done.stdout, done.stderr
+
+    @staticmethod
+    def in_small_chunks(tool, *words):
+        """The command that runs a tool with each recording as a chunk."""
+        run = (f"import sys; sys.path.insert(0, {str(TOOLS)!r}); import fleet, zkr, {tool[:-3]} as tool; "
+               f"fleet.LEAST_CHUNK = 1; sys.argv[0] = {tool!r}; sys.exit(zkr.tool(tool.main))")
+        return [sys.executable, "-c", run, *map(str, words)]
+
+    def test_number_of_workers(self):
+        """As many files one after the other, one at a time, and three at once."""
+        for tool in TOOLS_WITH_WORDS:
+            wanted = self.output(*tool, *self.names)
+            for jobs in (1, 3):
+                self.assertEqual(self.output(*tool, "--jobs", jobs, self.fleet), wanted, tool)
+            done = subprocess.run(self.in_small_chunks(*tool, "--jobs", 2, self.fleet), capture_output=True, check=False)
+            self.assertEqual((done.returncode, done.stdout, done.stderr), wanted, tool)
+        checked = [self.output("zkfleet.py", "check", "--jobs", jobs, self.fleet) for jobs in (1, 4)]
+        self.assertEqual(checked[0], checked[1])
+
+    def test_choices_and_list(self):
+        listed = self.folder / "list"
+        listed.write_text("".join(f"{name}\n" for name in self.names))
+        for tool in TOOLS_WITH_WORDS:
+            for choice in (("--path", "/"), ("--op", "create", "--op", "event"), ("--session", "0x100003780a60004")):
+                self.assertEqual(self.output(*tool, *choice, "--jobs", 2, f"@{listed}"), self.output(*tool, *choice, *self.names))
+
+    def test_parts_of_connections(self):
+        """The recordings of connections that were not captured whole."""
+        folder = self.folder / "lossy"
+        folder.mkdir()
+        names = compared.lossy_recordings(folder, self.names[:8])
+        self.assertGreater(len(names), 20)
+        for tool in TOOLS_WITH_WORDS:
+            wanted = self.output(*tool, *names)
+            self.assertEqual(wanted[0], 1)
+            self.assertEqual(self.output(*tool, "--jobs", 3, folder), wanted, tool)
+
+    def test_unread(self):
+        """What can't be read is a row with its reason."""
+        (self.fleet / "bad.zkr").write_bytes(b"ZKR2 no head")
+        (self.fleet / "gone.zkr").symlink_to("nowhere")
+        shutil.copy(CAPTURES[0], self.fleet / "times.zkr")
+        (self.fleet / "times.zkr.times").write_text("1\n")
+        status, out, err = self.output("zkstat.py", "--json", "--jobs", 2, self.fleet)
+        rows = {pathlib.Path(row["connection"]).name: row["ending"] for row in json.loads(out)["connections"]}
+        self.assertEqual((status, err, len(rows)), (1, b"", len(self.names) + 3))
+        reasons = {name: ending["reason"] for name, ending in rows.items() if ending["ending"] == "unread"}
+        self.assertEqual(set(reasons), {"bad.zkr", "gone.zkr", "times.zkr"})
+        self.assertEqual(reasons["gone.zkr"], "No such file or directory")
+        self.assertIn("BadLimits", reasons["bad.zkr"])
+        self.assertIn("has 1 times", reasons["times.zkr"])
+        for tool in TOOLS_WITH_WORDS[1:]:
+            status, out, err = self.output(*tool, "--jobs", 2, self.fleet)
+            self.assertEqual((status, err, out.count(b"unread")), (1, b"", 3), (tool, out[-3000:]))
+        status, out, _ = self.output("zkfleet.py", "check", "--json", self.fleet)
+        counts = json.loads(out.splitlines()[-1])
+        self.assertEqual((status, counts["recordings"], counts["endings"]),
+                         (1, len(self.names) + 3, {"recording": 1, "refused": 8, "unread": 1, "whole": len(self.names) - 7}))
+
+    def test_dead_worker(self):
+        """A worker that dies has its recording done again."""
+        for tool in TOOLS_WITH_WORDS:
+            wanted = self.output(*tool, "--jobs", 1, self.fleet)
+            running = subprocess.Popen(self.in_small_chunks(*tool, "--jobs", "2", self.fleet), stdout=subprocess.PIPE,
+                                       stderr=subprocess.PIPE)
+            killed = False
+            while running.poll() is None and not killed:
+                workers = [pid for pid in children(running.pid) if b"forkserver" in self.words(pid)][1:]
+                if len(workers) > 1:
+                    os.kill(workers[0], signal.SIGKILL)
+                    killed = True
+                time.sleep(0.01)
+            out, err = running.communicate()
+            err = err.replace(b"zkdump: write failed\n", b"")       # what the dead worker had begun
+            self.assertEqual((killed, running.returncode, out, err), (True, *wanted), tool)
+
+    def test_deadly_recording(self):
+        """One that ends each of its workers is a row; those of its chunk are done."""
+        (self.folder / "deadly.py").write_text("import os, signal\n\ndef partial(options, paths):\n"
+                                               "    if 'b' in paths:\n        os.kill(os.getpid(), signal.SIGKILL)\n"
+                                               "    return options, paths\n")
+        sys.path.insert(0, str(self.folder))
+        self.addCleanup(sys.path.remove, str(self.folder))
+        for together in (False, True):
+            found = list(fleet.results(argparse.Namespace(jobs=2, scheduler=None), "deadly", ["x"], ["a", "b", "c", "d"], together))
+            wanted = {path: (["x"], [path]) for path in "acd"}
+            self.assertEqual(found, [([path], wanted.get(path, fleet.Unread("its worker died again and again"))) for path in "abcd"])
+
+    def test_chunks(self):
+        sizes = {"a": fleet.LEAST_CHUNK - 1, "b": 1, "c": 1, "d": fleet.LEAST_CHUNK + 5, "e": 0}
+        self.assertEqual(fleet.chunks(list("abcde"), sizes), [["a", "b"], ["c"], ["d"], ["e"]])
+        many = [str(number) for number in range(2 * fleet.MOST_IN_CHUNK + 1)]
+        self.assertEqual([len(each) for each in fleet.chunks(many, dict.fromkeys(many, 0))], [1024, 1024, 1])
+
+    @staticmethod
+    def words(pid):
+        try:
+            return pathlib.Path(f"/proc/{pid}/cmdline").read_bytes()
+        except OSError:
+            return b""
+
+    def test_words(self):
+        for words in (("zkstat.py", "--jobs", "0", "a.zkr"), ("zkstat.py", "--jobs", "2"), ("zkjson.py", "--jobs", "x", "a.zkr"),
+                      ("zkstat.py", "--jobs", "2", "--times", "t", "a.zkr"), ("zkfleet.py", "list", "a.zkr"), ("zkfleet.py",),
+                      ("zkreport.py", "--jobs", "2", "-o", self.folder / "page", "a.zkr")):
+            self.assert_bad_words(*words)
+
+    def test_dask(self):
+        """The workers of a Dask scheduler, one of which dies, print the same."""
+        python = "/usr/bin/python3"
+        if subprocess.run([python, "-c", "import distributed"], capture_output=True, check=False).returncode != 0:
+            self.skipTest("Dask is not installed")
+        for tool in TOOLS_WITH_WORDS[::2]:
+            wanted = self.output(*tool, "--jobs", 1, self.fleet)
+            done = subprocess.run([python, HERE / "cluster.py", TOOLS / tool[0], *tool[1:], self.fleet], capture_output=True,
+                                  timeout=200, check=False)
+            self.assertEqual((done.returncode, done.stdout), wanted[:2], done.stderr[-2000:])
+
+
+if __name__ == "__main__":
+    unittest.main()
