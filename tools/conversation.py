@@ -236,7 +236,7 @@ class Conversation:
         path, count = "-", dict.fromkeys(SIDES, 0)
         if recording:
             recording.close()
-            self.series.open -= 1
+            self.series.open.discard(recording)
             path, count = recording.path, recording.count
         first, began = (recording.first, recording.began) if lost and recording else (stretch.first, stretch.began)
         if lost:

@@ -70,6 +70,14 @@ class Capture:
         # connections of which no byte was captured yet, and those of which no more is expected, the oldest first.
         self.halves, self.over, self.silent, self.lingering = {}, {}, {}, {}
 
+    def convert(self, stream):
+        """Makes recordings of a capture. Where one can't be written, those of which nothing was written are removed."""
+        try:
+            self.read(stream)
+        except OSError:
+            self.series.remove_empty()
+            raise
+
     def read(self, stream):
         """Reads a capture up to its end, or up to Ctrl-C."""
         progress, halves, failed = zkr.Progress("pcap2zkr.py", bool(sys.stderr)), self.halves, None
@@ -223,7 +231,7 @@ def main():
     capture = Capture(words, head)
     try:
         with zkr.standard_input() if words.capture == "-" else open(words.capture, "rb") as stream:
-            capture.read(stream)
+            capture.convert(stream)
     except EOFError:
         complain(f"{words.capture}: the capture ends within a packet")
         return 1

@@ -1,5 +1,7 @@
 """The recordings of the connections in a capture: their names, and their files."""
 
+import contextlib
+
 import zkr
 
 GATHERED, MOST_GATHERED, LEAST_GATHERED = 1 << 16, 1 << 23, 1 << 11
@@ -14,17 +16,12 @@ class Recording(zkr.Writer):
         for file in self.files():
             file.file.close()
 
-    def files(self):
-        return [file for file in (self.recording, self.times) if file]
-
     def flush(self):
-        for file in self.files():
-            if file.waiting:
-                try:
-                    with open(file.path, "ab", buffering=0) as file.file:
-                        file.flush()
-                except OSError as error:
-                    raise OSError(error.errno, error.strerror, file.path) from error
+        if self.recording.waiting:
+            with contextlib.ExitStack() as opened:
+                for file in self.files():
+                    file.file = opened.enter_context(open(file.path, "ab", buffering=0))
+                super().flush()
 
     def take(self, side, number, milliseconds, data):
         """Writes bytes of the packet of this number."""
@@ -40,7 +37,7 @@ class Series:
 
     def __init__(self, prefix, head, times, join):
         self.prefix, self.head, self.times, self.join = prefix, head, times, join
-        self.number, self.open, self.unsaid = 0, 0, None
+        self.number, self.open, self.unsaid = 0, set(), None
 
     def next(self, connection=None, part=1):
         """A new recording, with the number of its connection and which of its parts it is. It is the first of another
@@ -52,13 +49,19 @@ class Series:
             else:
                 number, part, name = connection, part + 1, f"{connection}.{part + 1}"
             # Less is gathered of each where there are many.
-            gather = max(LEAST_GATHERED, min(GATHERED, MOST_GATHERED // (self.open + 1)))
+            gather = max(LEAST_GATHERED, min(GATHERED, MOST_GATHERED // (len(self.open) + 1)))
             try:
                 made = Recording(f"{self.prefix}-{name}.zkr", self.head, self.times, gather)
             except FileExistsError:
                 continue
-            self.open += 1
+            self.open.add(made)
             return made, number, part
+
+    def remove_empty(self):
+        """Removes the open recordings of which nothing was written."""
+        for recording in self.open:
+            if not recording.recording.size:
+                recording.remove()
 
     def say(self, line):
         """Prints a line; where nobody reads it any more, the rest continues."""

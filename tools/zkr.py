@@ -12,6 +12,7 @@ milliseconds since 1970 in decimal, with a fraction. All times in this module ar
 import argparse
 import datetime
 import os
+import pathlib
 import re
 import struct
 from typing import NamedTuple, Optional
@@ -227,22 +228,28 @@ class NewFile:
         self.path, self.waiting, self.size = path, bytearray(), 0
         self.file = open(path, "xb", buffering=0, opener=lambda name, flags: os.open(name, flags, 0o600))
 
-    def flush(self):
-        """Writes what waits: all of it, or after an OSError none of it, if the file can be truncated."""
-        data, self.waiting = memoryview(self.waiting), bytearray()
-        at = 0
+    def write(self):
+        """Writes what waits. After an OSError, which names the file, the file may have a part of it."""
+        data, at = memoryview(self.waiting), 0
         try:
             while at < len(data):
                 at += self.file.write(data[at:])
-        except OSError:
+        except OSError as error:
+            raise OSError(error.errno, error.strerror, self.path) from error
+
+    def end(self, written):
+        """Ends a write: what waited was written, or else none of it is to stay in the file, or to wait."""
+        size, self.waiting = len(self.waiting), bytearray()
+        if written:
+            self.size += size
+        else:
             self.file.truncate(self.size)
-            raise
-        self.size += len(data)
+            self.file.seek(self.size)
 
 
 class Writer:
     """A new recording, with a file of times where `times` is true. The bytes given to `piece` are in the file once it
-    returns; `gather` says how many bytes may be gathered first. An OSError leaves whole pieces in the file."""
+    returns; `gather` says how many bytes may be gathered first. An OSError leaves whole pieces, and a time for each."""
 
     def __init__(self, path, head, times, gather=0):
         self.path, self.head, self.gather = path, head, gather
@@ -264,29 +271,37 @@ class Writer:
             self.recording.waiting += self.head.piece(side, milliseconds, data[at:at + LARGEST_PIECE])
             if self.times:
                 self.times.waiting += b"%.3f\n" % milliseconds
-        self.count[side] += len(data)
         if len(self.recording.waiting) >= self.gather:
             self.flush()
+        self.count[side] += len(data)
+
+    def files(self):
+        return [file for file in (self.recording, self.times) if file]
 
     def flush(self):
-        self.recording.flush()
-        if self.times:
-            self.times.flush()
+        """Writes what waits: to the recording and to its times, or after an OSError to neither."""
+        files, written = self.files(), False
+        try:
+            for file in files:
+                file.write()
+            written = True
+        finally:
+            for file in files:
+                file.end(written)
 
     def close(self):
+        """Writes what waits, and closes the files; where nothing could ever be written, they are removed."""
         try:
             self.flush()
         finally:
-            self.recording.file.close()
-            if self.times:
-                self.times.file.close()
+            self.remove(all_of_it=not self.recording.size)
 
-    def remove(self):
-        """Removes the recording and its times."""
-        for new in (self.recording, self.times):
-            if new:
-                new.file.close()
-                os.unlink(new.path)
+    def remove(self, all_of_it=True):
+        """Closes the recording and its times, and removes them."""
+        for file in self.files():
+            file.file.close()
+            if all_of_it:
+                pathlib.Path(file.path).unlink(missing_ok=True)
 
 
 class Series:

@@ -120,7 +120,7 @@ class StandardOutput:
 
 def skip(pieces, times, out, skipping):
     """Writes the recording again, without the frames that don't stay. `times` are those of its pieces, or None."""
-    cutter, milliseconds = zkr.Cutter(zkr.LARGEST_FRAMES), 0
+    cutter, milliseconds, damage = zkr.Cutter(zkr.LARGEST_FRAMES), 0, None
     progress, done = zkr.Progress("zkskip"), 0
     try:
         for piece in pieces:
@@ -132,10 +132,14 @@ def skip(pieces, times, out, skipping):
                 rest(cutter, piece.side, milliseconds, out)
             done += len(piece.data)
             progress.show(lambda: f"{done:,} bytes")
+    except zkr.Damaged as found:
+        damage = found
     finally:
-        for side in cutter.held:
-            rest(cutter, side, milliseconds, out)
         progress.end()
+    for side in cutter.held:
+        rest(cutter, side, milliseconds, out)
+    if damage:
+        raise damage
 
 
 def rest(cutter, side, milliseconds, out):
