@@ -226,10 +226,6 @@ class Proxy:
         """Called in a thread where a line could not be written."""
         self.complaints.print_once(f"standard output: {error.strerror}; the connections go on")
 
-    def ring(self):
-        """Ends the proxy, from any thread."""
-        self.bell.send(b"\0")
-
     def wait_for(self, file, events, who=None):
         """Waits for these events of a file, in place of those before: `who.step(file, events)` is then called."""
         if events and file in self.waits:

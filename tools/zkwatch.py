@@ -9,8 +9,8 @@ its reply can come. The lines of all are printed with the time and the connectio
 refused, or can't be read any longer, a line reports that, and its bytes are still passed on. Ctrl-C or SIGTERM ends the
 proxy.
 
-No connection waits for `show`, or for the reader of the lines: a connection of which 64 MB wait to be read is no longer
-watched. For authors of proxies: `show` writes a message's line as soon as its last byte has come, before the next read,
+No connection waits for `show`, or for the reader of the lines, and none ends with that reader: a connection of which
+64 MB wait to be read is no longer watched. For authors of proxies: `show` writes a message's line as soon as its last byte has come, before the next read,
 and it waits if the reader of its lines does.
 """
 
@@ -153,12 +153,6 @@ class Watch(proxy.Proxy):
 
     def say_of(self, number, text):
         self.say(f"{zkr.clock(time.time() * 1000)} #{number} {text}")
-
-    def not_printed(self, error):
-        if error.errno == errno.EPIPE:
-            self.ring()
-        else:
-            super().not_printed(error)
 
     def taken(self, connection):
         self.say_of(connection.number, f"from {connection.peer}")
