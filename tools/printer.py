@@ -6,6 +6,7 @@ import threading
 import time
 
 MOST_HELD = 1 << 20
+GATHERING = 0.005           # the seconds in which lines are gathered: each time that it wakes delays the connections
 
 
 class Printer(threading.Thread):
@@ -55,6 +56,7 @@ class Printer(threading.Thread):
                 self.failed(error)
             with self.change:
                 self.held -= len(data)
+            time.sleep(GATHERING)
 
     def write(self, data):
         while data:

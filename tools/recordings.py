@@ -13,13 +13,13 @@ class Recording(zkr.Writer):
     def __init__(self, path, head, times, gather):
         super().__init__(path, head, times, gather)
         self.first = self.last = self.began = self.ended = None
-        for file in self.files():
+        for file in self.files:
             file.file.close()
 
     def flush(self):
         if self.recording.waiting:
             with contextlib.ExitStack() as opened:
-                for file in self.files():
+                for file in self.files:
                     file.file = opened.enter_context(open(file.path, "ab", buffering=0))
                 super().flush()
 

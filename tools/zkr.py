@@ -252,11 +252,14 @@ class Writer:
     returns; `gather` says how many bytes may be gathered first. An OSError leaves whole pieces, and a time for each."""
 
     def __init__(self, path, head, times, gather=0):
-        self.path, self.head, self.gather = path, head, gather
+        self.path, self.head, self.gather, self.timed = path, head, gather, times or head.form == "zkr2"
         self.count = {CLIENT: 0, SERVER: 0}
         self.recording, self.times = NewFile(path), None
+        self.files = [self.recording]
         try:
-            self.times = NewFile(times_path(path)) if times else None
+            if times:
+                self.times = NewFile(times_path(path))
+                self.files.append(self.times)
             self.recording.waiting += head.to_bytes()
             if not gather:
                 self.flush()
@@ -266,7 +269,8 @@ class Writer:
 
     def piece(self, side, milliseconds, data):
         """Writes any number of bytes of a side as pieces. Their time is the same in both files, to a microsecond."""
-        milliseconds = round(milliseconds, 3)
+        if self.timed:
+            milliseconds = round(milliseconds, 3)
         for at in range(0, len(data), LARGEST_PIECE):
             self.recording.waiting += self.head.piece(side, milliseconds, data[at:at + LARGEST_PIECE])
             if self.times:
@@ -275,18 +279,15 @@ class Writer:
             self.flush()
         self.count[side] += len(data)
 
-    def files(self):
-        return [file for file in (self.recording, self.times) if file]
-
     def flush(self):
         """Writes what waits: to the recording and to its times, or after an OSError to neither."""
-        files, written = self.files(), False
+        written = False
         try:
-            for file in files:
+            for file in self.files:
                 file.write()
             written = True
         finally:
-            for file in files:
+            for file in self.files:
                 file.end(written)
 
     def close(self):
@@ -298,7 +299,7 @@ class Writer:
 
     def remove(self, all_of_it=True):
         """Closes the recording and its times, and removes them."""
-        for file in self.files():
+        for file in self.files:
             file.file.close()
             if all_of_it:
                 pathlib.Path(file.path).unlink(missing_ok=True)
