@@ -4,13 +4,23 @@ import pathlib
 import shutil
 import subprocess
 
-BUILT = pathlib.Path(__file__).resolve().parent.parent / "crates" / "zkdump" / "out" / "zkdump"
+OWN = ("share", "zkdump", "tools")     # where installed tools are, below the prefix
+HERE = pathlib.Path(__file__).resolve().parent
+
+
+def found():
+    """The program that was installed or built with these tools, or else the name of the one on the PATH."""
+    if HERE.parts[-len(OWN):] == OWN:
+        path = HERE.parents[len(OWN) - 1] / "bin" / "zkdump"
+    else:
+        path = HERE.parent / "crates" / "zkdump" / "out" / "zkdump"
+    return str(path) if path.exists() else "zkdump"
 
 
 def add_program(parser):
     """The option that names the program."""
-    parser.add_argument("--zkdump", metavar="PATH", default=str(BUILT) if BUILT.exists() else "zkdump",
-                        help="the program (that of this repository if it is built, else zkdump on the PATH)")
+    parser.add_argument("--zkdump", metavar="PATH", default=found(),
+                        help="the program (that which was built or installed with this tool, else zkdump on the PATH)")
 
 
 def prove_runs(parser, path):

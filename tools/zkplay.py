@@ -51,7 +51,10 @@ def opener(parser, path, words):
         is_listing = file.read(2) in (b"C ", b"S ")
         file.seek(0)
         if not is_listing:
-            zkr.Reader(file)
+            try:
+                zkr.Reader(file)
+            except zkr.Damaged as damage:
+                raise ValueError(f"{path}: {damage}") from None
             return lambda: open(path, "rb")
         program.prove_runs(parser, words.zkdump)
         built = subprocess.run([words.zkdump, "build"], stdin=file, capture_output=True, check=False)
@@ -62,7 +65,8 @@ def opener(parser, path, words):
 
 
 class Bench:
-    """Connections that are played side by side, and the exit status of all."""
+    """Connections that are played side by side, and the exit status of all. `openers` has of each recording its path,
+    and a function that opens it."""
 
     def __init__(self, openers, words):
         self.openers, self.words, self.status, self.printing = openers, words, 0, threading.Lock()
@@ -82,15 +86,16 @@ class Bench:
     def play(self, number, connection):
         """Plays to one connection, and prints the result."""
         head = f"#{number + 1} " if self.words.connections > 1 else ""
+        path, open_recording = self.openers[number % len(self.openers)]
         try:
             with connection:
-                play = playing.Play(self.openers[number % len(self.openers)], self.own, connection, self.words.wait,
-                                    self.faults)
+                play = playing.Play(open_recording, self.own, connection, self.words.wait, self.faults)
                 play.run()
             self.print(sys.stdout, f"{head}played: {play.counts()}")
         except (ValueError, OSError) as error:
             self.status = max(self.status, 3 if isinstance(error, OSError) else 1)
-            self.print(sys.stderr, f"zkplay.py: {head}{error}")
+            file = f"{path}: " if isinstance(error, zkr.Damaged) else ""
+            self.print(sys.stderr, f"zkplay.py: {head}{file}{error}")
 
     def print(self, stream, line):
         """Prints a line, if the stream is open."""
@@ -163,7 +168,7 @@ def main():
     if sys.stdout is None:
         raise OSError(errno.EBADF, "standard output is closed")
     zkr.allow_many_files()
-    bench = Bench([opener(parser, path, words) for path in words.recordings], words)
+    bench = Bench([(path, opener(parser, path, words)) for path in words.recordings], words)
     if words.client:
         return bench.run(socket.create_connection(words.address) for _ in range(words.connections))
     listeners = addresses.listen(words.address)

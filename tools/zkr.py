@@ -17,6 +17,7 @@ import re
 import struct
 from typing import NamedTuple, Optional
 
+from newfile import NewFile, flush
 from running import (Progress, allow_many_files, complain, hold_standard_streams, drop_standard_output,  # noqa: F401
                      report, standard_input, tool)
 
@@ -32,11 +33,22 @@ RELEASES = {number: release for release, number in PROFILES.items()}
 PIECE_HEADS = {"zkr1": struct.Struct(">ci"), "zkr2": struct.Struct(">cqi")}
 
 
+# The reasons of docs/FORMATS.md, section 12, as they are told.
+DAMAGES = {
+    "BadHead": "this is no recording, which begins with ZKR1 or ZKR2",
+    "BadLimits": "the recording's head has a limit or a profile that isn't allowed",
+    "BadSide": "the recording is damaged: a piece begins with neither C nor S",
+    "BadTime": "the recording is damaged: a piece has a time before 1970",
+    "BadSize": "the recording is damaged: a piece has no bytes, or too many",
+    "Short": "the recording ends within a piece, or within its head",
+}
+
+
 class Damaged(ValueError):
     """A recording that is damaged: at which offset of the file, and why (the reasons of docs/FORMATS.md)."""
 
     def __init__(self, offset, reason):
-        super().__init__(f"recording offset={offset} reason={reason}")
+        super().__init__(f"{DAMAGES[reason]} (offset={offset} reason={reason})")
         self.offset, self.reason = offset, reason
 
 
@@ -221,32 +233,6 @@ class Cutter:
         return Frame(piece.side, number, payload, piece.milliseconds)
 
 
-class NewFile:
-    """A file that wasn't there yet, and that its owner alone may read: recordings have passwords."""
-
-    def __init__(self, path):
-        self.path, self.waiting, self.size = path, bytearray(), 0
-        self.file = open(path, "xb", buffering=0, opener=lambda name, flags: os.open(name, flags, 0o600))
-
-    def write(self):
-        """Writes what waits. After an OSError, which names the file, the file may have a part of it."""
-        data, at = memoryview(self.waiting), 0
-        try:
-            while at < len(data):
-                at += self.file.write(data[at:])
-        except OSError as error:
-            raise OSError(error.errno, error.strerror, self.path) from error
-
-    def end(self, written):
-        """Ends a write: what waited was written, or else none of it is to stay in the file, or to wait."""
-        size, self.waiting = len(self.waiting), bytearray()
-        if written:
-            self.size += size
-        else:
-            self.file.truncate(self.size)
-            self.file.seek(self.size)
-
-
 class Writer:
     """A new recording, with a file of times where `times` is true. The bytes given to `piece` are in the file once it
     returns; `gather` says how many bytes may be gathered first. An OSError leaves whole pieces, and a time for each."""
@@ -280,15 +266,8 @@ class Writer:
         self.count[side] += len(data)
 
     def flush(self):
-        """Writes what waits: to the recording and to its times, or after an OSError to neither."""
-        written = False
-        try:
-            for file in self.files:
-                file.write()
-            written = True
-        finally:
-            for file in self.files:
-                file.end(written)
+        """Writes what waits to the recording and to its times."""
+        flush(self.files)
 
     def close(self):
         """Writes what waits, and closes the files; where nothing could ever be written, they are removed."""

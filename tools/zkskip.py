@@ -157,6 +157,15 @@ def main():
     words = parser.parse_args()
     if words.source and not words.target:
         parser.error("name the new recording, too: REC.zkr PLAIN.zkr")
+    try:
+        skip_all(words)
+    except zkr.Damaged as damage:
+        raise ValueError(f"{words.source or 'standard input'}: {damage}") from None
+    return 0
+
+
+def skip_all(words):
+    """Writes the new recording that these arguments name."""
     recording = zkr.Reader(open(words.source, "rb") if words.source else zkr.standard_input())
     times = zkr.times_beside(words.source) if words.source and os.path.exists(zkr.times_path(words.source)) else None
     skipping = Skipping(OF_PROFILE[words.profile or zkr.RELEASES[recording.head.profile]])
@@ -169,7 +178,6 @@ def main():
     finally:
         out.close()
         zkr.report(f"left out: {skipping.requests} requests, {skipping.replies} replies")
-    return 0
 
 
 if __name__ == "__main__":

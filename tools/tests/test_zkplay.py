@@ -95,7 +95,8 @@ class Zkplay(ToolCase):
         path = self.folder / "damaged.zkr"
         path.write_bytes(RUN.read_bytes() + b"X")
         self.assertEqual(self.refusal(sides(RUN.read_bytes())[0], recording=path),
-                         "recording offset=153 reason=BadSide")
+                         f"{path}: the recording is damaged: a piece begins with neither C nor S "
+                         "(offset=153 reason=BadSide)")
 
     def test_both_ends_of_every_capture(self):
         words = [word for capture in CAPTURES[1:] for word in ("--then", str(capture))]
