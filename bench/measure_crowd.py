@@ -61,7 +61,7 @@ def serve(listener):
 
 
 def be_busy(port, process, clients, pause, told):
-    """Asks with so many clients until told to end; then tells when each answer came, and how long it took."""
+    """Asks with these clients until a message comes; then sends when each answer came, and how long it took."""
     ready, due, took = selectors.DefaultSelector(), [], []
     for _ in range(clients):
         ready.register(connect(port), selectors.EVENT_READ, [None])
@@ -83,7 +83,7 @@ def be_busy(port, process, clients, pause, told):
 
 
 def come(port, process, clients):
-    """Connects so many clients at once; how long the answer to each took."""
+    """Connects these clients all at once; how long the answer to each took."""
     ready, took, begun = selectors.DefaultSelector(), [], clocks(process)
     for _ in range(clients):
         client = socket.socket()

@@ -7,6 +7,7 @@ connect request and connect response, with -1 for every number.
 
 import struct
 
+import frames
 import resync
 import zkr
 from streams import SIDES
@@ -50,7 +51,7 @@ class Conversation:
             self.go_on(number, milliseconds)
         stretch = self.stretches[0]
         if not (self.sought or self.unfinished or self.cutter.held[side]) and side in self.connected \
-                and stretch is self.stretches[-1] and int.from_bytes(data[:4], "big") == len(data) - 4 > 4 \
+                and stretch is self.stretches[-1] and frames.is_one(data) and len(data) > 8 \
                 and stretch.passes(side, data[4:8]):
             self.record(stretch, side, number, milliseconds, data)  # it is just one frame, as nearly always
             return
@@ -71,8 +72,8 @@ class Conversation:
             data = self.found(side, data)
             if not data:
                 return
-        frames = self.cutter.take(zkr.Piece(side, milliseconds, data))
-        for at, frame in enumerate(frames):
+        found = self.cutter.take(zkr.Piece(side, milliseconds, data))
+        for at, frame in enumerate(found):
             message = Message(side, number, milliseconds, frame.payload)
             if side not in self.connected:
                 self.connected.add(side)
@@ -83,7 +84,7 @@ class Conversation:
                 self.hear(message)
             else:
                 # These are no frames after all.
-                self.skip(side, sum([4 + len(frame.payload) for frame in frames[at:]]))
+                self.skip(side, sum([4 + len(frame.payload) for frame in found[at:]]))
                 self.seek(side)
                 return
         if side in self.cutter.broken:
@@ -103,7 +104,7 @@ class Conversation:
             self.skip(side, keep)
             self.sought[side] = data[keep:]
             return b""
-        while (end := place + 4 + int.from_bytes(data[place:place + 4], "big")) <= fresh:
+        while (end := frames.end_of(b"", 0, data, place) or frames.NEVER) <= fresh:
             place = end
         self.skip(side, place)
         del self.sought[side]

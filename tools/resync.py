@@ -31,6 +31,7 @@ the frames from it on are not plausible for long (joined.py).
 import re
 import struct
 
+import frames
 import zkr
 
 ENOUGH, MOST_KEPT = 3, 1 << 16
@@ -73,12 +74,12 @@ def frames_follow(side, data, at, limit):
     while at < len(data) and seen < ENOUGH:
         if len(data) < at + HEADS[side]:
             return None
-        size = int.from_bytes(data[at:at + 4], "big", signed=True)
-        if size > limit or not is_plausible(side, data[at + 4:at + 4 + size], size):
+        end = frames.end_of(b"", 0, data, at, limit)
+        if end == frames.NEVER or not is_plausible(side, data[at + frames.LENGTH:end], end - at - frames.LENGTH):
             return False
-        if len(data) < at + 4 + size:
+        if len(data) < end:
             return None
-        at, seen = at + 4 + size, seen + 1
+        at, seen = end, seen + 1
     return True
 
 

@@ -5,38 +5,11 @@ import struct
 
 import listing
 import zkr
+from frames import LARGEST, Beginning
 
 LETTERS = {zkr.CLIENT: "C", zkr.SERVER: "S"}
 LENGTH_AND_XID = struct.Struct(">ii")
-LARGEST = zkr.LIMITS[-1]
-
-
-class Beginning:
-    """The bytes of a side's frame that isn't whole yet: how many there are, and the first eight of them."""
-
-    def __init__(self):
-        self.got, self.size, self.first = 0, None, b""
-
-    def take(self, data, at):
-        """Takes bytes from place `at` on, to the frame's end at most, and returns the place after them. A frame with an
-        impossible length has no end."""
-        if self.got < 4:
-            part = data[at:at + 4 - self.got]
-            self.first += part
-            self.got += len(part)
-            at += len(part)
-            if self.got < 4:
-                return at
-            length = int.from_bytes(self.first, "big", signed=True)
-            self.size = 4 + length if 0 <= length <= LARGEST else float("inf")
-        to = min(len(data), at + self.size - self.got)
-        if self.got < 8:
-            self.first += data[at:min(to, at + 8 - self.got)]
-        self.got += to - at
-        return to
-
-    def is_whole(self):
-        return self.got == self.size
+KEPT = LENGTH_AND_XID.size      # of a frame that comes in several pieces
 
 
 class Times:
@@ -49,7 +22,7 @@ class Times:
 
     def __init__(self, pieces, times):
         self.damage, self.count = None, {"C": 0, "S": 0}
-        self.begun = {"C": Beginning(), "S": Beginning()}
+        self.begun = {"C": Beginning(KEPT), "S": Beginning(KEPT)}
         self.frames = self.read(pieces, times)
 
     def read(self, pieces, times):
@@ -69,7 +42,7 @@ class Times:
                     beginning = begun[letter]
                     at = beginning.take(data, at)
                     if beginning.is_whole():
-                        begun[letter] = Beginning()
+                        begun[letter] = Beginning(KEPT)
                         count[letter] += 1
                         yield letter, int.from_bytes(beginning.first[4:], "big", signed=True), moment
         except zkr.Damaged as damage:

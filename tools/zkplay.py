@@ -28,6 +28,7 @@ import sys
 import threading
 
 import addresses
+import frames
 import playing
 import program
 import zkr
@@ -119,7 +120,7 @@ def place(text):
     found = re.fullmatch(r"(\d{1,18})(?::(\d{1,18}))?", text, re.ASCII)
     if not found:
         raise ValueError(f"{text!r} is not a place: write FRAME or FRAME:PLACE")
-    return int(found[1]), -playing.LENGTH if found[2] is None else int(found[2])
+    return int(found[1]), -frames.LENGTH if found[2] is None else int(found[2])
 
 
 def flip(text):

@@ -17,6 +17,7 @@ import re
 import struct
 from typing import NamedTuple, Optional
 
+import frames
 from newfile import NewFile, flush
 from running import (Progress, allow_many_files, complain, hold_standard_streams, drop_standard_output,  # noqa: F401
                      report, standard_input, tool)
@@ -33,7 +34,7 @@ RELEASES = {number: release for release, number in PROFILES.items()}
 PIECE_HEADS = {"zkr1": struct.Struct(">ci"), "zkr2": struct.Struct(">cqi")}
 
 
-# The reasons of docs/FORMATS.md, section 12, as they are told.
+# The reasons of docs/FORMATS.md, section 12, in words.
 DAMAGES = {
     "BadHead": "this is no recording, which begins with ZKR1 or ZKR2",
     "BadLimits": "the recording's head has a limit or a profile that isn't allowed",
@@ -180,57 +181,11 @@ def times_beside(path, beside=None):
     return read_times(beside)
 
 
-class Frame(NamedTuple):
-    """A whole frame: its side, its number on that side from 0, its payload, and the time of its last byte."""
-    side: bytes
-    number: int
-    payload: bytes
-    milliseconds: Optional[float]
-
-
-class Cutter:
-    """Cuts each side's bytes into frames. `held` has what is left of each side: a beginning of a frame.
-
-    Where a side's length is negative or above the limit, that side is in `broken`, and all its bytes from there on
-    stay in `held`.
-    """
+class Cutter(frames.Cutter):
+    """Cuts the sides of a recording with this head into frames."""
 
     def __init__(self, head=Head()):
-        self.limits = {CLIENT: head.client_limit, SERVER: head.server_limit}
-        self.held = {CLIENT: bytearray(), SERVER: bytearray()}
-        self.count = {CLIENT: 0, SERVER: 0}
-        self.broken = set()
-
-    def is_one_frame(self, piece):
-        """Whether the next piece is just one whole frame, as most pieces are."""
-        side, _, data = piece
-        if self.held[side] or side in self.broken:
-            return False
-        return int.from_bytes(data[:4], "big") == len(data) - 4 <= self.limits[side]
-
-    def take(self, piece):
-        """The frames that are whole with this piece."""
-        if self.is_one_frame(piece):
-            return [self.frame(piece, piece.data[4:])]
-        side, held, at, frames = piece.side, self.held[piece.side], 0, []
-        held += piece.data
-        while side not in self.broken and len(held) - at >= 4:
-            size = int.from_bytes(held[at:at + 4], "big", signed=True)
-            if not 0 <= size <= self.limits[side]:
-                self.broken.add(side)
-            elif len(held) - at < 4 + size:
-                break
-            else:
-                frames.append(self.frame(piece, bytes(held[at + 4:at + 4 + size])))
-                at += 4 + size
-        del held[:at]
-        return frames
-
-    def frame(self, piece, payload):
-        """The next frame of the piece's side."""
-        number = self.count[piece.side]
-        self.count[piece.side] = number + 1
-        return Frame(piece.side, number, payload, piece.milliseconds)
+        super().__init__({CLIENT: head.client_limit, SERVER: head.server_limit})
 
 
 class Writer:

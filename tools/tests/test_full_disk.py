@@ -1,5 +1,5 @@
 """Tests of the tools that record, on a full disk: what they leave there is whole recordings, each with as many times as
-pieces. A limit of the system on the size of a file stands for a full disk; so does a small disk, where one can be
+pieces. In place of a full disk the system limits the size of files; a small disk is used, too, where one can be
 mounted."""
 
 import subprocess
