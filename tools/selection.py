@@ -10,7 +10,7 @@ import listing
 MILLISECONDS = re.compile(r"\d{1,15}", re.ASCII)
 LATENCY = re.compile(r"\d{1,15}(?:\.\d{1,9})?", re.ASCII)
 SESSION = re.compile(r"0x[0-9A-Fa-f]{1,16}|\d{1,20}", re.ASCII)
-OPERATIONS = (*forms.ASKS, listing.EVENT)
+OPERATIONS = (*forms.REQUESTS, listing.EVENT)
 
 
 def moment(text):
