@@ -171,7 +171,7 @@ class Known:
     def end(self, made):
         """Takes the ending."""
         if self.connection.ending:
-            raise ValueError("a line after the ending line")
+            raise ValueError("this connection has ended before: two recordings have this name")
         waiting = made.pop("waiting", None)
         made.pop("connection", None)
         if made["ending"] not in listing.ENDINGS or not all(

@@ -233,19 +233,21 @@ def main():
         with zkr.standard_input() if words.capture == "-" else open(words.capture, "rb") as stream:
             capture.convert(stream)
     except EOFError:
-        complain(f"{words.capture}: the capture ends within a packet")
+        complain(f"{words.capture}: the capture ends within a packet, and was read up to there")
         return 1
     except DAMAGED:
-        complain(f"{words.capture}: the capture is damaged")
+        complain(f"{words.capture}: the capture is damaged, and was read up to there")
         return 3
     except OSError as error:
-        complain(f"{error.filename or words.capture}: {error.strerror or error}")
+        left = ", ".join(capture.series.begun())
+        complain(f"{error.filename or words.capture}: {error.strerror or error}"
+                 + f"; these recordings are not complete: {left}" * bool(left))
         return 3
     except packets.NotRead as error:
         complain(f"{words.capture}: {error}")
         return 3
     if capture.series.unsaid:
-        complain(f"standard output: {capture.series.unsaid.strerror}")
+        complain(f"standard output: {capture.series.unsaid.strerror}; the recordings are complete, and lines are lost")
         return 3
     if not capture.begun:
         complain(f"{words.capture}: no connection to port {words.port}{capture.ports_heard()}")

@@ -77,7 +77,7 @@ class Play:
                     break
         for frame, place in [*([self.end] if self.end and not is_end else []), *self.flips]:
             raise Refused(f"the {NAMES[self.own]}'s bytes ended before frame={frame} place={max(0, place)}, "
-                          "so no fault was made there")
+                          "so no fault was made there: choose an earlier place")
         if not is_end:
             if self.own == zkr.CLIENT:
                 self.connection.shutdown(socket.SHUT_WR)
@@ -115,7 +115,7 @@ class Play:
         try:
             self.connection.sendall(data)
         except OSError as error:
-            raise self.refused(f"it can't be sent more: {error.strerror or error}") from None
+            raise self.refused(f"no more could be sent to it: {error.strerror or error}") from None
 
     def before_the_end(self, at, size):
         """How many of a part's bytes are still sent, where the side ends in it."""
@@ -162,12 +162,12 @@ class Play:
             self.connection.settimeout(max(0.001, until - time.monotonic()))
             got = b"" if self.has_ended else self.connection.recv(BLOCK)
         except socket.timeout:
-            return "nothing came"
+            return f"nothing came for {self.wait:g} s"
         except OSError as error:
             return error.strerror
         self.heard += got
         self.has_ended = not got
-        return None if got else "it ended"
+        return None if got else "it has ended its side"
 
     def hear(self, due):
         """Takes these bytes from the peer."""

@@ -26,7 +26,7 @@ def add_program(parser):
 def prove_runs(parser, path):
     """Ends the tool with an error if there is no program at this path, or it can't read a recording of no pieces."""
     if not shutil.which(path):
-        parser.error(f"there is no program {path}: name it with --zkdump PATH")
+        parser.error(f"there is no program {path}: build or install zkdump, or name it with --zkdump PATH")
     try:
         with subprocess.Popen([path, "show"], stdin=subprocess.PIPE, stdout=subprocess.PIPE,
                               stderr=subprocess.DEVNULL) as show:

@@ -222,11 +222,11 @@ class Proxy:
     def say(self, text):
         """Writes a line on standard output. Where nobody reads it any more, the connections continue."""
         if not self.lines.print(text):
-            self.complaints.print_once("standard output is not read, so lines are lost")
+            self.complaints.print_once("nobody reads standard output, so lines are lost; the connections go on")
 
     def not_printed(self, error):
         """Called in a thread where a line could not be written."""
-        self.complaints.print_once(f"standard output: {error.strerror}; the connections go on")
+        self.complaints.print_once(f"standard output: {error.strerror}; lines are lost, and the connections go on")
 
     def wait_for(self, file, events, who=None):
         """Waits for these events of a file, in place of those before: `who.step(file, events)` is then called."""
@@ -291,7 +291,7 @@ class Proxy:
 
     def rest(self, error):
         """Accepts no clients for a moment; the connections continue."""
-        self.complaints.print_once(f"new clients have to wait: {error.strerror}; the connections go on")
+        self.complaints.print_once(f"new clients have to wait: {error.strerror} (ulimit -Hn is how many may be open); the connections go on")
         for listener in self.listeners:
             self.wait_for(listener, 0)
         self.after(REST, self.take_clients)

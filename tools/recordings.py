@@ -63,6 +63,10 @@ class Series:
             if not recording.recording.size:
                 recording.remove()
 
+    def begun(self):
+        """The paths of the recordings that were not finished."""
+        return sorted(recording.path for recording in self.open if recording.recording.size)
+
     def say(self, line):
         """Prints a line; where nobody reads it any more, the rest continues."""
         try:

@@ -30,7 +30,7 @@ def moment(text):
 def latency(text):
     """A number of milliseconds."""
     if not LATENCY.fullmatch(text):
-        raise argparse.ArgumentTypeError(f"{text!r} is not a number of milliseconds")
+        raise argparse.ArgumentTypeError(f"{text!r} is not a number of milliseconds: write it as 250 or 0.5")
     return float(text)
 
 

@@ -112,14 +112,14 @@ def seconds(text):
             return float(text)
     except ValueError:
         pass
-    raise ValueError(f"{text!r} is not a number of seconds from 0 to {LONGEST_WAIT}")
+    raise ValueError(f"{text!r} is not a number of seconds above 0, up to {LONGEST_WAIT:,}")
 
 
 def place(text):
     """A frame and a place in it."""
     found = re.fullmatch(r"(\d{1,18})(?::(\d{1,18}))?", text, re.ASCII)
     if not found:
-        raise ValueError(f"{text!r} is not a place: write FRAME or FRAME:PLACE")
+        raise ValueError(f"{text!r} is not a place: write FRAME or FRAME:PLACE, as 2 or 2:10")
     return int(found[1]), -frames.LENGTH if found[2] is None else int(found[2])
 
 
@@ -127,7 +127,7 @@ def flip(text):
     """A frame and a place, and the byte that is to be there."""
     found = re.fullmatch(r"(\d{1,18}):(\d{1,18})(?:=([0-9a-fA-F]{2}))?", text, re.ASCII)
     if not found:
-        raise ValueError(f"{text!r} is not a byte's place: write FRAME:PLACE or FRAME:PLACE=HH")
+        raise ValueError(f"{text!r} is not a byte's place: write FRAME:PLACE or FRAME:PLACE=HH, as 2:10 or 2:10=ff")
     return (int(found[1]), int(found[2])), None if found[3] is None else int(found[3], 16)
 
 

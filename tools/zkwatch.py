@@ -129,7 +129,7 @@ class Show:
             return
         self.process = None
         if not self.unread and (status not in (0, 1) or not self.last.startswith(b".")):
-            self.unread = f"zkdump has ended with status {status}"
+            self.unread = f"zkdump show has ended with status {status}"
         if self.unread or not self.is_over:
             self.report_unread()
         if self.is_over:
@@ -163,7 +163,7 @@ class Watch(proxy.Proxy):
         return show
 
     def unreached(self, connection, reason):
-        self.say_of(connection.number, f"not watched: no connection to the server: {reason}")
+        self.say_of(connection.number, f"not passed on: no connection to the server: {reason}")
         self.over |= self.once
 
     def busy(self):

@@ -219,7 +219,7 @@ class Pings(BenchCase):
                 break
             select.select([client], [], [], 0.1)
             time.sleep(0.05)
-        self.assert_refused("client frame=1 offset=50 place=0: expected 00: nothing came")
+        self.assert_refused("client frame=1 offset=50 place=0: expected 00: nothing came for 0.5 s")
 
 
 class Many(BenchCase):

@@ -8,7 +8,7 @@ import sys
 import wire
 from captured import PcapCase, packed
 from proxied import SECONDS, TroubleCase
-from support import TOOLS, pieces, zkr
+from support import CAPTURES, TOOLS, pieces, zkr
 
 ASK, REPLY = zkr.Piece(zkr.CLIENT, None, bytes(300)), zkr.Piece(zkr.SERVER, None, bytes(300))
 
@@ -75,6 +75,15 @@ class Zkskip(PcapCase):
                 self.assertEqual(target.exists() and len(pieces(target.read_bytes())), left or False)
 
 
+class Zkr2pcap(PcapCase):
+    def test_no_part_of_a_capture_is_left(self):
+        capture = self.folder / "made.pcap"
+        done = subprocess.run(["prlimit", "--fsize=100:100", sys.executable, TOOLS / "zkr2pcap.py", CAPTURES[0], capture],
+                              capture_output=True, text=True, timeout=60, check=False)
+        self.assertEqual((done.returncode, done.stderr), (3, f"zkr2pcap.py: {capture}: File too large\n"))
+        self.assertFalse(capture.exists())
+
+
 class Pcap2zkr(PcapCase):
     """Five connections side by side, of which the last is longer than what is gathered before it is written."""
 
@@ -85,6 +94,7 @@ class Pcap2zkr(PcapCase):
         capture = wire.pcap([packed([each], client=3000 + at)[0] for _, at, each in sent])
         status, lines, told, _ = self.convert_within(capture, "RLIMIT_FSIZE", most, *words)
         self.assertEqual((status, lines, len(told)), (3, 0, 1), told)
+        self.complaint = told[0]
         self.assertRegex(told[0], r"^pcap2zkr\.py: \S+r-\d\.zkr(\.times)?: File too large")
         recordings = sorted(self.folder.glob("r-*.zkr"))
         times = [list(zkr.read_times(path)) for path in sorted(self.folder.glob("r-*.times"))]
@@ -99,6 +109,8 @@ class Pcap2zkr(PcapCase):
     def test_what_was_written_is_left_whole(self):
         names, count, times = self.left(100_000, "--times")
         self.assertEqual((names, count, times), (["r-5.zkr"], times, count))
+        self.assertIn("; these recordings are not complete: ", self.complaint)
+        self.assertTrue(self.complaint.endswith("r-5.zkr"), self.complaint)
         self.assertTrue(0 < count[0] < 800, count)
 
     def test_a_small_disk(self):

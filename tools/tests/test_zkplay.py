@@ -87,9 +87,10 @@ class Zkplay(ToolCase):
 
     def test_an_end_and_silence_where_a_byte_is_due(self):
         said = sides(RUN.read_bytes())[0][:-1]
-        self.assertEqual(self.refusal(said, end=True), "client frame=1 offset=68 place=14: expected 01: it ended")
+        self.assertEqual(self.refusal(said, end=True), "client frame=1 offset=68 place=14: expected 01: it has "
+                         "ended its side")
         self.assertEqual(self.refusal(said, "--wait", "0.5"),
-                         "client frame=1 offset=68 place=14: expected 01: nothing came")
+                         "client frame=1 offset=68 place=14: expected 01: nothing came for 0.5 s")
 
     def test_a_damaged_recording(self):
         path = self.folder / "damaged.zkr"

@@ -242,7 +242,8 @@ class Zkreport(ToolCase):
     def test_what_is_no_input(self):
         path = self.listing("words", "words")
         self.assertEqual(self.run_tool("zkreport.py", "--text", path),
-                         (1, "", f"zkreport.py: {path} is neither a capture nor a recording nor a listing\n"))
+                         (1, "", f"zkreport.py: {path} is no capture, no recording, no listing of zkdump show, and has no "
+                                "lines of zkjson\n"))
         status, _, err = self.run_tool("zkreport.py", "--text", self.folder / "none")
         self.assertEqual((status, err.count("\n")), (3, 1))
 

@@ -171,7 +171,8 @@ class Zkskip(ToolCase):
         source.write_bytes(recording([request(1, 19)]))
         (self.folder / "a.zkr.times").write_text("1\n2\n", "ascii")
         status, out, err = self.run_tool("zkskip.py", source, self.folder / "b.zkr")
-        self.assertEqual((status, out, err), (1, "", f"zkskip.py: {source}.times has 2 times, and {source} 3 pieces\n"))
+        self.assertEqual((status, out, err), (1, "", f"zkskip.py: {source}.times has 2 times, and {source} 3 "
+                                                   "pieces: these are not the times of this recording\n"))
         self.assertFalse((self.folder / "b.zkr").exists())
 
     def test_words(self):
