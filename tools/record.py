@@ -106,6 +106,7 @@ def main():
     recorder = Recorder(server, zkr.Series(words.prefix, head, words.times))
     for listener in listeners:
         recorder.complaints.print(f"listens on {addresses.address_text(listener.getsockname())}; Ctrl-C ends it")
+    recorder.complaints.wait()  # the first lines on a terminal
     recorder.run(listeners)
     return recorder.status
 
