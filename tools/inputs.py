@@ -1,7 +1,6 @@
 """Opens what a tool is to read: listings, recordings, and lines that zkjson has made, with the times of messages."""
 
 import itertools
-import shutil
 import subprocess
 
 import joined
@@ -46,8 +45,8 @@ def conversation(parser, words, path, stream, objects, progress, before_read):
     times, name = None, words.recording or path
     if stream.peek(4)[:4] in (b"ZKR1", b"ZKR2"):
         if path == listing.STANDARD_INPUT or words.recording:
-            parser.error("standard input is a recording: name its file as the argument" if path == listing.STANDARD_INPUT
-                         else f"{path} is a recording, and --recording is for a listing: leave it out")
+            parser.error(f"{path} is a recording, and --recording is for a listing: leave it out"
+                         if words.recording else "standard input is a recording: name its file as the argument")
         lines, times = lines_of_show(parser, words, path, before_read), times_of(parser, path, words.times, False)
     else:
         if words.recording:
@@ -67,8 +66,7 @@ def conversation(parser, words, path, stream, objects, progress, before_read):
 
 def lines_of_show(parser, words, path, before_read):
     """The lines of a recording."""
-    if not shutil.which(words.zkdump):
-        parser.error(f"there is no program {words.zkdump}: build or install zkdump, or name it with --zkdump PATH")
+    program.need(parser, words.zkdump)
     options = ["--profile", words.profile] if words.profile else []
     if limit := getattr(words, "limit", None):
         options += ["--limit", str(limit)]

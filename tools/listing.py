@@ -244,7 +244,8 @@ class Listing(Conversations):
     def end(self, line, n):
         """Takes an ending line, as the last one."""
         if self.connection.ending:
-            raise NoListing(f"line {n}: a line after the last one of a connection: name the listings of two connections each by itself")
+            raise NoListing(f"line {n}: a line after the last one of a connection: name the listings of two "
+                            "connections each by itself")
         if not line.startswith("."):
             head = ONLY_HEAD.match(line)
             raise no_line(n, head.end() if head else 0)

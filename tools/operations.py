@@ -25,6 +25,7 @@ class Operation(NamedTuple):
 
 CREATE, PATH = "path:text blob:data acl:acls flags:number", "path:text"
 WATCH, VERSION = "path:text watch:bit", "path:text version:number"
+WATCHES = "zxid:hexadecimal dataWatches:texts existWatches:texts childWatches:texts"
 ALL = (
     Operation(1, "create", "3.4", CREATE, PATH),
     Operation(2, "delete", "3.4", VERSION, ""),
@@ -48,12 +49,11 @@ ALL = (
     Operation(21, "createTTL", None, f"{CREATE} ttl:long"),
     Operation(22, "multiRead", None, "parts:parts"),
     Operation(100, "auth", "3.4", "kind:number scheme:text auth:data", "", -4, False),
-    Operation(101, "setWatches", "3.4", "zxid:hexadecimal dataWatches:texts existWatches:texts childWatches:texts", "", -8),
+    Operation(101, "setWatches", "3.4", WATCHES, "", -8),
     Operation(102, "sasl", None, "token:data"),
     Operation(103, "getEphemerals", None, PATH),
     Operation(104, "getAllChildrenNumber", None, PATH),
-    Operation(105, "setWatches2", None, "zxid:hexadecimal dataWatches:texts existWatches:texts childWatches:texts "
-              "persistentWatches:texts persistentRecursiveWatches:texts", None, -8),
+    Operation(105, "setWatches2", None, f"{WATCHES} persistentWatches:texts persistentRecursiveWatches:texts", None, -8),
     Operation(106, "addWatch", None, "path:text mode:number"),
     Operation(107, "whoAmI", None, ""),
     Operation(-11, "closeSession", "3.4", "", ""),

@@ -23,10 +23,15 @@ def add_program(parser):
                         help="the program (that which was built or installed with this tool, else zkdump on the PATH)")
 
 
-def prove_runs(parser, path):
-    """Ends the tool with an error if there is no program at this path, or it can't read a recording of no pieces."""
+def need(parser, path):
+    """Ends the tool with an error if there is no program at this path."""
     if not shutil.which(path):
         parser.error(f"there is no program {path}: build or install zkdump, or name it with --zkdump PATH")
+
+
+def prove_runs(parser, path):
+    """Ends the tool with an error if there is no program at this path, or it can't read a recording of no pieces."""
+    need(parser, path)
     try:
         with subprocess.Popen([path, "show"], stdin=subprocess.PIPE, stdout=subprocess.PIPE,
                               stderr=subprocess.DEVNULL) as show:

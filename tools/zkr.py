@@ -165,7 +165,8 @@ def read_times(path):
     with open(path, encoding="ascii", errors="replace") as lines:
         for number, line in enumerate(iter(lambda: lines.readline(LONGEST_TIME), ""), 1):
             if not TIME.fullmatch(line):
-                raise ValueError(f"{path}: line {number} is not a time: a line has milliseconds since 1970, as 1795332633004.5")
+                raise ValueError(f"{path}: line {number} is not a time: a line has milliseconds since 1970, as "
+                                 "1795332633004.5")
             yield line.removesuffix("\n")
 
 
@@ -177,7 +178,8 @@ def times_beside(path, beside=None):
     with open(path, "rb") as recording:
         pieces = Reader(recording).count()
     if times != pieces:
-        raise ValueError(f"{beside} has {times} times, and {path} {pieces} pieces: these are not the times of this recording")
+        raise ValueError(f"{beside} has {times} times, and {path} {pieces} pieces: these are not the times of this "
+                         "recording")
     return read_times(beside)
 
 

@@ -10,8 +10,8 @@ refused, or can't be read any longer, a line reports that, and its bytes are sti
 proxy.
 
 No connection waits for `show`, or for the reader of the lines, and none ends with that reader: a connection of which
-64 MB wait to be read is no longer watched. For authors of proxies: `show` writes a message's line as soon as its last byte has come, before the next read,
-and it waits if the reader of its lines does.
+64 MB wait to be read is no longer watched. For authors of proxies: `show` writes a message's line as soon as its last
+byte has come, before the next read, and it waits if the reader of its lines does.
 """
 
 import errno

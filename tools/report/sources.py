@@ -90,7 +90,8 @@ def sources_of(paths, folder, port, warnings):
         elif LISTINGS.match(mark):
             yield Source(path, name.removesuffix(".show"), mark)
         else:
-            raise ValueError(f"{path} is no capture, no recording, no listing of zkdump show, and has no lines of zkjson")
+            raise ValueError(f"{path} is no capture, no recording, no listing of zkdump show, and has no lines of "
+                             "zkjson")
 
 
 def captured(path, name, prefix, port, warnings):
