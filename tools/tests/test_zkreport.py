@@ -185,7 +185,8 @@ class Zkreport(ToolCase):
     def test_a_trace_needs_times(self):
         path = self.listing("a.show", LISTING.format(**HERE))
         status, out, err = self.run_tool("zkreport.py", "--trace", self.folder / "t", path)
-        self.assertEqual((status, out, err), (1, "", "zkreport.py: no times: a trace needs recordings with times\n"))
+        self.assertEqual((status, out, err), (1, "", "zkreport.py: there are no times, which a trace needs: record with "
+                                                 "--times\n"))
         self.assertFalse((self.folder / "t").exists())
 
     def test_no_difference(self):
