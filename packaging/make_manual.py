@@ -30,10 +30,10 @@ def calls():
 
 
 def tools(commands):
-    """Each command, with the first line of its script's docstring."""
+    """Each command, with the first paragraph of its script's docstring."""
     for name, script in commands:
         said = ast.get_docstring(ast.parse(script.read_text())) or name
-        yield f"*{name}*\n\t{escaped(said.splitlines()[0])}\n"
+        yield f"*{name}*\n\t{escaped(said.partition(chr(10) * 2)[0])}\n"
 
 
 def make(folder, version, commands):

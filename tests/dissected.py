@@ -31,10 +31,19 @@ def missing(libzk=None):
     """What the tests need and isn't here."""
     found = [tool for tool in ("tshark", "cc", "pkg-config") if not shutil.which(tool)]
     if not found and subprocess.run(["pkg-config", "--exists", "wireshark"], check=False).returncode != 0:
-        found = ["libwireshark-dev"]
+        found = ["wireshark-dev"]
     if not (libzk or LIBRARY).exists():
         found.append(f"the proved library {libzk or LIBRARY.relative_to(TOP)}")
     return found
+
+
+def missing_for_cmake():
+    """What the build by CMake needs and isn't here. Debian's libwireshark-dev alone has the headers, and no file for
+    CMake."""
+    if not shutil.which("cmake"):
+        return ["cmake"]
+    library, = words_of_pkg("--variable=libdir")
+    return [] if pathlib.Path(library, "wireshark/cmake/WiresharkConfig.cmake").exists() else ["wireshark-dev"]
 
 
 def words_of_pkg(*words):

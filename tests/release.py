@@ -100,8 +100,9 @@ def numbers():
     """The version, where else it is written."""
     header = re.findall(r'^#define ZK_VERSION "(.*)"$', (TOP / "include" / "zk.h").read_text(), re.M)
     yield "zk.h", header == [install.VERSION], f"zk.h has the version {header}, VERSION {install.VERSION}"
-    changes = re.findall(r"^## \[(.*)\]", (TOP / "CHANGELOG.md").read_text(), re.M)
-    yield "CHANGELOG.md", changes[:2] == ["Unreleased", install.VERSION], f"CHANGELOG.md begins with {changes[:2]}"
+    changes = re.findall(r"^## \[(.*?)\](?: - (\d{4}-\d\d-\d\d))?$", (TOP / "CHANGELOG.md").read_text(), re.M)
+    yield "CHANGELOG.md", [name for name, _ in changes[:2]] == ["Unreleased", install.VERSION] and changes[1][1], \
+        f"CHANGELOG.md begins with {changes[:2]}"
     found = run(sys.executable, TOP / "release", install.VERSION + "0")
     yield "another version", found.returncode == 2, f"release: status {found.returncode} for another version"
 
@@ -125,6 +126,25 @@ def logs():
     told = run(sys.executable, TOP / "packaging" / "gate.py").stdout.decode().splitlines()
     yield "gate.py", told == lines, f"gate.py: {told}"
     yield "BUILD", "no gate passed" in release.NO_GATE, "BUILD doesn't say that no gate passed for it"
+
+
+def commands(top):
+    """The tools as a user has them: those of tools/README.md, each with a whole sentence in the manual, and with the
+    program that was installed with them, whatever is on the PATH."""
+    named = {name if "zk" in name else f"zk{name}"
+             for name in re.findall(r"^\| \[(\w+)\.py\]", (TOP / "tools" / "README.md").read_text(), re.M)}
+    found = {path.name for path in (top / "bin").iterdir()} - {"zkdump"}
+    yield "commands", found == named, f"commands that tools/README.md lacks, or that are not installed: {sorted(found ^ named)}"
+    page = top / "share" / "man" / "man1" / "zkdump.1"
+    if page.exists():
+        said = re.findall(r"^\\fB(\w+)\\fR\n\.RS 4\n(.*\.)(?:\\&)?$", page.read_text(), re.M)
+        yield "manual", named <= {name for name, _ in said}, f"zkdump(1) has whole sentences of {said} alone"
+    none = top / "none"
+    none.mkdir()
+    (none / "zkdump").write_text("#!/bin/sh\nexit 9\n")
+    (none / "zkdump").chmod(0o755)
+    found = run(top / "bin" / "zkstat", RECORDING, env={**os.environ, "PATH": f"{none}:{os.environ['PATH']}"})
+    yield "zkstat", found.returncode == 0 and b"whole" in found.stdout, f"zkstat: {found.returncode}, {found.stderr[-300:]}"
 
 
 def completion():
@@ -244,6 +264,7 @@ def main():
             archive.extractall(work)
         top = work / distribution.NAME
         results.append(lists("the archive's program", top / "bin" / "zkdump", "show"))
+        results += commands(top)
         if not skip("the libraries", *make_library.TOOLS):
             results += [*header(top, work), *libraries(top, work)]
         results += packages(dist, work / "root")

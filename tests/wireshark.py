@@ -47,8 +47,8 @@ class Tests(Connections):
         """The page's lines build and install it, by the compiler and by CMake."""
         page = (SOURCES / "README.md").read_text()
         for tool, pattern, place in (("cc", r"cc .*|install .*", "wireshark"), ("cmake", r"cmake .*", ".")):
-            if not shutil.which(tool):
-                print(f"left out: {tool} is not here")
+            if lacking := dissected.missing_for_cmake() if tool == "cmake" else []:
+                print(f"left out: the build by CMake, as {', '.join(lacking)} is not here")
                 continue
             top = pathlib.Path(self.folder, f"by_{tool}")
             for folder in (SOURCES, TOP / "include"):
@@ -161,6 +161,17 @@ class Tests(Connections):
             for piece in pieces_of(path):
                 whole[piece.side] += piece.data
             yield said == whole, f"{path.stem}: other bytes"
+
+    def test_the_recipe_for_json(self):
+        """It has the packets with messages alone, and every field of a message once, lists where there are several."""
+        path = TOP / "captures" / "kazoo_multi.zkr"
+        page = (SOURCES / "README.md").read_text()
+        words = re.search(r"^    \$ tshark (-2 -r F .*-T json.*)$", page, re.M)[1].replace(" -r F", "").split()
+        found = json.loads(self.plugin.read(capture_of(pieces_of(path)), *words))
+        layers = [each["_source"]["layers"].get("zookeeper") for each in found]
+        messages = sum(len(each) if isinstance(each, list) else 1 for each in layers if each)
+        yield found and all(layers), f"{layers.count(None)} of {len(layers)} packets have no message"
+        yield messages == len(path.with_suffix(".show").read_text().splitlines()) - 1, f"{messages} messages"
 
     def test_preferences_of_tcp(self):
         """The numbers may be counted from 0 or not, and TCP's own analysis may be off."""

@@ -1,4 +1,3 @@
-#!/usr/bin/env -S sh -c '[ -d /dev/stdin ] && exec <&-; exec python3 "$0" "$@"'
 """Proves and builds the program zkdump, and then runs it with these words: what ./zkdump calls.
 
     build_program.py FOLDER [WORD ..]

@@ -9,6 +9,7 @@ import struct
 
 import contents
 import facts
+import frames
 import resync
 import zkr
 from streams import SIDES
@@ -54,7 +55,7 @@ class Conversation:
             self.go_on(number, milliseconds)
         stretch = self.stretches[0]
         if not (self.sought or self.unfinished or self.cutter.held[side]) and side in self.connected \
-                and stretch is self.stretches[-1] and int.from_bytes(data[:4], "big") == len(data) - 4 > 4 \
+                and stretch is self.stretches[-1] and frames.is_one(data) and len(data) > 8 \
                 and stretch.passes(side, number, milliseconds, data):
             stretch.recording.take(side, number, milliseconds, data)  # it is just one frame, as nearly always
             return
@@ -81,8 +82,8 @@ class Conversation:
             data = self.found(side, data)
             if not data:
                 return
-        frames = self.cutter.take(zkr.Piece(side, milliseconds, data))
-        for at, frame in enumerate(frames):
+        found = self.cutter.take(zkr.Piece(side, milliseconds, data))
+        for at, frame in enumerate(found):
             message = Message(side, number, milliseconds, frame.payload)
             if side not in self.connected:
                 self.connected.add(side)
@@ -93,7 +94,7 @@ class Conversation:
                 self.hear(message)
             else:
                 # These are no frames after all.
-                self.skip(side, sum([4 + len(frame.payload) for frame in frames[at:]]))
+                self.skip(side, sum([4 + len(frame.payload) for frame in found[at:]]))
                 self.seek(side)
                 return
         if side in self.cutter.broken:
@@ -113,7 +114,7 @@ class Conversation:
             self.skip(side, keep)
             self.sought[side] = data[keep:]
             return b""
-        while (end := place + 4 + int.from_bytes(data[place:place + 4], "big")) <= fresh:
+        while (end := frames.end_of(b"", 0, data, place) or frames.NEVER) <= fresh:
             place = end
         self.skip(side, place)
         del self.sought[side]
@@ -269,7 +270,7 @@ class Conversation:
         path, count = "-", dict.fromkeys(SIDES, 0)
         if recording:
             recording.close()
-            self.series.open -= 1
+            self.series.open.discard(recording)
             path, count = recording.path, recording.count
         first, began = (recording.first, recording.began) if lost and recording else (stretch.first, stretch.began)
         known = facts.Facts(

@@ -11,6 +11,7 @@ import json
 import re
 
 import listing
+import operations
 from listing import BLOCK, NUMBER, TEXT
 
 READABLE, ASCII = json.JSONEncoder(ensure_ascii=False).encode, json.JSONEncoder().encode
@@ -235,31 +236,17 @@ class Form:
         return at
 
 
-# The fields of each operation's request, and of its reply after the zxid; a multi has parts, and results.
-WATCH, VERSION = "path:text watch:bit", "path:text version:number"
-ASKS = {
-    "connect": "version:number zxid:hexadecimal timeout:number session:hexadecimal passwd:secret ro:readonly",
-    "create": "path:text blob:data acl:acls flags:number", "create2": "path:text blob:data acl:acls flags:number",
-    "delete": VERSION, "exists": WATCH, "getData": WATCH, "setData": "path:text blob:data version:number",
-    "getACL": "path:text", "setACL": "path:text acl:acls version:number", "getChildren": WATCH, "getChildren2": WATCH,
-    "sync": "path:text", "ping": "", "auth": "kind:number scheme:text auth:data",
-    "setWatches": "zxid:hexadecimal dataWatches:texts existWatches:texts childWatches:texts", "closeSession": "",
-    "multi": "",
-}
-ANSWERS = {
-    "create": "path:text", "create2": "path:text stat:stat", "delete": "", "exists": "stat:stat",
-    "getData": "blob:data stat:stat", "setData": "stat:stat", "getACL": "acl:acls stat:stat", "setACL": "stat:stat",
-    "getChildren": "names:texts", "getChildren2": "names:texts stat:stat", "sync": "path:text", "ping": "", "auth": "",
-    "setWatches": "", "closeSession": "", "multi": "",
-}
-NUMBERS = {"create": 1, "delete": 2, "exists": 3, "getData": 4, "setData": 5, "getACL": 6, "setACL": 7, "getChildren": 8,
-           "sync": 9, "ping": 11, "getChildren2": 12, "multi": 14, "create2": 15, "auth": 100, "setWatches": 101,
-           "closeSession": -11}
-REQUESTS = {name: Form(fields) for name, fields in ASKS.items()}
-REPLIES = {name: Form("zxid:hexadecimal " + fields) for name, fields in ANSWERS.items()}
-REPLIES["connect"] = Form("version:number timeout:number session:hexadecimal passwd:secret ro:readonly")
+# The parts of a multi, and their results, are no fields of its line.
+UNSPELLED = re.compile(r"\w+:(?:parts|results)")
+CONNECT = "version:number zxid:hexadecimal timeout:number session:hexadecimal passwd:secret ro:readonly"
+READ = [operation for operation in operations.ALL if operation.release]
+REQUESTS = {listing.CONNECT: Form(CONNECT),
+            **{operation.name: Form(UNSPELLED.sub("", operation.request)) for operation in READ}}
+REPLIES = {operation.name: Form("zxid:hexadecimal " + UNSPELLED.sub("", operation.reply)) for operation in READ}
+REPLIES[listing.CONNECT] = Form("version:number timeout:number session:hexadecimal passwd:secret ro:readonly")
+NUMBERS = {operation.name: operation.number for operation in READ}
 REPLIES[listing.EVENT] = Form("zxid:hexadecimal kind:kind state:number path:text")
 FAILED = Form("zxid:hexadecimal err:err")
-PARTS = {**{name: REQUESTS[name] for name in ("create", "delete", "setData")}, "check": Form(VERSION)}
+PARTS = {name: Form(operations.BY_NAME[name].request) for name in ("create", "delete", "setData", "check")}
 RESULTS = {"create": Form("path:text"), "delete": Form(), "setData": Form("stat:stat"), "check": Form(),
            "fail": Form("err:err")}

@@ -2,7 +2,6 @@
 
 import itertools
 import os
-import shutil
 import subprocess
 
 import columns
@@ -31,11 +30,12 @@ def conversations(parser, words, objects, progress, before_read=lambda: None, fa
     where that can be and `fast` gives their options. Before each read `before_read` is called; `progress` is updated
     with the number of lines."""
     if words.recording and len(words.inputs) > 1:
-        parser.error("--recording is for one listing: name one file, or none")
+        parser.error("--recording names the recording of one listing: name one listing, or none for standard input")
     if words.times and not words.recording and len(words.inputs) != 1:
-        parser.error("--times is for one recording: name that one")
-    if len(set(words.inputs)) < len(words.inputs):
-        parser.error("a file is named twice")
+        parser.error("--times has the times of one recording: name just that recording")
+    for path in words.inputs:
+        if words.inputs.count(path) > 1:
+            parser.error(f"{path} is named twice: its messages would count twice")
     for path in words.inputs or [listing.STANDARD_INPUT]:
         try:
             with zkr.standard_input() if path == listing.STANDARD_INPUT else open(path, "rb") as stream:
@@ -54,7 +54,8 @@ def conversation(parser, words, path, stream, objects, progress, before_read, fa
         known = facts.facts_of(name) if words.recording or is_recording and path != listing.STANDARD_INPUT else None
     if is_recording:
         if path == listing.STANDARD_INPUT or words.recording:
-            parser.error("this is a recording: name it as the argument, and leave out --recording")
+            parser.error(f"{path} is a recording, and --recording is for a listing: leave it out"
+                         if words.recording else "standard input is a recording: name its file as the argument")
         profile = words.profile or known and known.profile
         if found := columns_of(words, path, fast, profile, known, progress):
             return found
@@ -64,11 +65,12 @@ def conversation(parser, words, path, stream, objects, progress, before_read, fa
         if words.recording:
             times = times_of(parser, words.recording, words.times, True)
         elif words.times:
-            parser.error("--times is for a recording, and this is a listing: add --recording REC.zkr")
+            parser.error(f"--times is for a recording, and {name} is a listing: add --recording with its recording")
         lines = listing.lines_of(stream, before_read)
     first = next(lines, None)
     if first is None:
-        raise listing.NoListing("the listing is empty" if path == listing.STANDARD_INPUT else f"{path} is empty")
+        source = "standard input" if path == listing.STANDARD_INPUT else path
+        raise listing.NoListing(f"{source} is empty: a listing has at least its last line, as zkdump show writes it")
     lines = itertools.chain([first], lines)
     if objects and first.startswith("{"):
         return joined.Joined(name, lines, progress)
@@ -93,8 +95,7 @@ def columns_of(words, path, fast, profile, known, progress):
 
 def lines_of_show(parser, words, path, profile, before_read):
     """The lines of a recording, judged by this profile, if any."""
-    if not shutil.which(words.zkdump):
-        parser.error(f"there is no program {words.zkdump}: name it with --zkdump PATH")
+    program.need(parser, words.zkdump)
     options = ["--profile", profile] if profile else []
     if limit := getattr(words, "limit", None):
         options += ["--limit", str(limit)]
@@ -106,4 +107,4 @@ def lines_of_show(parser, words, path, profile, before_read):
         show.stdout.close()
         status = show.wait()
     if status not in (0, 1):
-        raise OSError(f"{words.zkdump} has ended with status {status}")
+        raise OSError(f"{path}: {words.zkdump} show has ended with status {status}, maybe before the listing's end")

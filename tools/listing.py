@@ -68,7 +68,7 @@ def check_values(line, n):
 
 def no_line(n, at):
     """The error for line n, which can be parsed up to the place `at`."""
-    return NoListing(f"line {n}: this is not a line of a listing from column {at + 1} on")
+    return NoListing(f"line {n}: from column {at + 1} on this is no line as zkdump show writes it")
 
 
 class Connection:
@@ -180,7 +180,7 @@ def spelled(value):
 def ending_of(line, n):
     """An ending line, its numbers as numbers."""
     if not ENDING.fullmatch(line):
-        raise NoListing(f"line {n}: this is not an ending line")
+        raise NoListing(f"line {n}: this begins with a dot, and is no last line as zkdump show writes it")
     word, *fields = line[2:].split(" ")
     made = {"ending": word}
     for name, _, value in (field.partition("=") for field in fields):
@@ -264,7 +264,7 @@ class Listing(Conversations):
                 lane.append(made)
             elif op != EVENT:
                 if not lane or lane[0].xid != xid or lane[0].op != op:
-                    raise NoListing(f"line {n}: a reply without its request")
+                    raise NoListing(f"line {n}: the request of this reply is missing before it: name the whole listing")
                 asked = lane.popleft()
                 if made.moment is not None and asked.moment is not None:
                     made.microseconds = microseconds = round((moment - asked.moment) * 1000)
@@ -288,7 +288,8 @@ class Listing(Conversations):
     def end(self, line, n):
         """Takes an ending line, as the last one."""
         if self.connection.ending:
-            raise NoListing(f"line {n}: a line after the ending line")
+            raise NoListing(f"line {n}: a line after the last one of a connection: name the listings of two "
+                            "connections each by itself")
         if not line.startswith("."):
             head = ONLY_HEAD.match(line)
             raise no_line(n, head.end() if head else 0)

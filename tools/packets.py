@@ -100,7 +100,7 @@ def packets_of_pcap(source, mark):
     forms = {struct.pack(order + "I", number): (order, unit)
              for order in "<>" for number, unit in ((0xA1B2C3D4, 1e-3), (0xA1B23C4D, 1e-6))}
     if mark not in forms:
-        raise NotRead("this is not a capture of pcap or pcapng")
+        raise NotRead("this is not a capture of tcpdump or Wireshark (pcap or pcapng)")
     order, unit = forms[mark]
     link = struct.unpack(order + "16xI", source.exactly(20))[0] & 0x0FFFFFFF
     unpack = struct.Struct(order + "IIII").unpack_from
@@ -183,7 +183,7 @@ def network_place(link, packet, at):
             at += 4
         return at + 2 if packet[at:at + 2] in IP_KINDS else len(packet)
     if link not in LINKS:
-        raise NotRead(f"packets of link type {link} can't be read: capture at another interface")
+        raise NotRead(f"packets of link type {link} can't be read: capture at another interface, such as any or eth0")
     return at + LINKS[link]
 
 

@@ -70,6 +70,14 @@ class Capture:
         # connections of which no byte was captured yet, and those of which no more is expected, the oldest first.
         self.halves, self.over, self.silent, self.lingering = {}, {}, {}, {}
 
+    def convert(self, stream):
+        """Makes recordings of a capture. Where one can't be written, those of which nothing was written are removed."""
+        try:
+            self.read(stream)
+        except OSError:
+            self.series.remove_empty()
+            raise
+
     def read(self, stream):
         """Reads a capture up to its end, or up to Ctrl-C."""
         progress, halves, failed = zkr.Progress("pcap2zkr.py", bool(sys.stderr)), self.halves, None
@@ -223,21 +231,23 @@ def main():
     capture = Capture(words, head)
     try:
         with zkr.standard_input() if words.capture == "-" else open(words.capture, "rb") as stream:
-            capture.read(stream)
+            capture.convert(stream)
     except EOFError:
-        complain(f"{words.capture}: the capture ends within a packet")
+        complain(f"{words.capture}: the capture ends within a packet, and was read up to there")
         return 1
     except DAMAGED:
-        complain(f"{words.capture}: the capture is damaged")
+        complain(f"{words.capture}: the capture is damaged, and was read up to there")
         return 3
     except OSError as error:
-        complain(f"{error.filename or words.capture}: {error.strerror or error}")
+        left = ", ".join(capture.series.begun())
+        complain(f"{error.filename or words.capture}: {error.strerror or error}"
+                 + f"; these recordings are not complete: {left}" * bool(left))
         return 3
     except packets.NotRead as error:
         complain(f"{words.capture}: {error}")
         return 3
     if capture.series.unsaid:
-        complain(f"standard output: {capture.series.unsaid.strerror}")
+        complain(f"standard output: {capture.series.unsaid.strerror}; the recordings are complete, and lines are lost")
         return 3
     if not capture.begun:
         complain(f"{words.capture}: no connection to port {words.port}{capture.ports_heard()}")

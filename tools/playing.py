@@ -6,12 +6,12 @@ import sys
 import time
 
 import zkr
+from frames import LENGTH, NEVER, end_of
 
 NAMES = {zkr.CLIENT: "client", zkr.SERVER: "server"}
 PING = bytes.fromhex("00000008fffffffe0000000b")            # a whole frame: its length, the xid -2, the operation 11
 PING_REPLY = bytes.fromhex("00000010fffffffe")              # the same of its reply, which has a zxid and an error, too
 WHOLE_REPLY = 20
-LENGTH = 4
 BLOCK = 65536
 
 
@@ -24,20 +24,19 @@ class Position:
     four bytes of the length, at the places -4 to -1."""
 
     def __init__(self):
-        self.frame, self.place, self.length, self.offset = 0, -LENGTH, b"", 0
+        self.frame, self.place, self.begun, self.offset = 0, -LENGTH, b"", 0
 
     def parts(self, data):
         """Yields these bytes frame by frame, and moves past each part once it is used."""
         data = memoryview(data)
         while data:
-            head = self.length + bytes(data[:max(0, -self.place)])
-            size = int.from_bytes(head, "big", signed=True) if len(head) == LENGTH else -1
-            left = size - self.place if size >= 0 else sys.maxsize
-            part, data = bytes(data[:left]), data[left:]
+            end = end_of(self.begun, self.place + LENGTH, data, 0, sys.maxsize)
+            part, data = (bytes(data), b"") if end in (None, NEVER) else (bytes(data[:end]), data[end:])
             yield part
-            self.length, self.place, self.offset = head, self.place + len(part), self.offset + len(part)
-            if len(part) == left:
-                self.frame, self.place, self.length = self.frame + 1, -LENGTH, b""
+            self.begun = (self.begun + part)[:LENGTH]
+            self.place, self.offset = self.place + len(part), self.offset + len(part)
+            if len(part) == end:
+                self.frame, self.place, self.begun = self.frame + 1, -LENGTH, b""
 
     def begins(self):
         """Whether the next byte begins a frame."""
@@ -79,7 +78,7 @@ class Play:
                     break
         for frame, place in [*([self.end] if self.end and not is_end else []), *self.flips]:
             raise Refused(f"the {NAMES[self.own]}'s bytes ended before frame={frame} place={max(0, place)}, "
-                          "so no fault was made there")
+                          "so no fault was made there: choose an earlier place")
         if not is_end:
             if self.own == zkr.CLIENT:
                 self.ended = self.ended or {"closed": "C"}
@@ -119,7 +118,7 @@ class Play:
         try:
             self.connection.sendall(data)
         except OSError as error:
-            raise self.refused(f"it can't be sent more: {error.strerror or error}") from None
+            raise self.refused(f"no more could be sent to it: {error.strerror or error}") from None
 
     def record(self, side, data):
         """Writes what is said to the recording, if there is one."""
@@ -172,7 +171,7 @@ class Play:
             self.connection.settimeout(max(0.001, until - time.monotonic()))
             got = b"" if self.has_ended else self.connection.recv(BLOCK)
         except socket.timeout:
-            return "nothing came"
+            return f"nothing came for {self.wait:g} s"
         except OSError as error:
             if isinstance(error, ConnectionResetError):
                 self.ended = self.ended or {"reset": self.peer.decode()}
@@ -182,7 +181,7 @@ class Play:
         self.has_ended = not got
         if self.has_ended:
             self.ended = self.ended or {"closed": self.peer.decode()}
-        return None if got else "it ended"
+        return None if got else "it has ended its side"
 
     def hear(self, due):
         """Takes these bytes from the peer."""

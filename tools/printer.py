@@ -6,6 +6,7 @@ import threading
 import time
 
 MOST_HELD = 1 << 20
+GATHERING = 0.005           # the seconds in which lines are gathered: each time that it wakes delays the connections
 
 
 class Printer(threading.Thread):
@@ -28,7 +29,7 @@ class Printer(threading.Thread):
                 return False
             self.lines.append(line)
             self.held += len(line)
-            self.change.notify()
+            self.change.notify_all()
         return True
 
     def print_once(self, text, seconds=60):
@@ -55,6 +56,8 @@ class Printer(threading.Thread):
                 self.failed(error)
             with self.change:
                 self.held -= len(data)
+                self.change.notify_all()
+            time.sleep(GATHERING)
 
     def write(self, data):
         while data:
@@ -62,6 +65,11 @@ class Printer(threading.Thread):
                 data = data[os.write(self.number, data):]
             except BlockingIOError:
                 select.select([], [self.number], [])
+
+    def wait(self, seconds=1):
+        """Waits until all lines are written, but no longer than that."""
+        with self.change:
+            self.change.wait_for(lambda: not self.held, seconds)
 
     def end(self, seconds=2):
         """Writes what is held, as far as it is read within that time."""

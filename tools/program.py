@@ -4,24 +4,34 @@ import pathlib
 import shutil
 import subprocess
 
-BUILT = pathlib.Path(__file__).resolve().parent.parent / "crates" / "zkdump" / "out" / "zkdump"
+OWN = ("share", "zkdump", "tools")     # where installed tools are, below the prefix
+HERE = pathlib.Path(__file__).resolve().parent
 
 
-def usual():
-    """The program where none is named."""
-    return str(BUILT) if BUILT.exists() else "zkdump"
+def found():
+    """The program that was installed or built with these tools, or else the name of the one on the PATH."""
+    if HERE.parts[-len(OWN):] == OWN:
+        path = HERE.parents[len(OWN) - 1] / "bin" / "zkdump"
+    else:
+        path = HERE.parent / "crates" / "zkdump" / "out" / "zkdump"
+    return str(path) if path.exists() else "zkdump"
 
 
 def add_program(parser):
     """The option that names the program."""
-    parser.add_argument("--zkdump", metavar="PATH", default=usual(),
-                        help="the program (that of this repository if it is built, else zkdump on the PATH)")
+    parser.add_argument("--zkdump", metavar="PATH", default=found(),
+                        help="the program (that which was built or installed with this tool, else zkdump on the PATH)")
+
+
+def need(parser, path):
+    """Ends the tool with an error if there is no program at this path."""
+    if not shutil.which(path):
+        parser.error(f"there is no program {path}: build or install zkdump, or name it with --zkdump PATH")
 
 
 def prove_runs(parser, path):
     """Ends the tool with an error if there is no program at this path, or it can't read a recording of no pieces."""
-    if not shutil.which(path):
-        parser.error(f"there is no program {path}: name it with --zkdump PATH")
+    need(parser, path)
     try:
         with subprocess.Popen([path, "show"], stdin=subprocess.PIPE, stdout=subprocess.PIPE,
                               stderr=subprocess.DEVNULL) as show:

@@ -4,6 +4,7 @@ One loop serves all connections, and nothing in it waits: not for an end that do
 and not for the reader of its lines. An end of one direction is passed on, and so is a reset.
 
 Descriptors are set aside before a client is taken, since a client that can't be passed on is worse than one that waits.
+Where many clients come at once, some are taken at a time, and the connections served between.
 Lines are written by a thread. What `show` has not read is held up to a bound; then that connection is passed on unread.
 """
 
@@ -23,6 +24,7 @@ from printer import Printer
 BLOCK = 65536
 READ, WRITE = selectors.EVENT_READ, selectors.EVENT_WRITE
 OTHER = {zkr.CLIENT: zkr.SERVER, zkr.SERVER: zkr.CLIENT}
+AT_ONCE = 12                # the most clients that are accepted before the connections come again
 REST = 0.1                  # the seconds without new clients, once the system has no room for one
 LAST_WORDS = 30             # the seconds that observers have to end, unless a second signal comes
 
@@ -82,8 +84,8 @@ class Connection:
     def connected(self):
         """Begins to pass on, or tries the next address."""
         failure = self.server.getsockopt(socket.SOL_SOCKET, socket.SO_ERROR)
-        self.proxy.wait_for(self.server, 0)
         if failure:
+            self.proxy.wait_for(self.server, 0)
             self.server.close()
             self.connect(os.strerror(failure))
             return
@@ -220,15 +222,11 @@ class Proxy:
     def say(self, text):
         """Writes a line on standard output. Where nobody reads it any more, the connections continue."""
         if not self.lines.print(text):
-            self.complaints.print_once("standard output is not read, so lines are lost")
+            self.complaints.print_once("nobody reads standard output, so lines are lost; the connections go on")
 
     def not_printed(self, error):
         """Called in a thread where a line could not be written."""
-        self.complaints.print_once(f"standard output: {error.strerror}; the connections go on")
-
-    def ring(self):
-        """Ends the proxy, from any thread."""
-        self.bell.send(b"\0")
+        self.complaints.print_once(f"standard output: {error.strerror}; lines are lost, and the connections go on")
 
     def wait_for(self, file, events, who=None):
         """Waits for these events of a file, in place of those before: `who.step(file, events)` is then called."""
@@ -293,27 +291,28 @@ class Proxy:
 
     def rest(self, error):
         """Accepts no clients for a moment; the connections continue."""
-        self.complaints.print_once(f"new clients have to wait: {error.strerror}; the connections go on")
+        self.complaints.print_once(f"new clients have to wait: {error.strerror} (ulimit -Hn is how many may be open); the "
+                                   "connections go on")
         for listener in self.listeners:
             self.wait_for(listener, 0)
         self.after(REST, self.take_clients)
 
     def step(self, listener, _events):
-        """Accepts a client's connection, if there are descriptors for all that belongs to it."""
-        try:
-            room = Room(2 + self.descriptors, listener)
-        except OSError as error:
-            self.rest(error)
-            return
-        room.give(2)
-        try:
-            client, peer = listener.accept()
-        except (BlockingIOError, ConnectionAbortedError):
-            room.close()
-        except OSError as error:
-            room.close()
-            self.rest(error)
-        else:
+        """Accepts clients that wait, if there are descriptors for all that belongs to them; not too many, since each
+        takes as long as several messages do."""
+        for number in range(AT_ONCE):
+            room = None
+            try:
+                room = Room(1 + self.descriptors, listener)
+                client, peer = listener.accept()
+            except OSError as error:
+                if room:
+                    room.close()
+                # Only of the first is it known that it waits.
+                if number == 0 and not isinstance(error, (BlockingIOError, ConnectionAbortedError)):
+                    self.rest(error)
+                return
+            room.give(1)
             connection = Connection(self, next(self.numbers), client, peer, room)
             self.connections.add(connection)
             self.taken(connection)

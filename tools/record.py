@@ -126,6 +126,7 @@ def main():
     recorder = Recorder(server, zkr.Series(words.prefix, head, words.times), addresses.address_text(words.server))
     for listener in listeners:
         recorder.complaints.print(f"listens on {addresses.address_text(listener.getsockname())}; Ctrl-C ends it")
+    recorder.complaints.wait()  # the first lines on a terminal
     recorder.run(listeners)
     return recorder.status
 

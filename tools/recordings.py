@@ -1,6 +1,7 @@
 """The recordings of the connections in a capture: their names, and their files."""
 
 import collections
+import contextlib
 import io
 
 import zkr
@@ -21,20 +22,15 @@ class Recording(zkr.Writer):
         super().__init__(path, head, times, gather)
         self.first, self.began = None, None
         self.ends = {}      # by side, the number and the time of its last packet
-        for file in self.files():
+        for file in self.files:
             file.file.close()
 
-    def files(self):
-        return [file for file in (self.recording, self.times) if file]
-
     def flush(self):
-        for file in self.files():
-            if file.waiting:
-                try:
-                    with open(file.path, "ab", buffering=0) as file.file:
-                        file.flush()
-                except OSError as error:
-                    raise OSError(error.errno, error.strerror, file.path) from error
+        if self.recording.waiting:
+            with contextlib.ExitStack() as opened:
+                for file in self.files:
+                    file.file = opened.enter_context(open(file.path, "ab", buffering=0))
+                super().flush()
         self.blocks.append((self.recording.size, self.times.size if self.times else 0, *self.count.values()))
 
     def take(self, side, number, milliseconds, data):
@@ -57,7 +53,7 @@ class Recording(zkr.Writer):
         if not block:
             return []
         tails = []
-        for file, size in zip(self.files(), block):
+        for file, size in zip(self.files, block):
             with open(file.path, "rb") as stream:
                 stream.seek(size)
                 tails.append(stream.read())
@@ -66,7 +62,7 @@ class Recording(zkr.Writer):
         kept, taken = split_client(pieces, times, block[2], spans)
         if not accept(taken[0]):
             return []
-        for file, size in zip(self.files(), block):
+        for file, size in zip(self.files, block):
             with open(file.path, "r+b") as stream:
                 stream.truncate(size)
             file.size = size
@@ -102,7 +98,7 @@ class Series:
 
     def __init__(self, prefix, head, times, join):
         self.prefix, self.head, self.times, self.join = prefix, head, times, join
-        self.number, self.open, self.unsaid = 0, 0, None
+        self.number, self.open, self.unsaid = 0, set(), None
 
     def next(self, connection=None, part=1):
         """A new recording, with the number of its connection and which of its parts it is. It is the first of another
@@ -114,17 +110,26 @@ class Series:
             else:
                 number, part, name = connection, part + 1, f"{connection}.{part + 1}"
             # Less is gathered of each where there are many.
-            gather = max(LEAST_GATHERED, min(GATHERED, MOST_GATHERED // (self.open + 1)))
+            gather = max(LEAST_GATHERED, min(GATHERED, MOST_GATHERED // (len(self.open) + 1)))
             try:
                 made = Recording(f"{self.prefix}-{name}.zkr", self.head, self.times, gather)
             except FileExistsError:
                 continue
-            self.open += 1
+            self.open.add(made)
             return made, number, part
 
     def profile(self):
         """The release that the head of each recording names, if any."""
         return zkr.RELEASES[self.head.profile] if self.head.form == "zkr2" else None
+    def remove_empty(self):
+        """Removes the open recordings of which nothing was written."""
+        for recording in self.open:
+            if not recording.recording.size:
+                recording.remove()
+
+    def begun(self):
+        """The paths of the recordings that were not finished."""
+        return sorted(recording.path for recording in self.open if recording.recording.size)
 
     def say(self, line):
         """Prints a line; where nobody reads it any more, the rest continues."""

@@ -31,20 +31,20 @@ the frames from it on are not plausible for long (joined.py).
 import re
 import struct
 
+import frames
+import operations
 import zkr
 
 ENOUGH, MOST_KEPT = 3, 1 << 16
 EVENT, PING, AUTH, SET_WATCHES = -1, -2, -4, -8
 LANES = (PING, AUTH, SET_WATCHES)
-# By operation, how many bytes follow its path: exactly, or at least.
-AFTER_PATH = {2: 4, 3: 1, 4: 1, 6: 0, 8: 1, 9: 0, 12: 1, 17: 4, 18: 4, 20: 0, 103: 0, 104: 0, 106: 4}
-LEAST_AFTER_PATH = {1: 12, 5: 8, 7: 8, 15: 12, 19: 12, 21: 20}
-# By other operation, how long the payload of its request is, and the least length of it.
-WHOLE = {11: 8, 107: 8, -11: 8}
-LEAST_WHOLE = {14: 17, 16: 28, 22: 17, 100: 20, 101: 28, 102: 12, 105: 36}
-XIDS = {11: (PING,), 100: (AUTH,), 101: (SET_WATCHES,), 105: (SET_WATCHES,)}
-# By operation, how long the payload of a reply without an error is.
-REPLY_SIZES = {2: range(16, 17), -11: range(16, 17), 3: range(84, 85), 5: range(84, 85), 7: range(84, 85)}
+# By operation, how long the payload of its request is, without the path that it may begin with: the least, and whether
+# it has no more; and how long that of a reply without an error is, where that is fixed.
+REQUESTS = {each.number: operations.least(each.request.removeprefix(operations.PATH))
+            for each in operations.ALL if each.name != "check"}
+BEGIN_WITH_PATH = {each.number for each in operations.ALL if each.request.startswith(operations.PATH)}
+REPLY_SIZES = {each.number: 16 + operations.least(each.reply)[0] for each in operations.ALL
+               if each.reply is not None and operations.least(each.reply)[1]}
 STATES, PARTS = {-112, -1, 0, 1, 3, 4, 5, 6, 7}, {-1, 1, 2, 4, 5, 8, 13, 15, 19, 20, 21}
 HEADS = {zkr.CLIENT: 12, zkr.SERVER: 20}
 MAY_BEGIN = {
@@ -73,12 +73,12 @@ def frames_follow(side, data, at, limit):
     while at < len(data) and seen < ENOUGH:
         if len(data) < at + HEADS[side]:
             return None
-        size = int.from_bytes(data[at:at + 4], "big", signed=True)
-        if size > limit or not is_plausible(side, data[at + 4:at + 4 + size], size):
+        end = frames.end_of(b"", 0, data, at, limit)
+        if end == frames.NEVER or not is_plausible(side, data[at + frames.LENGTH:end], end - at - frames.LENGTH):
             return False
-        if len(data) < at + 4 + size:
+        if len(data) < end:
             return None
-        at, seen = at + 4 + size, seen + 1
+        at, seen = end, seen + 1
     return True
 
 
@@ -91,20 +91,18 @@ def is_plausible(side, payload, size):
 
 def is_request(payload, size):
     xid, kind = struct.unpack_from(">ii", payload)
-    if not (xid > 0 and kind not in (11, 100) or xid in XIDS.get(kind, ())):
+    operation = operations.BY_NUMBER.get(kind)
+    if kind not in REQUESTS or not (xid > 0 and operation.ordinary or xid == operation.xid):
         return False
-    if kind in WHOLE:
-        return size == WHOLE[kind]
-    if kind in LEAST_WHOLE:
-        return size >= LEAST_WHOLE[kind]
-    if kind not in AFTER_PATH and kind not in LEAST_AFTER_PATH:
-        return False
-    if len(payload) < 13:
-        return size > len(payload)
-    length = int.from_bytes(payload[8:12], "big", signed=True)
-    rest = size - 12 - length
-    return length > 0 and payload[12:13] == b"/" and \
-        (rest == AFTER_PATH[kind] if kind in AFTER_PATH else rest >= LEAST_AFTER_PATH[kind])
+    rest, (least, exact) = size - 8, REQUESTS[kind]
+    if kind in BEGIN_WITH_PATH:
+        if len(payload) < 13:
+            return size > len(payload)
+        length = int.from_bytes(payload[8:12], "big", signed=True)
+        if length <= 0 or payload[12:13] != b"/":
+            return False
+        rest -= 4 + length
+    return rest == least if exact else rest >= least
 
 
 def is_reply(payload, size):
@@ -145,4 +143,4 @@ def is_event(payload, size):
 def may_answer(request, reply):
     """Whether the payload of a reply has a length that a reply to the request of this payload can have."""
     kind = int.from_bytes(request[4:8], "big", signed=True)
-    return reply[12:16] != bytes(4) or len(reply) in REPLY_SIZES.get(kind, range(16, 1 << 32))
+    return reply[12:16] != bytes(4) or len(reply) == REPLY_SIZES.get(kind, len(reply))

@@ -22,6 +22,9 @@ def complain(trouble):
     """Reports trouble in one line on standard error, if that can be written."""
     if isinstance(trouble, OSError) and trouble.strerror:
         file = "" if trouble.filename is None else f"{os.fsdecode(trouble.filename)}: "
+        # Every file that a tool writes is named, but for standard output.
+        if not file and trouble.errno in (errno.ENOSPC, errno.EDQUOT, errno.EFBIG):
+            file = "standard output: "
         trouble = file + trouble.strerror
     report(f"{os.path.basename(sys.argv[0])}: {trouble}")
 

@@ -11,7 +11,7 @@ import listing
 MILLISECONDS = re.compile(r"\d{1,15}", re.ASCII)
 LATENCY = re.compile(r"\d{1,15}(?:\.\d{1,9})?", re.ASCII)
 SESSION = re.compile(r"0x[0-9A-Fa-f]{1,16}|\d{1,20}", re.ASCII)
-OPERATIONS = (*forms.ASKS, listing.EVENT)
+OPERATIONS = (*forms.REQUESTS, listing.EVENT)
 
 
 def moment(text):
@@ -31,7 +31,7 @@ def moment(text):
 def latency(text):
     """A number of milliseconds."""
     if not LATENCY.fullmatch(text):
-        raise argparse.ArgumentTypeError(f"{text!r} is not a number of milliseconds")
+        raise argparse.ArgumentTypeError(f"{text!r} is not a number of milliseconds: write it as 250 or 0.5")
     return float(text)
 
 

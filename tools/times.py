@@ -8,10 +8,11 @@ import contents
 import forms
 import listing
 import zkr
+from frames import LARGEST, Beginning
 
 LETTERS = {zkr.CLIENT: "C", zkr.SERVER: "S"}
 LENGTH_AND_XID = struct.Struct(">ii")
-LARGEST = zkr.LIMITS[-1]
+KEPT = LENGTH_AND_XID.size      # of a frame that comes in several pieces
 FRONT = 1 << 16         # bytes of a frame that are compared with its line
 CONNECT_FIELDS = re.compile(rf" session=({listing.NUMBER}) passwd=(~|#[0-9a-f]*)", re.ASCII)
 REPLY_FIELDS = re.compile(rf" zxid=({listing.NUMBER})(?: (?:err|kind)=({listing.NUMBER}))?", re.ASCII)
@@ -53,34 +54,6 @@ def is_text(payload, at, wanted):
         payload[at + 4:at + 4 + size] == wanted[:max(0, len(payload) - at - 4)]
 
 
-class Beginning:
-    """The bytes of a side's frame that isn't whole yet: how many there are, and the first ones, `kept` of them."""
-
-    def __init__(self, kept):
-        self.got, self.size, self.first, self.kept = 0, None, b"", kept
-
-    def take(self, data, at):
-        """Takes bytes from place `at` on, to the frame's end at most, and returns the place after them. A frame with an
-        impossible length has no end."""
-        if self.got < 4:
-            part = data[at:at + 4 - self.got]
-            self.first += part
-            self.got += len(part)
-            at += len(part)
-            if self.got < 4:
-                return at
-            length = int.from_bytes(self.first, "big", signed=True)
-            self.size = 4 + length if 0 <= length <= LARGEST else float("inf")
-        to = min(len(data), at + self.size - self.got)
-        if self.got < self.kept:
-            self.first += data[at:min(to, at + self.kept - self.got)]
-        self.got += to - at
-        return to
-
-    def is_whole(self):
-        return self.got == self.size
-
-
 class Times:
     """The frames of a recording, each with its time, which is that of its last byte.
 
@@ -92,7 +65,7 @@ class Times:
 
     def __init__(self, pieces, times, foreign):
         self.damage, self.count, self.foreign, self.front = None, {"C": 0, "S": 0}, foreign, b""
-        self.kept = 4 + FRONT if foreign else 8
+        self.kept = 4 + FRONT if foreign else KEPT
         self.begun = {"C": Beginning(self.kept), "S": Beginning(self.kept)}
         self.frames = self.read(pieces, times)
 

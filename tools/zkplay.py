@@ -32,6 +32,7 @@ import time
 import addresses
 import contents
 import facts
+import frames
 import playing
 import program
 import zkr
@@ -55,7 +56,10 @@ def opener(parser, path, words):
         is_listing = file.read(2) in (b"C ", b"S ")
         file.seek(0)
         if not is_listing:
-            zkr.Reader(file)
+            try:
+                zkr.Reader(file)
+            except zkr.Damaged as damage:
+                raise ValueError(f"{path}: {damage}") from None
             known = facts.facts_of(path)
             if known and known.skipped is not None:
                 zkr.complain(f"{path} doesn't begin with its connection: its connect messages were made up")
@@ -69,7 +73,8 @@ def opener(parser, path, words):
 
 
 class Bench:
-    """Connections that are played side by side, and the exit status of all."""
+    """Connections that are played side by side, and the exit status of all. `openers` has of each recording its path,
+    and a function that opens it."""
 
     def __init__(self, openers, words):
         self.openers, self.words, self.status, self.printing = openers, words, 0, threading.Lock()
@@ -90,10 +95,11 @@ class Bench:
     def play(self, number, connection):
         """Plays to one connection, and prints the result."""
         head = f"#{number + 1} " if self.words.connections > 1 else ""
+        path, open_recording = self.openers[number % len(self.openers)]
         try:
             with connection:
                 writer = self.series.next() if self.series else None
-                play = playing.Play(self.openers[number % len(self.openers)], self.own, connection, self.words.wait,
+                play = playing.Play(open_recording, self.own, connection, self.words.wait,
                                     self.faults, writer)
                 ends = [addresses.address_text(each()) for each in (connection.getpeername, connection.getsockname)]
                 begun = time.time() * 1000
@@ -105,7 +111,8 @@ class Bench:
             self.print(sys.stdout, f"{head}played: {play.counts()}")
         except (ValueError, OSError) as error:
             self.status = max(self.status, 3 if isinstance(error, OSError) else 1)
-            self.print(sys.stderr, f"zkplay.py: {head}{error}")
+            file = f"{path}: " if isinstance(error, zkr.Damaged) else ""
+            self.print(sys.stderr, f"zkplay.py: {head}{file}{error}")
 
     def end(self, writer, play, begun, client, server):
         """Ends a recording, and writes its facts."""
@@ -128,22 +135,22 @@ def seconds(text):
             return float(text)
     except ValueError:
         pass
-    raise ValueError(f"{text!r} is not a number of seconds from 0 to {LONGEST_WAIT}")
+    raise ValueError(f"{text!r} is not a number of seconds above 0, up to {LONGEST_WAIT:,}")
 
 
 def place(text):
     """A frame and a place in it."""
     found = re.fullmatch(r"(\d{1,18})(?::(\d{1,18}))?", text, re.ASCII)
     if not found:
-        raise ValueError(f"{text!r} is not a place: write FRAME or FRAME:PLACE")
-    return int(found[1]), -playing.LENGTH if found[2] is None else int(found[2])
+        raise ValueError(f"{text!r} is not a place: write FRAME or FRAME:PLACE, as 2 or 2:10")
+    return int(found[1]), -frames.LENGTH if found[2] is None else int(found[2])
 
 
 def flip(text):
     """A frame and a place, and the byte that is to be there."""
     found = re.fullmatch(r"(\d{1,18}):(\d{1,18})(?:=([0-9a-fA-F]{2}))?", text, re.ASCII)
     if not found:
-        raise ValueError(f"{text!r} is not a byte's place: write FRAME:PLACE or FRAME:PLACE=HH")
+        raise ValueError(f"{text!r} is not a byte's place: write FRAME:PLACE or FRAME:PLACE=HH, as 2:10 or 2:10=ff")
     return (int(found[1]), int(found[2])), None if found[3] is None else int(found[3], 16)
 
 
@@ -186,7 +193,7 @@ def main():
     if sys.stdout is None:
         raise OSError(errno.EBADF, "standard output is closed")
     zkr.allow_many_files()
-    bench = Bench([opener(parser, path, words) for path in words.recordings], words)
+    bench = Bench([(path, opener(parser, path, words)) for path in words.recordings], words)
     if words.client:
         return bench.run(socket.create_connection(words.address) for _ in range(words.connections))
     listeners = addresses.listen(words.address)

@@ -13,11 +13,14 @@ import argparse
 import datetime
 import errno
 import os
+import pathlib
 import re
 import struct
 from typing import NamedTuple, Optional
 
 import facts
+import frames
+from newfile import NewFile, flush
 from running import (Progress, allow_many_files, complain, hold_standard_streams, drop_standard_output,  # noqa: F401
                      report, shown, standard_input, tool)
 
@@ -33,11 +36,22 @@ RELEASES = {number: release for release, number in PROFILES.items()}
 PIECE_HEADS = {"zkr1": struct.Struct(">ci"), "zkr2": struct.Struct(">cqi")}
 
 
+# The reasons of docs/FORMATS.md, section 12, in words.
+DAMAGES = {
+    "BadHead": "this is no recording, which begins with ZKR1 or ZKR2",
+    "BadLimits": "the recording's head has a limit or a profile that isn't allowed",
+    "BadSide": "the recording is damaged: a piece begins with neither C nor S",
+    "BadTime": "the recording is damaged: a piece has a time before 1970",
+    "BadSize": "the recording is damaged: a piece has no bytes, or too many",
+    "Short": "the recording ends within a piece, or within its head",
+}
+
+
 class Damaged(ValueError):
     """A recording that is damaged: at which offset of the file, and why (the reasons of docs/FORMATS.md)."""
 
     def __init__(self, offset, reason):
-        super().__init__(f"recording offset={offset} reason={reason}")
+        super().__init__(f"{DAMAGES[reason]} (offset={offset} reason={reason})")
         self.offset, self.reason = offset, reason
 
 
@@ -153,7 +167,8 @@ def read_times(path):
     with open(path, encoding="ascii", errors="replace") as lines:
         for number, line in enumerate(iter(lambda: lines.readline(LONGEST_TIME), ""), 1):
             if not TIME.fullmatch(line):
-                raise ValueError(f"{path}: line {number} is not a time")
+                raise ValueError(f"{path}: line {number} is not a time: a line has milliseconds since 1970, as "
+                                 "1795332633004.5")
             yield line.removesuffix("\n")
 
 
@@ -165,96 +180,34 @@ def times_beside(path, beside=None):
     with open(path, "rb") as recording:
         pieces = Reader(recording).count()
     if times != pieces:
-        raise ValueError(f"{beside} has {times} times, and {path} {pieces} pieces")
+        raise ValueError(f"{beside} has {times} times, and {path} {pieces} pieces: these are not the times of this "
+                         "recording")
     return read_times(beside)
 
 
-class Frame(NamedTuple):
-    """A whole frame: its side, its number on that side from 0, its payload, and the time of its last byte."""
-    side: bytes
-    number: int
-    payload: bytes
-    milliseconds: Optional[float]
-
-
-class Cutter:
-    """Cuts each side's bytes into frames. `held` has what is left of each side: a beginning of a frame.
-
-    Where a side's length is negative or above the limit, that side is in `broken`, and all its bytes from there on
-    stay in `held`.
-    """
+class Cutter(frames.Cutter):
+    """Cuts the sides of a recording with this head into frames."""
 
     def __init__(self, head=Head()):
-        self.limits = {CLIENT: head.client_limit, SERVER: head.server_limit}
-        self.held = {CLIENT: bytearray(), SERVER: bytearray()}
-        self.count = {CLIENT: 0, SERVER: 0}
-        self.broken = set()
-
-    def is_one_frame(self, piece):
-        """Whether the next piece is just one whole frame, as most pieces are."""
-        side, _, data = piece
-        if self.held[side] or side in self.broken:
-            return False
-        return int.from_bytes(data[:4], "big") == len(data) - 4 <= self.limits[side]
-
-    def take(self, piece):
-        """The frames that are whole with this piece."""
-        if self.is_one_frame(piece):
-            return [self.frame(piece, piece.data[4:])]
-        side, held, at, frames = piece.side, self.held[piece.side], 0, []
-        held += piece.data
-        while side not in self.broken and len(held) - at >= 4:
-            size = int.from_bytes(held[at:at + 4], "big", signed=True)
-            if not 0 <= size <= self.limits[side]:
-                self.broken.add(side)
-            elif len(held) - at < 4 + size:
-                break
-            else:
-                frames.append(self.frame(piece, bytes(held[at + 4:at + 4 + size])))
-                at += 4 + size
-        del held[:at]
-        return frames
-
-    def frame(self, piece, payload):
-        """The next frame of the piece's side."""
-        number = self.count[piece.side]
-        self.count[piece.side] = number + 1
-        return Frame(piece.side, number, payload, piece.milliseconds)
-
-
-class NewFile:
-    """A file that wasn't there yet, and that its owner alone may read: recordings have passwords."""
-
-    def __init__(self, path):
-        self.path, self.waiting, self.size = path, bytearray(), 0
-        self.file = open(path, "xb", buffering=0, opener=lambda name, flags: os.open(name, flags, 0o600))
-
-    def flush(self):
-        """Writes what waits: all of it, or after an OSError none of it, if the file can be truncated."""
-        data, self.waiting = memoryview(self.waiting), bytearray()
-        at = 0
-        try:
-            while at < len(data):
-                at += self.file.write(data[at:])
-        except OSError:
-            self.file.truncate(self.size)
-            raise
-        self.size += len(data)
+        super().__init__({CLIENT: head.client_limit, SERVER: head.server_limit})
 
 
 class Writer:
     """A new recording, with a file of times where `times` is true. The bytes given to `piece` are in the file once it
-    returns; `gather` says how many bytes may be gathered first. An OSError leaves whole pieces in the file."""
+    returns; `gather` says how many bytes may be gathered first. An OSError leaves whole pieces, and a time for each."""
 
     def __init__(self, path, head, times, gather=0):
-        self.path, self.head, self.gather = path, head, gather
+        self.path, self.head, self.gather, self.timed = path, head, gather, times or head.form == "zkr2"
         self.usual = PIECE_HEADS["zkr1"].pack if head.form == "zkr1" else None
         self.count = {CLIENT: 0, SERVER: 0}
         if os.path.exists(facts.facts_path(path)):
             raise FileExistsError(errno.EEXIST, "File exists", facts.facts_path(path))
         self.recording, self.times = NewFile(path), None
+        self.files = [self.recording]
         try:
-            self.times = NewFile(times_path(path)) if times else None
+            if times:
+                self.times = NewFile(times_path(path))
+                self.files.append(self.times)
             self.recording.waiting += head.to_bytes()
             if not gather:
                 self.flush()
@@ -274,38 +227,37 @@ class Writer:
             if len(waiting) >= self.gather:
                 self.flush()
             return
-        milliseconds = round(milliseconds, 3)
+        if self.timed:
+            milliseconds = round(milliseconds, 3)
         for at in range(0, len(data), LARGEST_PIECE):
             self.recording.waiting += self.head.piece(side, milliseconds, data[at:at + LARGEST_PIECE])
             if self.times:
                 self.times.waiting += b"%.3f\n" % milliseconds
-        self.count[side] += len(data)
         if len(self.recording.waiting) >= self.gather:
             self.flush()
+        self.count[side] += len(data)
 
     def flush(self):
-        self.recording.flush()
-        if self.times:
-            self.times.flush()
+        """Writes what waits to the recording and to its times."""
+        flush(self.files)
 
     def close(self):
+        """Writes what waits, and closes the files; where nothing could ever be written, they are removed."""
         try:
             self.flush()
         finally:
-            self.recording.file.close()
-            if self.times:
-                self.times.file.close()
+            self.remove(all_of_it=not self.recording.size)
 
     def write_facts(self, found):
         """Writes the facts of the recording, which is closed."""
         facts.write(self.path, found, self.times and self.times.path)
 
-    def remove(self):
-        """Removes the recording and its times."""
-        for new in (self.recording, self.times):
-            if new:
-                new.file.close()
-                os.unlink(new.path)
+    def remove(self, all_of_it=True):
+        """Closes the recording and its times, and removes them."""
+        for file in self.files:
+            file.file.close()
+            if all_of_it:
+                pathlib.Path(file.path).unlink(missing_ok=True)
 
 
 class Series:

@@ -140,7 +140,7 @@ def main():
     words = parser.parse_args()
     zkr.allow_many_files()
     if len(words.recordings) > MOST_CONNECTIONS:
-        parser.error(f"there are more than {MOST_CONNECTIONS} recordings")
+        parser.error(f"there are {len(words.recordings):,} recordings: name {MOST_CONNECTIONS:,} at most")
     found = []
     for number, path in enumerate(words.recordings):
         try:
@@ -148,8 +148,13 @@ def main():
         except zkr.Damaged as damage:
             raise ValueError(f"{path}: {damage}") from None
     number = os.open(words.capture, os.O_WRONLY | os.O_CREAT | os.O_EXCL, 0o600)
-    with open(number, "wb") as out:
-        write(out, heapq.merge(*found, key=lambda packet: packet[0]))
+    try:
+        with open(number, "wb") as out:
+            write(out, heapq.merge(*found, key=lambda packet: packet[0]))
+    except OSError as error:
+        # What can't be written whole can be made again, once there is room.
+        os.unlink(words.capture)
+        raise OSError(error.errno, error.strerror, error.filename or words.capture) from error
     return 0
 
 

@@ -18,18 +18,18 @@ import sys
 
 import contents
 import facts
+import operations
 import zkr
 
-OPERATIONS = {1, 2, 3, 4, 5, 6, 7, 8, 9, 11, 12, 14, 100, 101, -11}
-OF_PROFILE = {"3.4": OPERATIONS, "3.5": OPERATIONS | {15}}
-OTHERS = {13: "check", 15: "create2", 16: "reconfig", 17: "checkWatches", 18: "removeWatches", 19: "createContainer",
-          20: "deleteContainer", 21: "createTTL", 22: "multiRead", 102: "sasl", 103: "getEphemerals",
-          104: "getAllChildrenNumber", 105: "setWatches2", 106: "addWatch", 107: "whoAmI"}
+OPERATIONS = {each.number for each in operations.ALL if each.release == "3.4"}
+OF_PROFILE = {"3.4": OPERATIONS, "3.5": OPERATIONS | {operations.BY_NAME["create2"].number}}
+OTHERS = {each.number: each.name for each in operations.ALL if each.release != "3.4"}
 MULTI, AUTH = 14, 100
 EVENT_XID, AUTH_XID = -1, -4
 GATHERED = 1 << 16
-# What the parts of a multi are made of: b is a text or a blob, i an int, a an access list.
-PARTS = {1: "bbai", 2: "bi", 5: "bbi", 13: "bi"}
+# The kinds of the fields of a multi's parts.
+PARTS = {operations.BY_NAME[name].number: operations.kinds(operations.BY_NAME[name].request)
+         for name in ("create", "delete", "setData", "check")}
 
 
 def int_at(payload, at):
@@ -37,14 +37,14 @@ def int_at(payload, at):
 
 
 def after(payload, at, items):
-    """The place after these items."""
+    """The place after items of these kinds."""
     for item in items:
-        if item == "a":
+        if item == "acls":
             entries, at = int_at(payload, at), at + 4
             for _ in range(entries):
-                at = after(payload, at, "ibb")
+                at = after(payload, at, ("number", "text", "text"))
         else:
-            at += 4 + (max(0, int_at(payload, at)) if item == "b" else 0)
+            at += 4 + (0 if item == "number" else max(0, int_at(payload, at)))
     return at
 
 
@@ -122,7 +122,7 @@ class StandardOutput:
 
 def skip(pieces, times, out, skipping):
     """Writes the recording again, without the frames that don't stay. `times` are those of its pieces, or None."""
-    cutter, milliseconds = zkr.Cutter(zkr.LARGEST_FRAMES), 0
+    cutter, milliseconds, damage = zkr.Cutter(zkr.LARGEST_FRAMES), 0, None
     progress, done = zkr.Progress("zkskip"), 0
     try:
         for piece in pieces:
@@ -134,10 +134,14 @@ def skip(pieces, times, out, skipping):
                 rest(cutter, piece.side, milliseconds, out)
             done += len(piece.data)
             progress.show(lambda: f"{done:,} bytes")
+    except zkr.Damaged as found:
+        damage = found
     finally:
-        for side in cutter.held:
-            rest(cutter, side, milliseconds, out)
         progress.end()
+    for side in cutter.held:
+        rest(cutter, side, milliseconds, out)
+    if damage:
+        raise damage
 
 
 def rest(cutter, side, milliseconds, out):
@@ -155,6 +159,15 @@ def main():
     words = parser.parse_args()
     if words.source and not words.target:
         parser.error("name the new recording, too: REC.zkr PLAIN.zkr")
+    try:
+        skip_all(words)
+    except zkr.Damaged as damage:
+        raise ValueError(f"{words.source or 'standard input'}: {damage}") from None
+    return 0
+
+
+def skip_all(words):
+    """Writes the new recording that these arguments name."""
     recording = zkr.Reader(open(words.source, "rb") if words.source else zkr.standard_input())
     has_times = words.source and os.path.exists(zkr.times_path(words.source))
     times = contents.times_beside(words.source) if has_times else None
@@ -172,7 +185,6 @@ def main():
         if known and words.target:
             out.write_facts(known)
         zkr.report(f"left out: {skipping.requests} requests, {skipping.replies} replies")
-    return 0
 
 
 if __name__ == "__main__":

@@ -9,9 +9,9 @@ its reply can come. The lines of all are printed with the time and the connectio
 refused, or can't be read any longer, a line reports that, and its bytes are still passed on. Ctrl-C or SIGTERM ends the
 proxy.
 
-No connection waits for `show`, or for the reader of the lines: a connection of which 64 MB wait to be read is no longer
-watched. For authors of proxies: `show` writes a message's line as soon as its last byte has come, before the next read,
-and it waits if the reader of its lines does.
+No connection waits for `show`, or for the reader of the lines, and none ends with that reader: a connection of which
+64 MB wait to be read is no longer watched. For authors of proxies: `show` writes a message's line as soon as its last
+byte has come, before the next read, and it waits if the reader of its lines does.
 """
 
 import errno
@@ -129,7 +129,7 @@ class Show:
             return
         self.process = None
         if not self.unread and (status not in (0, 1) or not self.last.startswith(b".")):
-            self.unread = f"zkdump has ended with status {status}"
+            self.unread = f"zkdump show has ended with status {status}"
         if self.unread or not self.is_over:
             self.report_unread()
         if self.is_over:
@@ -154,12 +154,6 @@ class Watch(proxy.Proxy):
     def say_of(self, number, text):
         self.say(f"{zkr.clock(time.time() * 1000)} #{number} {text}")
 
-    def not_printed(self, error):
-        if error.errno == errno.EPIPE:
-            self.ring()
-        else:
-            super().not_printed(error)
-
     def taken(self, connection):
         self.say_of(connection.number, f"from {connection.peer}")
 
@@ -169,7 +163,7 @@ class Watch(proxy.Proxy):
         return show
 
     def unreached(self, connection, reason):
-        self.say_of(connection.number, f"not watched: no connection to the server: {reason}")
+        self.say_of(connection.number, f"not passed on: no connection to the server: {reason}")
         self.over |= self.once
 
     def busy(self):

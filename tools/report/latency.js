@@ -1,7 +1,10 @@
-// The picture of the requests: latency against time. Where the page has not every request, a shade shows how many there
-// were; the slowest, the failed and the unanswered ones are marks in any case.
+// The picture of the requests: latency against time. A mark is larger the longer its request took. Where marks would hide
+// each other, a shade shows how many there are, and the slowest of them keeps its mark if that is large. Where the page has
+// not every request, a shade shows how many there were. The failed ones are behind all else.
 
 const TALL = 260, BAND = 22, FOOT = 40;
+const CELL = 5, CROWD = 3;                  // pixels of a side, and how many marks it has before it is a shade
+const LEAST_RADIUS = 1.7, MOST_RADIUS = 7;
 const { bins: BINS, binsOfTen: BINS_OF_TEN, leastExponent: LEAST_EXPONENT } = data.density;
 const latency = { canvas: null, marks: [], indices: [], at: -1, drag: null };
 
@@ -21,7 +24,9 @@ function latencyAxis(indices) {
   if (low === Infinity) return null;
   const from = Math.floor(Math.log10(low)), to = Math.max(from + 1, Math.ceil(Math.log10(high)));
   const on = scale([from, to], [TALL - FOOT, BAND + 8]);
-  return { from, to, y: ms => on(ms > 0 ? Math.log10(ms) : from) };
+  const most = Math.max(from + 0.5, Math.log10(high)), share = ms => ms > 0 ? (Math.log10(ms) - from) / (most - from) : 0;
+  return { from, to, y: ms => on(ms > 0 ? Math.log10(ms) : from),
+    radius: ms => LEAST_RADIUS + (MOST_RADIUS - LEAST_RADIUS) * Math.max(0, share(ms)) ** 4 };
 }
 
 function showsDensity() {
@@ -54,13 +59,12 @@ function drawLatency(indices) {
   pen.beginPath();
   pen.rect(MARGIN.left - 5, 0, width - MARGIN.left - MARGIN.right + 10, TALL - FOOT + 6);
   pen.clip();
-  if (axis && showsDensity()) drawDensity(pen, axis, to, colour);
   latency.indices = indices;
   latency.marks = [];
-  for (const kind of [OK, FAILED, UNANSWERED]) {
-    pen.fillStyle = pen.strokeStyle = colour(OUTCOMES[kind]);
-    const all = indices.filter(i => outcome(i) === kind), size = all.length > 1500 ? 0.6 : 1;
-    for (const i of all) drawMark(pen, i, kind, axis, to, size);
+  for (const kind of [FAILED, OK, UNANSWERED]) {
+    if (kind === OK && axis && showsDensity()) drawDensity(pen, axis, to, colour);
+    pen.fillStyle = colour(OUTCOMES[kind]);
+    drawMarks(pen, indices.filter(i => outcome(i) === kind), kind, axis, to);
   }
   if (latency.at >= 0) ring(pen, latency.at, colour);
   pen.restore();
@@ -123,29 +127,53 @@ function drawDensity(pen, axis, to, colour) {
   pen.globalAlpha = 1;
 }
 
-function drawMark(pen, i, kind, axis, to, size) {
-  const x = to(requests.x[i]);
-  if (Number.isNaN(x) || kind !== UNANSWERED && (!axis || Number.isNaN(requests.ms[i]))) return;
-  const y = kind === UNANSWERED ? BAND / 2 : axis.y(requests.ms[i]);
-  latency.marks.push([x, y, i]);
+// The marks of one kind, or the shade where there are many. Of those that were answered the shade of all is there already
+// where the page has not every request.
+function drawMarks(pen, indices, kind, axis, to) {
+  const cells = new Map(), marks = [], crowd = showsDensity() ? 0 : CROWD;
+  let most = 1;
+  for (const i of indices) {
+    const x = to(requests.x[i]), ms = requests.ms[i];
+    if (Number.isNaN(x) || kind !== UNANSWERED && (!axis || Number.isNaN(ms))) continue;
+    const mark = { x, y: kind === UNANSWERED ? BAND / 2 : axis.y(ms), r: kind === UNANSWERED ? 4.5 : axis.radius(ms) };
+    latency.marks.push([mark.x, mark.y, i]);
+    const key = `${Math.floor(mark.x / CELL)} ${Math.floor(mark.y / CELL)}`, cell = cells.get(key) ?? [];
+    cells.set(key, cell);
+    most = Math.max(most, cell.push(mark));
+  }
+  for (const [key, cell] of cells) {
+    if (cell.length <= crowd || kind === UNANSWERED) {
+      marks.push(...cell);
+      continue;
+    }
+    const slowest = cell.reduce((one, other) => other.r > one.r ? other : one);
+    if (slowest.r > CELL / 2) marks.push(slowest);
+    if (kind === OK && showsDensity()) continue;
+    const [column, row] = key.split(" ").map(Number);
+    pen.globalAlpha = 0.15 + 0.5 * Math.log(cell.length) / Math.log(1 + most);
+    pen.fillRect(column * CELL, row * CELL, CELL, CELL);
+  }
+  for (const mark of marks.sort((one, other) => one.r - other.r)) drawMark(pen, mark, kind);
+  pen.globalAlpha = 1;
+}
+
+function drawMark(pen, { x, y, r }, kind) {
   pen.beginPath();
+  pen.globalAlpha = kind === UNANSWERED ? 1 : 0.7;
   if (kind === OK) {
-    pen.globalAlpha = 0.65;
-    pen.arc(x, y, 2.2 * size, 0, 7);
+    pen.arc(x, y, r, 0, 7);
   } else if (kind === FAILED) {
-    const r = 4.2 * size;
-    pen.globalAlpha = size < 1 ? 0.6 : 1;
-    pen.moveTo(x, y - r);
-    pen.lineTo(x + r, y);
-    pen.lineTo(x, y + r);
-    pen.lineTo(x - r, y);
+    const far = r + 1.2;
+    pen.moveTo(x, y - far);
+    pen.lineTo(x + far, y);
+    pen.lineTo(x, y + far);
+    pen.lineTo(x - far, y);
   } else {
-    pen.moveTo(x - 4.5, y - 4);
-    pen.lineTo(x + 4.5, y - 4);
-    pen.lineTo(x, y + 4.5);
+    pen.moveTo(x - r, y - r + 0.5);
+    pen.lineTo(x + r, y - r + 0.5);
+    pen.lineTo(x, y + r);
   }
   pen.fill();
-  pen.globalAlpha = 1;
 }
 
 function ring(pen, i, colour) {

@@ -102,7 +102,7 @@ function head() {
   [...data.tables.operations.rows].map(row => row[0]).sort().forEach(op => field("op").append(element("option", { value: op, text: visible(op) })));
   field("from").placeholder = timed ? place(0) : "1";
   field("to").placeholder = timed ? place(whole[1]) : String(whole[1]);
-  document.getElementById("hint").textContent = `${data.complete ? "Each mark is a request." : "There were too many requests to draw each: the shade shows how many there were; marks are the slowest, the unanswered, and the failed or some of them. The red part of a bar is the share of requests that failed."} Drag over the picture to choose a time; a double click takes that back. A bar or a mark leads to its messages.`;
+  document.getElementById("hint").textContent = `${data.complete ? "Each mark is a request, larger the longer it took; where there are many, a shade shows how many." : "There were too many requests to draw each: the shade shows how many there were. Marks are the slowest, larger the longer they took, the unanswered, and the failed or some of them, which are behind the others. The red part of a bar is the share of requests that failed."} Drag over the picture to choose a time; a double click takes that back. A bar or a mark leads to its messages.`;
 }
 
 head();

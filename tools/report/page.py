@@ -2,6 +2,7 @@
 
 import base64
 import hashlib
+import html
 import json
 import pathlib
 import re
@@ -19,19 +20,14 @@ def page(title, found, messages, compared=None):
                                                     for name in SCRIPTS) + "})();\n"
     data = json.dumps({**data_of(title, found), "compared": compared}, separators=(",", ":"))
     parts = {
-        "title": escaped(title), "style": style, "script": script,
+        "title": html.escape(title), "style": style, "script": script,
         # Within a script element only "<" could end the data.
         "data": f'{data[:-1]},"messages":{messages}}}'.replace("<", "\\u003c"),
         "policy": f"default-src 'none'; style-src '{digest(style)}'; script-src '{digest(script)}'",
-        "text": escaped("\n".join(text.lines_of(found))),
+        "text": html.escape("\n".join(text.lines_of(found))),
     }
     template = (HERE / "page.html").read_text(encoding="utf-8")
     return re.sub(r"<!-- (\w+) -->", lambda mark: parts[mark[1]], template)
-
-
-def escaped(text_):
-    """A text as HTML has it between tags."""
-    return text_.replace("&", "&amp;").replace("<", "&lt;").replace(">", "&gt;").replace('"', "&quot;")
 
 
 def digest(source):

@@ -114,7 +114,8 @@ def sources_of(paths, folder, port, warnings):
         elif LISTINGS.match(mark):
             yield Source(path, name.removesuffix(".show"), mark)
         else:
-            raise ValueError(f"{path} is neither a capture nor a recording nor a listing")
+            raise ValueError(f"{path} is no capture, no recording, no listing of zkdump show, and has no lines of "
+                             "zkjson")
 
 
 def captured(path, name, prefix, port, warnings):
@@ -123,7 +124,7 @@ def captured(path, name, prefix, port, warnings):
     done = subprocess.run(words, stdout=subprocess.PIPE, stderr=subprocess.PIPE, check=False)
     lines, error = done.stdout.decode().splitlines(), done.stderr.decode().strip().removeprefix("pcap2zkr.py: ")
     if not lines:
-        raise ValueError(error or f"{path}: no connection")
+        raise ValueError(error or f"{path}: the capture has no connection to port {port}")
     if error:
         warnings.append(error)
     parts = {}

@@ -68,7 +68,7 @@ class Trace:
     def close(self):
         """Ends the trace, which has to have something in it."""
         if not self.events:
-            raise ValueError("no times: a trace needs recordings with times")
+            raise ValueError("there are no times, which a trace needs: record with --times")
         self.out.waiting += b"\n]}\n"
 
 

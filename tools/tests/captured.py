@@ -74,13 +74,13 @@ class PcapCase(ToolCase):
         paths = sorted(self.folder.glob("r-*.zkr"), key=lambda path: [int(part) for part in path.stem[2:].split(".")])
         return status, out.getvalue().splitlines(), [path.read_bytes() for path in paths]
 
-    def convert_within(self, capture, limit, most):
+    def convert_within(self, capture, limit, most, *words):
         """Converts a capture where a resource of the system has this limit: the status, the number of lines printed,
         the complaint, and the greatest memory, in MB."""
         source, tool = self.folder / "capture", str(TOOLS / "pcap2zkr.py")
         source.write_bytes(capture)
-        done = subprocess.run([sys.executable, "-c", WITHIN.format(limit=limit, most=most, tool=tool), source,
-                               self.folder / "r"], capture_output=True, text=True, timeout=60, check=False)
+        done = subprocess.run([sys.executable, "-c", WITHIN.format(limit=limit, most=most, tool=tool), *words,
+                               source, self.folder / "r"], capture_output=True, text=True, timeout=60, check=False)
         *complaint, memory = done.stderr.splitlines()
         return done.returncode, done.stdout.count("\n"), complaint, int(memory.split()[1]) / 1024
 

@@ -86,6 +86,7 @@ class TroubleCase(ToolCase):
         resource.setrlimit(resource.RLIMIT_NOFILE, (most, most))
         self.echo = Echo()
         self.out, self.err = [], []
+        self.prefix = self.folder / "r"
         self.stand_in = self.folder / "show"
         self.stand_in.write_text(STAND_IN)
         self.stand_in.chmod(0o700)
@@ -95,7 +96,7 @@ class TroubleCase(ToolCase):
         words = [*words, *(["--zkdump", program or self.stand_in] if tool == "zkwatch.py" else [])]
         server = next((word for word in words if str(word).startswith("localhost:")), f"127.0.0.1:{self.echo.port}")
         words = [word for word in words if word != server]
-        words = ["0", server, *([self.folder / "r"] if tool == "record.py" else []), *words]
+        words = ["0", server, *([self.prefix] if tool == "record.py" else []), *words]
         with open(out or os.devnull, "wb") as stdout:
             self.run_proxy(["prlimit", *limits, sys.executable, *python, TOOLS / tool, *words], stdout if out else
                            subprocess.PIPE)

@@ -71,7 +71,8 @@ class Differences(BenchCase):
             path = self.folder / "junk"
             path.write_bytes(data)
             self.assertEqual(self.run_tool("zkplay.py", "0", path),
-                             (1, "", "zkplay.py: recording offset=0 reason=BadHead\n"))
+                             (1, "", f"zkplay.py: {path}: this is no recording, which begins with ZKR1 or ZKR2 "
+                                    "(offset=0 reason=BadHead)\n"))
 
 
 class Faults(BenchCase):
@@ -218,7 +219,7 @@ class Pings(BenchCase):
                 break
             select.select([client], [], [], 0.1)
             time.sleep(0.05)
-        self.assert_refused("client frame=1 offset=50 place=0: expected 00: nothing came")
+        self.assert_refused("client frame=1 offset=50 place=0: expected 00: nothing came for 0.5 s")
 
 
 class Many(BenchCase):

@@ -108,7 +108,8 @@ class Forms(PcapCase):
         capture.write_bytes(capture_of(wire.conversation(pieces(SMALL[0].read_bytes()))))
         for words, closed, told in (("- PREFIX", "<&-", "-: standard input is closed, or a folder"),
                                     ("CAPTURE PREFIX", ">&-", "standard output is closed"),
-                                    ("CAPTURE PREFIX", ">/dev/full", "standard output: No space left on device")):
+                                    ("CAPTURE PREFIX", ">/dev/full", "standard output: No space left on device; the recordings are "
+                                     "complete, and lines are lost")):
             with self.subTest(closed=closed):
                 words = words.replace("CAPTURE", str(capture)).replace("PREFIX", str(self.folder / "s"))
                 done = subprocess.run(["sh", "-c", f"{sys.executable} {TOOLS}/pcap2zkr.py {words} {closed}"],

@@ -5,9 +5,12 @@ import subprocess
 import sys
 import threading
 import time
+import unittest.mock
 
 from proxied import NO_IPV6, SECONDS, TroubleCase
 from support import TOOLS, pieces, receive
+import addresses
+import proxy
 
 
 class Descriptors(TroubleCase):
@@ -35,6 +38,54 @@ class Descriptors(TroubleCase):
 
     def test_zkwatch(self):
         self.assert_lives_through("zkwatch.py", 30, 20, "new clients have to wait: Too many open files")
+
+
+    def test_nobody_waits_where_there_is_room_for_just_one_more(self):
+        for limit in (20, 21, 22):
+            with self.subTest(limit=limit):
+                port, answered = self.begin("record.py", limits=[f"--nofile={limit}:{limit}"]), 0
+                for _ in range(10):
+                    client = self.client(port)
+                    client.settimeout(0.5)
+                    try:
+                        self.ask(client)
+                    except TimeoutError:
+                        break
+                    answered += 1
+                    self.assertEqual(self.complaints(), [], answered)
+                self.assertTrue(2 < answered < 10, answered)
+                self.assertEqual(len(self.complaints(1)), 1)
+
+
+class Passing(proxy.Proxy):
+    """A proxy that observes nothing."""
+
+    def observer_of(self, connection):
+        return unittest.mock.Mock()
+
+
+class Crowd(TroubleCase):
+    def test_clients_that_come_at_once(self):
+        """Each turn of the loop serves every busy connection, so it is the number of turns that they wait for."""
+        passing = Passing("test", addresses.found(("127.0.0.1", self.echo.port)))
+        passing.listeners = addresses.listen(("127.0.0.1", 0))
+        self.addCleanup(passing.lines.end)
+        self.addCleanup(passing.complaints.end)
+        self.addCleanup(passing.stop)
+        for listener in passing.listeners:
+            self.addCleanup(listener.close)
+            listener.setblocking(False)
+        passing.take_clients()
+        clients = [self.client(passing.listeners[0].getsockname()[1]) for _ in range(100)]
+        for turn in range(1, 11):
+            passing.turn(1)
+            self.assertLessEqual(len(passing.connections), proxy.AT_ONCE * turn)
+        self.assertEqual(len(passing.connections), 100)
+        for client in clients:
+            client.sendall(b"hello")
+        while passing.ready.select(0.5):
+            passing.turn(0)
+        self.assertEqual([receive(client, 5) for client in clients], [b"hello"] * 100)
 
 
 class Ends(TroubleCase):

@@ -44,7 +44,7 @@ class Output(TroubleCase):
                     client.shutdown(socket.SHUT_WR)
                     self.assertEqual(client.recv(1), b"")
                 self.assertEqual([line.partition(": ")[2] for line in self.complaints(1)],
-                                 ["standard output: No space left on device; the connections go on"])
+                                 ["standard output: No space left on device; lines are lost, and the connections go on"])
 
     def test_closed_standard_streams(self):
         tool = TOOLS / "record.py"
@@ -76,7 +76,7 @@ class Programs(TroubleCase):
         first = self.client(port)
         self.assert_pace(first)
         self.assertEqual(self.watched(2)[1],
-                         "#1 zkdump has ended with status 9: what follows is passed on, and not read")
+                         "#1 zkdump show has ended with status 9: what follows is passed on, and not read")
         self.stand_in.unlink()
         self.assert_pace(self.client(port))
         self.assertRegex(self.watched(4)[3], "^#2 .*: No such file or directory: what follows is passed on, and not read$")

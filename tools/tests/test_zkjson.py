@@ -128,7 +128,7 @@ class Zkjson(ToolCase):
 
     def test_what_is_no_listing(self):
         for line, told in (("", "column 1 on"), ("C 1", "column 1 on"),
-                           ("S 1 exists zxid=5", "a reply without its request"),
+                           ("S 1 exists zxid=5", "the request of this reply is missing before it: name the whole listing"),
                            ('C 1 exists path="/a', "column 11 on"), ("C 1 ping\r", "column 9 on"),
                            ('C 1 delete path="/a" version=1 stat=(1,2)', "column 31 on"),
                            ('{"side": "C"}', "column 1 on"), ("C 1 multi {delete", "column 18 on"),
@@ -136,8 +136,8 @@ class Zkjson(ToolCase):
                            ('C 1 setACL path="/a" acl=[1:"a"]', "column 21 on"),
                            ('C 1 getData path="/a"watch=0', "column 12 on"),
                            ('C 1 setData path="/a" blob=#6', "column 22 on"), 
-                           (". whole x", "this is not an ending line"), (". cut", "this is not an ending line"),
-                           (". refused side=X", "this is not an ending line"),
+                           (". whole x", "this begins with a dot, and is no last line"), (". cut", "this begins with a dot, and is no last line"),
+                           (". refused side=X", "this begins with a dot, and is no last line"),
                            ("C 1 nonsense", "column 13 on")):
             with self.subTest(line=line):
                 status, out, err = self.run_tool("zkjson.py", stdin=f"C -2 ping\n{line}\n".encode())
@@ -183,7 +183,8 @@ class Zkjson(ToolCase):
     def test_lines_after_the_ending_line_and_of_zkjson(self):
         lines = "C -2 ping\n. whole unanswered=1\nS -2 ping zxid=5\n"
         status, out, err = self.run_tool("zkjson.py", stdin=lines.encode())
-        self.assertEqual((status, out.count("\n"), err), (1, 1, "zkjson.py: line 3: a line after the ending line\n"))
+        self.assertEqual((status, out.count("\n"), err), (1, 1, "zkjson.py: line 3: a line after the last one of a connection: name the "
+                                                       "listings of two connections each by itself\n"))
 
     def test_lists_of_texts(self):
         texts = ["", ",", "a", '","', "~", "]", "a b", "\\"]
@@ -289,7 +290,8 @@ class Times(ToolCase):
         for count in (0, 1, 7, 9):
             (self.folder / "two.zkr.times").write_text("1000\n" * count, "ascii")
             self.assertEqual(self.run_tool("zkjson.py", "--recording", path, stdin=self.LISTING.encode()),
-                             (1, "", f"zkjson.py: {path}.times has {count} times, and {path} 8 pieces\n"))
+                             (1, "", f"zkjson.py: {path}.times has {count} times, and {path} 8 pieces: these are not the times of "
+                                    "this recording\n"))
 
     def test_another_recording(self):
         path = self.recording(zkr.Head("zkr2"), range(8))

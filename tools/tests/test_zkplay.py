@@ -87,15 +87,17 @@ class Zkplay(ToolCase):
 
     def test_an_end_and_silence_where_a_byte_is_due(self):
         said = sides(RUN.read_bytes())[0][:-1]
-        self.assertEqual(self.refusal(said, end=True), "client frame=1 offset=68 place=14: expected 01: it ended")
+        self.assertEqual(self.refusal(said, end=True), "client frame=1 offset=68 place=14: expected 01: it has "
+                         "ended its side")
         self.assertEqual(self.refusal(said, "--wait", "0.5"),
-                         "client frame=1 offset=68 place=14: expected 01: nothing came")
+                         "client frame=1 offset=68 place=14: expected 01: nothing came for 0.5 s")
 
     def test_a_damaged_recording(self):
         path = self.folder / "damaged.zkr"
         path.write_bytes(RUN.read_bytes() + b"X")
         self.assertEqual(self.refusal(sides(RUN.read_bytes())[0], recording=path),
-                         "recording offset=153 reason=BadSide")
+                         f"{path}: the recording is damaged: a piece begins with neither C nor S "
+                         "(offset=153 reason=BadSide)")
 
     def test_both_ends_of_every_capture(self):
         words = [word for capture in CAPTURES[1:] for word in ("--then", str(capture))]

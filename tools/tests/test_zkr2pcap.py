@@ -90,14 +90,16 @@ class Zkr2pcap(ToolCase):
         for words, status, told in (((CONNECT, capture), 3, f"{capture}: File exists"),
                                     ((self.folder / "no", self.folder / "new"), 3, f"{self.folder}/no: No such file or directory"),
                                     ((self.folder, self.folder / "new"), 3, f"{self.folder}: Is a directory"),
-                                    ((capture, self.folder / "new"), 1, f"{capture}: recording offset=0 reason=BadHead")):
+                                    ((capture, self.folder / "new"), 1, f"{capture}: this is no recording, which begins with ZKR1 or ZKR2 "
+                                     "(offset=0 reason=BadHead)")):
             with self.subTest(told=told):
                 self.assertEqual(self.run_tool("zkr2pcap.py", *words), (status, "", f"zkr2pcap.py: {told}\n"))
                 self.assertFalse((self.folder / "new").exists())
         cut = self.folder / "cut.zkr"
         cut.write_bytes(CONNECT.read_bytes()[:40])
         status, _, err = self.run_tool("zkr2pcap.py", cut, self.folder / "front")
-        self.assertEqual((status, err), (1, f"zkr2pcap.py: {cut}: recording offset=9 reason=Short\n"))
+        self.assertEqual((status, err), (1, f"zkr2pcap.py: {cut}: the recording ends within a piece, or within its head "
+                                  "(offset=9 reason=Short)\n"))
         self.assertEqual(sum(len(packet) > 54 for _, packet in packets_of((self.folder / "front").read_bytes())), 1)
         self.assert_bad_words("zkr2pcap.py")
         self.assert_bad_words("zkr2pcap.py", CONNECT)

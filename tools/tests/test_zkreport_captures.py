@@ -85,7 +85,7 @@ class Captures(ToolCase):
         path.write_bytes(path.read_bytes()[:-7])
         status, out, err = self.run_tool("zkreport.py", "--text", path)
         self.assertEqual((status, err), (1, ""))
-        self.assertIn(f"\nnot read: {path}: the capture ends within a packet\n", out)
+        self.assertIn(f"\nnot read: {path}: the capture ends within a packet, and was read up to there\n", out)
 
     def test_a_capture_without_a_connection(self):
         path = self.folder / "none.pcap"

@@ -262,6 +262,21 @@ class InBrowser(PageCase):
         note = self.browser.run("return document.getElementById('note').textContent")
         self.assertIn("8,150 of 15,000 requests", note)
 
+    def test_a_stall_is_seen_and_failed_requests_hide_nothing(self):
+        """Of many requests one in sixteen fails, and five wait for the same three seconds."""
+        self.browser.open(self.page("crowded", crowded))
+        slow, red, blue = self.browser.run("""const canvas = document.querySelector("#latency canvas"), count = [0, 0, 0];
+            const { data } = canvas.getContext("2d").getImageData(0, 0, canvas.width, canvas.height);
+            for (let at = 0; at < data.length; at += 4) {
+              const [r, g, b] = data.subarray(at, at + 3), isBlue = b - r > 40, y = at / 4 / canvas.width / canvas.height;
+              count[0] += isBlue && y < 0.3;
+              count[1] += r - b > 100 && r - g > 60;
+              count[2] += isBlue;
+            }
+            return count;""")
+        self.assertGreater(slow, 80)
+        self.assertLess(red, blue / 10)
+
     def test_two_runs(self):
         other = report_lines.second(self.made / "other.json")
         self.browser.open(self.page("compared", report_lines.first, words=["--against", other], status=1))
@@ -295,6 +310,18 @@ def long_run(path):
         lines.ask(at, "exists", n, path=f"/node-{n % 1_000:04}", watch=False)
         lines.answer(at + (900 + n / 1000 if slow else 1 + n % 7), n, zxid="0x1",
                      **(report_lines.NONODE if n % 100 == 3 else {}))
+    return lines.write(path, ending="whole", unanswered=0, waiting=[])
+
+
+def crowded(path):
+    """A connection of many requests, of which every sixteenth fails, and five in the middle take three seconds."""
+    lines = report_lines.Lines()
+    lines.connect(0, 1)
+    for n in range(1, MESSAGES // 2):
+        at, stalled = 10 * n, 7_500 <= n < 7_505
+        lines.ask(at, "exists", n, path="/a", watch=False)
+        lines.answer(at + (3_000 if stalled else 1 + n * n % 101 / 10), n, zxid="0x1",
+                     **(report_lines.NONODE if n % 16 == 3 and not stalled else {}))
     return lines.write(path, ending="whole", unanswered=0, waiting=[])
 
 

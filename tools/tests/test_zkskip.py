@@ -124,13 +124,13 @@ class Zkskip(ToolCase):
 
     def test_damaged_recordings(self):
         begun = recording([request(1, 15, CREATE), request(2, 3, PATH + b"\0")])
-        for data, expected, told in ((b"", b"", "recording offset=0 reason=BadHead"),
-                                     (b"no recording", b"", "recording offset=0 reason=BadHead"),
+        for data, expected, told in ((b"", b"", "(offset=0 reason=BadHead)"),
+                                     (b"no recording", b"", "(offset=0 reason=BadHead)"),
                                      (begun + b"X", recording([request(2, 3, PATH + b"\0")]),
-                                      f"recording offset={len(begun)} reason=BadSide"),
-                                     (begun[:-1], None, "reason=Short")):
+                                      f"(offset={len(begun)} reason=BadSide)"),
+                                     (begun[:-1], None, "reason=Short)")):
             found, lines = self.skip(data, status=1)
-            self.assertTrue(lines[-1].startswith("zkskip.py: ") and lines[-1].endswith(told), lines)
+            self.assertTrue(lines[-1].startswith("zkskip.py: standard input: ") and lines[-1].endswith(told), lines)
             if expected is not None:
                 self.assertEqual(found, expected)
 
@@ -171,7 +171,8 @@ class Zkskip(ToolCase):
         source.write_bytes(recording([request(1, 19)]))
         (self.folder / "a.zkr.times").write_text("1\n2\n", "ascii")
         status, out, err = self.run_tool("zkskip.py", source, self.folder / "b.zkr")
-        self.assertEqual((status, out, err), (1, "", f"zkskip.py: {source}.times has 2 times, and {source} 3 pieces\n"))
+        self.assertEqual((status, out, err), (1, "", f"zkskip.py: {source}.times has 2 times, and {source} 3 "
+                                                   "pieces: these are not the times of this recording\n"))
         self.assertFalse((self.folder / "b.zkr").exists())
 
     def test_words(self):

@@ -200,9 +200,9 @@ class Zkstat(ToolCase):
         found = self.stat(*words, *names).replace(f"{self.folder}/", "")
         self.assertEqual(sorted(" ".join(line.split()) for line in found.splitlines()),
                          sorted(" ".join(line.split()) for line in self.stat(stdin=self.joined()).splitlines()))
-        for wrong, told in ((["--zkdump", program], "has ended with status 2"),):
+        for wrong, told in ((["--zkdump", program], "show has ended with status 2, maybe before the listing's end"),):
             status, out, err = self.run_tool("zkstat.py", *wrong, names[0])
-            self.assertEqual((status, out, err), (3, "", f"zkstat.py: {program} {told}\n"))
+            self.assertEqual((status, out, err), (3, "", f"zkstat.py: {names[0]}: {program} {told}\n"))
         self.assert_bad_words("zkstat.py", "--zkdump", "/no/such/program", names[0])
 
     def test_what_is_chosen(self):
@@ -300,5 +300,6 @@ class Zkstat(ToolCase):
         for words in (["--nonsense"], ["a", "b", "--recording", "c"], ["--times", "a"], ["a", "a"]):
             self.assert_bad_words("zkstat.py", *words)
         self.assertEqual(self.run_tool("zkstat.py", stdin=b"nonsense\n")[::2],
-                         (1, "zkstat.py: line 1: this is not a line of a listing from column 1 on\n"))
-        self.assertEqual(self.run_tool("zkstat.py"), (1, "", "zkstat.py: the listing is empty\n"))
+                         (1, "zkstat.py: line 1: from column 1 on this is no line as zkdump show writes it\n"))
+        self.assertEqual(self.run_tool("zkstat.py"), (1, "", "zkstat.py: standard input is empty: a listing has at least "
+                                                         "its last line, as zkdump show writes it\n"))

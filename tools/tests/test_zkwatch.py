@@ -174,13 +174,25 @@ class Zkwatch(ToolCase):
         watcher, address = self.watch(f"127.0.0.1:{port}", "--once")
         with socket.create_connection(address, SECONDS) as client:
             self.assertEqual(client.recv(1), b"")
-        self.assertTrue(self.lines(watcher)[1][1].startswith("not watched: "))
+        self.assertTrue(self.lines(watcher)[1][1].startswith("not passed on: "))
 
     def test_its_reader_goes(self):
+        """As `head` does, which ends after some lines: the connections go on, that one and later ones."""
         watcher, address = self.watch(f"127.0.0.1:{self.echo().port}")
-        watcher.stdout.close()
-        with socket.create_connection(address, SECONDS):
+        self.addCleanup(watcher.stderr.close)
+        with socket.create_connection(address, SECONDS) as client:
+            watcher.stdout.close()
+            for _ in range(3):
+                client.sendall(b"\0\0\0\2ab" * 1000)
+                self.assertEqual(receive(client, 6000), b"\0\0\0\2ab" * 1000)
+                time.sleep(0.1)
+                with socket.create_connection(address, SECONDS) as other:
+                    other.sendall(b"\0\0\0\1a")
+                    self.assertEqual(receive(other, 5), b"\0\0\0\1a")
+            watcher.send_signal(signal.SIGINT)
             self.assertEqual(watcher.wait(SECONDS), 0)
+        self.assertEqual(watcher.stderr.read(), "zkwatch.py: standard output: Broken pipe; lines are lost, and the "
+                         "connections go on\n")
 
     def test_the_program_itself(self):
         if not PROGRAM.exists():
