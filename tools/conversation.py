@@ -63,10 +63,10 @@ class Conversation:
             self.take(side, number, milliseconds, data)
             return
         self.record(stretch, side, number, milliseconds, data)
-        frames = self.cutter.take(zkr.Piece(side, milliseconds, data))
-        sizes = [4 + len(frame.payload) for frame in frames]
+        whole = self.cutter.take(zkr.Piece(side, milliseconds, data))
+        sizes = [4 + len(frame.payload) for frame in whole]
         place = stretch.recording.count[side] - len(self.cutter.held[side]) - sum(sizes)
-        for frame, size in zip(frames, sizes):
+        for frame, size in zip(whole, sizes):
             if side in self.connected:
                 stretch.note(side, frame.payload[:4], place, size, number, milliseconds)
             elif side == zkr.SERVER:
