@@ -39,7 +39,7 @@ RECORD = struct.Struct("=" + "".join(LETTERS[kind] for _, kind in FIELDS))
 Record = collections.namedtuple("Record", [name for name, _ in FIELDS])
 TEXT, WHOLE_TEXT, DATA = 1, 2, 3
 PIPE_SIZE, F_SETPIPE_SZ = 1 << 20, 1031
-WORTH_A_LINE = 1 << 23          # the size of a recording whose reader is told what would make it faster
+WORTH_A_LINE = 1 << 23          # the size of a recording whose reader learns what would make it faster
 is_told = False
 
 
@@ -64,7 +64,7 @@ class Block:
 
     def __init__(self, records, patches, paths, text):
         self.records, self.patches, self.paths, self.text = records, patches, paths, text
-        self.moved = []     # the places of patches, and how much longer the text is behind each
+        self.moved = []     # the places of patches, and how much longer the text is after each
 
     def array(self):
         """The records as an array of numpy."""
