@@ -52,7 +52,7 @@ def found_program():
 
 def lacks(words, counted):
     """What is missing for columns, or None; where they are `counted`, that is numpy too."""
-    if words.zkdump != program.usual():
+    if words.zkdump != program.found():
         return "another program is named"
     if not found_program():
         return "zkcolumns isn't there"
