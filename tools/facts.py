@@ -13,6 +13,7 @@ import re
 from typing import NamedTuple, Optional
 
 import running
+from newfile import NewFile
 
 VERSION, MARKED, LONGEST = 1, 1 << 16, 1 << 16
 SIDES = ("C", "S")
@@ -142,14 +143,15 @@ def write(path, facts, times=None):
     """Writes the facts of the recording at this path, which is complete, and whose times are in that file, if any. The
     file must not exist, and its owner alone may read it."""
     made = {"facts": VERSION, "recording": mark_of(path), "times": times and mark_of(times), **facts.to_object()}
-    new = facts_path(path)
-    with open(new, "x", encoding="ascii", opener=lambda name, flags: os.open(name, flags, 0o600)) as file:
-        try:
-            file.write(json.dumps(made) + "\n")
-            file.flush()
-        except OSError as error:
-            os.unlink(new)
-            raise OSError(error.errno, error.strerror, new) from error
+    new = NewFile(facts_path(path))
+    new.waiting += json.dumps(made).encode("ascii") + b"\n"
+    try:
+        new.flush()
+    except OSError:
+        os.unlink(new.path)
+        raise
+    finally:
+        new.file.close()
 
 
 def read(path):

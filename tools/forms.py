@@ -244,7 +244,6 @@ REQUESTS = {listing.CONNECT: Form(CONNECT),
             **{operation.name: Form(UNSPELLED.sub("", operation.request)) for operation in READ}}
 REPLIES = {operation.name: Form("zxid:hexadecimal " + UNSPELLED.sub("", operation.reply)) for operation in READ}
 REPLIES[listing.CONNECT] = Form("version:number timeout:number session:hexadecimal passwd:secret ro:readonly")
-NUMBERS = {operation.name: operation.number for operation in READ}
 REPLIES[listing.EVENT] = Form("zxid:hexadecimal kind:kind state:number path:text")
 FAILED = Form("zxid:hexadecimal err:err")
 PARTS = {name: Form(operations.BY_NAME[name].request) for name in ("create", "delete", "setData", "check")}

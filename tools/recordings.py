@@ -118,9 +118,6 @@ class Series:
             self.open.add(made)
             return made, number, part
 
-    def profile(self):
-        """The release that the head of each recording names, if any."""
-        return zkr.RELEASES[self.head.profile] if self.head.form == "zkr2" else None
     def remove_empty(self):
         """Removes the open recordings of which nothing was written."""
         for recording in self.open:
@@ -130,6 +127,10 @@ class Series:
     def begun(self):
         """The paths of the recordings that were not finished."""
         return sorted(recording.path for recording in self.open if recording.recording.size)
+
+    def profile(self):
+        """The release that the head of each recording names, if any."""
+        return zkr.RELEASES[self.head.profile] if self.head.form == "zkr2" else None
 
     def say(self, line):
         """Prints a line; where nobody reads it any more, the rest continues."""

@@ -5,14 +5,13 @@ import re
 import struct
 
 import contents
-import forms
 import listing
+import operations
 import zkr
 from frames import LARGEST, Beginning
 
 LETTERS = {zkr.CLIENT: "C", zkr.SERVER: "S"}
 LENGTH_AND_XID = struct.Struct(">ii")
-KEPT = LENGTH_AND_XID.size      # of a frame that comes in several pieces
 FRONT = 1 << 16         # bytes of a frame that are compared with its line
 CONNECT_FIELDS = re.compile(rf" session=({listing.NUMBER}) passwd=(~|#[0-9a-f]*)", re.ASCII)
 REPLY_FIELDS = re.compile(rf" zxid=({listing.NUMBER})(?: (?:err|kind)=({listing.NUMBER}))?", re.ASCII)
@@ -28,7 +27,7 @@ def is_of_line(payload, line, made):
             return struct.unpack_from(">q", payload, at)[0] == int(session) and \
                 is_text(payload, at + 8, None if passwd == "~" else bytes.fromhex(passwd[1:]))
         if made.side == "C":
-            return struct.unpack_from(">i", payload, 4)[0] == forms.NUMBERS[made.op] and \
+            return struct.unpack_from(">i", payload, 4)[0] == operations.BY_NAME[made.op].number and \
                 (made.path is None or is_text(payload, 8, bytes_of(made.path)))
         zxid, code = REPLY_FIELDS.match(line, made.end).groups()
         if made.op == listing.EVENT:
@@ -65,7 +64,7 @@ class Times:
 
     def __init__(self, pieces, times, foreign):
         self.damage, self.count, self.foreign, self.front = None, {"C": 0, "S": 0}, foreign, b""
-        self.kept = 4 + FRONT if foreign else KEPT
+        self.kept = 4 + FRONT if foreign else 8
         self.begun = {"C": Beginning(self.kept), "S": Beginning(self.kept)}
         self.frames = self.read(pieces, times)
 

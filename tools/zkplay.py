@@ -99,8 +99,7 @@ class Bench:
         try:
             with connection:
                 writer = self.series.next() if self.series else None
-                play = playing.Play(open_recording, self.own, connection, self.words.wait,
-                                    self.faults, writer)
+                play = playing.Play(open_recording, self.own, connection, self.words.wait, self.faults, writer)
                 ends = [addresses.address_text(each()) for each in (connection.getpeername, connection.getsockname)]
                 begun = time.time() * 1000
                 try:

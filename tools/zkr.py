@@ -223,9 +223,7 @@ class Writer:
             waiting += data
             if self.times:
                 self.times.waiting += b"%.3f\n" % milliseconds
-            self.count[side] += size
-            if len(waiting) >= self.gather:
-                self.flush()
+            self.gathered(side, size)
             return
         if self.timed:
             milliseconds = round(milliseconds, 3)
@@ -233,9 +231,17 @@ class Writer:
             self.recording.waiting += self.head.piece(side, milliseconds, data[at:at + LARGEST_PIECE])
             if self.times:
                 self.times.waiting += b"%.3f\n" % milliseconds
+        self.gathered(side, size)
+
+    def gathered(self, side, size):
+        """Counts bytes of a side that wait to be written, and writes all if it is enough."""
+        self.count[side] += size
         if len(self.recording.waiting) >= self.gather:
-            self.flush()
-        self.count[side] += len(data)
+            try:
+                self.flush()
+            except OSError:
+                self.count[side] -= size
+                raise
 
     def flush(self):
         """Writes what waits to the recording and to its times."""

@@ -13,15 +13,15 @@ from support import CAPTURES, TOOLS, pieces, zkr
 ASK, REPLY = zkr.Piece(zkr.CLIENT, None, bytes(300)), zkr.Piece(zkr.SERVER, None, bytes(300))
 
 
-def small_disk(case):
-    """A folder on a disk of its own with room for 8 kB. The test is skipped where none can be mounted."""
+def small_disk(case, room):
+    """A folder on a disk of its own with room for this number of files of up to 4 kB. The test is skipped where none can be mounted."""
     folder = case.folder / "disk"
     folder.mkdir()
     if subprocess.run(["mount", "-t", "tmpfs", "-o", "size=64k", "none", folder], capture_output=True,
                       check=False).returncode:
         case.skipTest("no disk can be mounted here")
     case.addCleanup(subprocess.run, ["umount", "--lazy", folder], check=True)
-    (folder / "used").write_bytes(bytes(56 << 10))
+    (folder / "used").write_bytes(bytes((64 << 10) - room * 4096))
     return folder
 
 
@@ -40,7 +40,9 @@ class Record(TroubleCase):
         self.assertEqual((len(list(zkr.read_times(times))), {len(piece.data) for piece in found}), (len(found), {size}))
         said = [size * sum(piece.side == side for piece in found) for side in (zkr.CLIENT, zkr.SERVER)]
         self.assertEqual(ended[4:], [f"client={said[0]}", f"server={said[1]}", "closed=C", "incomplete"])
-        self.assertEqual([line.endswith("goes on without it") for line in self.complaints(1)], [True], self.err)
+        first, *facts = self.complaints(1)
+        self.assertTrue(first.endswith("goes on without it"), self.err)
+        self.assertTrue(all(line.endswith("are not written") for line in facts), self.err)
         self.tool.terminate()
         self.assertEqual(self.tool.wait(SECONDS), 3)
 
@@ -51,7 +53,7 @@ class Record(TroubleCase):
         self.assert_ends_alone(1, most=100)
 
     def test_a_small_disk(self):
-        self.prefix = small_disk(self) / "r"
+        self.prefix = small_disk(self, 2) / "r"
         for size in (300, 1):
             with self.subTest(size=size):
                 self.assert_ends_alone(size)
@@ -114,12 +116,12 @@ class Pcap2zkr(PcapCase):
         self.assertTrue(0 < count[0] < 800, count)
 
     def test_a_small_disk(self):
-        """Which has room for one recording and its times."""
-        disk, capture = small_disk(self), self.folder / "capture"
+        """Which has room for one recording, its times and its facts."""
+        disk, capture = small_disk(self, 3), self.folder / "capture"
         sent = [wire.conversation([ASK, REPLY] * 4, close=False) for _ in range(5)]
         capture.write_bytes(wire.pcap([each for at, talk in enumerate(sent) for each in packed(talk, client=3000 + at)]))
         status, lines, told = self.run_tool("pcap2zkr.py", "--times", capture, disk / "r")
         self.assertEqual((status, told), (3, f"pcap2zkr.py: {disk}/r-2.zkr: No space left on device\n"))
         self.assertEqual([line.split()[0] for line in lines.splitlines()], [f"{disk}/r-1.zkr"])
-        self.assertEqual(sorted(path.name for path in disk.glob("r-*")), ["r-1.zkr", "r-1.zkr.times"])
+        self.assertEqual(sorted(path.name for path in disk.glob("r-*")), ["r-1.facts.json", "r-1.zkr", "r-1.zkr.times"])
         self.assertEqual(len(pieces((disk / "r-1.zkr").read_bytes())), 8)
