@@ -161,7 +161,7 @@ fn put_few(out: &mut Vec<u8>, bytes: &[u8]) -> Result<(), AllocError>
 }
 
 /// Appends the escapes of bytes in front, of which the first isn't plain; returns how many.
-// A block of sixteen costs a copy where fewer are left.
+// One alone needs no block of sixteen, and where fewer are left a block costs a copy.
 fn put_odd(out: &mut Vec<u8>, bytes: &[u8]) -> Result<usize, AllocError>
     requires some { 0 < length bytes.now }
     requires odd { is_plain (slice_index bytes.now 0) ≡ false }
@@ -169,6 +169,10 @@ fn put_odd(out: &mut Vec<u8>, bytes: &[u8]) -> Result<usize, AllocError>
     ensures spelled { IfOk result (λ n. out.new.items ≡ out.old.items ++ flat_map symbol_spell (take n bytes.now)) }
     ensures keeps { Keeps out.old.items out.new.items }
 {
+    if bytes.len() < 2 || is_plain(bytes[1]) {
+        put_escape(out, bytes[0])?;
+        return Ok(1);
+    }
     let run = odd_len(bytes);
     if run < 4 && bytes.len() < 16 {
         put_few(out, &bytes[..run])?;

@@ -1,4 +1,4 @@
-use Rattle.std.proofs.Common.{◌≡◌, ◌≤◌, ◌/◌, length, arith}
+use Rattle.std.proofs.Common.{arith}
 use Rattle.zk_items.proofs.Escapes.{respelled}
 use Rattle.zk_items.proofs.unescape.escapes_in.Goals as goal
 
