@@ -1,5 +1,5 @@
 #!/usr/bin/env python3
-"""What a passed gate says at its end of what it stands for: the commit, and the checksums of the program and the library.
+"""What a passed gate says at its end of what it has passed: the commit, and the checksums of the program and the library.
 
 ./test prints these lines last, and ./release takes a log only where they are its last lines still.
 """
@@ -24,14 +24,15 @@ def lines():
 
 
 def faults(log):
-    """Why the log of a gate doesn't stand behind this tree, its program and its library."""
+    """Why the log is not of a gate that passed for this commit, program and library."""
     wanted = list(lines())
     found = log.splitlines()[-len(wanted):]
     for line in wanted:
         if line not in found:
             name, _, value = line.partition(": ")
             other = next((each.partition(": ")[2] for each in found if each.startswith(f"{name}: ")), None)
-            yield f"the log ends without {line!r}" if other is None else f"the log is of another {name}: {other}, not {value}"
+            yield f"the log ends without {line!r}" if other is None else \
+                f"the log is of another {name}: {other}, not {value}"
 
 
 if __name__ == "__main__":

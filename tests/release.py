@@ -125,7 +125,7 @@ def logs():
         yield f"log, {name}", len(found) == count, f"release, with the log of {name}: {found}"
     told = run(sys.executable, TOP / "packaging" / "gate.py").stdout.decode().splitlines()
     yield "gate.py", told == lines, f"gate.py: {told}"
-    yield "BUILD", "no gate stands behind" in release.NO_GATE, "BUILD doesn't say that no gate stands behind it"
+    yield "BUILD", "no gate passed" in release.NO_GATE, "BUILD doesn't say that no gate passed for it"
 
 
 def completion():

@@ -93,6 +93,10 @@ def is_count(value):
     return type(value) is int and 0 <= value < 1 << 63
 
 
+def is_mark(value):
+    return isinstance(value, dict) and is_count(value.get("bytes"))
+
+
 def are_counts(value):
     return isinstance(value, dict) and set(value) == set(SIDES) and all(map(is_count, value.values()))
 
@@ -160,13 +164,13 @@ def read(path):
         made = json.loads(line) if len(line) <= LONGEST else None
     except (ValueError, RecursionError):
         made = None
-    if not isinstance(made, dict) or made.get("facts") != VERSION or not isinstance(made.get("recording"), dict):
+    if not isinstance(made, dict) or made.get("facts") != VERSION or not is_mark(made.get("recording")):
         raise ValueError(f"this is no object of facts of version {VERSION}")
     return made
 
 
 def facts_of(path):
-    """The facts of the recording at this path; None where it has none, or where these don't fit it, which is told."""
+    """The facts of the recording at this path; None where it has none, or where they don't fit it, which is reported."""
     try:
         made = read(path)
         if made is None:

@@ -22,7 +22,7 @@ ENDINGS = ("whole", "cut", "refused", "recording", UNREAD)
 
 # Spellings of a line. A number has no more digits than a long has.
 NUMBER = r"(?:0|-?[1-9]\d{0,18})"
-TEXT = r'(?:~|"[ !#-\[\]-~]*(?:\\[0-9a-f]{2}[ !#-\[\]-~]*)*")'
+TEXT = '(?:~|"[ !#-~]*")'
 NAME = r"(?:/([A-Za-z]+))?"
 # How a message's line begins: its side, xid and operation, and its path, its error or an event's kind.
 HEAD = rf"([CS]) (?:({NUMBER}) )?([A-Za-z][A-Za-z0-9]*)"
@@ -31,6 +31,7 @@ BEGINNING = re.compile(rf"{HEAD}(?: path=({TEXT})(?= |$)| zxid={NUMBER} (?:err|k
 ONLY_HEAD = re.compile(HEAD, re.ASCII)
 FAILED_PART = re.compile(rf"[{{;]fail err=({NUMBER}){NAME}", re.ASCII)
 QUOTED = re.compile('"[^"]*"')
+NO_ESCAPE = re.compile(r"\\(?![0-9a-f]{2})", re.ASCII)
 PATHS = re.compile(rf' path=({TEXT})|"[^"]*"', re.ASCII)
 EVENT_PATH = re.compile(rf" path=({TEXT})$", re.ASCII)
 DIGITS = re.compile("#[0-9a-f]*", re.ASCII)
@@ -53,6 +54,8 @@ def check_values(line, n):
     if "\\" in line:
         for found in QUOTED.finditer(line):
             try:
+                if NO_ESCAPE.search(line, *found.span()):
+                    raise ValueError("no escape")
                 for _ in parts_of_text(line, *found.span()):
                     pass
             except ValueError:

@@ -259,7 +259,7 @@ class Zkstat(ToolCase):
             self.assertEqual([each["asked"] for each in found["connections"]], [1] * 3)
 
     def test_values_that_no_line_has(self):
-        for line, column in ((r'C 1 exists path="/\c3" watch=0', 17), (r'C 1 exists path="/\zz" watch=0', 11),
+        for line, column in ((r'C 1 exists path="/\c3" watch=0', 17), (r'C 1 exists path="/\zz" watch=0', 17),
                              ('C 1 setData path="/#6" blob=#6 version=1', 23),
                              (r'C 1 setACL path="/a" acl=[1:"\ff":"a"] version=1', 29)):
             for words in (["zkstat.py"], ["zkstat.py", "--path", "/"], ["zkjson.py", "--slower", "5"],
