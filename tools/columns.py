@@ -40,7 +40,7 @@ Record = collections.namedtuple("Record", [name for name, _ in FIELDS])
 TEXT, WHOLE_TEXT, DATA = 1, 2, 3
 PIPE_SIZE, F_SETPIPE_SZ = 1 << 20, 1031
 WORTH_A_LINE = 1 << 23          # the size of a recording whose reader is told what would make it faster
-is_told = False
+said = False
 
 
 def found_program():
@@ -64,7 +64,7 @@ class Block:
 
     def __init__(self, records, patches, paths, text):
         self.records, self.patches, self.paths, self.text = records, patches, paths, text
-        self.moved = []     # the places of patches, and how much longer the text is behind each
+        self.moved = []     # the places of patches, and how much longer the text is after each
 
     def array(self):
         """The records as an array of numpy."""

@@ -160,7 +160,7 @@ def run(tool, zkcolumns, words):
 
 def main():
     zkcolumns, zkdump, folder, *paths = sys.argv[1:]
-    columns.is_told, runs, different = True, 0, 0
+    columns.said, runs, different = True, 0, 0
     for path in recordings(zkdump, pathlib.Path(folder), [pathlib.Path(path) for path in paths]):
         for tool, words in ((zkjson, ()), (zkstat, ("--json",)), (zkreport, ("--text",))):
             for choice in CHOICES if path.parent != pathlib.Path(folder) or path.name == "values.zkr" else CHOICES[:2]:
