@@ -39,7 +39,7 @@ RECORD = struct.Struct("=" + "".join(LETTERS[kind] for _, kind in FIELDS))
 Record = collections.namedtuple("Record", [name for name, _ in FIELDS])
 TEXT, WHOLE_TEXT, DATA = 1, 2, 3
 PIPE_SIZE, F_SETPIPE_SZ = 1 << 20, 1031
-WORTH_A_LINE = 1 << 23          # the size of a recording whose reader is told what would make it faster
+WORTH_A_LINE = 1 << 23          # the size of a recording of which a line says what would be faster
 said = False
 
 
