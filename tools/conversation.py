@@ -215,11 +215,11 @@ class Conversation:
                 last.recording.take_back([(last.recording.count[zkr.CLIENT] - begun, begun)])
         elif whole:
             self.unfinished = len(self.cutter.held[zkr.SERVER])
-        if last.anchored or zkr.CLIENT in lost and (last.back or last is self.stretches[first.is_suspended()]):
+        if last.anchored or zkr.CLIENT in lost and (last.back or first.is_suspended()):
             if zkr.CLIENT in lost:
                 last.holes.add(zkr.CLIENT)
             self.stretches.append(Stretch(self.put, number, milliseconds, False))
-            self.stretches[-1].owed = sum(stretch.pings() for stretch in self.stretches)
+            self.stretches[-1].owed = last.due()
         self.stretches[-1].owed += holes[zkr.CLIENT] // LEAST_REQUEST
         self.stretches[-1].lose(holes)
         if first.is_suspended() and not first.ordinary or len(self.stretches) > MOST_STRETCHES:
@@ -276,6 +276,7 @@ class Conversation:
             tool="pcap2zkr", client=self.client, server=self.server, connected=self.began, begun=began, ended=ended,
             part=self.part, session=self.session, profile=self.series.profile(), late=self.late and not lost,
             snapped=self.stream.snapped, lost=by_letter(stretch.lost), unasked=stretch.unasked,
+            overlooked=not stretch.anchored and stretch.skipped[zkr.SERVER] > 0,
             skipped=by_letter(stretch.skipped) if whole and not stretch.whole else None,
             hole=tuple(side.decode() for side in SIDES if side in stretch.holes and whole), **how or {})
         if recording:

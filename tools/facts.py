@@ -30,7 +30,8 @@ class Facts(NamedTuple):
     `broken` the side and the error that broke it; or it is still `open`. `late` says that it began before the capture,
     and `snapped` that packets were not captured whole. `lost` counts the bytes of each side that are missing before the
     recording, and `hole` names the sides of which bytes are missing after it. `skipped` counts captured bytes that are
-    left out, and `unasked` replies that are, where it begins with connect messages that were made up.
+    left out, and `unasked` replies that are, where it begins with connect messages that were made up; `overlooked` says
+    that no request of it has a reply, and that replies may be among the bytes that are left out.
     """
     tool: Optional[str] = None
     client: Optional[str] = None
@@ -51,6 +52,7 @@ class Facts(NamedTuple):
     hole: tuple = ()
     skipped: Optional[dict] = None
     unasked: int = 0
+    overlooked: bool = False
 
     def connection(self):
         """What is the same of all parts of a connection, and of no others."""
@@ -59,6 +61,10 @@ class Facts(NamedTuple):
     def has_hole(self):
         """Whether bytes are missing before or after it."""
         return bool(self.hole) or any(self.lost.values())
+
+    def loses_replies(self):
+        """Whether replies to the requests that wait at its end may be among bytes that are missing or left out."""
+        return "S" in self.hole or self.overlooked
 
     def words(self):
         """What pcap2zkr and record.py print of it."""
@@ -104,7 +110,7 @@ def are_counts(value):
 CHECKS = {
     **dict.fromkeys(("tool", "client", "server", "broken"), is_text),
     **dict.fromkeys(("connected", "begun", "ended"), is_number), **dict.fromkeys(("part", "unasked"), is_count),
-    **dict.fromkeys(("open", "late", "snapped"), lambda value: type(value) is bool),
+    **dict.fromkeys(("open", "late", "snapped", "overlooked"), lambda value: type(value) is bool),
     **dict.fromkeys(("closed", "reset"), lambda value: value in SIDES and isinstance(value, str)),
     **dict.fromkeys(("lost", "skipped"), are_counts),
     "session": lambda value: isinstance(value, str) and bool(SESSION.fullmatch(value)),

@@ -99,7 +99,7 @@ class Connection:
 
     def loses_replies(self):
         """Whether replies to the requests that wait at its end may have been lost."""
-        return bool(self.facts) and "S" in self.facts.hole
+        return bool(self.facts) and self.facts.loses_replies()
 
     def timed(self, moment):
         """Takes a message's time."""

@@ -165,9 +165,10 @@ class Stretch:
         request = self.asked.get(xid) if xid not in LANES else None
         return request if request and resync.may_answer(request.payload, reply.payload) else None
 
-    def pings(self):
-        """To how many of its pings replies may still come."""
-        return len(self.waiting[PING]) + sum(message.payload[:4] == PING for message in self.back)
+    def due(self):
+        """How many replies may still come to pings in it, and to those from before it."""
+        held = sum(message.payload[:4] == PING for message in self.back)
+        return len(self.waiting[PING]) + (0 if self.anchored else max(0, self.owed + held - len(self.pongs)))
 
     def ping_of(self, reply):
         """The ping to which this reply certainly is, or None. It is, where it isn't the first reply to a ping, one ping

@@ -33,7 +33,7 @@ class FactsCase(ToolCase):
 class Format(FactsCase):
     def test_of_every_kind(self):
         found = facts.Facts("pcap2zkr", "10.0.0.7:1", "[::1]:2181", 1.5, 2.5, 3.5, 2, "0x5", "3.5", "C", "S", "C:EIO", True,
-                            True, True, {"C": 1, "S": 2}, ("C", "S"), {"C": 3, "S": 4}, 5)
+                            True, True, {"C": 1, "S": 2}, ("C", "S"), {"C": 3, "S": 4}, 5, True)
         path = self.folder / "a.zkr"
         path.write_bytes(b"ZKR1")
         facts.write(path, found)
@@ -151,6 +151,22 @@ class Holes(FactsCase):
                 status, out, err = self.run_inside("zkstat.py", "--json", stdin=objects.encode())
                 self.assertEqual((status, json.loads(out)), (1, found))
                 self.assertIn(" replies not captured, if there were any\n", self.run_inside("zkstat.py", *paths)[1])
+
+    def test_a_reply_that_is_left_out(self):
+        """One of more bytes than are searched for a frame, after a loss: its request is not unanswered."""
+        talk = made.Talk(1, 1, 20)
+        n = max(answer for answer in talk.pairs)
+        xid, zxid = talk.said[n].data[4:8], (500).to_bytes(8, "big")
+        body = xid + zxid + bytes(4) + (70_000).to_bytes(4, "big") + bytes(70_000 + 68)
+        talk.said[n] = talk.said[n]._replace(data=len(body).to_bytes(4, "big") + body)
+        sent = talk.segments()
+        gone = next(at for at, each in enumerate(sent) if each.data == talk.said[talk.pairs[n] - 1].data)
+        capture = self.folder / "r.pcap"
+        capture.write_bytes(wire.pcap([(each.milliseconds, wire.packet(each)) for at, each in enumerate(sent) if at != gone]))
+        self.run_inside("pcap2zkr.py", capture, self.folder / "r")
+        status, out, _ = self.run_inside("zkstat.py", "--json", *sorted(self.folder.glob("r-*.zkr")))
+        found = json.loads(out)
+        self.assertEqual((status, found["unanswered"], len(found["notCaptured"])), (1, [], 2))
 
     def test_a_report(self):
         capture, paths = self.recordings(8)

@@ -19,8 +19,6 @@ from support import ToolCase, zkr
 import pcap2zkr
 
 PING, EVENT = b"\xff\xff\xff\xfe", b"\xff\xff\xff\xff"
-# The chance that a message is a ping or an event.
-OTHERS = 0.05
 
 
 class Talk:
@@ -124,12 +122,12 @@ CASES = {"11 of 5,000 lost, depth 1": (1, 11, 0.995), "11 of 5,000 lost, depth 8
          "5% lost, depth 8": (8, 0.05, 0.9), "5% lost, depth 200": (200, 0.05, 0.9)}
 
 
-def measure(seeds, depth, share, **others):
-    """Of conversations by these seeds, the numbers of messages that were said, captured and kept, and of pairs that are
-    wrong; a message that is kept twice counts as a wrong pair."""
+def measure(seeds, depth, share, count=5000, **others):
+    """Of conversations of `count` messages by these seeds, the numbers of messages that were said, captured and kept,
+    and of pairs that are wrong; a message that is kept twice counts as a wrong pair."""
     said = captured = kept = wrong = 0
     for seed in seeds:
-        talk = Talk(seed, depth, 5000, **others)
+        talk = Talk(seed, depth, count, **others)
         sent = talk.segments()
         lost = talk.lottery(sent, share)
         with tempfile.TemporaryDirectory() as folder:
@@ -150,16 +148,16 @@ class Pairs(ToolCase):
                 self.assertGreater(kept / said, least)
 
     def test_pings_and_events(self):
-        for depth, share in ((1, 0.02), (8, 0.02), (200, 0.02), (8, 0.2), (200, 0.2)):
-            for seed in range(3):
-                with self.subTest(depth=depth, share=share, seed=seed):
-                    self.assertEqual(measure([seed], depth, share, others=OTHERS)[3], 0)
+        for depth, share, others in ((1, 0.02, 0.05), (8, 0.02, 0.05), (200, 0.02, 0.05), (8, 0.2, 0.05),
+                                     (200, 0.2, 0.05), (1, 0.05, 0.9), (3, 0.05, 0.5)):
+            with self.subTest(depth=depth, share=share, others=others):
+                self.assertEqual(measure(range(2), depth, share, 1000, others=others)[3], 0)
 
     def test_messages_that_share_packets(self):
         for most in (60, 200, 1448):
             for depth in (1, 8, 200):
                 with self.subTest(most=most, depth=depth):
-                    talk = Talk(most, depth, 5000)
+                    talk = Talk(most, depth, 2000)
                     sent = talk.segments(most)
                     found = Kept(talk, sent, talk.lottery(sent, 0.03), self.folder, False)
                     truth = {(asked, answer) for answer, asked in talk.pairs.items()}
