@@ -166,7 +166,7 @@ class Stretch:
         return request if request and resync.may_answer(request.payload, reply.payload) else None
 
     def due(self):
-        """How many replies may still come to pings in it, and to those from before it."""
+        """How many replies may still be sent to pings in it, and to those from before it."""
         held = sum(message.payload[:4] == PING for message in self.back)
         return len(self.waiting[PING]) + (0 if self.anchored else max(0, self.owed + held - len(self.pongs)))
 

@@ -242,6 +242,10 @@ class Zkstat(ToolCase):
                 self.assertEqual(sum(found["events"].values()), count, path)
             _, chosen, _ = self.run_tool("zkjson.py", "--path", path, stdin=LISTING.encode())
             self.assertEqual(json.loads(self.stat("--json", stdin=chosen.encode()))["events"], found["events"])
+            listing = self.folder / "events.show"
+            listing.write_text(LISTING, "ascii")
+            report = self.run_tool("zkreport.py", "--text", "--path", path, listing)[1]
+            self.assertTrue(report.partition("\n")[0].endswith(f" {count} events"), report)
 
     def test_the_connect_messages_that_pcap2zkr_makes_up_are_none(self):
         self.recordings()
