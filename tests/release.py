@@ -267,6 +267,9 @@ def main():
         results += commands(top)
         if not skip("the libraries", *make_library.TOOLS):
             results += [*header(top, work), *libraries(top, work)]
+            found = run(top / "lib" / "zkdump" / "zkcolumns", "--json", "{", RECORDING)
+            good = found.returncode == 0 and found.stdout.endswith(LISTING.splitlines()[-1])
+            results.append(("zkcolumns", good, f"zkcolumns: status {found.returncode}, {found.stderr[-300:]}"))
         results += packages(dist, work / "root")
         results += installed(work)
     failures = [told for _, good, told in results if not good]

@@ -39,8 +39,8 @@ RECORD = struct.Struct("=" + "".join(LETTERS[kind] for _, kind in FIELDS))
 Record = collections.namedtuple("Record", [name for name, _ in FIELDS])
 TEXT, WHOLE_TEXT, DATA = 1, 2, 3
 PIPE_SIZE, F_SETPIPE_SZ = 1 << 20, 1031
-WORTH_A_LINE = 1 << 23          # the size of a recording whose reader learns what would make it faster
-is_told = False
+WORTH_A_LINE = 1 << 23          # the size of a recording of which a line says what would be faster
+said = False
 
 
 def found_program():
@@ -219,17 +219,20 @@ class Columns(listing.Listing):
         return self.waiting
 
     def __iter__(self):
-        requests, connection, operations, unpack, nothing = {}, self.connection, self.operations, Record._make, None
+        requests, connection, operations, nothing, letters = {}, self.connection, self.operations, None, ("S", "C")
         for block in self.blocks():
-            text = block.text
-            for record in map(unpack, RECORD.iter_unpack(block.records)):
-                n, of, moment, _, microseconds, _, begin, length, at_length, _, _, xid, op, _, flags, side, _ = record
-                name, xid = operations[op], str(xid) if flags & XID else nothing
-                made = listing.Message(connection, n, "C" if side == CLIENT else "S", xid, name,
-                                       block.path(record) if flags & PATH and not of else nothing,
-                                       self.error(record) if flags & ERROR else nothing, len(name) + (len(xid) + 3 if xid else 2))
+            text, paths = block.text.decode(), block.paths
+            for record in RECORD.iter_unpack(block.records):
+                n, of, moment, _, microseconds, _, begin, length, at_length, place, size, xid, op, _, flags, side, _ = record
+                name, xid, path = operations[op], str(xid) if flags & XID else nothing, nothing
+                if flags & PATH and not of:
+                    path = "~" if flags & NULL_PATH else listing.spelled(paths[place:place + size].decode())
+                made = listing.Message(connection, n, letters[side == CLIENT], xid, name, path,
+                                       self.error(Record._make(record)) if flags & ERROR else nothing,
+                                       len(name) + (len(xid) + 3 if xid else 2))
+                middle = begin + at_length
                 if moment == moment:
-                    made.moment, made.at = moment, text[begin:begin + at_length].decode()
+                    made.moment, made.at = moment, text[begin:middle]
                     if microseconds == microseconds:
                         made.microseconds = int(microseconds)
                 asked = nothing
@@ -239,7 +242,7 @@ class Columns(listing.Listing):
                     requests[n] = made
                 if flags & MADE_UP:
                     made.made_up = True
-                yield text[begin + at_length:begin + length].decode(), made, asked
+                yield text[middle:begin + length], made, asked
         self.waiting = list(requests.values())
 
 

@@ -37,7 +37,7 @@ class Died(Exception):
 
 def add_words(parser):
     """Adds the arguments that say who does the work."""
-    parser.add_number("--jobs", range(1, 1025), help="read recordings at once, by this number of processes; an input may then be "
+    parser.add_number("--jobs", range(1, 1025), help="read recordings at once, by N processes; an input may then be "
                       "a folder, or @LIST: a file with a path on each line. What can't be read becomes a row")
     parser.add_argument("--scheduler", metavar="ADDRESS", help="the same by the workers of this Dask scheduler, which "
                         "have to see the recordings and these tools by the same paths")

@@ -87,8 +87,8 @@ def columns_of(words, path, fast, profile, known, progress):
         times = columns.times_options(path, words.times)
         options = [*(["--profile", profile] if profile else []), *(times or ()), *options]
         return None if times is None else columns.opened(words, path, known, progress, options)
-    if os.path.getsize(path) >= columns.WORTH_A_LINE and not columns.is_told:
-        columns.is_told = True
+    if os.path.getsize(path) >= columns.WORTH_A_LINE and not columns.said:
+        columns.said = True
         zkr.report(f"this takes longer than it could: {lacking} (tools/README.md)")
     return None
 

@@ -26,9 +26,11 @@ PLACES = ("side", "reason", "place")
 def words_of(arguments=None, kind=zkr.Words):
     parser = kind(__doc__)
     parser.add_argument("command", choices=("check",))
-    parser.add_argument("inputs", metavar="DIR|LIST", nargs="+", help="a folder of recordings, or a list of their paths")
+    parser.add_argument("inputs", metavar="DIR|LIST", nargs="+",
+                        help="a folder of recordings, or a list of their paths")
     parser.add_argument("--all", action="store_true", help="write a line for whole recordings, too")
-    parser.add_argument("--json", action="store_true", help="write one object of JSON a recording, and one of the counts")
+    parser.add_argument("--json", action="store_true",
+                        help="write one object of JSON a recording, and one of the counts")
     parser.add_argument("--profile", choices=zkr.PROFILES, help="the release that zkdump judges recordings by (3.4)")
     program.add_program(parser)
     fleet.add_words(parser)
@@ -50,6 +52,12 @@ def check(words, path):
     if checked.returncode not in (0, 1):
         raise ValueError(checked.stderr.decode(errors="replace").strip() or f"zkdump ended with {checked.returncode}")
     return listing.ending_of(checked.stdout.decode().rstrip("\n"), 1), os.stat(path).st_size
+
+
+def endings(words):
+    """Each recording with its ending and its size, or with an Unread."""
+    for paths, found in fleet.results(words, "zkfleet", sys.argv[1:], paths_of(words.inputs)):
+        yield from zip(paths, [found] if isinstance(found, fleet.Unread) else found)
 
 
 class Counts:
@@ -93,9 +101,9 @@ def main():
         program.prove_runs(parser, words.zkdump)
         words.jobs = words.jobs or os.cpu_count() or 1
     found = Counts()
-    checked = fleet.results(words, "zkfleet", sys.argv[1:], paths_of(words.inputs))
-    for path, result in (each for paths, found in checked for each in zip(paths, [found] if isinstance(found, fleet.Unread) else found)):
-        ending, size = ({"ending": listing.UNREAD, "reason": result.reason}, 0) if isinstance(result, fleet.Unread) else result
+    for path, result in endings(words):
+        unread = isinstance(result, fleet.Unread)
+        ending, size = ({"ending": listing.UNREAD, "reason": result.reason}, 0) if unread else result
         found.add(ending, size)
         if words.all or ending["ending"] != "whole":
             print(json.dumps({"recording": path, **ending}) if words.json else

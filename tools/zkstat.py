@@ -166,7 +166,8 @@ class Statistics:
     def partial(self):
         """What was counted, for `merge` in another process."""
         connections = {connection: Finished(counts) for connection, counts in self.connections.items()}
-        return (dict(self.operations), connections, self.events, self.waiting, self.lost, self.has_hole, self.has_unread,
+        return (dict(self.operations), connections, self.events, self.waiting, self.lost, self.has_hole,
+                self.has_unread,
                 [(microseconds, row) for microseconds, _, row in sorted(self.slowest, key=lambda entry: -entry[1])])
 
     def merge(self, partial):

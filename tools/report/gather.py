@@ -128,8 +128,11 @@ class Run:
                 readings[known].connection.known = known
             return readings[known]
         with opener.conversation(source) as talk:
+            last = current = None
             for line, made, asked in chosen.chosen(talk):
-                reading(made.connection).take(talk, line, made, asked)
+                if made.connection is not last:
+                    last, current = made.connection, reading(made.connection)
+                current.take(talk, line, made, asked)
             for made in chosen.left(talk):
                 reading(made.connection).left(made)
             if chosen.all:

@@ -114,7 +114,7 @@ class Density:
     many of them failed or had no reply by connection and time."""
 
     def __init__(self):
-        self.width, self.low, self.high = 1, None, None
+        self.width, self.low, self.high, self.bins = 1, None, None, {}
         self.cells, self.troubles = collections.Counter(), collections.Counter()
 
     def add(self, connection, at, ms, trouble):
@@ -128,7 +128,12 @@ class Density:
             self.widen()
             bucket = int(at) // self.width
         if ms is not None:
-            self.cells[connection, bucket, bin_of(ms)] += 1
+            row = self.bins.get(ms)
+            if row is None:
+                if len(self.bins) > MOST_CELLS:
+                    self.bins.clear()
+                row = self.bins[ms] = bin_of(ms)
+            self.cells[connection, bucket, row] += 1
         if trouble:
             self.troubles[connection, bucket, trouble] += 1
 

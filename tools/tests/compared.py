@@ -28,6 +28,7 @@ import zkstat  # noqa: E402
 CHOICES = ((), ("--path", "/"), ("--path", "/a", "--path", "/kazoo"), ("--op", "event", "--op", "multi", "--op", "create"),
            ("--slower", "0.5"), ("--from", "1763843467121", "--to", "1763843467190"), ("--session", "0x100003780a60004"),
            ("--op", "connect", "--path", "/", "--slower", "0"))
+FEW = CHOICES[:2]
 LONG = 70_000
 SMALL, E_ACUTE, BLANK = "612020", "c3a9", "e2808b"     # U+200B can't be printed
 TEXTS = ('~', '""', '"/a"', '"/\\c3\\a9"', '"/\\22\\5c"', '"/\\0a\\7f"', '"/\\e2\\80\\8b\\c3\\a9"', f'"/{"x" * LONG}"',
@@ -125,9 +126,9 @@ def recordings(zkdump, folder, paths):
     made.write_bytes(subprocess.run([zkdump, "build"], input="\n".join(values()).encode(), stdout=subprocess.PIPE,
                                     check=True).stdout)
     yield from (*paths, made)
-    yield from lossy_recordings(folder, [path for path in paths if path.stat().st_size < 30_000])
+    yield from lossy_recordings(folder, [path for path in paths if path.stat().st_size < 30_000][:6])
     chance = random.Random(17)
-    for number, path in enumerate(chance.choices([path for path in paths if path.stat().st_size < 100_000], k=50)):
+    for number, path in enumerate(chance.choices([path for path in paths if path.stat().st_size < 100_000], k=40)):
         path, (data, times) = folder / f"{number}.zkr", cut(path.read_bytes(), chance)
         path.write_bytes(data)
         if chance.random() < 0.7:
@@ -160,10 +161,11 @@ def run(tool, zkcolumns, words):
 
 def main():
     zkcolumns, zkdump, folder, *paths = sys.argv[1:]
-    columns.is_told, runs, different = True, 0, 0
-    for path in recordings(zkdump, pathlib.Path(folder), [pathlib.Path(path) for path in paths]):
+    columns.said, runs, different = True, 0, 0
+    paths = [pathlib.Path(path) for path in paths]
+    for path in recordings(zkdump, pathlib.Path(folder), paths):
         for tool, words in ((zkjson, ()), (zkstat, ("--json",)), (zkreport, ("--text",))):
-            for choice in CHOICES if path.parent != pathlib.Path(folder) or path.name == "values.zkr" else CHOICES[:2]:
+            for choice in CHOICES if path.stat().st_size < 20_000 and path in paths or path.name == "values.zkr" else FEW:
                 fast, plain = (run(tool, which, (*words, *choice, path)) for which in (zkcolumns, ""))
                 runs += 1
                 if fast != plain:
