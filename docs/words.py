@@ -23,7 +23,7 @@ import tokenize
 TOP = pathlib.Path(__file__).resolve().parent.parent
 
 # The greatest number of words of a page, and of all of docs/; and of words in one sentence.
-WORDS = {"README.md": 1300, "docs/DECISIONS.md": 3000, "docs/MUST_FAIL.md": 1500, "docs/": 22000}
+WORDS = {"README.md": 1300, "tools/README.md": 3500, "docs/DECISIONS.md": 3000, "docs/MUST_FAIL.md": 1500, "docs/": 22000}
 SHORT, LONG = 40, 60
 
 # The page of what was measured and changed for speed, which docs/ is counted without.
