@@ -205,6 +205,17 @@ fn front_answer(head: &ReplyHeader, waiting: &Awaited, payload: &[u8]) -> Option
     }
 }
 
+/// Whether `payload`, which begins with the header `head`, is an event; false: undecided. As `front_event`.
+// Not inlined: with it the way of replies is too long to be inlined itself.
+#[inline(never)]
+fn is_event(head: &ReplyHeader, payload: &[u8]) -> bool
+    requires head { (rest : List ℕ) × IsHead payload.now head.now rest }
+    requires event { head.now.xid ≡ event_xid }
+    ensures { IsTrue result → (s : answered.ServerFrame) × answers.IsEvent s × answers.IsSent s × (payload.now ≡ answers.payload s) }
+{
+    front_event(head, payload)
+}
+
 /// Judges the server's payload after `count` frames: if it is a reply that may come next, drops the request and returns
 /// its operation; `Some(None)` if it is an event that may. `None`: undecided, and nothing changed. No fault and no frame
 /// is made.
@@ -221,7 +232,7 @@ pub fn forget_front(count: u64, waiting: &mut Awaited, payload: &[u8]) -> Option
         return None;
     };
     if head.xid == -1 {
-        if front_event(&head, payload) {
+        if is_event(&head, payload) {
             return Some(None);
         }
         return None;

@@ -5,14 +5,14 @@ use Rattle.zk_waiting.specs.Waiting.{IsDropped}
 use Rattle.zk_talk.proofs.Settling.{event_settled, reply_settled}
 use Rattle.zk_talk.proofs.judge.forget_front.Goals as goal
 
-pub front_event-requires-clause-event : goal.front_event-requires-clause-event
-front_event-requires-clause-event c =
+pub is_event-requires-clause-event : goal.is_event-requires-clause-event
+is_event-requires-clause-event c =
     let fits : FitsSigned w32 c.in-Ok.head.xid = c.in-Ok.ensures.found.1.0.0 in
     omega (arith, ints, c.if-head.true)
 
-pub returns-then-front_event-clause-found : goal.returns-then-front_event-clause-found
-returns-then-front_event-clause-found c =
-    let k = c.front_event.ensures c.if-front_event.true in
+pub returns-then-is_event-clause-found : goal.returns-then-is_event-clause-found
+returns-then-is_event-clause-found c =
+    let k = c.is_event.ensures c.if-is_event.true in
     (k.0, event_settled c.args.count c.args.payload.now c.args.waiting.now c.if-count-eq0.false k.0 k.1 k.2 k.3)
 
 pub returns-clause-found : goal.returns-clause-found
