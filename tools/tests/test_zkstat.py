@@ -271,8 +271,8 @@ class Zkstat(ToolCase):
                 path = self.folder / "wrong.show"
                 path.write_text(f"C -2 ping\n{line}\n", "ascii")
                 status, out, err = self.run_tool(*words, path)
-                self.assertEqual((status, out, err), (1, "", f"{words[0]}: {path}: line 2: this is not a line of a "
-                                                      f"listing from column {column} on\n"))
+                self.assertEqual((status, out, err), (1, "", f"{words[0]}: {path}: line 2: from column {column} on this "
+                                                      "is no line as zkdump show writes it\n"))
 
     def test_latencies(self):
         head = zkr.Head("zkr2")
