@@ -63,25 +63,13 @@ fn above_zero(value: u64) -> Option<i64>
     i64::try_from(value).ok()
 }
 
-/// The least long, if `value` is its size, which no long is.
-fn least(value: u64) -> Option<i64>
-    ensures { IfSome result (λ n. (n ≡ neg_ℤ (pos value)) × (value ≡ 2 ^ 63)) }
-{
-    if value == 0x8000_0000_0000_0000 {
-        Some(i64::MIN)
-    } else {
-        None
-    }
-}
-
 /// The long `-value`; `None` for 0, and where none is.
 fn below_zero(value: u64) -> Option<i64>
     ensures { IfSome result (λ n. (n ≡ neg_ℤ (pos value)) × (0 < value) × (value ≤ 2 ^ 63)) }
 {
-    match i64::try_from(value) {
-        Ok(n) if n > 0 => Some(-n),
-        Ok(_) => None,
-        Err(_) => least(value),
+    match 0_i64.checked_sub_unsigned(value) {
+        Some(n) if n < 0 => Some(n),
+        _ => None,
     }
 }
 

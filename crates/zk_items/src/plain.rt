@@ -20,6 +20,7 @@ pub fn plain_len(bytes: &[u8]) -> usize
         bytes.iter().take_while(|b| is_plain(**b)).count()
     }
 }
+
 /// Whether each of 16 to 32 bytes is plain: the first sixteen and the last sixteen, in one test.
 fn are_plain_by_16(bytes: &[u8]) -> bool
     requires { (16 ≤ length bytes.now) × (length bytes.now ≤ 32) }

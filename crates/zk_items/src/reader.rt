@@ -21,6 +21,9 @@ use std::marker::Model;
 use std::simd::prelude::*;
 use zk_jute::{Blob, Bytes, Chars, Text};
 
+/// The bytes of three escapes; where fewer are ahead, they are read one by one.
+const RUN: usize = 9;
+
 /// What is left of a line.
 #[derive(Drop)]
 pub struct Reader<'a> {
@@ -293,7 +296,7 @@ impl<'a> Reader<'a> {
                 bytes.extend_from_slice(self.plain())?;
                 continue;
             }
-            if *first == b'\\' && self.ahead.len() > 8 {
+            if *first == b'\\' && self.ahead.len() >= RUN {
                 let (block, count) = self.escapes();
                 if count > 0 {
                     append_front(&mut bytes, block.as_array(), count)?;

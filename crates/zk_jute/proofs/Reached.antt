@@ -24,7 +24,7 @@ use Rattle.zk_jute.specs.Told.{StandsAt}
 use Rattle.zk_jute.specs.Values.{text_items, list_items}
 use Rattle.zk_jute.specs.Wired.{Wired, int, long}
 use Rattle.zk_jute.specs.Shown.{Stretch}
-use Rattle.zk_jute.specs.Ends.{EndsAt, AreText, AreTexts, IsLow}
+use Rattle.zk_jute.specs.Ends.{EndsAt, IsUtf8Between, AreTextsIfUtf8, IsRunOfLowSize}
 use Rattle.zk_jute.proofs.Steps.{IsBytes}
 use Rattle.zk_jute.proofs.Primitives.{ascii_text}
 use Rattle.zk_jute.proofs.Numbers.{len32}
@@ -107,7 +107,7 @@ int_size (pos m) n fits is small = let same : m ≡ n = omega (arith, ints, is) 
 int_size (negsuc m) n fits is small = absurd (omega (arith, ints, is, small))
 
 -- a run whose length is read and fits
-pub low_run : (src : List ℕ) (place after n : ℕ) (number : ℤ) → int_at src place ≡ Ok (number, after) → number ≡ pos n → n < 32768 → n % 256 < 128 → after + n ≤ length src → IsLow src place (after + n)
+pub low_run : (src : List ℕ) (place after n : ℕ) (number : ℤ) → int_at src place ≡ Ok (number, after) → number ≡ pos n → n < 32768 → n % 256 < 128 → after + n ≤ length src → IsRunOfLowSize src place (after + n)
 low_run src place after n number read is less low there =
     let bytes = take n (drop after src) in
     let len : length bytes ≡ n = omega (arith, there, length-take n (drop after src), length-drop after src) in
@@ -130,7 +130,7 @@ module _ (src : List ℕ) (from at : ℕ) (fits : IsBytes src) (le : at ≤ leng
       omega (arith, s, length-append (int_bytes (pos (length bytes))) bytes, len32 (pos (length bytes)))
 
   -- its length is ASCII, and looked at with the others
-  pub low_more : (end : ℕ) → IsLow src at end → from ≤ at → (place count : ℕ) → AreTexts src from place at count → AreTexts src from place end (count + 1)
+  pub low_more : (end : ℕ) → IsRunOfLowSize src at end → from ≤ at → (place count : ℕ) → AreTextsIfUtf8 src from place at count → AreTextsIfUtf8 src from place end (count + 1)
   low_more end (bytes, less, low, run) before place count so_far text =
       let small : HasLow (length bytes) = (less, low) in
       let r = run_found src at (Some bytes, end) fits le run in
@@ -150,7 +150,7 @@ module _ (src : List ℕ) (from at : ℕ) (fits : IsBytes src) (le : at ≤ leng
       one_more text_items src place at end count (so_far parts.0) (nullable.Full bytes, f.have, (f.stands.parts, f.stands.at))
 
   -- the others were looked at; its length isn't to be
-  pub looked_more : (o : Option (List ℕ)) (end : ℕ) → run_at src at ≡ Ok (o, end) → (place count : ℕ) → Stretch text_items src place at count → AreTexts src (at + 4) place end (count + 1)
+  pub looked_more : (o : Option (List ℕ)) (end : ℕ) → run_at src at ≡ Ok (o, end) → (place count : ℕ) → Stretch text_items src place at count → AreTextsIfUtf8 src (at + 4) place end (count + 1)
   looked_more None end run place count so_far text =
       let r = run_found src at (None, end) fits le run in
       let f = one_found (AUstring None) src at end tt r.stands in
@@ -167,7 +167,7 @@ module _ (src : List ℕ) (from at : ℕ) (fits : IsBytes src) (le : at ≤ leng
       one_more text_items src place at end count so_far (nullable.Full bytes, f.have, (f.stands.parts, f.stands.at))
 
 -- nothing is looked at twice: bytes from a place to itself
-pub no_bytes : (src : List ℕ) (at : ℕ) → AreText src at at
+pub no_bytes : (src : List ℕ) (at : ℕ) → IsUtf8Between src at at
 no_bytes src at = let none : at - at ≡ 0 = omega arith in subst (λ (n : ℕ). IsUtf8 (take n (drop at src))) (sym none) (ascii_text [] (λ i. omega arith))
 
 -- ---- numbers, and records

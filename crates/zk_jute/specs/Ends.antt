@@ -11,13 +11,13 @@ abbrev pub EndsAt : {X : Type 0} → (X → List Item) → List ℕ → ℕ → 
 EndsAt {X} items src place end = (x : X) × HaveBytes (items x) × StandsAt (items x) src place end
 
 -- the bytes from the one place to the other are UTF-8
-abbrev pub AreText : List ℕ → ℕ → ℕ → Type 0
-AreText src place end = IsUtf8 (take (end - place) (drop place src))
+abbrev pub IsUtf8Between : List ℕ → ℕ → ℕ → Type 0
+IsUtf8Between src place end = IsUtf8 (take (end - place) (drop place src))
 
 -- from `place` to `at` are `count` texts, if the bytes from `from` on are UTF-8
-abbrev pub AreTexts : List ℕ → ℕ → ℕ → ℕ → ℕ → Type 0
-AreTexts src from place at count = AreText src from at → Stretch text_items src place at count
+abbrev pub AreTextsIfUtf8 : List ℕ → ℕ → ℕ → ℕ → ℕ → Type 0
+AreTextsIfUtf8 src from place at count = IsUtf8Between src from at → Stretch text_items src place at count
 
 -- a run whose length is four bytes of ASCII is at the place, and ends there
-abbrev pub IsLow : List ℕ → ℕ → ℕ → Type 0
-IsLow src place end = (bytes : List ℕ) × (length bytes < 32768) × (length bytes % 256 < 128) × (run_at src place ≡ Ok (Some bytes, end))
+abbrev pub IsRunOfLowSize : List ℕ → ℕ → ℕ → Type 0
+IsRunOfLowSize src place end = (bytes : List ℕ) × (length bytes < 32768) × (length bytes % 256 < 128) × (run_at src place ≡ Ok (Some bytes, end))

@@ -71,7 +71,8 @@ pub(crate) fn is_plain(bytes: &[u8]) -> bool
     is_low(u8x16::from_slice(&bytes[last..]))
 }
 
-/// How many bytes in front are whole blocks of sixty-four bytes of ASCII.
+/// The length of a front of the bytes that is ASCII, found sixty-four bytes at a time: zero of fewer. The last block overlaps
+/// the one before it.
 #[inline(always)]
 pub(crate) fn plain_front(bytes: &[u8]) -> usize
     ensures { (result ≤ length bytes.now) × IsAscii (take result bytes.now) }
@@ -82,6 +83,9 @@ pub(crate) fn plain_front(bytes: &[u8]) -> usize
             return at;
         }
         at += 64;
+    }
+    if bytes.len() >= 64 && is_low_64(u8x64::from_slice(&bytes[bytes.len() - 64..])) {
+        return bytes.len();
     }
     at
 }

@@ -3,7 +3,7 @@ ghost use Rattle.std.specs.Prelude.{◌≡◌, ℕ, ◌≤◌, ◌<◌, ◌%◌,
 ghost use Rattle.zk_jute.specs.Reading as reading;
 ghost use Rattle.zk_jute.specs.Shown.{Stretch};
 ghost use Rattle.zk_jute.specs.Values.{text_items, blob_items, list_items};
-ghost use Rattle.zk_jute.specs.Ends.{EndsAt, AreText, AreTexts, IsLow};
+ghost use Rattle.zk_jute.specs.Ends.{EndsAt, IsUtf8Between, AreTextsIfUtf8, IsRunOfLowSize};
 
 use crate::number::int_at;
 use crate::run::{run_at, size_at};
@@ -92,7 +92,7 @@ fn is_low_size(size: usize) -> bool
 #[inline(always)]
 fn low_end(payload: &[u8], place: usize) -> Option<usize>
     requires { place ≤ length payload.now }
-    ensures some { IfSome result (IsLow payload.now place) }
+    ensures some { IfSome result (IsRunOfLowSize payload.now place) }
     ensures within { IfSome result (λ end. end ≤ length payload.now) }
 {
     let Ok((number, after)) = int_at(payload, place) else {
@@ -128,7 +128,7 @@ fn nulls_end(payload: &[u8], count: usize, place: usize) -> (usize, usize)
 #[inline(always)]
 fn are_text(payload: &[u8], place: usize, end: usize) -> bool
     requires { (place ≤ end) × (end ≤ length payload.now) }
-    ensures { IsTrue result → AreText payload.now place end }
+    ensures { IsTrue result → IsUtf8Between payload.now place end }
 {
     if place == end {
         return true;
@@ -136,13 +136,13 @@ fn are_text(payload: &[u8], place: usize, end: usize) -> bool
     is_long_text(&payload[place..end])
 }
 
-/// One text more, the one at `place`: from where on the bytes are still to be looked at, until now from `from` on, and
-/// the place after the text; `None`: undecided. A length that is ASCII is looked at with the texts, since no character
-/// reaches over it; before any other, a look is due.
+/// Passes over the text at `place`, where the bytes from `from` on aren't judged yet: the place from which on they aren't
+/// then, and the place after the text; `None`: undecided. A length of four bytes of ASCII is judged with the texts, since no
+/// character reaches over it; before any other length, what isn't judged yet is judged.
 #[inline(always)]
 fn next_text(payload: &[u8], from: usize, place: usize) -> Option<(usize, usize)>
     requires { (from ≤ place) × (place ≤ length payload.now) }
-    ensures one { IfSome result (λ x. (first count : ℕ) → AreTexts payload.now from first place count → AreTexts payload.now x.0 first x.1 (count + 1)) }
+    ensures one { IfSome result (λ x. (first count : ℕ) → AreTextsIfUtf8 payload.now from first place count → AreTextsIfUtf8 payload.now x.0 first x.1 (count + 1)) }
     ensures within { IfSome result (λ x. (x.0 ≤ x.1) × (x.1 ≤ length payload.now)) }
 {
     if let Some(end) = low_end(payload, place) {

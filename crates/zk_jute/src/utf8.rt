@@ -227,33 +227,33 @@ fn is_short_text(bytes: &[u8]) -> bool
     }
 }
 
-/// Whether the bytes are UTF-8, of which some aren't ASCII.
-fn is_odd_text(bytes: &[u8]) -> bool
+/// Whether the bytes are UTF-8, sought first as of a text with bytes outside ASCII.
+fn is_text_outside_ascii(bytes: &[u8]) -> bool
     ensures { IsTrue result → IsUtf8 bytes.now }
 {
     is_short_text(bytes) || is_utf8(bytes)
 }
 
-/// The same of bytes that don't begin with sixty-four of ASCII.
+/// Whether the bytes that `plain_front` leaves are UTF-8.
 #[tactic(auto, using(crate::proofs::Primitives::ascii_text))]
 #[inline(always)]
-fn is_any_text(bytes: &[u8]) -> bool
+fn is_text_after_front(bytes: &[u8]) -> bool
     ensures { IsTrue result → IsUtf8 bytes.now }
 {
-    bytes.len() < 64 && is_plain(bytes) || is_odd_text(bytes)
+    bytes.len() < 64 && is_plain(bytes) || is_text_outside_ascii(bytes)
 }
 
-/// Whether the bytes are UTF-8; what is ASCII in front is passed over.
+/// Whether the bytes are UTF-8; a front of ASCII is passed over.
 #[inline(always)]
 pub(crate) fn is_long_text(bytes: &[u8]) -> bool
     ensures { IsTrue result → IsUtf8 bytes.now }
 {
     let front = plain_front(bytes);
-    is_any_text(&bytes[front..])
+    is_text_after_front(&bytes[front..])
 }
 
-/// The same by a call.
-fn is_far_text(bytes: &[u8]) -> bool
+/// `is_long_text` by a call: `is_text` stays small where it is inlined.
+fn is_long_text_by_call(bytes: &[u8]) -> bool
     ensures { IsTrue result → IsUtf8 bytes.now }
 {
     is_long_text(bytes)
@@ -265,9 +265,9 @@ fn is_far_text(bytes: &[u8]) -> bool
 pub(crate) fn is_text(bytes: &[u8]) -> bool
     ensures { IsTrue result → IsUtf8 bytes.now }
 {
-    if bytes.len() < 64 {
+    if bytes.len() < 128 {
         is_plain(bytes) || is_short_text(bytes)
     } else {
-        is_far_text(bytes)
+        is_long_text_by_call(bytes)
     }
 }

@@ -10,7 +10,7 @@ use zk_items::put_int;
 use zk_jute::{Reason, reason_name};
 use zk_talk::{Ending, Fault, Side};
 
-/// Room for each ending's line: no numbers that it may have are longer.
+/// Room for the line of an ending with the longest numbers.
 const ROOM: usize = 192;
 
 /// Appends `word` and the letter of `side`.

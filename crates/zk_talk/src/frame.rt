@@ -147,8 +147,8 @@ fn answered(frame: &ServerRef<'_>) -> Option<Op>
 pub fn keep_server(stream: &mut Stream, waiting: &mut Awaited, used: usize) -> Option<Option<Op>>
     requires { IsAtFrame stream.old used }
     ensures max { waiting.new.max ≡ waiting.old.max }
-    ensures found { (asked : ℕ) → IfSome result (λ answered. (s : answers.ServerFrame) × KeepsServer asked stream.old waiting.old answered s waiting.new stream.new) }
-    ensures kept { IfSome result (λ answered. stream.new ≡ kept_now stream.old used) }
+    ensures found { (asked : ℕ) → IfSome result (λ op. (s : answers.ServerFrame) × KeepsServer asked stream.old waiting.old op s waiting.new stream.new) }
+    ensures kept { IfSome result (λ op. stream.new ≡ kept_now stream.old used) }
     ensures same { IfNone result ((waiting.new ≡ waiting.old) × (stream.new ≡ stream.old)) }
 {
     let answered = forget_front(stream.count(), waiting, stream.payload())?;
@@ -169,8 +169,8 @@ pub fn pass_server(
     requires front { IsAtFrame (held_in stream.old (take used piece.now)) used }
     requires none { (stream.old.held ≡ []) × (stream.old.kept ≡ []) }
     ensures max { waiting.new.max ≡ waiting.old.max }
-    ensures found { (asked : ℕ) → IfSome result (λ answered. (s : answers.ServerFrame) × PassesServer asked stream.old waiting.old (take used piece.now) s waiting.new) }
-    ensures passed { IfSome result (λ answered. stream.new ≡ passed stream.old used) }
+    ensures found { (asked : ℕ) → IfSome result (λ op. (s : answers.ServerFrame) × PassesServer asked stream.old waiting.old (take used piece.now) s waiting.new) }
+    ensures passed { IfSome result (λ op. stream.new ≡ passed stream.old used) }
     ensures same { IfNone result ((waiting.new ≡ waiting.old) × (stream.new ≡ stream.old)) }
 {
     let answered = forget_front(stream.count(), waiting, carried(piece, used))?;

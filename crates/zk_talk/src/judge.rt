@@ -222,7 +222,7 @@ fn is_event(head: &ReplyHeader, payload: &[u8]) -> bool
 #[inline(always)]
 pub fn forget_front(count: u64, waiting: &mut Awaited, payload: &[u8]) -> Option<Option<Op>>
     ensures max { waiting.new.max ≡ waiting.old.max }
-    ensures found { IfSome result (λ its. (s : answered.ServerFrame) × IsSettled count payload.now its waiting.old waiting.new s) }
+    ensures found { IfSome result (λ op. (s : answered.ServerFrame) × IsSettled count payload.now op waiting.old waiting.new s) }
     ensures same { IfNone result (waiting.new ≡ waiting.old) }
 {
     if count == 0 {

@@ -1,4 +1,4 @@
-use Rattle.std.proofs.Common.{option_copied, arith}
+use Rattle.std.proofs.Common.{arith}
 use Rattle.zk_jute.proofs.Reached.{low_more, looked_more}
 use Rattle.zk_jute.proofs.ends.next_text.Goals as goal
 

@@ -8,5 +8,5 @@ pub returns : goal.returns
 returns c t =
     let bytes = c.args.bytes.now in
     let at = c.plain_front-front.result in
-    let rest = rw (take_rest) at (c.is_any_text.ensures t) in
+    let rest = rw (take_rest) at (c.is_text_after_front.ensures t) in
     subst IsUtf8 (take-append-drop at bytes) ((IsUtf8-after_ascii _ _ c.plain_front-front.ensures.1).1 rest)

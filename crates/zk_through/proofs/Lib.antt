@@ -1,0 +1,13 @@
+-- Lemmas.
+mod Alone
+mod Carried
+mod Frames
+mod Telling
+mod Turns
+mod Steps
+mod Outcomes
+mod Refusals
+mod Answering
+mod AnsweringClient
+mod AnsweringServer
+mod Given

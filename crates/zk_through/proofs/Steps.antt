@@ -1,0 +1,176 @@
+-- What a conversation comes to with one piece more.
+use Rattle.std.proofs.Common.{◌≡◌, ◌≢◌, ℕ, ◌+◌, ◌<◌, ◌≤◌, ◌^◌, ◌⊎◌, inl, inr, List, [], ◌∷◌, ◌++◌, length, take, drop, map, refl, sym, ap, ◌∙◌, subst, arith, append_assoc, length-append, None}
+use Rattle.std.proofs.Common.{filter}
+use Rattle.std.proofs.lemmas.List.{append-nil, length_push, length-take-le, nil_from_length}
+use Rattle.zk_frames.specs.Framing.{frame, IsBeginning, IsCut}
+use Rattle.zk_talk.specs.declared.message.Side.TheVariants.{Client, Server}
+use Rattle.zk_talk.specs.declared.limits.Limits.{Limits}
+use Rattle.zk_talk.specs.Held.{Message}
+use Rattle.zk_talk.specs.History.{History, side_bytes, on}
+use Rattle.zk_talk.specs.Stands.{TalkState, Stands}
+use Rattle.zk_talk.specs.Streams.{StreamState}
+use Rattle.zk_talk.specs.Good.{client_bytes, server_bytes}
+use Rattle.zk_talk.proofs.Histories.{no_bytes}
+use Rattle.zk_talk.proofs.Lists.{both_empty}
+use Rattle.zk_talk.proofs.Standing.{bytes-on, other-on}
+use Rattle.zk_through.specs.declared.turn.Turn.{Turn}
+use Rattle.zk_through.specs.Came.{Came, payloads, AreCut, AreFrames, told}
+use Rattle.zk_through.specs.LeftOut.{is_plain, asked, replied, Kept}
+use Rattle.zk_through.specs.Runs.{ThroughState, Runs, turn_of, GoesOn}
+use Rattle.zk_through.proofs.Frames.{no_payloads, payloads-same, payloads-other, within_client, within_server, whole_client, whole_server}
+
+nothing_more : (t : ThroughState) (h : History) (c k : Came) (M : List Message) → Runs t h c k M → Runs t h (c ++ []) (k ++ []) (M ++ [])
+nothing_more t h c k M r =
+    subst (λ z. Runs t h z (k ++ []) (M ++ [])) (sym (append-nil c)) (subst (λ z. Runs t h c z (M ++ [])) (sym (append-nil k)) (subst (λ z. Runs t h c k z) (sym (append-nil M)) r))
+
+-- ---- Within a frame
+module _ (old : ThroughState) (piece : List ℕ) where
+  pub within_on_client : (s : StreamState) → s ≡ record old.client { held = old.client.held ++ piece; size = old.client.size + length piece } →
+      IsBeginning old.talk.limits.client (old.client.held ++ piece) → GoesOn old Client piece [] [] [] (record old { client = s })
+  within_on_client s e begin h c k M r =
+      let new : ThroughState = record old { client = s } in
+      let frames' = within_client old.talk.limits c piece h old.client.held old.server.held r.frames begin in
+      let runs : Runs new (h ++ on Client piece) c k M = record {
+        frames = subst (λ z. AreFrames old.talk.limits (h ++ on Client piece) c z old.server.held) (sym (ap (λ (z : StreamState). z.held) e)) frames';
+        kept = r.kept;
+        stands = r.stands;
+        alone = r.alone;
+        turns = r.turns;
+        paired = r.paired;
+        client_count = ap (λ (z : StreamState). z.count) e ∙ r.client_count;
+        server_count = r.server_count;
+        client_size = ap (λ (z : StreamState). z.size) e ∙ omega (arith, r.client_size, bytes-on Client piece h);
+        server_size = r.server_size ∙ ap length (sym (other-on Client piece h));
+        no_fault = r.no_fault;
+      } in
+      nothing_more new (h ++ on Client piece) c k M runs
+
+  pub within_on_server : (s : StreamState) → s ≡ record old.server { held = old.server.held ++ piece; size = old.server.size + length piece } →
+      IsBeginning old.talk.limits.server (old.server.held ++ piece) → GoesOn old Server piece [] [] [] (record old { server = s })
+  within_on_server s e begin h c k M r =
+      let new : ThroughState = record old { server = s } in
+      let frames' = within_server old.talk.limits c piece h old.client.held old.server.held r.frames begin in
+      let runs : Runs new (h ++ on Server piece) c k M = record {
+        frames = subst (λ z. AreFrames old.talk.limits (h ++ on Server piece) c old.client.held z) (sym (ap (λ (z : StreamState). z.held) e)) frames';
+        kept = r.kept;
+        stands = r.stands;
+        alone = r.alone;
+        turns = r.turns;
+        paired = r.paired;
+        client_count = r.client_count;
+        server_count = ap (λ (z : StreamState). z.count) e ∙ r.server_count;
+        client_size = r.client_size ∙ ap length (sym (other-on Server piece h));
+        server_size = ap (λ (z : StreamState). z.size) e ∙ omega (arith, r.server_size, bytes-on Server piece h);
+        no_fault = r.no_fault;
+      } in
+      nothing_more new (h ++ on Server piece) c k M runs
+
+-- ---- A whole frame
+-- what is the same whatever becomes of the client's frame
+pub record ClientCame (old new : ThroughState) (piece : List ℕ) (used : ℕ) (p : List ℕ) : Type 0 where
+  pub some : 0 < used
+  pub part : used ≤ length piece
+  pub fits : length p ≤ old.talk.limits.client
+  pub is : old.client.held ++ take used piece ≡ frame p
+  pub limits : new.talk.limits ≡ old.talk.limits
+  pub held : new.client.held ≡ []
+  pub count : new.client.count ≡ old.client.count + 1
+  pub size : new.client.size ≡ old.client.size + used
+  pub other : new.server ≡ old.server
+  pub fault : new.fault ≡ old.fault
+
+module _ (old new : ThroughState) (piece : List ℕ) (used : ℕ) (p : List ℕ) (x : ClientCame old new piece used p) where
+  pub client_came : (h : History) (c k : Came) (M : List Message) → Runs old h c k M → (k' : Came) (M' : List Message) →
+      Kept old.talk.limits.profile (c ++ (Client, p) ∷ []) k' → Stands new.talk (told k') M' → (new.talk.client_held ≡ []) × (new.talk.server_held ≡ []) →
+      new.turns ≡ drop (replied (c ++ (Client, p) ∷ [])) (map turn_of (asked (c ++ (Client, p) ∷ []))) → replied (c ++ (Client, p) ∷ []) ≤ length (asked (c ++ (Client, p) ∷ [])) →
+      Runs new (h ++ on Client (take used piece)) (c ++ (Client, p) ∷ []) k' M'
+  client_came h c k M r k' M' kept stands alone turns paired =
+      let t = take used piece in
+      let n = length-take-le used piece x.part in
+      let frames' = whole_client old.talk.limits c t h old.client.held old.server.held p r.frames (omega (arith, n, x.some)) x.fits x.is in
+      record {
+        frames = subst (λ (l : Limits). AreFrames l (h ++ on Client t) (c ++ (Client, p) ∷ []) new.client.held new.server.held) (sym x.limits)
+            (subst (λ z. AreFrames old.talk.limits (h ++ on Client t) (c ++ (Client, p) ∷ []) z new.server.held) (sym x.held)
+            (subst (λ (z : StreamState). AreFrames old.talk.limits (h ++ on Client t) (c ++ (Client, p) ∷ []) [] z.held) (sym x.other) frames'));
+        kept = subst (λ (l : Limits). Kept l.profile (c ++ (Client, p) ∷ []) k') (sym x.limits) kept;
+        stands = stands;
+        alone = alone;
+        turns = turns;
+        paired = paired;
+        client_count = omega (arith, x.count, r.client_count, ap length (payloads-same Client c p), length_push (payloads Client c) p);
+        server_count = ap (λ (z : StreamState). z.count) x.other ∙ r.server_count ∙ ap length (sym (payloads-other Client c p));
+        client_size = omega (arith, x.size, r.client_size, bytes-on Client t h, n);
+        server_size = ap (λ (z : StreamState). z.size) x.other ∙ r.server_size ∙ ap length (sym (other-on Client t h));
+        no_fault = x.fault ∙ r.no_fault;
+      }
+
+-- and of the server's
+pub record ServerCame (old new : ThroughState) (piece : List ℕ) (used : ℕ) (p : List ℕ) : Type 0 where
+  pub some : 0 < used
+  pub part : used ≤ length piece
+  pub fits : length p ≤ old.talk.limits.server
+  pub is : old.server.held ++ take used piece ≡ frame p
+  pub limits : new.talk.limits ≡ old.talk.limits
+  pub held : new.server.held ≡ []
+  pub count : new.server.count ≡ old.server.count + 1
+  pub size : new.server.size ≡ old.server.size + used
+  pub other : new.client ≡ old.client
+  pub fault : new.fault ≡ old.fault
+
+module _ (old new : ThroughState) (piece : List ℕ) (used : ℕ) (p : List ℕ) (x : ServerCame old new piece used p) where
+  pub server_came : (h : History) (c k : Came) (M : List Message) → Runs old h c k M → (k' : Came) (M' : List Message) →
+      Kept old.talk.limits.profile (c ++ (Server, p) ∷ []) k' → Stands new.talk (told k') M' → (new.talk.client_held ≡ []) × (new.talk.server_held ≡ []) →
+      new.turns ≡ drop (replied (c ++ (Server, p) ∷ [])) (map turn_of (asked (c ++ (Server, p) ∷ []))) → replied (c ++ (Server, p) ∷ []) ≤ length (asked (c ++ (Server, p) ∷ [])) →
+      Runs new (h ++ on Server (take used piece)) (c ++ (Server, p) ∷ []) k' M'
+  server_came h c k M r k' M' kept stands alone turns paired =
+      let t = take used piece in
+      let n = length-take-le used piece x.part in
+      let frames' = whole_server old.talk.limits c t h old.client.held old.server.held p r.frames (omega (arith, n, x.some)) x.fits x.is in
+      record {
+        frames = subst (λ (l : Limits). AreFrames l (h ++ on Server t) (c ++ (Server, p) ∷ []) new.client.held new.server.held) (sym x.limits)
+            (subst (λ z. AreFrames old.talk.limits (h ++ on Server t) (c ++ (Server, p) ∷ []) new.client.held z) (sym x.held)
+            (subst (λ (z : StreamState). AreFrames old.talk.limits (h ++ on Server t) (c ++ (Server, p) ∷ []) z.held []) (sym x.other) frames'));
+        kept = subst (λ (l : Limits). Kept l.profile (c ++ (Server, p) ∷ []) k') (sym x.limits) kept;
+        stands = stands;
+        alone = alone;
+        turns = turns;
+        paired = paired;
+        client_count = ap (λ (z : StreamState). z.count) x.other ∙ r.client_count ∙ ap length (sym (payloads-other Server c p));
+        server_count = omega (arith, x.count, r.server_count, ap length (payloads-same Server c p), length_push (payloads Server c) p);
+        client_size = ap (λ (z : StreamState). z.size) x.other ∙ r.client_size ∙ ap length (sym (other-on Server t h));
+        server_size = omega (arith, x.size, r.server_size, bytes-on Server t h, n);
+        no_fault = x.fault ∙ r.no_fault;
+      }
+
+-- ---- The start
+module _ (talk : TalkState) (client server : StreamState) (stands : Stands talk [] []) where
+  no_client : talk.client_held ≡ []
+  no_client = nil_from_length talk.client_held (omega (arith, ap length (no_bytes Client), ap length stands.good.whole.client_cut.whole, length-append (client_bytes stands.conversation.client) talk.client_held))
+
+  no_server : talk.server_held ≡ []
+  no_server = nil_from_length talk.server_held (omega (arith, ap length (no_bytes Server), ap length stands.good.whole.server_cut.whole, length-append (server_bytes stands.conversation.server) talk.server_held))
+
+  start_cut : AreCut talk.limits [] [] [] []
+  start_cut = record {
+    client = subst (λ z. IsCut talk.limits.client (side_bytes Client []) z []) (sym (no_payloads Client)) (record { whole = no_bytes Client; within = tt; beginning = inl (omega arith) });
+    server = subst (λ z. IsCut talk.limits.server (side_bytes Server []) z []) (sym (no_payloads Server)) (record { whole = no_bytes Server; within = tt; beginning = inl (omega arith) });
+  }
+
+  pub runs_start : client.held ≡ [] → server.held ≡ [] → client.count ≡ 0 → server.count ≡ 0 → client.size ≡ 0 → server.size ≡ 0 →
+      Runs (record { talk = talk; client = client; server = server; turns = []; fault = None }) [] [] [] []
+  runs_start ch sh cc' sc cs ss = record {
+    frames = subst (λ z. AreFrames talk.limits [] [] z server.held) (sym ch) (subst (λ z. AreFrames talk.limits [] [] [] z) (sym sh) (record {
+      cut = start_cut;
+      fronts = λ front rest e. ([], [], refl, [], [], subst (λ z. AreCut talk.limits z [] [] []) (sym (both_empty front rest (sym e)).0) start_cut);
+    }));
+    kept = refl;
+    stands = stands;
+    alone = (no_client, no_server);
+    turns = sym (ap (λ z. drop (length (filter (is_plain 16) (drop 1 z))) (map turn_of (asked []))) (no_payloads Server) ∙ ap (λ z. map turn_of (filter (is_plain 8) (drop 1 z))) (no_payloads Client));
+    paired = omega (arith, ap (λ z. length (filter (is_plain 16) (drop 1 z))) (no_payloads Server));
+    client_count = cc' ∙ sym (ap length (no_payloads Client));
+    server_count = sc ∙ sym (ap length (no_payloads Server));
+    client_size = cs ∙ sym (ap length (no_bytes Client));
+    server_size = ss ∙ sym (ap length (no_bytes Server));
+    no_fault = refl;
+  }

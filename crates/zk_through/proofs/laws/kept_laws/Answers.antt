@@ -1,0 +1,9 @@
+use Rattle.std.proofs.Common.{[]}
+use Rattle.zk_through.proofs.Alone.{one_kept, all_kept}
+use Rattle.zk_through.proofs.laws.kept_laws.Goals as goal
+
+pub returns-clause-one : goal.returns-clause-one
+returns-clause-one c = λ profile came given other a b. one_kept profile [] came given other a b
+
+pub returns-clause-alone : goal.returns-clause-alone
+returns-clause-alone c = λ profile came given none kept. all_kept profile [] came given kept none

@@ -1,0 +1,4 @@
+-- Definitions that the contracts cite.
+pub mod Came
+pub mod LeftOut
+pub mod Runs
