@@ -1,10 +1,10 @@
-//! The laws of what the talk is told of the frames that came.
+//! The laws of what the talk gets of the frames that came.
 ghost use Rattle.std.specs.Prelude.{◌≡◌};
 ghost use Rattle.zk_records.specs.declared.profile.Profile.{Profile};
 ghost use Rattle.zk_through.specs.Came.{Came};
 ghost use Rattle.zk_through.specs.LeftOut.{Kept, HasNoneOut};
 
-/// The talk is told one list of frames, and all of them where none is left out. The function does nothing.
+/// The talk gets one list of frames, and all of them where none is left out. The function does nothing.
 pub fn kept_laws()
     // What is kept of the frames that came is one list.
     ensures one { (profile : Profile) (came given other : Came) → Kept profile came given → Kept profile came other → given ≡ other }

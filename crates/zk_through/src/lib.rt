@@ -4,7 +4,7 @@
 //! good. `Through` cuts the frames itself, and gives the talk whole frames: all but a client's request under a plain xid
 //! whose operation the profile lacks, and the reply with its xid when its turn has come. `Through::step` is the main call.
 //!
-//! What the talk is told is the conversation with those pairs left out; `specs/LeftOut.antt` says which these are, by
+//! The talk gets the conversation with those pairs left out; `specs/LeftOut.antt` says which these are, by
 //! counts of the frames before them. Faults are at the frame and offset of the streams as they came.
 //!
 //! What is left out is known by its header alone: its body is not read, and `Through::payload` gives its bytes.

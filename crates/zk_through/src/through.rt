@@ -45,7 +45,7 @@ pub struct Passed {
     pub went: Went,
 }
 
-/// A conversation of which the talk is told what its profile has.
+/// A conversation of which a talk gets what its profile has.
 #[derive(Drop)]
 pub struct Through {
     talk: Talk,
@@ -334,7 +334,7 @@ impl Through {
         }
     }
 
-    /// Takes the piece up to the end of the first frame that becomes whole, or all of it. The talk is told the frame, or it
+    /// Takes the piece up to the end of the first frame that becomes whole, or all of it. The talk gets the frame, or it
     /// is left out and kept until the side's next call. Allocates nothing.
     ///
     /// # Errors
@@ -362,7 +362,7 @@ impl Through {
         }
     }
 
-    /// The message of the side's newest frame that the talk was told, borrowed; `None` if it was told none.
+    /// The message of the side's newest frame that the talk got, borrowed; `None` if it got none.
     pub fn view(&self, side: Side) -> Option<MessageRef<'_>>
         ensures shown { MatchOption result (kept_on side self.now.talk ≡ []) (λ m. Shows self.now.talk side m) }
         ensures none { kept_on side self.now.talk ≡ [] → result ≡ None }
