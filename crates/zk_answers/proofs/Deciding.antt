@@ -3,7 +3,6 @@ use Rattle.std.proofs.Common.{◌≡◌, ℕ, ◌+◌, ◌⊎◌, inl, inr, List
 use Rattle.std.specs.Prelude.{◌≢◌, ℤ, pos, negsuc}
 use Rattle.std.specs.List.{flat_map}
 use Rattle.std.proofs.lemmas.List.{append-nil}
-use Rattle.zk_jute.specs.declared.fault.Reason.{Reason}
 use Rattle.zk_jute.specs.declared.fault.Reason.TheVariants.{Trailing, EventErr, BadPart}
 use Rattle.zk_jute.specs.Item.{Int, Item, AnInt, bytes_of, HaveBytes}
 use Rattle.zk_jute.specs.Layout.{Layout, End, One, IsValueOf}

@@ -3,7 +3,6 @@ use Rattle.std.proofs.Common.{◌≡◌, ℕ, zero, suc, ◌+◌, ◌<◌, ◌�
 use Rattle.std.specs.Prelude.{ℤ}
 use Rattle.std.specs.List.{flat_map}
 use Rattle.std.proofs.lemmas.List.{length-append}
-use Rattle.zk_jute.specs.declared.fault.Reason.{Reason}
 use Rattle.zk_jute.specs.declared.fault.Reason.TheVariants.{Trailing, UnknownOp, XidOp, BadPart}
 use Rattle.zk_jute.specs.Item.{Item, bytes_of, HaveBytes}
 use Rattle.zk_jute.specs.Layout.{IsValueOf}
@@ -30,8 +29,8 @@ use Rattle.zk_asks.specs.declared.frame.PartOf.TheVariants as part
 use Rattle.zk_asks.specs.declared.frame.ClientFrameOf.TheVariants as frame
 use Rattle.zk_asks.specs.Codes.{IsAllowed}
 use Rattle.zk_asks.specs.Parts.{part_layout, part_header, end_header, marked, op_of_part, record_of, part_items, multi_items}
-use Rattle.zk_asks.specs.Rows.{op_of_ask, body_items, body_of}
-use Rattle.zk_asks.specs.Forms.{header_items, IsAsk, HasHeader}
+use Rattle.zk_asks.specs.Rows.{op_of_ask, body_items}
+use Rattle.zk_asks.specs.Forms.{header_items, HasHeader}
 use Rattle.zk_asks.specs.Faults.{IsFirstFault, IsMultiFault, in_mark, bad_mark, in_part, behind_part, IsBodyFault, IsAskFault, in_header, unknown_op, bad_xid, in_body, behind_body}
 use Rattle.zk_asks.specs.Frames.{frame_items, IsFirst, IsLater, IsOfProfile, IsSent, payload}
 use Rattle.zk_asks.proofs.Choices.{number_decided, allowed_decided, header_may}
