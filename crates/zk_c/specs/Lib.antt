@@ -9,4 +9,6 @@ pub mod Cut
 pub mod Listing
 pub mod Voice
 pub mod Saying
+pub mod Passage
+pub mod Passing
 pub mod Write

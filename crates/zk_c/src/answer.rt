@@ -116,7 +116,7 @@ fn got_of(reason: Reason) -> i32
     }
 }
 
-fn no_fault() -> FaultNumbers
+pub fn no_fault() -> FaultNumbers
     ensures { result ≡ no_fault }
 {
     FaultNumbers {
@@ -130,7 +130,7 @@ fn no_fault() -> FaultNumbers
     }
 }
 
-fn fault_numbers(fault: Fault) -> FaultNumbers
+pub fn fault_numbers(fault: Fault) -> FaultNumbers
     ensures { result ≡ fault_numbers fault }
 {
     FaultNumbers {

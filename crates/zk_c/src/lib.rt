@@ -43,6 +43,9 @@ mod cut;
 mod listing;
 mod loose;
 mod number;
+mod passage;
+mod passage_box;
+mod passed;
 mod payload;
 mod read;
 mod read_answer;
@@ -50,6 +53,7 @@ mod said;
 mod speaker;
 mod talk;
 mod talk_box;
+mod through;
 mod voice;
 mod voice_box;
 mod write;
@@ -66,5 +70,9 @@ pub use talk::{
     zk_talk_ending_line, zk_talk_fields, zk_talk_finish, zk_talk_free, zk_talk_held, zk_talk_line,
     zk_talk_new, zk_talk_pass, zk_talk_payload, zk_talk_renew, zk_talk_step, zk_talk_view,
     zk_talk_waiting,
+};
+pub use through::{
+    zk_through_fields, zk_through_free, zk_through_new, zk_through_payload, zk_through_renew,
+    zk_through_step, zk_through_view,
 };
 pub use write::{zk_write_first, zk_write_request};

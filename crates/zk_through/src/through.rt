@@ -8,10 +8,10 @@ ghost use Rattle.zk_talk.specs.Fault.{fault_of, side_limit};
 ghost use Rattle.zk_talk.specs.Sound.{IsKnown};
 ghost use Rattle.zk_talk.specs.Streams.{IsAtFrame, passed};
 ghost use Rattle.zk_talk.specs.Held.{Message};
-ghost use Rattle.zk_talk.specs.Stands.{kept_on};
+ghost use Rattle.zk_talk.specs.Stands.{held_on, kept_on};
 ghost use Rattle.zk_talk.specs.Viewed.{Leaves, Shows, other_side};
 ghost use Rattle.zk_through.specs.LeftOut.{is_plain, xid_of};
-ghost use Rattle.zk_through.specs.Runs.{WentOn, IsRefused, IsTold, IsNotTold, Runs, turn_of, given_up, left_on, LeavesSide};
+ghost use Rattle.zk_through.specs.Runs.{WentOn, IsRefused, IsTold, IsNotTold, Runs, turn_of, given_up, stream_on, left_on, LeavesSide};
 
 use crate::ahead::{is_foreign, reply_ahead, request_ahead};
 use crate::turn::Turn;
@@ -379,6 +379,23 @@ impl Through {
             Side::Client => self.client.kept_payload(),
             Side::Server => self.server.kept_payload(),
         }
+    }
+
+    /// The number of the side's frames that were whole, those left out too.
+    pub fn frames(&self, side: Side) -> u64
+        ensures { result ≡ (stream_on side self.now).count }
+    {
+        match side {
+            Side::Client => self.client.count(),
+            Side::Server => self.server.count(),
+        }
+    }
+
+    /// The number of bytes of the frame whose message `view` borrows, its length included.
+    pub fn size(&self, side: Side) -> u32
+        ensures { result ≡ length (held_on side self.now.talk) + length (kept_on side self.now.talk) }
+    {
+        self.talk.held(side)
     }
 
     /// The number of requests under plain xids that wait for their replies, those left out too.

@@ -1,0 +1,115 @@
+-- What the passage behind a handle does.
+use Rattle.std.specs.Prelude.{◌≡◌, ℕ, ◌+◌, pos, Bool, true, false, List, [], length, Option, Some, Result, Ok, Err, IfOk, IfErr}
+use Rattle.zk_frames.specs.Framing.{frame}
+use Rattle.zk_asks.specs.Held.{ClientFrame}
+use Rattle.zk_answers.specs.Held.{ServerFrame}
+use Rattle.zk_talk.specs.declared.message.Side.{Side}
+use Rattle.zk_talk.specs.declared.message.Side.TheVariants.{Client, Server}
+use Rattle.zk_talk.specs.declared.message.Fault.{Fault}
+use Rattle.zk_talk.specs.declared.message.MessageOf.TheVariants.{Client as FromClient, Server as FromServer}
+use Rattle.zk_talk.specs.Held.{Message}
+use Rattle.zk_talk.specs.Stands.{kept_on}
+use Rattle.zk_talk.specs.Viewed.{Shows, other_side}
+use Rattle.zk_through.specs.declared.through.Passed.{Passed}
+use Rattle.zk_through.specs.declared.through.Went.{Went}
+use Rattle.zk_through.specs.declared.through.Went.TheVariants as went
+use Rattle.zk_through.specs.Runs.{Runs, WentOn, IsRefused, LeavesSide, given_up, stream_on, left_on}
+use Rattle.zk_fields.specs.declared.field.Field.{Field}
+use Rattle.zk_c.specs.declared.answer.MessageAnswer.{MessageAnswer}
+use Rattle.zk_c.specs.declared.answer.LineAnswer.{LineAnswer}
+use Rattle.zk_c.specs.declared.passed.PassedAnswer.{PassedAnswer}
+use Rattle.zk_c.specs.declared.read_answer.ReadAnswer.{ReadAnswer}
+use Rattle.zk_c.specs.Numbers.{reason_number}
+use Rattle.zk_c.specs.Answer.{no_fault, fault_numbers, no_message, message_answer, no_line}
+use Rattle.zk_c.specs.Read.{no_read, TellsClient, TellsServer}
+use Rattle.zk_c.specs.Handle.{AreNumbers, TellsText, size_held}
+use Rattle.zk_c.specs.Passage.{PassageState, newest_on}
+
+-- a step that wasn't made, with this status
+abbrev pub no_passed : ℕ → PassedAnswer
+no_passed status = record { used = 0; status = status; went = 0; xid = pos 0; operation = pos 0; fault = no_fault }
+
+abbrev pub went_answer : ℕ → Went → PassedAnswer
+went_answer used went.Within = record { used = used; status = 0; went = 0; xid = pos 0; operation = pos 0; fault = no_fault }
+went_answer used went.Message = record { used = used; status = 0; went = 1; xid = pos 0; operation = pos 0; fault = no_fault }
+went_answer used (went.Asked turn) = record { used = used; status = 0; went = 2; xid = turn.xid; operation = turn.number; fault = no_fault }
+went_answer used (went.Answered turn) = record { used = used; status = 0; went = 3; xid = turn.xid; operation = turn.number; fault = no_fault }
+went_answer used went.Full = record { used = used; status = 0; went = 4; xid = pos 0; operation = pos 0; fault = no_fault }
+
+abbrev pub passed_answer : Result Passed Fault → PassedAnswer
+passed_answer (Ok s) = went_answer s.used s.went
+passed_answer (Err f) = record { used = 0; status = reason_number f.reason; went = 0; xid = pos 0; operation = pos 0; fault = fault_numbers f }
+
+-- whether the side's newest whole frame is a message, after this
+abbrev pub newest : Went → Bool → Bool
+newest went.Within was = was
+newest went.Message was = true
+newest (went.Asked turn) was = false
+newest (went.Answered turn) was = false
+newest went.Full was = was
+
+abbrev pub newest_after : Result Passed Fault → Bool → Bool
+newest_after (Ok s) was = newest s.went was
+newest_after (Err f) was = was
+
+-- what `Through::step` promises, and which frame is the side's newest
+pub record IsPassing (old : PassageState) (side : Side) (piece : List ℕ) (outcome : Result Passed Fault) (new : PassageState) : Type 0 where
+  pub limits : new.through.talk.limits ≡ old.through.talk.limits
+  pub ok : IfOk outcome (λ s. WentOn old.through side piece s.used s.went new.through)
+  pub err : IfErr outcome (λ e. IsRefused old.through side piece e new.through)
+  pub other : LeavesSide (other_side side) old.through new.through
+  pub kept : (f : Fault) → old.through.fault ≡ Some f → (outcome ≡ Err f) × (new.through ≡ given_up side old.through)
+  pub newest : newest_on side new ≡ newest_after outcome (newest_on side old)
+  pub others : newest_on (other_side side) new ≡ newest_on (other_side side) old
+
+-- the answer is that of such a step of the passage, which goes on behind the handle
+pub record TellsPassing (old : PassageState) (side : Side) (piece : List ℕ) (answer : PassedAnswer) (after : Option PassageState) : Type 0 where
+  pub outcome : Result Passed Fault
+  pub passage : PassageState
+  pub held : after ≡ Some passage
+  pub told : answer ≡ passed_answer outcome
+  pub is : IsPassing old side piece outcome passage
+
+-- nothing has come, and no side shows a message
+pub record HasBegun (p : PassageState) : Type 0 where
+  pub runs : Runs p.through [] [] [] []
+  pub none : (p.client ≡ false) × (p.server ≡ false)
+
+-- a passage of these limits is behind the handle, and nothing has come
+pub record IsNew (client server waiting profile : ℕ) (after : Option PassageState) : Type 0 where
+  pub passage : PassageState
+  pub held : after ≡ Some passage
+  pub limits : AreNumbers client server waiting profile passage.through.talk.limits
+  pub begun : HasBegun passage
+
+-- the passage has begun anew, with the same limits
+pub record IsRenewed (old new : PassageState) : Type 0 where
+  pub limits : new.through.talk.limits ≡ old.through.talk.limits
+  pub begun : HasBegun new
+
+-- and is behind the handle
+pub record Renews (old : PassageState) (after : Option PassageState) : Type 0 where
+  pub passage : PassageState
+  pub held : after ≡ Some passage
+  pub is : IsRenewed old passage
+
+-- the side's newest whole frame is no message, or the message isn't kept any more
+abbrev pub ShowsNone : PassageState → Side → Type 0
+ShowsNone p side = (newest_on side p ≡ true) → kept_on side p.through.talk ≡ []
+
+-- the answer is the side's newest message, with the number of its frame among all that came
+pub record IsView (p : PassageState) (side : Side) (answer : MessageAnswer) : Type 0 where
+  pub none : ShowsNone p side → answer ≡ no_message 69
+  pub some : newest_on side p ≡ true → (m : Message) → Shows p.through.talk side m →
+      answer ≡ message_answer (size_held side p.through.talk) (stream_on side p.through).count m
+
+-- the answer is that message's fields
+pub record IsFields (p : PassageState) (side : Side) (before after : List Field) (answer : ReadAnswer) : Type 0 where
+  pub none : ShowsNone p side → (answer ≡ no_read 69) × (after ≡ before)
+  pub client : newest_on side p ≡ true → (f : ClientFrame) → Shows p.through.talk side (FromClient f) → TellsClient f before after answer
+  pub server : newest_on side p ≡ true → (s : ServerFrame) → Shows p.through.talk side (FromServer s) → TellsServer s before after answer
+
+-- the text is the payload of the frame that the side's last step left out
+pub record IsLeftOut (p : PassageState) (side : Side) (before after : List ℕ) (answer : LineAnswer) : Type 0 where
+  pub none : left_on side p.through ≡ [] → (answer ≡ no_line 69) × (after ≡ before)
+  pub some : (left_on side p.through ≡ [] → ⊥) → (q : List ℕ) × (left_on side p.through ≡ frame q) × TellsText q before after answer

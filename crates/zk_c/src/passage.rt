@@ -1,0 +1,135 @@
+//! `Passage`: a conversation that goes on where its profile ends, and whether each side's newest frame is a message.
+ghost use Rattle.std.specs.Prelude.{◌≡◌, IfOk};
+ghost use Rattle.zk_c.specs.Passage.{newest_on};
+ghost use Rattle.zk_c.specs.Passing.{HasBegun, IsRenewed, IsPassing, IsView, IsFields, IsLeftOut, newest};
+
+use crate::answer::{LineAnswer, MessageAnswer};
+use crate::number::NO_MESSAGE;
+use crate::read_answer::{ReadAnswer, read_client, read_server};
+use std::alloc::{AllocError, Global};
+use std::marker::Model;
+use zk_fields::Field;
+use zk_talk::{Fault, Limits, MessageOf, Side};
+use zk_through::{Passed, Through, Went};
+
+/// A conversation, of which what its profile lacks is left out.
+#[derive(Drop)]
+pub struct Passage {
+    through: Through,
+    /// Whether the client's newest whole frame is a message.
+    client: bool,
+    /// Whether the server's is.
+    server: bool,
+}
+
+impl Model for Passage {
+    ghost use Rattle.zk_c.specs.Passage.{PassageState};
+
+    ghost Value = { PassageState };
+
+    ghost view = { λ p. record { through = p.through; client = p.client; server = p.server } };
+}
+
+/// Whether the side's newest whole frame is a message after a step that went so, if `was` says whether it was before.
+fn newest(went: Went, was: bool) -> bool
+    ensures { result ≡ newest went was }
+{
+    match went {
+        Went::Within | Went::Full => was,
+        Went::Message => true,
+        Went::Asked(_) | Went::Answered(_) => false,
+    }
+}
+
+impl Passage {
+    /// A conversation of which nothing has come.
+    pub fn new(alloc: Global, limits: Limits) -> Result<Self, AllocError>
+        ensures limits { IfOk result (λ p. p.through.talk.limits ≡ limits) }
+        ensures begun { IfOk result HasBegun }
+    {
+        let through = Through::new(alloc, limits)?;
+        Ok(Passage {
+            through,
+            client: false,
+            server: false,
+        })
+    }
+
+    /// Begins anew with the same limits: a conversation of which nothing has come.
+    pub fn renew(&mut self)
+        ensures { IsRenewed self.old self.new }
+    {
+        self.through.renew();
+        self.client = false;
+        self.server = false;
+    }
+
+    /// Takes the piece up to the end of the first frame that becomes whole, or all of it.
+    ///
+    /// # Errors
+    ///
+    /// Those of `Through::step`.
+    pub fn step(&mut self, side: Side, piece: &[u8]) -> Result<Passed, Fault>
+        ensures { IsPassing self.old side piece.now result self.new }
+    {
+        let passed = match self.through.step(side, piece) {
+            Ok(passed) => passed,
+            Err(fault) => return Err(fault),
+        };
+        match side {
+            Side::Client => self.client = newest(passed.went, self.client),
+            Side::Server => self.server = newest(passed.went, self.server),
+        }
+        Ok(passed)
+    }
+
+    /// Whether the side's newest whole frame is a message.
+    fn is_newest(&self, side: Side) -> bool
+        ensures { result ≡ newest_on side self.now }
+    {
+        match side {
+            Side::Client => self.client,
+            Side::Server => self.server,
+        }
+    }
+
+    /// The message of the side's newest whole frame.
+    pub fn view(&self, side: Side) -> MessageAnswer
+        ensures { IsView self.now side result }
+    {
+        if !self.is_newest(side) {
+            return MessageAnswer::none(NO_MESSAGE);
+        }
+        match self.through.view(side) {
+            Some(message) => {
+                MessageAnswer::of(&message, self.through.size(side), self.through.frames(side))
+            }
+            None => MessageAnswer::none(NO_MESSAGE),
+        }
+    }
+
+    /// Writes the fields of that message, as far as there is room.
+    pub fn fields(&self, side: Side, room: &mut [Field]) -> ReadAnswer
+        ensures { IsFields self.now side room.old room.new result }
+    {
+        if !self.is_newest(side) {
+            return ReadAnswer::none(NO_MESSAGE);
+        }
+        let _size = self.through.size(side);
+        match self.through.view(side) {
+            None => ReadAnswer::none(NO_MESSAGE),
+            Some(MessageOf::Client(frame)) => read_client(&frame, room),
+            Some(MessageOf::Server(frame)) => read_server(&frame, room),
+        }
+    }
+
+    /// Writes the payload of the frame that the side's last step left out, if there is room for it.
+    pub fn payload(&self, side: Side, out: &mut [u8]) -> LineAnswer
+        ensures { IsLeftOut self.now side out.old out.new result }
+    {
+        match self.through.payload(side) {
+            None => LineAnswer::none(NO_MESSAGE),
+            Some(payload) => LineAnswer::put(payload, out),
+        }
+    }
+}

@@ -1,0 +1,82 @@
+//! `PassedAnswer`: what a step of a passage returns to C.
+ghost use Rattle.std.specs.Prelude.{◌≡◌, pos};
+ghost use Rattle.zk_c.specs.Passing.{no_passed, went_answer, passed_answer};
+
+use crate::answer::{FaultNumbers, fault_numbers, no_fault};
+use crate::number::{WELL, reason_number};
+use zk_talk::Fault;
+use zk_through::{Passed, Went};
+
+/// What a step used of a piece, and what became of it.
+#[repr(C)]
+#[derive(Clone, Copy)]
+pub struct PassedAnswer {
+    /// The number of bytes of the piece that were used.
+    pub used: usize,
+    /// 0, the number of the fault's reason, or why no step was made.
+    pub status: u32,
+    /// 0: no frame is whole. 1: a message. 2: a request that is left out. 3: the reply to one. 4: no room.
+    pub went: u32,
+    /// The xid of a request that is left out, also of its reply.
+    pub xid: i32,
+    /// The number of its operation.
+    pub operation: i32,
+    /// The fault of the conversation.
+    pub fault: FaultNumbers,
+}
+
+/// The number of bytes that were used, and what became of them, in numbers.
+fn went_answer(used: usize, went: Went) -> PassedAnswer
+    ensures { result ≡ went_answer used went }
+{
+    let (number, xid, operation) = match went {
+        Went::Within => (0, 0, 0),
+        Went::Message => (1, 0, 0),
+        Went::Asked(turn) => (2, turn.xid, turn.number),
+        Went::Answered(turn) => (3, turn.xid, turn.number),
+        Went::Full => (4, 0, 0),
+    };
+    PassedAnswer {
+        used,
+        status: WELL,
+        went: number,
+        xid,
+        operation,
+        fault: no_fault(),
+    }
+}
+
+impl PassedAnswer {
+    /// No step was made, for this reason.
+    pub fn none(status: u32) -> PassedAnswer
+        ensures { result ≡ no_passed status }
+    {
+        PassedAnswer {
+            used: 0,
+            status,
+            went: 0,
+            xid: 0,
+            operation: 0,
+            fault: no_fault(),
+        }
+    }
+
+    /// The result of a step, in numbers.
+    pub fn of(outcome: Result<Passed, Fault>) -> PassedAnswer
+        ensures { result ≡ passed_answer outcome }
+    {
+        match outcome {
+            Ok(passed) => went_answer(passed.used, passed.went),
+            Err(fault) => {
+                PassedAnswer {
+                    used: 0,
+                    status: reason_number(fault.reason),
+                    went: 0,
+                    xid: 0,
+                    operation: 0,
+                    fault: fault_numbers(fault),
+                }
+            }
+        }
+    }
+}
