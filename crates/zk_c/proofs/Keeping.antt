@@ -36,7 +36,7 @@ unfolding server_payload
 server_sent t Client s shows = absurd shows
 server_sent t Server s shows = (shows.sent, framed (answers.payload s) t.server_kept shows.is)
 
-framed_some : (p kept : List ℕ) → kept ≡ frame p → kept ≡ [] → ⊥
+pub framed_some : (p kept : List ℕ) → kept ≡ frame p → kept ≡ [] → ⊥
 unfolding frame
 framed_some p kept e none =
     let whole : kept ≡ int_bytes (pos (length p)) ++ p = e in
