@@ -31,7 +31,7 @@ text_said content bytes f v is valid says =
     let test : (utf8_valid_len bytes == length bytes) ≡ true = grind (arith, nat_tests) in
     rw (sym is, test) says
 
--- ---- the fields, each with the one behind it
+-- ---- the fields, each with the one after it
 
 -- no field is there
 abbrev pub no_one : Field

@@ -52,7 +52,7 @@ utf8_said (Some t) = if utf8_valid_len t == length t then Some (Some t) else Non
 abbrev pub list_said : Field → Option (Option ℕ)
 list_said f = if f.null == 0 then option_map Some (count_said f.number) else Some None
 
--- a field, and the one behind it
+-- a field, and the one after it
 abbrev pub Pair : Type 0
 Pair = Field × Option Field
 
@@ -65,7 +65,7 @@ abbrev pub error_said : Option Field → Option ℤ
 error_said None = None
 error_said (Some f) = if f.kind == 1 then int_said f.number else None
 
--- the err in the header of a result; in that of an error, whose number is -1, it is the int behind the header
+-- the err in the header of a result; in that of an error, whose number is -1, it is the int after the header
 abbrev pub result_err : ℤ → Option Field → Option ℤ
 result_err (pos n) next = Some (pos 0)
 result_err (negsuc zero) next = error_said next

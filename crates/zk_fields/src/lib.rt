@@ -34,7 +34,7 @@
 //!
 //! **A header's numbers are in the answer and are no fields**, and a multi's end marker is none: fields are what a
 //! caller loops over. A part's or a result's header is one field, of which only the number is kept: the err of an
-//! error's header is that of the int behind it, and is written from there.
+//! error's header is that of the int after it, and is written from there.
 #![tactic(auto)]
 
 mod ask;

@@ -1,4 +1,4 @@
-//! Whole frames, written from their fields: `write_request`, `write_first`, `write_reply`, `write_event`, `write_connected`.
+//! Frames, written from their fields: `write_request`, `write_first`, `write_reply`, `write_event`, `write_connected`.
 ghost use Rattle.std.specs.Prelude.{◌≡◌, ◌+◌, ◌≤◌, ◌<◌, ◌^◌, pos, negsuc, Bool, Option, Some, List, [], length, get_or};
 ghost use Rattle.zk_jute.specs.Item.{Item, bytes_of, int_bytes};
 ghost use Rattle.zk_records.specs.Held.{ConnectRequest, ConnectResponse, WatcherEvent};
@@ -19,8 +19,8 @@ use crate::value::{Heads, fill, fill_int, value_at};
 /// Why fields are not written.
 #[derive(Clone, Copy)]
 pub enum Unwritten {
-    /// The field of this index says nothing: its kind is none, its content isn't there, its number doesn't fit, or it is
-    /// an error's header with no int behind it.
+    /// The field of this index says nothing: its kind is none, its content isn't there, its number doesn't fit, or it
+    /// is an error's header with no int after it.
     Wrong(usize),
     /// With the field of this index the payload has more than 2,147,483,647 bytes.
     Long(usize),
@@ -137,7 +137,7 @@ fn reply_header(xid: i32, zxid: i64, err: i32) -> [u8; 16]
 /// The bytes of a multi's end marker.
 const END: [u8; 9] = [255, 255, 255, 255, 1, 255, 255, 255, 255];
 
-/// The bytes behind the fields of a request of this operation, and of a reply to it that is done.
+/// The bytes after the fields of a request of this operation, and of a reply to it that is done.
 fn end_of(operation: i32) -> &'static [u8]
     ensures exact { result.now ≡ bytes_of (behind_of operation) }
     ensures short { length result.now ≤ 9 }
@@ -148,7 +148,7 @@ fn end_of(operation: i32) -> &'static [u8]
     }
 }
 
-/// The bytes behind the fields of a reply with this `err` to a request of this operation.
+/// The bytes after the fields of a reply with this `err` to a request of this operation.
 fn reply_end(err: i32, operation: i32) -> &'static [u8]
     ensures exact { result.now ≡ bytes_of (done_behind err operation) }
     ensures short { length result.now ≤ 9 }
@@ -196,7 +196,7 @@ pub fn write_first(fields: &[Field], content: &[u8], room: &mut [u8]) -> Result<
 }
 
 /// Writes the frame of a reply to a request of this `operation`, whose content is in `content`, and returns its length.
-/// An error's header in a multi has the number -1, and the field behind it says the error.
+/// An error's header in a multi has the number -1, and the field after it says the error.
 ///
 /// # Errors
 ///
