@@ -120,6 +120,10 @@ class Library:
             ("zk_read_event", Read, (*payload, *room)),
             ("zk_write_request", Written, (ctypes.c_int32, ctypes.c_int32, *room, *payload, *payload)),
             ("zk_write_first", Written, (*room, *payload, *payload)),
+            ("zk_write_reply", Written, (ctypes.c_int32, ctypes.c_int64, ctypes.c_int32, ctypes.c_int32, *room, *payload,
+                                         *payload)),
+            ("zk_write_event", Written, (ctypes.c_int64, *room, *payload, *payload)),
+            ("zk_write_connected", Written, (*room, *payload, *payload)),
             ("zk_listing", Line, (ctypes.POINTER(Piece), size, ctypes.c_char_p, size, number, number, number, number,
                                   ctypes.c_char_p, size)),
         ):

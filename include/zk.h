@@ -250,8 +250,8 @@ struct zk_read {
 
 /* Whether a frame was written. ZK_WELL: `length` bytes of the room. ZK_ROOM: the frame has `length` bytes, more than the
  * room. ZK_RANGE: the field of this index says nothing, since its kind is none, its number doesn't fit its kind, its
- * content isn't in the content, or its text isn't UTF-8. ZK_TOO_LONG: with the field of this index the payload has more
- * than 2147483647 bytes. */
+ * content isn't in the content, its text isn't UTF-8, or it is an error's header in a reply and no int follows.
+ * ZK_TOO_LONG: with the field of this index the payload has more than 2147483647 bytes. */
 struct zk_written {
     uint32_t status;
     size_t length;
@@ -366,6 +366,18 @@ struct zk_written zk_write_request(int32_t xid, int32_t operation, const struct 
 
 /* The same for a connect request, which has no header. */
 struct zk_written zk_write_first(const struct zk_field *fields, size_t count, const uint8_t *content, size_t length, uint8_t *out, size_t room);
+
+/* The same for a reply to a request of this operation: its length, xid, zxid and err, what the fields say, and, if err is
+ * 0, a multi's end marker. The fields are those that zk_read_reply returns; a reply whose err isn't 0 has none. A result
+ * of a multi has its part's operation, and an error -1 and then its number as an int. A talk that is given the client's
+ * bytes says what to answer, and judges the answer as ZK_SERVER: examples/server.c. */
+struct zk_written zk_write_reply(int32_t xid, int64_t zxid, int32_t err, int32_t operation, const struct zk_field *fields, size_t count, const uint8_t *content, size_t length, uint8_t *out, size_t room);
+
+/* The same for an event, whose xid is -1 and whose err is 0; a server's zxid is -1. */
+struct zk_written zk_write_event(int64_t zxid, const struct zk_field *fields, size_t count, const uint8_t *content, size_t length, uint8_t *out, size_t room);
+
+/* The same for the answer to a connect request, which has no header. */
+struct zk_written zk_write_connected(const struct zk_field *fields, size_t count, const uint8_t *content, size_t length, uint8_t *out, size_t room);
 
 /* Writes the listing of a whole conversation: the line of each message and of the ending, each with a line feed. The
  * pieces are in the order in which they came, and bytes are those of all, one after the other; the numbers are those of
@@ -732,6 +744,24 @@ static inline struct zk_written zk_safe_write_first(const struct zk_field *field
     return answer.status != ZK_WELL ? answer : zk_write_first((const struct zk_field *)zk_from(fields), count, (const uint8_t *)zk_from(content), length, (uint8_t *)zk_into(out), room);
 }
 
+static inline struct zk_written zk_safe_write_reply(int32_t xid, int64_t zxid, int32_t err, int32_t operation, const struct zk_field *fields, size_t count, const uint8_t *content, size_t length, uint8_t *out, size_t room) {
+    struct zk_written answer = ZK_ZEROS;
+    answer.status = zk_first_of(zk_fault_of(fields, count, sizeof *fields), zk_first_of(zk_fault_of(content, length, sizeof *content), zk_fault_of(out, room, sizeof *out)));
+    return answer.status != ZK_WELL ? answer : zk_write_reply(xid, zxid, err, operation, (const struct zk_field *)zk_from(fields), count, (const uint8_t *)zk_from(content), length, (uint8_t *)zk_into(out), room);
+}
+
+static inline struct zk_written zk_safe_write_event(int64_t zxid, const struct zk_field *fields, size_t count, const uint8_t *content, size_t length, uint8_t *out, size_t room) {
+    struct zk_written answer = ZK_ZEROS;
+    answer.status = zk_first_of(zk_fault_of(fields, count, sizeof *fields), zk_first_of(zk_fault_of(content, length, sizeof *content), zk_fault_of(out, room, sizeof *out)));
+    return answer.status != ZK_WELL ? answer : zk_write_event(zxid, (const struct zk_field *)zk_from(fields), count, (const uint8_t *)zk_from(content), length, (uint8_t *)zk_into(out), room);
+}
+
+static inline struct zk_written zk_safe_write_connected(const struct zk_field *fields, size_t count, const uint8_t *content, size_t length, uint8_t *out, size_t room) {
+    struct zk_written answer = ZK_ZEROS;
+    answer.status = zk_first_of(zk_fault_of(fields, count, sizeof *fields), zk_first_of(zk_fault_of(content, length, sizeof *content), zk_fault_of(out, room, sizeof *out)));
+    return answer.status != ZK_WELL ? answer : zk_write_connected((const struct zk_field *)zk_from(fields), count, (const uint8_t *)zk_from(content), length, (uint8_t *)zk_into(out), room);
+}
+
 static inline struct zk_line zk_safe_listing(const struct zk_piece *pieces, size_t count, const uint8_t *bytes, size_t length, uint32_t client, uint32_t server, uint32_t waiting, uint32_t profile, uint8_t *out, size_t room) {
     struct zk_line answer = ZK_ZEROS;
     answer.status = zk_first_of(zk_fault_of(pieces, count, sizeof *pieces), zk_first_of(zk_fault_of(bytes, length, sizeof *bytes), zk_fault_of(out, room, sizeof *out)));
@@ -768,6 +798,9 @@ static inline struct zk_line zk_safe_listing(const struct zk_piece *pieces, size
 #define zk_read_event zk_safe_read_event
 #define zk_write_request zk_safe_write_request
 #define zk_write_first zk_safe_write_first
+#define zk_write_reply zk_safe_write_reply
+#define zk_write_event zk_safe_write_event
+#define zk_write_connected zk_safe_write_connected
 #define zk_listing zk_safe_listing
 
 #ifdef __cplusplus

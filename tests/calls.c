@@ -253,16 +253,52 @@ static void read_payload(void) {
     must(judged.place == read.place && (read.kind == 0 || read.kind == kind), "another place or kind");
 }
 
-/* Writes the frame of a request from its fields, which are right or damaged. */
+/* The fields of a payload. A multi's results are for the parts that their headers name; an error is for any part. */
+static struct zk_read fields_of(const struct payload *it, struct zk_field *all) {
+    int32_t parts[16];
+    if (it->kind == ZK_CONNECT) return zk_read_first(it->bytes, it->length, all, FIELDS);
+    if (it->kind == ZK_REQUEST) return zk_read_request(35, it->bytes, it->length, all, FIELDS);
+    if (it->kind == ZK_CONNECTED) return zk_read_connected(it->bytes, it->length, all, FIELDS);
+    if (it->kind == ZK_EVENT) return zk_read_event(it->bytes, it->length, all, FIELDS);
+    for (size_t count = 0;; count++) {
+        struct zk_read read = zk_read_reply(it->operation, parts, count, it->bytes, it->length, all, FIELDS);
+        if (it->operation != 14 || read.status != ZK_BAD_PART || count == 16) return read;
+        int32_t part = number_at(it->bytes + read.place);
+        parts[count] = part < 0 ? 1 : part;
+    }
+}
+
+/* Writes the frame of fields, with the header of the payload. */
+static struct zk_written write_fields(const struct payload *it, size_t count, const uint8_t *at, size_t length) {
+    const struct zk_field *from = (const struct zk_field *)(const void *)items.at;
+    bool headed = it->length >= 16;
+    int32_t xid = it->length >= 4 ? number_at(it->bytes) : 0, err = headed ? number_at(it->bytes + 12) : 0;
+    uint64_t high = headed ? (uint32_t)number_at(it->bytes + 4) : 0, low = headed ? (uint32_t)number_at(it->bytes + 8) : 0;
+    int64_t zxid = (int64_t)(high << 32 | low);
+    switch (it->kind) {
+    case ZK_CONNECT: return zk_write_first(from, count, at, length, text.at, text.room);
+    case ZK_REQUEST: return zk_write_request(xid, it->operation, from, count, at, length, text.at, text.room);
+    case ZK_CONNECTED: return zk_write_connected(from, count, at, length, text.at, text.room);
+    case ZK_EVENT: return zk_write_event(zxid, from, count, at, length, text.at, text.room);
+    default: return zk_write_reply(xid, zxid, err, it->operation, from, count, at, length, text.at, text.room);
+    }
+}
+
+/* What an answer of these may be, of fields that are right or damaged. */
+static void fitting_frame(struct zk_written written, size_t count) {
+    bool index = written.status == ZK_RANGE || written.status == ZK_TOO_LONG;
+    must(index ? written.index < count : written.index == 0, "the index of a field");
+    must(written.status != ZK_ROOM || written.length > text.room, "a frame for which there is room");
+    must(written.status == ZK_WELL || written.status == ZK_ROOM || index, "a status that this call has not");
+}
+
+/* Writes the frame of a message from its fields, which are right or damaged. */
 static void write_payload(void) {
     const struct payload *it = &payloads[chance(payload_count)];
-    bool asks = it->kind == ZK_REQUEST, good = true;
     struct zk_field *all = (struct zk_field *)(void *)items.copy;
-    struct zk_read read = asks ? zk_read_request(35, it->bytes, it->length, all, FIELDS)
-                               : zk_read_first(it->bytes, it->length, all, FIELDS);
+    struct zk_read read = fields_of(it, all);
     size_t count = read.count < FIELDS ? read.count : FIELDS;
-    answered(read.status);
-    if (read.status != ZK_WELL || (it->kind != ZK_CONNECT && !asks)) good = false;
+    bool good = answered(read.status) == ZK_WELL;
     for (size_t times = one_in(3) ? 1 + (size_t)chance(3) : 0; times > 0 && count > 0; times--) {
         uint8_t *at = items.copy + chance(count * sizeof *all);
         *at = (uint8_t)PICK(0, 1, 2, 7, 127, 255, (int64_t)chance(256));
@@ -276,10 +312,7 @@ static void write_payload(void) {
     size_t length = bytes.length, size = it->length + 4;
     uint32_t expected = astray(&at, &length);
     clear(&text, one_in(2) && size < SIZE ? size : any_room());
-    const struct zk_field *from = (const struct zk_field *)(const void *)items.at;
-    int32_t xid = asks ? number_at(it->bytes) : 0;
-    struct zk_written written = asks ? zk_write_request(xid, it->operation, from, count, at, length, text.at, text.room)
-                                     : zk_write_first(from, count, at, length, text.at, text.room);
+    struct zk_written written = write_fields(it, count, at, length);
     answered(written.status);
     unchanged(&items);
     unchanged(&bytes);
@@ -288,10 +321,7 @@ static void write_payload(void) {
         must(written.status == expected, "a pointer or a length astray");
         return;
     }
-    bool index = written.status == ZK_RANGE || written.status == ZK_TOO_LONG;
-    must(index ? written.index < count : written.index == 0, "the index of a field");
-    must(written.status != ZK_ROOM || written.length > text.room, "a frame for which there is room");
-    must(written.status == ZK_WELL || written.status == ZK_ROOM || index, "a status that this call has not");
+    fitting_frame(written, count);
     if (!good) return;
     must(written.status == (text.room < size ? ZK_ROOM : ZK_WELL) && written.length == size, "the frame of its fields");
     if (written.status != ZK_WELL) return;

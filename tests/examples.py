@@ -2,7 +2,8 @@
 
 tests/library.py calls it. Each program in C is compiled as C11 without a warning, and with the address sanitizer where
 the compiler has it. The examples print the listing of every recording of captures/. The proxy passes on each of them,
-and many connections at once; what it prints is compared with the listings. The client speaks to answering.py.
+and many connections at once; what it prints is compared with the listings. The client speaks to answering.py, and the
+fake server to the client (served.py).
 """
 
 import os
@@ -18,6 +19,7 @@ import threading
 import time
 
 import answering
+import served
 
 TOP = pathlib.Path(__file__).resolve().parent.parent
 CAPTURES, EXAMPLES = TOP / "captures", TOP / "examples"
@@ -348,6 +350,7 @@ def check(folder, archive, shared, cc):
     yield from backpressure(programs["proxy"])
     yield from run_client(programs["client"])
     yield ends_well("client frames", programs["client_frames"])
+    yield from served.check(programs["server"], programs["client"])
     yield ends_well("null pointers", programs["nulls"])
     yield ends_well("handles that go from thread to thread", programs["threads"])
     yield from measure_memory(folder, archive, cc)

@@ -151,6 +151,14 @@ static void written_frames(void) {
     expect("zk_write_request, nothing", zk_write_request(1, 11, NULL, 0, NULL, 0, NULL, 0).status, ZK_ROOM);
     expect("zk_write_request, nothing, length", (uint32_t)zk_write_request(1, 11, NULL, 0, NULL, 0, NULL, 0).length, 12);
     expect("zk_write_request, too many fields", zk_write_request(1, 3, &field, most / sizeof field + 1, &byte, 1, out, room).status, ZK_RANGE);
+    expect("zk_write_reply, null fields", zk_write_reply(1, 5, 0, 1, NULL, 1, &byte, 1, out, room).status, ZK_NULL);
+    expect("zk_write_reply, null", zk_write_reply(1, 5, 0, 1, &field, 1, NULL, 1, out, room).status, ZK_NULL);
+    expect("zk_write_reply, nothing", zk_write_reply(1, 5, -101, 3, NULL, 0, NULL, 0, NULL, 0).status, ZK_ROOM);
+    expect("zk_write_reply, nothing, length", (uint32_t)zk_write_reply(1, 5, -101, 3, NULL, 0, NULL, 0, NULL, 0).length, 20);
+    expect("zk_write_event, null room", zk_write_event(-1, &field, 1, &byte, 1, NULL, 1).status, ZK_NULL);
+    expect("zk_write_event, too long", zk_write_event(-1, &field, 1, &byte, more, out, room).status, ZK_RANGE);
+    expect("zk_write_connected, null fields", zk_write_connected(NULL, 1, &byte, 1, out, room).status, ZK_NULL);
+    expect("zk_write_connected, too much room", zk_write_connected(&field, 1, &byte, 1, out, more).status, ZK_RANGE);
 }
 
 static void listings(void) {

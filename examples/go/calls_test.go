@@ -97,6 +97,30 @@ func TestWritten(t *testing.T) {
 	}
 }
 
+func TestAnswersWritten(t *testing.T) {
+	results := []Field{AsPart(1), AsText("/a"), AsPart(-1), AsInt(-110)}
+	nodes := []Field{AsList(2), AsText("b"), AsNull()}
+	changed := []Field{AsInt(3), AsInt(3), AsText("/a")}
+	session := []Field{AsInt(0), AsInt(30000), AsLong(1), AsBlob(payload(welcome)[20:36]), AsBool(false)}
+	for digits, write := range map[string]func() ([]byte, error){
+		noNode: func() ([]byte, error) { return WriteReply(1, 5, -101, 3) },
+		"00000002 0000000000000006 00000000 00000001 00 00000000 00000002 2f61 ffffffff 00 ffffff92 ffffff92" +
+			"ffffffff 01 ffffffff": func() ([]byte, error) { return WriteReply(2, 6, 0, 14, results...) },
+		"00000003 0000000000000007 00000000 00000002 00000001 62 ffffffff": func() ([]byte, error) {
+			return WriteReply(3, 7, 0, 8, nodes...)
+		},
+		event:   func() ([]byte, error) { return WriteEvent(-1, changed...) },
+		welcome: func() ([]byte, error) { return WriteConnected(session...) },
+	} {
+		if frame, err := write(); err != nil || !bytes.Equal(frame, framed(digits)) {
+			t.Error(digits, frame, err)
+		}
+	}
+	if _, err := WriteReply(2, 6, 0, 14, AsPart(13), AsPart(-1)); err != (Fault{Status: 67, Place: 1}) {
+		t.Error(err)
+	}
+}
+
 func TestWaitingAndHeld(t *testing.T) {
 	talk := newTalk(t)
 	defer talk.Close()

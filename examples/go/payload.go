@@ -33,8 +33,9 @@ func JudgeEvent(payload []byte) error {
 	return judged(C.zk_safe_judge_event(start(payload), C.size_t(len(payload))))
 }
 
-// AsInt, AsLong, AsBool, AsText, AsBlob, AsNull, AsList and AsPart make the fields of a request that is written. The
-// elements of a list follow its count, and the record of a part of a multi its operation.
+// AsInt, AsLong, AsBool, AsText, AsBlob, AsNull, AsList and AsPart make the fields of a message that is written. The
+// elements of a list follow its count, and the record of a part or a result of a multi its operation; the number of an
+// error follows -1.
 
 // AsInt is an int.
 func AsInt(number int32) Field { return Field{Kind: Int, Number: int64(number)} }
@@ -62,7 +63,7 @@ func AsNull() Field { return Field{Kind: Blob, Null: true} }
 // AsList is a list of this many elements.
 func AsList(count int32) Field { return Field{Kind: List, Number: int64(count)} }
 
-// AsPart is a part of a multi.
+// AsPart is a part or a result of a multi.
 func AsPart(operation int32) Field { return Field{Kind: Part, Number: int64(operation)} }
 
 // items returns the fields as they are written, over a content of their texts and blobs.
@@ -119,6 +120,29 @@ func WriteRequest(xid, operation int32, fields ...Field) ([]byte, error) {
 func WriteFirst(fields ...Field) ([]byte, error) {
 	return write(fields, func(at *C.struct_zk_field, count C.size_t, content, out []byte) C.struct_zk_written {
 		return C.zk_safe_write_first(at, count, start(content), C.size_t(len(content)), start(out), C.size_t(len(out)))
+	})
+}
+
+// WriteReply returns the frame of a reply to a request of this operation. A reply whose err is not 0 has no fields.
+func WriteReply(xid int32, zxid int64, err, operation int32, fields ...Field) ([]byte, error) {
+	return write(fields, func(at *C.struct_zk_field, count C.size_t, content, out []byte) C.struct_zk_written {
+		return C.zk_safe_write_reply(C.int32_t(xid), C.int64_t(zxid), C.int32_t(err), C.int32_t(operation), at, count,
+			start(content), C.size_t(len(content)), start(out), C.size_t(len(out)))
+	})
+}
+
+// WriteEvent returns the frame of an event; a server's zxid is -1.
+func WriteEvent(zxid int64, fields ...Field) ([]byte, error) {
+	return write(fields, func(at *C.struct_zk_field, count C.size_t, content, out []byte) C.struct_zk_written {
+		return C.zk_safe_write_event(C.int64_t(zxid), at, count, start(content), C.size_t(len(content)), start(out),
+			C.size_t(len(out)))
+	})
+}
+
+// WriteConnected returns the frame of the answer to a connect request.
+func WriteConnected(fields ...Field) ([]byte, error) {
+	return write(fields, func(at *C.struct_zk_field, count C.size_t, content, out []byte) C.struct_zk_written {
+		return C.zk_safe_write_connected(at, count, start(content), C.size_t(len(content)), start(out), C.size_t(len(out)))
 	})
 }
 

@@ -2,10 +2,12 @@
 use Rattle.std.specs.Prelude.{◌≡◌, ℕ, List, Result, Ok, Err}
 use Rattle.zk_jute.specs.Item.{Item}
 use Rattle.zk_asks.specs.Held.{ClientFrame}
+use Rattle.zk_answers.specs.Held.{ServerFrame}
 use Rattle.zk_fields.specs.declared.field.Field.{Field}
+use Rattle.zk_fields.specs.declared.value.Heads.{Heads}
 use Rattle.zk_fields.specs.declared.write.Unwritten.{Unwritten}
 use Rattle.zk_fields.specs.declared.write.Unwritten.TheVariants as unwritten
-use Rattle.zk_fields.specs.Written.{Writes, WritesAgain}
+use Rattle.zk_fields.specs.Written.{Writes, WritesAgain, AnswersAgain}
 use Rattle.zk_c.specs.declared.write.WriteAnswer.{WriteAnswer}
 
 abbrev pub written : Result ℕ Unwritten → WriteAnswer
@@ -15,10 +17,13 @@ written (Err (unwritten.Long i)) = record { status = 83; length = 0; index = i }
 written (Err (unwritten.Room size)) = record { status = 68; length = size; index = 0 }
 
 -- the answer is that of writing what the fields say between these items
-abbrev pub TellsWritten : List Item → List Item → List ℕ → List Field → List ℕ → List ℕ → WriteAnswer → Type 0
-TellsWritten front behind content fields before after answer = (result : Result ℕ Unwritten) ×
-    Writes front behind content fields before result after × (answer ≡ written result)
+abbrev pub TellsWritten : Heads → List Item → List Item → List ℕ → List Field → List ℕ → List ℕ → WriteAnswer → Type 0
+TellsWritten heads front behind content fields before after answer = (result : Result ℕ Unwritten) ×
+    Writes heads front behind content fields before result after × (answer ≡ written result)
 
 -- the answer is that of writing a message's own fields
 abbrev pub TellsAgain : ClientFrame → List ℕ → List Field → List ℕ → List ℕ → WriteAnswer → Type 0
 TellsAgain f content fields before after answer = (result : Result ℕ Unwritten) × WritesAgain f content fields before result after × (answer ≡ written result)
+
+abbrev pub TellsAnswer : ServerFrame → List ℕ → List Field → List ℕ → List ℕ → WriteAnswer → Type 0
+TellsAnswer s content fields before after answer = (result : Result ℕ Unwritten) × AnswersAgain s content fields before result after × (answer ≡ written result)

@@ -2,8 +2,8 @@
 //!
 //! `zk_talk_new`, `zk_talk_step` and their like wrap a `Talk` (`zk_talk`), `zk_speaker_new` and `zk_speaker_say` a
 //! `Speaker`; each is in a box that a handle owns, which is all zeros while it holds nothing. `zk_judge_first` and its like
-//! judge single payloads without a handle, and `zk_write_request` writes a frame from its fields. `zk_listing` lists a
-//! conversation that is there whole.
+//! judge single payloads without a handle, and `zk_write_request` and its like write a frame from its fields. `zk_listing`
+//! lists a conversation that is there whole.
 //!
 //! Each call returns numbers: a status, 0 if the call did what it is for, and a struct that include/zk.h declares too.
 //! The contracts repeat those of `Talk` and `Speaker` over these numbers. What a caller owes, the header says; its safe
@@ -75,4 +75,6 @@ pub use through::{
     zk_through_fields, zk_through_free, zk_through_new, zk_through_payload, zk_through_renew,
     zk_through_step, zk_through_view,
 };
-pub use write::{zk_write_first, zk_write_request};
+pub use write::{
+    zk_write_connected, zk_write_event, zk_write_first, zk_write_reply, zk_write_request,
+};

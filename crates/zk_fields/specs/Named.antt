@@ -7,7 +7,7 @@ use Rattle.zk_jute.specs.declared.value.Nullable.TheVariants as nullable
 use Rattle.zk_jute.specs.Item.{Kind, Int, Long, Boolean, Ustring, Buffer, Item, ACount}
 use Rattle.zk_jute.specs.Values.{list_items}
 use Rattle.zk_jute.specs.Wired.{Wired, int, long, boolean, ustring, buffer}
-use Rattle.zk_fields.specs.Fields.{Entry, Under, entry_items, items_of, named}
+use Rattle.zk_fields.specs.Fields.{Entry, Under, Head, entry_items, items_of, named}
 
 -- the entries, under a name where the value is one item or a list
 abbrev pub Entries : Type 0 → Type 0
@@ -20,11 +20,18 @@ pub data Shape : Type 0 where
   Both : Shape → Shape → Shape
   Many : ℕ → Shape → Shape
 
+-- none of them is a multi's header
+abbrev pub ArePlain : List Entry → Type 0
+ArePlain [] = Unit {0}
+ArePlain (Under name i ∷ es) = ArePlain es
+ArePlain (Head h ∷ es) = ⊥
+
 -- they are those of the value's items, in order
 pub record Named (X : Type 0) : Type 0 where
   pub items : X → List Item
   pub entries : Entries X
   pub is : (name : ℕ) (x : X) → items_of (entries name x) ≡ items x
+  pub plain : (name : ℕ) (x : X) → ArePlain (entries name x)
   pub shape : ℕ → Shape
 
 pub named_same : (name : ℕ) (items : List Item) → items_of (named name items) ≡ items
@@ -35,9 +42,22 @@ pub items_both : (x y : List Entry) → items_of (x ++ y) ≡ items_of x ++ item
 items_both [] y = refl
 items_both (e ∷ x) y = ap (λ (z : List Item). entry_items e ++ z) (items_both x y) ∙ sym (append_assoc (entry_items e) (items_of x) (items_of y))
 
+pub named_plain : (name : ℕ) (items : List Item) → ArePlain (named name items)
+named_plain name [] = tt
+named_plain name (i ∷ items) = named_plain name items
+
+pub plain_both : (x y : List Entry) → ArePlain x → ArePlain y → ArePlain (x ++ y)
+plain_both [] y p q = q
+plain_both (Under name i ∷ x) y p q = plain_both x y p q
+plain_both (Head h ∷ x) y p q = absurd p
+
+plain_each : {X : Type 0} (f : X → List Entry) → ((x : X) → ArePlain (f x)) → (xs : List X) → ArePlain (flat_map f xs)
+plain_each f are [] = tt
+plain_each f are (x ∷ xs) = plain_both (f x) (flat_map f xs) (are x) (plain_each f are xs)
+
 -- one item
 abbrev one : {X : Type 0} → Wired X → Kind → Named X
-one w kind = record { items = w.items; entries = λ name x. named name (w.items x); is = λ name x. named_same name (w.items x); shape = λ name. An name kind }
+one w kind = record { items = w.items; entries = λ name x. named name (w.items x); is = λ name x. named_same name (w.items x); plain = λ name x. named_plain name (w.items x); shape = λ name. An name kind }
 
 abbrev pub an_int : Named ℤ
 an_int = one int Int
@@ -69,13 +89,29 @@ pub list_same : {X : Type 0} (k : Named X) (name : ℕ) (v : Vector X) → items
 list_same k name nullable.Null = refl
 list_same k name (nullable.Full xs) = ap (λ (items : List Item). ACount (Some (length xs)) ∷ items) (each_same k name xs)
 
+pub list_plain : {X : Type 0} (k : Named X) (name : ℕ) (v : Vector X) → ArePlain (list_entries k.entries name v)
+list_plain k name nullable.Null = tt
+list_plain k name (nullable.Full xs) = plain_each (k.entries name) (k.plain name) xs
+
 abbrev pub many : {X : Type 0} → Named X → Named (Vector X)
-many k = record { items = list_items k.items; entries = list_entries k.entries; is = list_same k; shape = λ name. Many name (k.shape name) }
+many k = record {
+  items = list_items k.items;
+  entries = list_entries k.entries;
+  is = list_same k;
+  plain = list_plain k;
+  shape = λ name. Many name (k.shape name);
+}
 
 -- a field of a record: what it is, its name, and which it is
 infixr 25 ◌of◌
 abbrev pub ◌of◌ : {X Y : Type 0} → Named Y → ℕ × (X → Y) → Named X
-k of f = record { items = λ x. k.items (f.1 x); entries = λ _ x. k.entries f.0 (f.1 x); is = λ _ x. k.is f.0 (f.1 x); shape = λ _. k.shape f.0 }
+k of f = record {
+  items = λ x. k.items (f.1 x);
+  entries = λ _ x. k.entries f.0 (f.1 x);
+  is = λ _ x. k.is f.0 (f.1 x);
+  plain = λ _ x. k.plain f.0 (f.1 x);
+  shape = λ _. k.shape f.0;
+}
 
 pub both_same : {X : Type 0} (v w : Named X) (name : ℕ) (x : X) → items_of (v.entries name x ++ w.entries name x) ≡ v.items x ++ w.items x
 both_same v w name x = items_both (v.entries name x) (w.entries name x) ∙
@@ -87,5 +123,6 @@ v and w = record {
   items = λ x. v.items x ++ w.items x;
   entries = λ name x. v.entries name x ++ w.entries name x;
   is = both_same v w;
+  plain = λ name x. plain_both (v.entries name x) (w.entries name x) (v.plain name x) (w.plain name x);
   shape = λ name. Both (v.shape name) (w.shape name);
 }

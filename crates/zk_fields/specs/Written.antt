@@ -7,12 +7,17 @@ use Rattle.std.specs.List.{slice_get}
 use Rattle.std.specs.Str.Lossy.{utf8_valid_len}
 use Rattle.zk_jute.specs.Item.{Item, AnInt, ALong, ABoolean, AUstring, ABuffer, ACount, bytes_of, run_bytes}
 use Rattle.zk_records.specs.declared.header.MultiHeader.{MultiHeader}
-use Rattle.zk_records.specs.Records.{multi_header}
+use Rattle.zk_records.specs.Records.{multi_header, reply_header}
+use Rattle.zk_records.specs.Codes.{op_number}
 use Rattle.zk_asks.specs.Held.{ClientFrame}
-use Rattle.zk_asks.specs.Frames.{IsSent, frame_items, payload}
-use Rattle.zk_fields.specs.Frames.{client_fields}
+use Rattle.zk_asks.specs.Frames as asks
 use Rattle.zk_asks.specs.Parts.{end_header, marked}
+use Rattle.zk_answers.specs.Held.{Reply, ServerFrame}
+use Rattle.zk_answers.specs.Frames as answers
+use Rattle.zk_fields.specs.Frames.{client_fields, server_fields}
 use Rattle.zk_fields.specs.declared.field.Field.{Field}
+use Rattle.zk_fields.specs.declared.value.Heads.{Heads}
+use Rattle.zk_fields.specs.declared.value.Heads.TheVariants as head
 use Rattle.zk_fields.specs.declared.write.Unwritten.{Unwritten}
 use Rattle.zk_fields.specs.declared.write.Unwritten.TheVariants as unwritten
 
@@ -47,20 +52,47 @@ utf8_said (Some t) = if utf8_valid_len t == length t then Some (Some t) else Non
 abbrev pub list_said : Field → Option (Option ℕ)
 list_said f = if f.null == 0 then option_map Some (count_said f.number) else Some None
 
--- the header of a part of a request
-abbrev pub part_head : ℤ → MultiHeader
-part_head n = record { kind = n; done = false; err = negsuc 0 }
+-- a field, and the one after it
+abbrev pub Pair : Type 0
+Pair = Field × Option Field
+
+abbrev pub pairs : List Field → List Pair
+pairs [] = []
+pairs (f ∷ fs) = (f, slice_get fs 0) ∷ pairs fs
+
+-- the number of an int's field
+abbrev pub error_said : Option Field → Option ℤ
+error_said None = None
+error_said (Some f) = if f.kind == 1 then int_said f.number else None
+
+-- the err in the header of a result; in that of an error, whose number is -1, it is the int after the header
+abbrev pub result_err : ℤ → Option Field → Option ℤ
+result_err (pos n) next = Some (pos 0)
+result_err (negsuc zero) next = error_said next
+result_err (negsuc (suc n)) next = Some (pos 0)
+
+-- in that of a request's part it is -1
+abbrev pub head_err : Heads → ℤ → Option Field → Option ℤ
+head_err head.Parts n next = Some (negsuc 0)
+head_err head.Results n next = result_err n next
+
+abbrev pub plain_head : ℤ → ℤ → MultiHeader
+plain_head n e = record { kind = n; done = false; err = e }
+
+-- the header of a part or a result with this number
+abbrev pub head_said : Heads → Option Field → ℤ → Option MultiHeader
+head_said heads next n = option_map (plain_head n) (head_err heads n next)
 
 -- what a field says by its kind, if it says anything
-abbrev pub said : List ℕ → Field → Option (List Item)
-said content f =
+abbrev pub said : Heads → List ℕ → Pair → Option (List Item)
+said heads content (f, next) =
     if f.kind == 1 then option_map (λ n. AnInt n ∷ []) (int_said f.number)
     else if f.kind == 2 then Some (ALong f.number ∷ [])
     else if f.kind == 3 then option_map (λ b. ABoolean b ∷ []) (bool_said f.number)
     else if f.kind == 4 then option_map (λ t. AUstring t ∷ []) (option_and_then utf8_said (run_said content f))
     else if f.kind == 5 then option_map (λ b. ABuffer b ∷ []) (run_said content f)
     else if f.kind == 6 then option_map (λ n. ACount n ∷ []) (list_said f)
-    else if f.kind == 7 then option_map (λ n. multi_header.items (part_head n)) (int_said f.number)
+    else if f.kind == 7 then option_map multi_header.items (option_and_then (head_said heads next) (int_said f.number))
     else None
 
 -- a multi's end marker
@@ -71,13 +103,27 @@ abbrev pub behind_of : ℤ → List Item
 behind_of (pos n) = behind_with n
 behind_of (negsuc n) = []
 
+-- a reply that failed has none
+abbrev pub done_behind : ℤ → ℤ → List Item
+done_behind (pos zero) op = behind_of op
+done_behind (pos (suc n)) op = []
+done_behind (negsuc n) op = []
+
+-- a reply's header
+abbrev pub answer_front : ℤ → ℤ → ℤ → List Item
+answer_front xid zxid err = reply_header.items (record { xid = xid; zxid = zxid; err = err })
+
+-- a reply with this header, to an operation of this number
+abbrev pub IsHeaded : ℤ → ℤ → ℤ → ℤ → Reply → Type 0
+IsHeaded xid zxid err op r = (answers.header_of r ≡ record { xid = xid; zxid = zxid; err = err }) × (op ≡ op_number (answers.op_of_reply r))
+
 -- what all say, if each says something
 abbrev pub said_with : Option (List Item) → Option (List Item) → Option (List Item)
 said_with first others = option_and_then (λ x. option_map (λ y. x ++ y) others) first
 
-abbrev pub all_said : List ℕ → List Field → Option (List Item)
-all_said content [] = Some []
-all_said content (f ∷ fs) = said_with (said content f) (all_said content fs)
+abbrev pub all_said : Heads → List ℕ → List Pair → Option (List Item)
+all_said heads content [] = Some []
+all_said heads content (p ∷ ps) = said_with (said heads content p) (all_said heads content ps)
 
 -- ---- the frame
 
@@ -98,28 +144,37 @@ abbrev pub Holds : List ℕ → List ℕ → List ℕ → Type 0
 Holds bytes before after = after ≡ bytes ++ drop (length bytes) before
 
 -- the frame of what the fields say between these items is at the front of the room, or it is unchanged, and this is why
-abbrev pub IsUnwritten : List Item → List Item → List ℕ → List Field → ℕ → Unwritten → Type 0
-IsUnwritten front behind content fields room (unwritten.Wrong i) =
-    (items : List Item) × (f : Field) × (all_said content (take i fields) ≡ Some items) ×
-    MayBe (payload_items front items behind) × (slice_get fields i ≡ Some f) × (said content f ≡ None)
-IsUnwritten front behind content fields room (unwritten.Long i) =
-    (items : List Item) × (more : List Item) × (all_said content (take i fields) ≡ Some items) ×
-    MayBe (payload_items front items behind) × (all_said content (take (i + 1) fields) ≡ Some more) ×
+abbrev pub IsUnwritten : Heads → List Item → List Item → List ℕ → List Pair → ℕ → Unwritten → Type 0
+IsUnwritten heads front behind content ps room (unwritten.Wrong i) =
+    (items : List Item) × (p : Pair) × (all_said heads content (take i ps) ≡ Some items) ×
+    MayBe (payload_items front items behind) × (slice_get ps i ≡ Some p) × (said heads content p ≡ None)
+IsUnwritten heads front behind content ps room (unwritten.Long i) =
+    (items : List Item) × (more : List Item) × (all_said heads content (take i ps) ≡ Some items) ×
+    MayBe (payload_items front items behind) × (all_said heads content (take (i + 1) ps) ≡ Some more) ×
     (2 ^ 31 ≤ length (bytes_of (payload_items front more behind)))
-IsUnwritten front behind content fields room (unwritten.Room size) =
-    (items : List Item) × (all_said content fields ≡ Some items) × MayBe (payload_items front items behind) ×
+IsUnwritten heads front behind content ps room (unwritten.Room size) =
+    (items : List Item) × (all_said heads content ps ≡ Some items) × MayBe (payload_items front items behind) ×
     (size ≡ length (frame (payload_items front items behind))) × (room < size)
 
-abbrev pub Writes : List Item → List Item → List ℕ → List Field → List ℕ → Result ℕ Unwritten → List ℕ → Type 0
-Writes front behind content fields before (Ok size) after =
-    (items : List Item) × (all_said content fields ≡ Some items) × MayBe (payload_items front items behind) ×
+abbrev pub Writes : Heads → List Item → List Item → List ℕ → List Field → List ℕ → Result ℕ Unwritten → List ℕ → Type 0
+Writes heads front behind content fields before (Ok size) after =
+    (items : List Item) × (all_said heads content (pairs fields) ≡ Some items) × MayBe (payload_items front items behind) ×
     (size ≡ length (frame (payload_items front items behind))) × (size ≤ length before) ×
     Holds (frame (payload_items front items behind)) before after
-Writes front behind content fields before (Err why) after = IsUnwritten front behind content fields (length before) why × (after ≡ before)
+Writes heads front behind content fields before (Err why) after =
+    IsUnwritten heads front behind content (pairs fields) (length before) why × (after ≡ before)
 
--- what is written of a sent message's own fields, over its payload, is its frame, if there is room for it
+-- what is written of these fields, over the payload of these items, is its frame, if there is room for it
+abbrev pub Again : List Item → List Field → List ℕ → List Field → List ℕ → Result ℕ Unwritten → List ℕ → Type 0
+Again items own content fields before result after =
+    content ≡ bytes_of items → fields ≡ own → MayBe items → length (frame items) ≤ length before →
+    (result ≡ Ok (length (frame items))) × Holds (frame items) before after
+
+-- so it is of a sent message's own fields, over its payload
 abbrev pub WritesAgain : ClientFrame → List ℕ → List Field → List ℕ → Result ℕ Unwritten → List ℕ → Type 0
 WritesAgain f content fields before result after =
-    IsSent f → content ≡ payload f → fields ≡ client_fields f → MayBe (frame_items f) →
-    length (frame (frame_items f)) ≤ length before →
-    (result ≡ Ok (length (frame (frame_items f)))) × Holds (frame (frame_items f)) before after
+    asks.IsSent f → Again (asks.frame_items f) (client_fields f) content fields before result after
+
+abbrev pub AnswersAgain : ServerFrame → List ℕ → List Field → List ℕ → Result ℕ Unwritten → List ℕ → Type 0
+AnswersAgain s content fields before result after =
+    answers.IsSent s → Again (answers.frame_items s) (server_fields s) content fields before result after

@@ -5,8 +5,9 @@
 //! payload that end before a place, such as that of a fault. `field_laws` says that the fields are the message's items,
 //! all and in order, and that each one's place and length are those of its content. Nothing is allocated.
 //!
-//! `write_request` and `write_first` are the inverse: they write the frame of a client's message from its fields. Of the
-//! fields that were read of a message, and its payload, they write its frame again.
+//! `write_request`, `write_first`, `write_reply`, `write_event` and `write_connected` are the inverse: they write the
+//! frame of a message from its fields. Of the fields that were read of a message, and its payload, they write its frame
+//! again.
 //!
 //! The names are those of docs/FORMATS.md, sections 3 and 4. A list is a field with its count, and then its elements'
 //! fields; a multi is, for each part or result, a field for the header and then the fields of its record. The numbers of
@@ -32,7 +33,8 @@
 //! walks.
 //!
 //! **A header's numbers are in the answer and are no fields**, and a multi's end marker is none: fields are what a
-//! caller loops over. A part's or a result's header is one field.
+//! caller loops over. A part's or a result's header is one field, of which only the number is kept: the err of an
+//! error's header is that of the int after it, and is written from there.
 #![tactic(auto)]
 
 mod ask;
@@ -55,4 +57,4 @@ pub use laws::field_laws;
 pub use opened::{Opened, opened_fields};
 pub use show::Show;
 pub use walk::Walked;
-pub use write::{Unwritten, write_first, write_request};
+pub use write::{Unwritten, write_connected, write_event, write_first, write_reply, write_request};

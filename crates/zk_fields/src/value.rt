@@ -1,13 +1,22 @@
 //! `Value`: what a field says, as the bytes that are written of it.
-ghost use Rattle.std.specs.Prelude.{◌≡◌, ◌<◌, ◌^◌, ◌∷◌, ◌++◌, [], pos, Some, None, IfSome, option_copied, length};
+ghost use Rattle.std.specs.Prelude.{◌≡◌, ◌<◌, ◌^◌, ◌∷◌, ◌++◌, [], pos, Some, None, IfSome, option_copied, length, get_or};
 ghost use Rattle.std.specs.Option.{option_map, option_and_then};
 ghost use Rattle.zk_jute.specs.Item.{AnInt, ALong, ABoolean, AUstring, ABuffer, ACount, bytes_of, int_bytes};
 ghost use Rattle.zk_records.specs.Records.{multi_header};
 ghost use Rattle.zk_fields.specs.Values.{value_bytes, IsSaid, Fills};
-ghost use Rattle.zk_fields.specs.Written.{int_said, bool_said, count_said, stretch_said, run_said, utf8_said, list_said, part_head, said};
+ghost use Rattle.zk_fields.specs.Written.{int_said, bool_said, count_said, stretch_said, run_said, utf8_said, list_said, Pair, pairs, error_said, head_err, plain_head, head_said, said};
 
 use crate::field::Field;
 use std::str::from_utf8;
+
+/// Which headers the fields of a multi stand for.
+#[derive(Clone, Copy)]
+pub enum Heads {
+    /// Those of a request's parts.
+    Parts,
+    /// Those of a reply's results.
+    Results,
+}
 
 /// What a field says.
 #[derive(Clone, Copy)]
@@ -18,8 +27,8 @@ pub(crate) enum Value<'a> {
     Boolean(bool),
     /// A length and the bytes.
     Run { length: i32, bytes: &'a [u8] },
-    /// The header of a part of this operation.
-    Part(i32),
+    /// The header of a part or a result.
+    Head { kind: i32, err: i32 },
 }
 
 /// The number, if an int can say it.
@@ -127,15 +136,46 @@ fn list_value<'a>(field: &Field) -> Option<Value<'a>>
     }
 }
 
-fn part_value<'a>(number: i64) -> Option<Value<'a>>
-    ensures { IsSaid (option_map (λ n. multi_header.items (part_head n)) (int_said number)) result }
+/// The number of an int's field.
+fn error_of(next: Option<&Field>) -> Option<i32>
+    ensures { result ≡ error_said (option_copied next.entry) }
 {
-    Some(Value::Part(int_of(number)?))
+    let field = next?;
+    if field.kind != 1 {
+        return None;
+    }
+    int_of(field.number)
 }
 
-/// What the field says; `None` if that is nothing.
-pub(crate) fn value_of<'a>(field: &Field, content: &'a [u8]) -> Option<Value<'a>>
-    ensures { IsSaid (said content.now field.now) result }
+/// The err in the header of a part or a result with this number, before the field `next`.
+fn err_of(heads: Heads, number: i32, next: Option<&Field>) -> Option<i32>
+    ensures { result ≡ head_err heads number (option_copied next.entry) }
+{
+    match heads {
+        Heads::Parts => Some(-1),
+        Heads::Results => match number {
+            -1 => error_of(next),
+            _ => Some(0),
+        },
+    }
+}
+
+fn head_value<'a>(heads: Heads, number: i64, next: Option<&Field>) -> Option<Value<'a>>
+    ensures { IsSaid (option_map multi_header.items (option_and_then (head_said heads (option_copied next.entry)) (int_said number))) result }
+{
+    let kind = int_of(number)?;
+    let err = err_of(heads, kind, next)?;
+    Some(Value::Head { kind, err })
+}
+
+/// What a field says, before the field `next`; `None` if that is nothing.
+fn value_of<'a>(
+    heads: Heads,
+    field: &Field,
+    next: Option<&Field>,
+    content: &'a [u8],
+) -> Option<Value<'a>>
+    ensures { IsSaid (said heads content.now (field.now, option_copied next.entry)) result }
 {
     match field.kind {
         1 => int_value(field.number),
@@ -144,9 +184,22 @@ pub(crate) fn value_of<'a>(field: &Field, content: &'a [u8]) -> Option<Value<'a>
         4 => text_value(field, content),
         5 => blob_value(field, content),
         6 => list_value(field),
-        7 => part_value(field.number),
+        7 => head_value(heads, field.number, next),
         _ => None,
     }
+}
+
+/// What the field of this index says; `None` if that is nothing.
+pub(crate) fn value_at<'a>(
+    heads: Heads,
+    fields: &[Field],
+    index: usize,
+    content: &'a [u8],
+) -> Option<Value<'a>>
+    requires { index < length fields.now }
+    ensures { (d : Pair) → IsSaid (said heads content.now (get_or (pairs fields.now) index d)) result }
+{
+    value_of(heads, &fields[index], fields.get(index + 1), content)
 }
 
 impl<'a> Value<'a> {
@@ -159,7 +212,7 @@ impl<'a> Value<'a> {
             Value::Long(_) => 8,
             Value::Boolean(_) => 1,
             Value::Run { bytes, .. } => bytes.len() as u64 + 4,
-            Value::Part(_) => 9,
+            Value::Head { .. } => 9,
         }
     }
 
@@ -172,7 +225,7 @@ impl<'a> Value<'a> {
             Value::Long(n) => fill(&n.to_be_bytes(), room, at),
             Value::Boolean(b) => fill(&[u8::from(*b)], room, at),
             Value::Run { length, bytes } => fill_run(*length, bytes, room, at),
-            Value::Part(n) => fill_part(*n, room, at),
+            Value::Head { kind, err } => fill(&head_bytes(*kind, *err), room, at),
         }
     }
 }
@@ -205,10 +258,11 @@ fn fill_run(length: i32, bytes: &[u8], room: &mut [u8], at: usize) -> usize
     fill(bytes, room, at)
 }
 
-/// Writes a part's operation, false, and -1.
-fn fill_part(n: i32, room: &mut [u8], at: usize) -> usize
-    ensures { Fills (int_bytes n ++ (0 ∷ 255 ∷ 255 ∷ 255 ∷ 255 ∷ [])) at room.old result room.new }
+/// The bytes of the header of a part or a result.
+fn head_bytes(kind: i32, err: i32) -> [u8; 9]
+    ensures { result ≡ bytes_of (multi_header.items (plain_head kind err)) }
 {
-    let at = fill_int(n, room, at);
-    fill(&[0, 255, 255, 255, 255], room, at)
+    let k = kind.to_be_bytes();
+    let e = err.to_be_bytes();
+    [k[0], k[1], k[2], k[3], 0, e[0], e[1], e[2], e[3]]
 }

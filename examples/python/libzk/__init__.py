@@ -1,4 +1,4 @@
-"""ZooKeeper's client protocol by the proved library libzk: the fields of payloads, conversations, and requests.
+"""ZooKeeper's client protocol by the proved library libzk: the fields of payloads, conversations, and frames.
 
     read_request(Profile.V34, payload)["path"]
 
@@ -15,9 +15,11 @@ from ._held import Cut, Ending, Speaker, Talk, Waiting
 from ._messages import Fault, Field, FieldKind, Kind, Message, Profile, Refused, Side, Value
 from ._names import ERRORS, EVENTS, FIELDS, OPERATIONS, STATUSES
 from ._payloads import (Item, judge_connected, judge_event, judge_first, judge_reply, judge_request, listing,
-                        read_connected, read_event, read_first, read_reply, read_request, write_first, write_request)
+                        read_connected, read_event, read_first, read_reply, read_request, write_connected, write_event,
+                        write_first, write_reply, write_request)
 
 __all__ = ["ERRORS", "EVENTS", "FIELDS", "OPERATIONS", "STATUSES", "Cut", "Ending", "Fault", "Field", "FieldKind", "Item",
            "Kind", "Message", "Profile", "Refused", "Side", "Speaker", "Talk", "Value", "Waiting", "judge_connected",
            "judge_event", "judge_first", "judge_reply", "judge_request", "listing", "read_connected", "read_event",
-           "read_first", "read_reply", "read_request", "write_first", "write_request"]
+           "read_first", "read_reply", "read_request", "write_connected", "write_event", "write_first", "write_reply",
+           "write_request"]

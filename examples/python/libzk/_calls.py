@@ -105,6 +105,9 @@ CALLS = {
     "zk_read_event": (Read, BYTES, SIZE, FIELDS, SIZE),
     "zk_write_request": (Written, I32, I32, FIELDS, SIZE, BYTES, SIZE, BYTES, SIZE),
     "zk_write_first": (Written, FIELDS, SIZE, BYTES, SIZE, BYTES, SIZE),
+    "zk_write_reply": (Written, I32, I64, I32, I32, FIELDS, SIZE, BYTES, SIZE, BYTES, SIZE),
+    "zk_write_event": (Written, I64, FIELDS, SIZE, BYTES, SIZE, BYTES, SIZE),
+    "zk_write_connected": (Written, FIELDS, SIZE, BYTES, SIZE, BYTES, SIZE),
     "zk_listing": (Line, PIECES, SIZE, BYTES, SIZE, U32, U32, U32, U32, BYTES, SIZE),
 }
 

@@ -124,17 +124,40 @@ def _write(items: Sequence[Item], write: Callable[..., _calls.Written]) -> bytes
     return out.raw[:answer.length]
 
 
+def _fit(bits: int, *numbers: int) -> None:
+    if not all(-1 << bits <= number < 1 << bits for number in numbers):
+        raise Refused(RANGE)
+
+
 def write_request(xid: int, operation: str, items: Sequence[Item] = ()) -> bytes:
     """The frame of a request: of each field, in order, its kind and its value, as of a message's fields. A null is None,
     a list its count, a part of a multi its operation. Whether the frame may come next is judged by a talk."""
-    if not -1 << 31 <= xid < 1 << 31:
-        raise Refused(RANGE)
+    _fit(31, xid)
     return _write(items, lambda *given: library.zk_write_request(xid, number_of(operation), *given))
 
 
 def write_first(items: Sequence[Item]) -> bytes:
     """The frame of a connect request, of its fields as for a request."""
     return _write(items, library.zk_write_first)
+
+
+def write_reply(xid: int, operation: str, items: Sequence[Item] = (), zxid: int = 0, err: int = 0) -> bytes:
+    """The frame of a reply to a request of this operation, of its fields as for a request. Of a multi a result has its
+    part's operation, and an error -1 and its number; a reply whose `err` isn't 0 has no fields."""
+    _fit(31, xid, err)
+    _fit(63, zxid)
+    return _write(items, lambda *given: library.zk_write_reply(xid, zxid, err, number_of(operation), *given))
+
+
+def write_event(items: Sequence[Item], zxid: int = -1) -> bytes:
+    """The frame of an event, of its fields as for a request."""
+    _fit(63, zxid)
+    return _write(items, lambda *given: library.zk_write_event(zxid, *given))
+
+
+def write_connected(items: Sequence[Item]) -> bytes:
+    """The frame of the answer to a connect request, of its fields as for a request."""
+    return _write(items, library.zk_write_connected)
 
 
 def listing(pieces: Sequence[Tuple[Side, bytes]], client: int = 4194304, server: int = 4194304, waiting: int = 65536,

@@ -129,6 +129,27 @@ class Writing(unittest.TestCase):
         self.assertEqual([field.value for field in libzk.read_request(Profile.V34, payload).fields],
                          [value for _, value in names])
 
+    def test_answers(self):
+        self.assertEqual(libzk.write_reply(1, "exists", zxid=5, err=-101), frame(NO_NODE))
+        items = [(FieldKind.PART, "create"), (FieldKind.TEXT, "/a"), (FieldKind.PART, -1), (FieldKind.INT, -110)]
+        wanted = bytes.fromhex("00000002 0000000000000006 00000000 00000001 00 00000000 00000002 2f61"
+                               "ffffffff 00 ffffff92 ffffff92 ffffffff 01 ffffffff")
+        self.assertEqual(libzk.write_reply(2, "multi", items, 6), frame(wanted))
+        items = [(FieldKind.INT, 3), (FieldKind.INT, 3), (FieldKind.TEXT, "/a")]
+        self.assertEqual(libzk.write_event(items), frame(EVENT))
+        for operation, payload, parts in (("exists", NO_NODE, ()), ("multi", RESULTS, ("create", "delete"))):
+            read = libzk.read_reply(operation, payload, parts)
+            again = libzk.write_reply(read.xid, read.operation, read.fields, read.zxid, read.err)
+            self.assertEqual(again, frame(payload))
+        self.assertEqual(libzk.write_event(libzk.read_event(EVENT).fields), frame(EVENT))
+        self.assertEqual(libzk.write_connected(libzk.read_connected(WELCOME).fields), frame(WELCOME))
+        for numbers in ({"zxid": 1 << 63}, {"err": 1 << 31}):
+            with self.assertRaises(Refused):
+                libzk.write_reply(1, "exists", **numbers)
+        with self.assertRaises(Refused) as caught:
+            libzk.write_reply(1, "multi", [(FieldKind.PART, 13), (FieldKind.PART, -1)])
+        self.assertEqual((caught.exception.name, caught.exception.place), ("RANGE", 1))
+
     def test_fields_that_say_nothing(self):
         text, number = (FieldKind.TEXT, "/a"), (FieldKind.INT, 1 << 31)
         for items, name, place in (([text, number], "RANGE", 1), ([text, text, (FieldKind.LONG, 1 << 63)], "RANGE", 2),

@@ -206,6 +206,35 @@ extern "C" {
         out: *mut u8,
         room: usize,
     ) -> zk_written;
+    pub fn zk_write_reply(
+        xid: i32,
+        zxid: i64,
+        err: i32,
+        operation: i32,
+        fields: *const zk_field,
+        count: usize,
+        content: *const u8,
+        length: usize,
+        out: *mut u8,
+        room: usize,
+    ) -> zk_written;
+    pub fn zk_write_event(
+        zxid: i64,
+        fields: *const zk_field,
+        count: usize,
+        content: *const u8,
+        length: usize,
+        out: *mut u8,
+        room: usize,
+    ) -> zk_written;
+    pub fn zk_write_connected(
+        fields: *const zk_field,
+        count: usize,
+        content: *const u8,
+        length: usize,
+        out: *mut u8,
+        room: usize,
+    ) -> zk_written;
     pub fn zk_listing(
         pieces: *const zk_piece,
         count: usize,

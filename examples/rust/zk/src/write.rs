@@ -1,14 +1,14 @@
-//! Frames of requests, written from values.
+//! Frames, written from values.
 
 use crate::{well, Fault, Value, ROOM};
 use zk_sys::{zk_field, zk_written};
 
 const TOO_LONG: u32 = 83;
 
-/// Writes the frames of requests. It keeps room for one, which grows to the longest.
+/// Writes frames. It keeps room for one, which grows to the longest.
 ///
-/// The values are those of the fields that `Reader::request` returns for such a request, in the same order. Whether a
-/// frame may come next is judged by a talk.
+/// The values are those of the fields that a `Reader` returns for such a message, in the same order. Whether a frame may
+/// come next is judged by a talk.
 #[derive(Debug, Default)]
 pub struct Writer {
     content: Vec<u8>,
@@ -52,6 +52,71 @@ impl Writer {
         self.take(values)?;
         self.write(|fields, content, out| unsafe {
             zk_sys::zk_write_first(
+                fields.as_ptr(),
+                fields.len(),
+                content.as_ptr(),
+                content.len(),
+                out.as_mut_ptr(),
+                out.len(),
+            )
+        })
+    }
+
+    /// The frame of a reply to a request of this operation. Of a multi a result has its part's operation, and an error -1
+    /// and its number; a reply whose `err` isn't 0 has no values.
+    pub fn reply<'v>(
+        &mut self,
+        xid: i32,
+        zxid: i64,
+        err: i32,
+        operation: i32,
+        values: impl IntoIterator<Item = Value<'v>>,
+    ) -> Result<&[u8], Fault> {
+        self.take(values)?;
+        self.write(|fields, content, out| unsafe {
+            zk_sys::zk_write_reply(
+                xid,
+                zxid,
+                err,
+                operation,
+                fields.as_ptr(),
+                fields.len(),
+                content.as_ptr(),
+                content.len(),
+                out.as_mut_ptr(),
+                out.len(),
+            )
+        })
+    }
+
+    /// The frame of an event; a server's zxid is -1.
+    pub fn event<'v>(
+        &mut self,
+        zxid: i64,
+        values: impl IntoIterator<Item = Value<'v>>,
+    ) -> Result<&[u8], Fault> {
+        self.take(values)?;
+        self.write(|fields, content, out| unsafe {
+            zk_sys::zk_write_event(
+                zxid,
+                fields.as_ptr(),
+                fields.len(),
+                content.as_ptr(),
+                content.len(),
+                out.as_mut_ptr(),
+                out.len(),
+            )
+        })
+    }
+
+    /// The frame of the answer to a connect request.
+    pub fn connected<'v>(
+        &mut self,
+        values: impl IntoIterator<Item = Value<'v>>,
+    ) -> Result<&[u8], Fault> {
+        self.take(values)?;
+        self.write(|fields, content, out| unsafe {
+            zk_sys::zk_write_connected(
                 fields.as_ptr(),
                 fields.len(),
                 content.as_ptr(),

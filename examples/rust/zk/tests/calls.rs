@@ -106,6 +106,34 @@ fn requests_are_written() {
 }
 
 #[test]
+fn answers_are_written() {
+    let mut writer = Writer::new();
+    assert_eq!(writer.reply(1, 5, -101, 3, []), Ok(&frame(&NO_NODE)[..]));
+    let changed = [Value::Int(3), Value::Int(3), Value::Text("/a")];
+    assert_eq!(writer.event(-1, changed), Ok(&frame(&EVENT)[..]));
+    let session = [
+        Value::Int(0),
+        Value::Int(30000),
+        Value::Long(1),
+        Value::Blob(&[0; 16]),
+        Value::Bool(false),
+    ];
+    assert_eq!(writer.connected(session), Ok(&frame(&WELCOME)[..]));
+    let results = [Value::Part(13), Value::Part(-1), Value::Int(-110)];
+    let header = [0, 0, 0, 2, 0, 0, 0, 0, 0, 0, 0, 6, 0, 0, 0, 0];
+    let checked = [0, 0, 0, 13, 0, 0, 0, 0, 0];
+    let failed = [
+        255, 255, 255, 255, 0, 255, 255, 255, 146, 255, 255, 255, 146,
+    ];
+    let payload = [&header[..], &checked, &failed, &MULTI[27..]].concat();
+    assert_eq!(writer.reply(2, 6, 0, 14, results), Ok(&frame(&payload)[..]));
+    let fault = writer
+        .reply(2, 6, 0, 14, [Value::Part(13), Value::Part(-1)])
+        .expect_err("no error");
+    assert_eq!((zk::status_name(fault.status), fault.place), ("RANGE", 1));
+}
+
+#[test]
 fn what_was_read_is_written_again() {
     let (mut reader, mut writer) = (Reader::new(), Writer::new());
     let path = "a".repeat(5000);

@@ -2,6 +2,7 @@ use Rattle.std.proofs.Common.{rules, ℤ, FitsSigned, w32, subst, ◌∙◌}
 use Rattle.std.proofs.lemmas.Int.{to_z-of_z}
 use Rattle.zk_asks.specs.Forms.{header_items}
 use Rattle.zk_asks.specs.declared.frame.ClientFrameOf.TheVariants as client
+use Rattle.zk_fields.specs.declared.value.Heads.TheVariants as head
 use Rattle.zk_fields.specs.Written.{behind_of, Writes, WritesAgain}
 use Rattle.zk_c.proofs.write.zk_write_request.Goals as goal
 
@@ -13,7 +14,7 @@ returns-clause-frame c =
     let o = to_z-of_z w32 c.args.operation fits_too in
     let result = c.write_request.result in
     let after = c.write_request.new.room in
-    (result, subst (λ (z : ℤ × ℤ). Writes (header_items z.0 z.1) (behind_of z.1) c.args.content.now c.args.fields.now c.args.out.now result after) (λ k. (x k, o k)) c.write_request.ensures.frame, c.of.ensures)
+    (result, subst (λ (z : ℤ × ℤ). Writes head.Parts (header_items z.0 z.1) (behind_of z.1) c.args.content.now c.args.fields.now c.args.out.now result after) (λ k. (x k, o k)) c.write_request.ensures.frame, c.of.ensures)
 
 pub returns-clause-again : goal.returns-clause-again
 returns-clause-again c = λ a is.

@@ -1,4 +1,4 @@
-use Rattle.std.proofs.Common.{rules, arith, refl, ◌+◌, length}
+use Rattle.std.proofs.Common.{arith, refl, ◌+◌, length}
 use Rattle.zk_fields.proofs.Filling.{fills_here, fills_not}
 use Rattle.zk_fields.proofs.value.fill.Goals as goal
 

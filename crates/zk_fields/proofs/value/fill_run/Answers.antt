@@ -1,4 +1,4 @@
-use Rattle.std.proofs.Common.{rules, FitsSigned, w32, subst, ℤ, [], ◌∷◌}
+use Rattle.std.proofs.Common.{rules, FitsSigned, w32, subst, ℤ}
 use Rattle.std.proofs.lemmas.Int.{to_z-of_z}
 use Rattle.zk_jute.specs.Item.{int_bytes}
 use Rattle.zk_fields.specs.Values.{Fills}

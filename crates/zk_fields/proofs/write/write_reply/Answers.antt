@@ -1,0 +1,27 @@
+use Rattle.std.proofs.Common.{rules, List, subst, sym, ap, ◌∙◌, ◌≡◌}
+use Rattle.zk_jute.specs.Item.{Item}
+use Rattle.zk_records.specs.declared.header.ReplyHeader.{ReplyHeader}
+use Rattle.zk_records.specs.Records.{reply_header}
+use Rattle.zk_answers.specs.Frames.{err_of, header_of}
+use Rattle.zk_answers.specs.declared.frame.ServerFrameOf.TheVariants as server
+use Rattle.zk_fields.specs.declared.value.Heads.TheVariants as head
+use Rattle.zk_fields.specs.Frames.{rest_behind}
+use Rattle.zk_fields.specs.Written.{done_behind, answer_front, Writes}
+use Rattle.zk_fields.proofs.Again.{server_again, rests_alike}
+use Rattle.zk_fields.proofs.write.write_reply.Goals as goal
+
+pub returns-clause-again : goal.returns-clause-again
+returns-clause-again c = λ r is.
+    let content = c.args.content.now in
+    let fields = c.args.fields.now in
+    let before = c.args.room.now in
+    let after = c.write_frame.new.room in
+    let result = c.write_frame.result in
+    let front = answer_front c.args.xid c.args.zxid c.args.err in
+    let behind = done_behind c.args.err c.args.operation in
+    let same : Writes head.Results front behind content fields before result after = search (c.write_frame.ensures front behind, c.reply_header-front.ensures, c.reply_end-behind.ensures.exact, rules) in
+    let err : c.args.err ≡ err_of r.outcome = ap (λ (z : ReplyHeader). z.err) (sym is.0) in
+    server_again (server.Answered r) content fields before after result (λ sent.
+    let end : done_behind c.args.err c.args.operation ≡ rest_behind r.outcome = (λ k. done_behind (err k) (is.1 k)) ∙ rests_alike r.outcome sent.1 in
+    subst (λ (z : List Item). Writes head.Results (reply_header.items (header_of r)) z content fields before result after) end
+    (subst (λ (z : ReplyHeader). Writes head.Results (reply_header.items z) (done_behind c.args.err c.args.operation) content fields before result after) (sym is.0) same))

@@ -1,0 +1,101 @@
+/* A fake server for one client: a server that has no node.
+ *
+ *     server [PORT]
+ *
+ * It listens at 127.0.0.1 (0, or no PORT: any free port), prints the port, and answers one client until that ends the
+ * connection. Its frames are written from fields. One talk judges both sides: it refuses what the client may not send,
+ * and what this server may not answer. The status is 0 if the client has ended between two messages, 1 if one was
+ * refused, 2 if there is no connection. */
+#define _POSIX_C_SOURCE 200809L
+#include "zk.h"
+
+#include <arpa/inet.h>
+#include <netinet/in.h>
+#include <stdio.h>
+#include <stdlib.h>
+#include <sys/socket.h>
+#include <unistd.h>
+
+enum { LIMIT = 1 << 20, WAITING = 1024, ROOM = 256, PING = 11, CLOSE_SESSION = -11, NO_NODE = -101 };
+
+static struct zk_field a_number(uint8_t kind, int64_t number) {
+    struct zk_field field = ZK_ZEROS;
+    field.kind = kind;
+    field.number = number;
+    return field;
+}
+
+/* A text or a blob: the first bytes of the content. */
+static struct zk_field some_bytes(uint8_t kind, uint32_t length) {
+    struct zk_field field = ZK_ZEROS;
+    field.kind = kind;
+    field.length = length;
+    return field;
+}
+
+/* The frame that answers a message of the client: a session, and to each request that there is no such node. */
+static struct zk_written answer(struct zk_message asked, uint8_t *out, size_t room) {
+    static const uint8_t password[16];
+    struct zk_field session[] = {a_number(ZK_KIND_INT, 0), a_number(ZK_KIND_INT, 30000), a_number(ZK_KIND_LONG, 1),
+                                 some_bytes(ZK_KIND_BLOB, sizeof password)};
+    if (asked.kind == ZK_CONNECT) return zk_write_connected(session, 4, password, sizeof password, out, room);
+    bool done = asked.operation == PING || asked.operation == CLOSE_SESSION;
+    return zk_write_reply(asked.xid, 1, done ? 0 : NO_NODE, asked.operation, NULL, 0, NULL, 0, out, room);
+}
+
+static bool sent(int client, const uint8_t *bytes, size_t length) {
+    while (length > 0) {
+        ssize_t count = send(client, bytes, length, 0);
+        if (count <= 0) return false;
+        bytes += count;
+        length -= (size_t)count;
+    }
+    return true;
+}
+
+/* Answers each message that these bytes of the client complete. */
+static bool serve(struct zk_talk *talk, int client, const uint8_t *bytes, size_t length) {
+    uint8_t frame[ROOM];
+    while (length > 0) {
+        struct zk_step step = zk_talk_step(talk, ZK_CLIENT, bytes, length);
+        if (step.status != ZK_WELL) return false;
+        bytes += step.used;
+        length -= step.used;
+        if (!step.whole) continue;
+        struct zk_written written = answer(zk_talk_view(talk, ZK_CLIENT), frame, sizeof frame);
+        if (written.status != ZK_WELL) return false;
+        if (zk_talk_step(talk, ZK_SERVER, frame, written.length).status != ZK_WELL) return false;
+        if (!sent(client, frame, written.length)) return false;
+    }
+    return true;
+}
+
+/* The first client of a port, which is printed. */
+static int first_client(const char *port) {
+    struct sockaddr_in at = {.sin_family = AF_INET, .sin_port = htons((uint16_t)strtoul(port, NULL, 10))};
+    socklen_t size = sizeof at;
+    at.sin_addr.s_addr = htonl(INADDR_LOOPBACK);
+    int listener = socket(AF_INET, SOCK_STREAM, 0);
+    if (listener < 0 || bind(listener, (struct sockaddr *)&at, size) != 0 || listen(listener, 1) != 0) return -1;
+    if (getsockname(listener, (struct sockaddr *)&at, &size) != 0) return -1;
+    printf("%u\n", (unsigned)ntohs(at.sin_port));
+    fflush(stdout);
+    int client = accept(listener, NULL, NULL);
+    close(listener);
+    return client;
+}
+
+int main(int count, char **words) {
+    static uint8_t bytes[65536];
+    struct zk_talk talk = ZK_ZEROS;
+    if (zk_talk_new(&talk, LIMIT, LIMIT, WAITING, ZK_PROFILE_34) != ZK_WELL) return 1;
+    int client = first_client(count > 1 ? words[1] : "0");
+    if (client < 0) return 2;
+    ssize_t came = 0;
+    bool good = true;
+    while (good && (came = recv(client, bytes, sizeof bytes, 0)) > 0) good = serve(&talk, client, bytes, (size_t)came);
+    struct zk_ending ending = zk_talk_finish(&talk);
+    zk_talk_free(&talk);
+    close(client);
+    return good && ending.kind == ZK_WHOLE ? 0 : 1;
+}

@@ -1,0 +1,47 @@
+"""Runs the fake server of examples/: its frames are those of docs/FORMATS.md, and the client of examples/ reads them.
+
+tests/examples.py calls it.
+"""
+
+import socket
+import subprocess
+
+PATIENCE = 20  # seconds
+# A connect request, an exists, a ping and a closeSession, and what the server answers to them.
+HELLO = "0000002c 00000000 0000000000000000 00007530 0000000000000000 00000010" + "00" * 16
+EXISTS, ENDS = "0000000f 00000001 00000003 00000002 2f61 01", "00000008 fffffffe 0000000b 00000008 00000002 fffffff5"
+ANSWERS = ("00000024 00000000 00007530 0000000000000001 00000010" + "00" * 16 +
+           "00000010 00000001 0000000000000001 ffffff9b 00000010 fffffffe 0000000000000001 00000000"
+           "00000010 00000002 0000000000000001 00000000")
+SAID = """connected: time_out=30000
+create: NONODE
+getData: NONODE
+multi: NONODE
+getData: NONODE
+closeSession: OK
+"""
+
+
+def served(program, speak):
+    """What comes of speaking to the server's port, and the server's status."""
+    with subprocess.Popen([program], stdout=subprocess.PIPE, text=True) as process:
+        return speak(int(process.stdout.readline())), process.wait(PATIENCE)
+
+
+def answered(port, digits):
+    """What the server answers to these bytes, up to as many as it answers to all."""
+    with socket.create_connection(("127.0.0.1", port), PATIENCE) as end, end.makefile("rb") as answers:
+        end.sendall(bytes.fromhex(digits))
+        return answers.read(len(bytes.fromhex(ANSWERS))).hex()
+
+
+def check(program, client):
+    """Whether it answers what it should, and refuses what a client may not send."""
+    for name, speak, wanted in (
+        ("answers", lambda port: answered(port, HELLO + EXISTS + ENDS), (bytes.fromhex(ANSWERS).hex(), 0)),
+        ("another first message", lambda port: answered(port, EXISTS), ("", 1)),
+        ("the client", lambda port: subprocess.run([client, "127.0.0.1", str(port), "/a", "x"], stdout=subprocess.PIPE,
+                                                   text=True).stdout, (SAID, 0)),
+    ):
+        found = served(program, speak)
+        yield name, found == wanted, f"server, {name}: {found}"
