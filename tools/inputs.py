@@ -49,7 +49,7 @@ def conversations(parser, words, objects, progress, before_read=lambda: None, fa
 def conversation(parser, words, path, stream, objects, progress, before_read, fast=None, known=UNREAD):
     """The conversation of one input; `known` are the facts of the recording, where they were read before."""
     times, name = None, words.recording or path
-    is_recording = stream.peek(4)[:4] in (b"ZKR1", b"ZKR2")
+    is_recording = stream.peek(4)[:4] in zkr.MARKS
     if known is UNREAD:
         known = facts.facts_of(name) if words.recording or is_recording and path != listing.STANDARD_INPUT else None
     if is_recording:

@@ -25,6 +25,8 @@ from running import (Progress, allow_many_files, complain, hold_standard_streams
                      report, shown, standard_input, tool)
 
 CLIENT, SERVER = b"C", b"S"
+OTHER = {CLIENT: SERVER, SERVER: CLIENT}
+MARKS = (b"ZKR1", b"ZKR2")          # the first bytes of a recording
 LARGEST_PIECE = 16_777_220
 TIME = re.compile(r"\d{1,19}(?:\.\d{1,9})?\n?", re.ASCII)
 LONGEST_TIME = 32
@@ -96,7 +98,7 @@ class Reader:
     def __init__(self, stream):
         self.stream, self.offset = stream, 0
         mark = stream.read(4)
-        if mark not in (b"ZKR1", b"ZKR2"):
+        if mark not in MARKS:
             raise Damaged(0, "BadHead")
         self.offset, self.head = 4, Head()
         if mark == b"ZKR2":
@@ -155,6 +157,15 @@ class Reader:
                 return Damaged(self.offset + 1, "BadTime")
             at = 9
         return Damaged(self.offset + at, "Short" if len(begin) < PIECE_HEADS[self.head.form].size else "BadSize")
+
+
+def is_recording(path):
+    """Whether there is a file at this path that begins as a recording does."""
+    try:
+        with open(path, "rb") as file:
+            return file.read(4) in MARKS
+    except OSError:
+        return False
 
 
 def times_path(path):

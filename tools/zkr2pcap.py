@@ -19,14 +19,14 @@ from typing import NamedTuple
 import contents
 import facts
 import zkr
+from packets import ACK, ETHERNET, FIN, SYN
 
-FIN, SYN, RST, PUSH, ACK = 1, 2, 4, 8, 16
+PUSH = 8
 CLIENT_HOST, SERVER_HOST = b"\x0a\0\0\1", b"\x0a\0\0\2"
 FIRST_PORT, MOST_CONNECTIONS = 40_001, 20_000
 MOST_DATA = 1448
-MAGIC_OF_NANOSECONDS, ETHERNET = 0xA1B23C4D, 1
+MAGIC_OF_NANOSECONDS = 0xA1B23C4D
 ETHERNET_HEAD = bytes(12) + b"\x08\x00"
-OTHER = {zkr.CLIENT: zkr.SERVER, zkr.SERVER: zkr.CLIENT}
 
 
 class Sent(NamedTuple):
@@ -49,7 +49,7 @@ def conversation(pieces, most=MOST_DATA, numbers=(1000, 2000), close=True, begun
 
     def send(side, flags, data=b""):
         nonlocal now
-        acknowledged = first[OTHER[side]] + said[OTHER[side]] if flags & ACK else 0
+        acknowledged = first[zkr.OTHER[side]] + said[zkr.OTHER[side]] if flags & ACK else 0
         sent = Sent(now, side, first[side] + said[side], acknowledged, flags, data)
         said[side] += len(data) + bool(flags & (SYN | FIN))
         now += begun is not None

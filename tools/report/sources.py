@@ -16,7 +16,6 @@ import listing
 import zkr
 
 TOOLS = pathlib.Path(__file__).resolve().parent.parent
-RECORDINGS = (b"ZKR1", b"ZKR2")
 CAPTURES = (b"\xa1\xb2\xc3\xd4", b"\xd4\xc3\xb2\xa1", b"\xa1\xb2\x3c\x4d", b"\x4d\x3c\xb2\xa1", b"\x0a\x0d\x0d\x0a",
             b"\x1f\x8b")
 LISTINGS = re.compile(rb"[CS] |\. |\{")
@@ -105,7 +104,7 @@ def sources_of(paths, folder, port, warnings):
         with open(path, "rb") as stream:
             mark = stream.read(4)
         name = os.path.basename(path)
-        if mark in RECORDINGS:
+        if mark in zkr.MARKS:
             found = Source(path, name.removesuffix(".zkr"))
             found.take_facts(parts)
             yield found

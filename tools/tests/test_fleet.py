@@ -10,6 +10,7 @@ import subprocess
 import sys
 import time
 import unittest
+import unittest.mock
 
 from support import CAPTURES, PROGRAM, TOOLS, ToolCase
 
@@ -110,6 +111,44 @@ class FleetCase(ToolCase):
         self.assertEqual((status, counts["recordings"], counts["endings"]),
                          (1, len(self.names) + 3, {"recording": 1, "refused": REFUSED, "unread": 1,
                                                    "whole": len(self.names) + 1 - REFUSED}))
+
+    def test_inputs_that_name_no_recording(self):
+        """An empty folder or list isn't many good recordings, and a recording is no list of paths."""
+        folder, names, copy = self.folder / "none", self.folder / "names", self.folder / "copy"
+        folder.mkdir()
+        names.write_text("\n\n")
+        shutil.copy(self.names[0], copy)
+        for tool, *words in (("zkfleet.py", "check"), *((*tool, "--jobs", 2) for tool in TOOLS_WITH_WORDS)):
+            for path, wanted in ((folder, f"{folder} has no recordings: NAME.zkr in it or in folders below"),
+                                 (f"@{names}", f"{names} is empty: a list has a path on each line"),
+                                 (f"@{copy}", f"{copy} is a recording, and a list has a path on each line: leave out the @")):
+                done = self.output(tool, *words, self.fleet, path)
+                self.assertEqual(done, (1, b"", f"{tool}: {wanted}\n".encode()))
+        for path in (copy, self.names[0]):
+            self.assertIn(b"\n1 recordings, ", b"\n" + self.output("zkfleet.py", "check", path)[1])
+
+    def test_each_recording_counts_once(self):
+        wanted = self.output("zkfleet.py", "check", self.fleet)
+        self.assertEqual(self.output("zkfleet.py", "check", self.fleet, f"{self.folder}/./fleet", *self.names), wanted)
+
+    def test_a_folder_that_cannot_be_read_is_a_row(self):
+        locked, scandir = str(self.fleet / "1"), os.scandir
+
+        def refusing(path):
+            if path == locked:
+                raise PermissionError(13, "Permission denied", path)
+            return scandir(path)
+        with unittest.mock.patch("os.scandir", refusing):
+            found = fleet.expanded([str(self.fleet)])
+        self.assertEqual(found, sorted([locked, *(str(name) for name in self.names if str(name.parent) != locked)]))
+        self.assertEqual(fleet.attempt(lambda path: open(path, "rb"), locked), fleet.Unread("Is a directory"))
+
+    def test_a_list_of_what_is_no_path(self):
+        names = self.folder / "names"
+        names.write_bytes(b"a\0b\n")
+        status, out, err = self.output("zkfleet.py", "check", names)
+        self.assertEqual((status, err), (1, b""))
+        self.assertIn(b"unread: embedded null byte\n", out)
 
     def test_dead_worker(self):
         """A worker that dies has its recording done again."""

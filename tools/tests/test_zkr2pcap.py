@@ -79,7 +79,7 @@ class Zkr2pcap(ToolCase):
 
     def test_checksums(self):
         """The sum over what has its checksum in it is 0."""
-        sent = zkr2pcap.Sent(0, zkr.CLIENT, 1001, 2001, zkr2pcap.PUSH | zkr2pcap.ACK, b"abc")
+        sent = zkr2pcap.Sent(0, zkr.CLIENT, 1001, 2001, wire.PUSH | wire.ACK, b"abc")
         packet = zkr2pcap.ipv4(zkr.CLIENT, zkr2pcap.tcp(sent, 40_001, 2181))
         self.assertEqual(zkr2pcap.checksum(packet[:20]), bytes(2))
         self.assertEqual(zkr2pcap.checksum(packet[12:20] + struct.pack(">HH", 6, len(packet) - 20) + packet[20:]), bytes(2))
