@@ -25,6 +25,15 @@ def add_words(parser):
     program.add_program(parser)
 
 
+def refuse_repetition(parser, paths):
+    """Refuses arguments that name a file twice, however its path is written."""
+    seen = set()
+    for path in paths:
+        if os.path.abspath(path) in seen:
+            parser.error(f"{path} is named twice: its messages would count twice")
+        seen.add(os.path.abspath(path))
+
+
 def conversations(parser, words, objects, progress, before_read=lambda: None, fast=None):
     """The conversations that these arguments name, each a Listing, or a Joined where `objects` allows those, or Columns
     where that can be and `fast` gives their options. Before each read `before_read` is called; `progress` is updated
@@ -33,9 +42,7 @@ def conversations(parser, words, objects, progress, before_read=lambda: None, fa
         parser.error("--recording names the recording of one listing: name one listing, or none for standard input")
     if words.times and not words.recording and len(words.inputs) != 1:
         parser.error("--times has the times of one recording: name just that recording")
-    for path in words.inputs:
-        if words.inputs.count(path) > 1:
-            parser.error(f"{path} is named twice: its messages would count twice")
+    refuse_repetition(parser, words.inputs)
     for path in words.inputs or [listing.STANDARD_INPUT]:
         try:
             with zkr.standard_input() if path == listing.STANDARD_INPUT else open(path, "rb") as stream:

@@ -359,7 +359,7 @@ class Times(ToolCase):
                          (1, "zkjson.py: the listing has 4 messages, and the recording 3\n"))
 
     def test_words(self):
-        for words in (["--nonsense"], ["a", "b", "--recording", "c"], ["--times", "a"], ["a", "a"], ["--op", "none"],
+        for words in (["--nonsense"], ["a", "b", "--recording", "c"], ["--times", "a"], ["a", "a"], ["a", "./a"], ["--op", "none"],
                       ["--slower", "-1"], ["--slower", "nan"], ["--from", "noon"], ["--session", "x"],
                       ["--profile", "3.6"]):
             self.assert_bad_words("zkjson.py", *words)

@@ -1,6 +1,7 @@
 """Tests of zkreport: the tables as text, the trace, and two runs compared."""
 
 import json
+import os
 
 import report_lines
 from support import CAPTURES, ToolCase
@@ -237,7 +238,9 @@ class Zkreport(ToolCase):
 
     def test_words(self):
         for words in ([], [self.one], ["--text"], ["--text", self.one, "--nonsense"],
-                      ["--port", "0", "--text", self.one]):
+                      ["--port", "0", "--text", self.one], ["--text", self.one, self.one],
+                      ["--text", self.one, f"{self.folder}/./{self.one.name}"],
+                      ["--text", self.one, "--against", self.other, "--against", self.other]):
             self.assert_bad_words("zkreport.py", *words)
 
     def test_what_is_no_input(self):
@@ -247,6 +250,12 @@ class Zkreport(ToolCase):
                                 "lines of zkjson\n"))
         status, _, err = self.run_tool("zkreport.py", "--text", self.folder / "none")
         self.assertEqual((status, err.count("\n")), (3, 1))
+
+    def test_a_name_that_is_no_utf_8(self):
+        path, page = self.folder / os.fsdecode(b"\xff.show"), self.folder / "page.html"
+        path.write_bytes(self.one.read_bytes())
+        self.assertEqual(self.run_tool("zkreport.py", "-o", page, path), (0, "", ""))
+        self.assertIn("<title>\\udcff.show</title>", page.read_text("utf-8"))
 
     def test_no_file_is_overwritten(self):
         for option in ("-o", "--trace"):
