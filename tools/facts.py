@@ -18,7 +18,7 @@ from newfile import NewFile
 VERSION, MARKED, LONGEST = 1, 1 << 16, 1 << 16
 SIDES = ("C", "S")
 NO_BYTES = {"C": 0, "S": 0}
-PRINTABLE = re.compile("[!-~]{1,200}")
+PRINTABLE, LONGEST_NAME = re.compile("[!-~]{1,200}"), 300
 SESSION = re.compile("0x[0-9a-f]{1,16}")
 
 
@@ -92,6 +92,11 @@ def is_text(value):
     return isinstance(value, str) and bool(PRINTABLE.fullmatch(value))
 
 
+def is_address(value):
+    """Whether this is a text as record.py takes an address: the name of a host may have letters of any script."""
+    return isinstance(value, str) and 0 < len(value) <= LONGEST_NAME and value.isprintable()
+
+
 def is_number(value):
     return type(value) in (int, float) and math.isfinite(value) and value >= 0
 
@@ -109,7 +114,7 @@ def are_counts(value):
 
 
 CHECKS = {
-    **dict.fromkeys(("tool", "client", "server", "broken"), is_text),
+    **dict.fromkeys(("tool", "broken"), is_text), **dict.fromkeys(("client", "server"), is_address),
     **dict.fromkeys(("connected", "begun", "ended"), is_number), **dict.fromkeys(("part", "unasked"), is_count),
     **dict.fromkeys(("open", "late", "snapped", "overlooked"), lambda value: type(value) is bool),
     **dict.fromkeys(("closed", "reset"), lambda value: value in SIDES and isinstance(value, str)),

@@ -222,6 +222,18 @@ class Recorded(TroubleCase):
         self.assertEqual((found["recording"], found["times"]), (facts.mark_of(path), facts.mark_of(f"{path}.times")))
         self.assertLess(found["begun"], found["ended"])
 
+    def test_a_host_whose_name_is_not_ascii(self):
+        """Its facts are read again. The name is that of this host, in wide letters, which a resolver makes narrow."""
+        server = f"\uff4c\uff4f\uff43\uff41\uff4c\uff48\uff4f\uff53\uff54:{self.echo.port}"
+        self.run_proxy([sys.executable, TOOLS / "record.py", "0", server, self.prefix], subprocess.PIPE)
+        client = self.client(self.port())
+        self.ask(client)
+        client.close()
+        self.lines(2)
+        self.tool.terminate()
+        self.tool.wait()
+        self.assertEqual(facts.facts_of(self.folder / "r-1.zkr").server, server)
+
     def test_a_recording_that_could_not_go_on_has_a_hole(self):
         port = self.begin("record.py")
         client = self.client(port)
