@@ -152,12 +152,18 @@ def read_all(parser, words):
     return summary.Summary(found.run), unread
 
 
+def is_incomplete(found):
+    """Whether something is missing of what was to be read; reports messages without times, where these choose."""
+    selection.complain(found.run.untimed)
+    return found.run.warnings or found.has_hole() or found.run.untimed
+
+
 def main():
     parser, words = words_of()
     if fleet.is_asked(words):
         found, unread = read_all(parser, words)
         write_text(found, None)
-        return 1 if unread or found.run.warnings or found.has_hole() else 0
+        return 1 if unread or is_incomplete(found) else 0
     with contextlib.ExitStack() as stack:
         reader = Reader(parser, words, stack.enter_context(tempfile.TemporaryDirectory(prefix="zkreport-")))
         out, traced = (stack.enter_context(new_file(path)) for path in (words.output, words.trace))
@@ -171,7 +177,7 @@ def main():
             out.waiting += page_of(reader, found, compared, title(words.inputs)).encode(errors="backslashreplace")
     if words.text:
         write_text(found, compared)
-    return 1 if found.run.warnings or found.has_hole() or compared and compared["first"] else 0
+    return 1 if is_incomplete(found) or compared and compared["first"] else 0
 
 
 if __name__ == "__main__":

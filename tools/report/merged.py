@@ -20,6 +20,7 @@ class Merged:
         numbers = self.add_connections(other)
         run = self.run
         run.warnings += other.warnings
+        run.untimed += other.untimed
         add_kept(run.kept, other.kept, numbers)
         for path, entry in other.paths.entries.items():
             add_path(run.paths.entry(path), entry, numbers)
