@@ -65,7 +65,7 @@ def add_words(parser):
 
 
 def complain(untimed):
-    """Reports so many connections with messages without times."""
+    """Reports this number of connections with messages without times."""
     if untimed:
         zkr.complain(f"connections with messages without times: {untimed}; --slower, --from and --to left these out: "
                      "record with --times")

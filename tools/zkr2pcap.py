@@ -111,7 +111,7 @@ def timed(path, reader):
             if times:
                 moment = nanoseconds(next(times))
             else:
-                moment = (number if piece.milliseconds is None else piece.milliseconds) * 10**6
+                moment = (piece.milliseconds or number) * 10**6
             yield piece._replace(milliseconds=moment)
     except zkr.Damaged as damage:
         raise ValueError(f"{path}: {damage}") from None

@@ -5,6 +5,7 @@ import stat
 import struct
 
 from support import CAPTURES, ToolCase, pieces, sides, zkr
+import wire
 import zkr2pcap
 
 CONNECT = CAPTURES[0]
@@ -66,6 +67,14 @@ class Zkr2pcap(ToolCase):
         beside.unlink()
         found = [moment for moment, packet in packets_of(self.convert(path).read_bytes()) if len(packet) > 54]
         self.assertEqual(found, [0, 10**6, 2 * 10**6])
+
+    def test_the_time_0_is_none(self):
+        """A migrated recording without times has the packets of the one that it is made of."""
+        migrated, head = self.folder / "new.zkr", zkr.Head("zkr2")
+        migrated.write_bytes(head.to_bytes() + b"".join(head.piece(piece.side, 0, piece.data)
+                                                        for piece in pieces(CONNECT.read_bytes())))
+        wanted = self.convert(CONNECT).read_bytes()
+        self.assertEqual(self.convert(migrated).read_bytes(), wanted)
 
     def test_several_are_in_the_order_of_time(self):
         head, paths = zkr.Head("zkr2"), []
