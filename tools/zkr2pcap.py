@@ -25,7 +25,7 @@ PUSH = 8
 CLIENT_HOST, SERVER_HOST = b"\x0a\0\0\1", b"\x0a\0\0\2"
 FIRST_PORT, MOST_CONNECTIONS = 40_001, 20_000
 MOST_DATA = 1448
-MAGIC_OF_NANOSECONDS = 0xA1B23C4D
+MAGIC_OF_NANOSECONDS, LATEST = 0xA1B23C4D, (1 << 32) * 10**9
 ETHERNET_HEAD = bytes(12) + b"\x08\x00"
 
 
@@ -112,6 +112,8 @@ def timed(path, reader):
                 moment = nanoseconds(next(times))
             else:
                 moment = (piece.milliseconds or number) * 10**6
+            if moment >= LATEST:
+                raise ValueError(f"{path} has a time after the year 2106, and a capture can't have such a time")
             yield piece._replace(milliseconds=moment)
     except zkr.Damaged as damage:
         raise ValueError(f"{path}: {damage}") from None
@@ -129,7 +131,7 @@ def write(out, found):
     out.write(struct.pack("<IHHiIII", MAGIC_OF_NANOSECONDS, 2, 4, 0, 0, 65535, ETHERNET))
     for moment, _, packet in found:
         seconds, part = divmod(moment, 10**9)
-        out.write(struct.pack("<IIII", seconds & 0xFFFFFFFF, part, len(packet), len(packet)) + packet)
+        out.write(struct.pack("<IIII", seconds, part, len(packet), len(packet)) + packet)
 
 
 def main():

@@ -76,6 +76,15 @@ class Zkr2pcap(ToolCase):
         wanted = self.convert(CONNECT).read_bytes()
         self.assertEqual(self.convert(migrated).read_bytes(), wanted)
 
+    def test_a_time_that_no_capture_has(self):
+        """The seconds of a packet's time are 32 bits."""
+        path, capture = self.folder / "late.zkr", self.folder / "late.pcap"
+        for seconds, status in ((2**32 - 1, 0), (2**32, 1)):
+            path.write_bytes(zkr.Head("zkr2").to_bytes() + zkr.Head("zkr2").piece(zkr.CLIENT, 1000 * seconds, b"x"))
+            err = f"zkr2pcap.py: {path} has a time after the year 2106, and a capture can't have such a time\n"
+            self.assertEqual(self.run_tool("zkr2pcap.py", path, capture), (status, "", err * status))
+            capture.unlink()
+
     def test_several_are_in_the_order_of_time(self):
         head, paths = zkr.Head("zkr2"), []
         for at, times in enumerate(((10, 30), (20, 40))):
