@@ -6,7 +6,7 @@ import struct
 import subprocess
 
 import wire
-from captured import SMALL, PcapCase, capture_of, packed
+from captured import SMALL, PcapCase, capture_of
 from support import PROGRAM, pieces, sides, zkr
 
 
