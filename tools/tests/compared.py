@@ -14,16 +14,10 @@ import random
 import struct
 import subprocess
 import sys
-import unittest.mock
 
-TOOLS = pathlib.Path(__file__).resolve().parent.parent
-sys.path.insert(0, str(TOOLS))
+from support import TOOLS, run_main, zkr
 
-import columns  # noqa: E402
-import zkjson  # noqa: E402
-import zkr  # noqa: E402
-import zkreport  # noqa: E402
-import zkstat  # noqa: E402
+import columns
 
 CHOICES = ((), ("--path", "/"), ("--path", "/a", "--path", "/kazoo"), ("--op", "event", "--op", "multi", "--op", "create"),
            ("--slower", "0.5"), ("--from", "1763843467121", "--to", "1763843467190"), ("--session", "0x100003780a60004"),
@@ -145,18 +139,8 @@ def recordings(zkdump, folder, paths):
 
 def run(tool, zkcolumns, words):
     """What a tool prints: its status, standard output and standard error."""
-    out, err = io.BytesIO(), io.BytesIO()
-    streams = [io.TextIOWrapper(each, "utf-8") for each in (io.BufferedReader(io.BytesIO()), out, err)]
     os.environ["ZKCOLUMNS"] = zkcolumns
-    with unittest.mock.patch.multiple("sys", argv=[tool.__name__, *map(str, words)], stdin=streams[0], stdout=streams[1],
-                                      stderr=streams[2]):
-        try:
-            status = zkr.tool(tool.main)
-        except SystemExit as ended:
-            status = ended.code
-    for stream in streams[1:]:
-        stream.flush()
-    return status, out.getvalue(), err.getvalue()
+    return run_main(tool, words)
 
 
 def main():
@@ -164,13 +148,13 @@ def main():
     columns.said, runs, different = True, 0, 0
     paths = [pathlib.Path(path) for path in paths]
     for path in recordings(zkdump, pathlib.Path(folder), paths):
-        for tool, words in ((zkjson, ()), (zkstat, ("--json",)), (zkreport, ("--text",))):
+        for tool, words in (("zkjson.py", ()), ("zkstat.py", ("--json",)), ("zkreport.py", ("--text",))):
             for choice in CHOICES if path.stat().st_size < 20_000 and path in paths or path.name == "values.zkr" else FEW:
                 fast, plain = (run(tool, which, (*words, *choice, path)) for which in (zkcolumns, ""))
                 runs += 1
                 if fast != plain:
                     different += 1
-                    print(tool.__name__, *choice, path, fast[0], plain[0], fast[2][-300:], plain[2][-300:])
+                    print(tool, *choice, path, fast[0], plain[0], fast[2][-300:], plain[2][-300:])
                     lines = itertools.zip_longest(*(each[1].split(b"\n") for each in (fast, plain)))
                     print(*next(((one[:500], two[:500]) for one, two in lines if one != two), ()), sep="\n")
     print(f"{runs} runs, {different} different")
