@@ -30,7 +30,7 @@ NOT_READ = 4                    # the status of a recording whose trouble the pl
 ERROR, XID, PATH, NULL_PATH, CHOSEN, WATCH, MADE_UP = (1 << bit for bit in range(7))
 CLIENT = ord("C")
 CONNECT, EVENT = 1000, 1001     # in place of an operation's number
-# The fields of a record, as columns.c has them.
+# The fields of a record, as columns/state.h has them.
 FIELDS = (("n", "u8"), ("of", "u8"), ("moment", "f8"), ("asked_moment", "f8"), ("microseconds", "f8"), ("zxid", "i8"),
           ("text", "u8"), ("text_length", "u4"), ("at_length", "u4"), ("path", "u4"), ("path_length", "u4"),
           ("xid", "i4"), ("operation", "i4"), ("error", "i4"), ("flags", "u2"), ("side", "u1"), ("spare", "u1"))
