@@ -301,6 +301,22 @@ static const char *name_of(const struct zk_message *view) {
     return view->kind == ZK_CONNECT || view->kind == ZK_CONNECTED ? "connect" : zk_operation_name(view->operation);
 }
 
+/* How long a reply took, the number of its request, and the path of that. */
+static void put_asked(struct bytes *out, struct bytes *patches, const struct message *message) {
+    if (!isnan(message->microseconds)) {
+        put_text(out, ", \"ms\": ");
+        put_milliseconds(out, message->microseconds);
+    }
+    put_text(out, ", \"of\": ");
+    put_number(out, (int64_t)message->asked->n);
+    if (message->asked->count == 0 || message->asked->operation == MULTI) return;
+    const uint8_t *paths = message->paths;
+    int32_t length;
+    const uint8_t *path = next_path(&paths, &length);
+    put_text(out, ", \"asked\": ");
+    put_string(out, patches, path, length, PATCH_TEXT);
+}
+
 void put_json(struct bytes *out, struct bytes *patches, const char *head, const struct message *message,
               bool part_paths) {
     const struct zk_message *view = &message->view;
@@ -330,20 +346,6 @@ void put_json(struct bytes *out, struct bytes *patches, const char *head, const 
         put_text(out, ", \"at\": ");
         put_text(out, message->at);
     }
-    if (message->asked != NULL) {
-        if (!isnan(message->microseconds)) {
-            put_text(out, ", \"ms\": ");
-            put_milliseconds(out, message->microseconds);
-        }
-        put_text(out, ", \"of\": ");
-        put_number(out, (int64_t)message->asked->n);
-        if (message->asked->count > 0 && message->asked->operation != MULTI) {
-            const uint8_t *paths = message->paths;
-            int32_t length;
-            const uint8_t *path = next_path(&paths, &length);
-            put_text(out, ", \"asked\": ");
-            put_string(out, patches, path, length, PATCH_TEXT);
-        }
-    }
+    if (message->asked != NULL) put_asked(out, patches, message);
     put_text(out, "}\n");
 }
