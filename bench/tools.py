@@ -29,8 +29,8 @@ import zkr  # noqa: E402
 
 PROGRAM = TOP / "crates" / "zkdump" / "out" / "zkdump"
 RUNS = (("check", None), ("zkstat.py", ("{timed}",)), ("zkstat.py", ("--path", "/", "{timed}")),
-        ("zkjson.py", ("{timed}",)), ("zkreport.py", ("--text", "{timed}")), ("zkreport.py", ("-o", "{page}", "{timed}")),
-        ("pcap2zkr.py", ("--times", "{capture}", "{made}")))
+        ("zkjson.py", ("{timed}",)), ("zkreport.py", ("--text", "{timed}")),
+        ("zkreport.py", ("-o", "{page}", "{timed}")), ("pcap2zkr.py", ("--times", "{capture}", "{made}")))
 
 
 def make(folder, megabytes):
@@ -78,8 +78,8 @@ def one_core(python, folder, count):
             else:
                 command = [python, TOOLS / tool, *(word.format(**names) for word in words)]
                 found.append(spent(command, env={**os.environ, **environment}))
-        print(f"{' '.join([tool, *(words or ())[:-1]]):<24}", *(f"{seconds / count * 1e6:8.2f}" for seconds, _ in found),
-              f"{found[0][1]:6}", flush=True)
+        figures = [f"{seconds / count * 1e6:8.2f}" for seconds, _ in found]
+        print(f"{' '.join([tool, *(words or ())[:-1]]):<24}", *figures, f"{found[0][1]:6}", flush=True)
 
 
 def many_cores(python, folder, jobs):

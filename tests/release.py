@@ -3,8 +3,8 @@
 
     release.py
 
-The number in VERSION is that of zk.h and of CHANGELOG.md. The header compiles without a warning as C11 and as C++17. The
-archive is unpacked: its program prints the listing of a recording, and examples/listing.c, linked with each of its
+The number in VERSION is that of zk.h and of CHANGELOG.md. The header compiles without a warning as C11 and as C++17.
+The archive is unpacked: its program prints the listing of a recording, and examples/listing.c, linked with each of its
 libraries, too. The libraries export the header's functions and no other name. The Debian packages are installed below a
 folder, used and removed. A second release has the same bytes. What is skipped, since a tool is missing, is reported.
 

@@ -223,7 +223,8 @@ class Columns(listing.Listing):
         for block in self.blocks():
             text, paths = block.text.decode(), block.paths
             for record in RECORD.iter_unpack(block.records):
-                n, of, moment, _, microseconds, _, begin, length, at_length, place, size, xid, op, _, flags, side, _ = record
+                (n, of, moment, _, microseconds, _, begin, length, at_length, place, size, xid, op, _, flags, side,
+                 _) = record
                 name, xid, path = operations[op], str(xid) if flags & XID else nothing, nothing
                 if flags & PATH and not of:
                     path = "~" if flags & NULL_PATH else listing.spelled(paths[place:place + size].decode())

@@ -183,7 +183,8 @@ def read(path):
 
 
 def facts_of(path):
-    """The facts of the recording at this path; None where it has none, or where they don't fit it, which is reported."""
+    """The facts of the recording at this path; None where it has none, or where they don't fit it, which is
+    reported."""
     try:
         made = read(path)
         if made is None:

@@ -1,9 +1,9 @@
 """Does the same work with many recordings: over the cores of this machine, or over the workers of a Dask scheduler.
 
-Recordings that follow one another are a chunk, whatever the number of workers. A tool's function `partial` gives what is
-found of a chunk, and the tool merges that in the order of the recordings, so what it prints is the same for any number
-of workers. A chunk whose worker dies is done again, recording by recording. One that can't be read has an Unread for its
-result, and so has one whose worker died three times.
+Recordings that follow one another are a chunk, whatever the number of workers. A tool's function `partial` gives what
+is found of a chunk, and the tool merges that in the order of the recordings, so what it prints is the same for any
+number of workers. A chunk whose worker dies is done again, recording by recording. One that can't be read has an Unread
+for its result, and so has one whose worker died three times.
 """
 
 import collections

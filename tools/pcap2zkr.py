@@ -242,7 +242,8 @@ def main():
         zkr.complain(f"{words.capture}: {error}")
         return 3
     if capture.series.unsaid:
-        zkr.complain(f"standard output: {capture.series.unsaid.strerror}; the recordings are complete, and lines are lost")
+        zkr.complain(f"standard output: {capture.series.unsaid.strerror}; the recordings are complete, and lines are "
+                     "lost")
         return 3
     if not capture.begun:
         zkr.complain(f"{words.capture}: no connection to port {words.port}{capture.ports_heard()}")

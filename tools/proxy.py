@@ -290,8 +290,8 @@ class Proxy:
 
     def rest(self, error):
         """Accepts no clients for a moment; the connections continue."""
-        self.complaints.print_once(f"new clients have to wait: {error.strerror} (ulimit -Hn is how many may be open); the "
-                                   "connections go on")
+        self.complaints.print_once(f"new clients have to wait: {error.strerror} (ulimit -Hn is how many may be open); "
+                                   "the connections go on")
         for listener in self.listeners:
             self.wait_for(listener, 0)
         self.after(REST, self.take_clients)

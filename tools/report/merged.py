@@ -7,8 +7,8 @@ from report import gather, kept
 
 
 class Merged:
-    """What is found of files, one after the other: `run` is as gather.Run finds it of all of them. Density, which only a
-    page shows, is left out."""
+    """What is found of files, one after the other: `run` is as gather.Run finds it of all of them. Density, which only
+    a page shows, is left out."""
 
     def __init__(self):
         self.run, self.parts = gather.Run(), {}

@@ -14,7 +14,8 @@ ASK, REPLY = zkr.Piece(zkr.CLIENT, None, bytes(300)), zkr.Piece(zkr.SERVER, None
 
 
 def small_disk(case, room):
-    """A folder on a disk of its own with room for this number of files of up to 4 kB. The test is skipped where none can be mounted."""
+    """A folder on a disk of its own with room for this number of files of up to 4 kB. The test is skipped where none
+    can be mounted."""
     folder = case.folder / "disk"
     folder.mkdir()
     if subprocess.run(["mount", "-t", "tmpfs", "-o", "size=64k", "none", folder], capture_output=True,

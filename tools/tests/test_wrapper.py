@@ -15,9 +15,10 @@ from support import TOOLS, TOP, ToolCase
 sys.path.insert(0, str(TOOLS))
 import build_program  # noqa: E402
 
-# Writes down where it was called and how, and when that ended. Like the toolchain, it refuses a crates.txt with a line of
-# a crate that has no folder, and keeps every other call out of the crate and those that it uses, which are in the file
-# uses; a library is there once it is built. At the last crate it makes a program that prints its words and its input.
+# Writes down where it was called and how, and when that ended. Like the toolchain, it refuses a crates.txt with a line
+# of a crate that has no folder, and keeps every other call out of the crate and those that it uses, which are in the
+# file uses; a library is there once it is built. At the last crate it makes a program that prints its words and its
+# input.
 RT = """#!/bin/sh
 name=$(basename "$PWD")
 echo "$name $*" >> "$CALLS"
