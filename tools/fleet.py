@@ -102,7 +102,8 @@ def attempt(function, path):
     try:
         return function(path)
     except OSError as error:
-        return Unread(error.strerror or str(error))
+        other = error.filename not in (None, path)
+        return Unread(f"{os.fsdecode(error.filename)}: {error.strerror}" if other else error.strerror or str(error))
     except ValueError as error:
         return Unread(str(error).removeprefix(f"{path}: "))
     except MemoryError:

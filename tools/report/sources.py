@@ -121,7 +121,8 @@ def captured(path, name, prefix, port, warnings):
     """The connections of a capture: recordings that begin with the prefix."""
     words = [sys.executable, TOOLS / "pcap2zkr.py", "--times", "--late", "--port", str(port), path, prefix]
     done = subprocess.run(words, stdout=subprocess.PIPE, stderr=subprocess.PIPE, check=False)
-    lines, error = done.stdout.decode().splitlines(), done.stderr.decode().strip().removeprefix("pcap2zkr.py: ")
+    lines, error = (os.fsdecode(each).strip() for each in (done.stdout, done.stderr))
+    lines, error = lines.splitlines(), error.removeprefix("pcap2zkr.py: ")
     if not lines:
         raise ValueError(error or f"{path}: the capture has no connection to port {port}")
     if error:

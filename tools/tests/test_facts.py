@@ -11,6 +11,7 @@ import test_pcap_pairs as made
 import wire
 from proxied import TroubleCase
 from support import CAPTURES, PROGRAM, TOOLS, TOP, ToolCase, sides
+import contents
 import facts
 
 RUN = TOP / "crates" / "zkdump" / "stdin"
@@ -263,6 +264,12 @@ class Others(FactsCase):
                              ("zkplay", "C", SESSION, address))
             self.assertEqual(found["times"], facts.mark_of(f"{path}.times"))
             self.assertEqual(self.run_inside("zkstat.py", path)[0], 0)
+
+    def test_what_is_played_of_a_later_part_has_no_session(self):
+        """Its connect response was made up: -1 is no session."""
+        made_up, sent = (value.to_bytes(8, "big", signed=True) for value in (-1, 0x1234))
+        for session, wanted in ((made_up, None), (sent, "0x1234"), (bytes(8), None)):
+            self.assertEqual(contents.session_in(bytes(8) + session + bytes(20)), wanted)
 
     def test_zkskip_hands_them_on(self):
         path = self.copy("old")

@@ -143,6 +143,11 @@ class FleetCase(ToolCase):
         self.assertEqual(found, sorted([locked, *(str(name) for name in self.names if str(name.parent) != locked)]))
         self.assertEqual(fleet.attempt(lambda path: open(path, "rb"), locked), fleet.Unread("Is a directory"))
 
+    def test_another_file_that_is_not_there(self):
+        """As the program on a machine of a Dask scheduler: not the recording is missing."""
+        self.assertEqual([fleet.attempt(lambda _, name=name: open(name, "rb"), "a.zkr") for name in ("a.zkr", "/no/zkdump")],
+                         [fleet.Unread("No such file or directory"), fleet.Unread("/no/zkdump: No such file or directory")])
+
     def test_a_list_of_what_is_no_path(self):
         names = self.folder / "names"
         names.write_bytes(b"a\0b\n")

@@ -2,6 +2,7 @@
 
 import contextlib
 import gzip
+import os
 import random
 import re
 import shutil
@@ -118,6 +119,14 @@ class Forms(PcapCase):
         done = subprocess.run(["sh", "-c", f"{sys.executable} {TOOLS}/pcap2zkr.py {capture} {self.folder}/t 2>&-"],
                               capture_output=True, text=True, check=False)
         self.assertEqual((done.returncode, done.stdout.count("\n")), (0, 1))
+
+    def test_a_prefix_that_is_no_utf_8(self):
+        """Its bytes are printed, also where standard output takes UTF-8 alone."""
+        capture, prefix = self.folder / "c.pcap", bytes(self.folder) + b"/\xff"
+        capture.write_bytes(capture_of(wire.conversation(pieces(SMALL[0].read_bytes()))))
+        done = subprocess.run([sys.executable, TOOLS / "pcap2zkr.py", capture, prefix], capture_output=True, check=False,
+                              env={**os.environ, "PYTHONIOENCODING": "utf-8:strict"})
+        self.assertEqual((done.returncode, done.stderr, done.stdout.split()[0]), (0, b"", prefix + b"-1.zkr"))
 
     def test_bad_words(self):
         for words in ((), ("a",), ("a", "b", "c"), ("--port", "0", "a", "b"), ("--port", "x", "a", "b"),
