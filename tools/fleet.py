@@ -68,6 +68,8 @@ def paths_of(name):
     """The paths in a list."""
     if zkr.is_recording(name):
         raise ValueError(f"{name} is a recording, and a list has a path on each line: leave out the @")
+    if zkr.begins_with(name, zkr.CAPTURES):
+        raise ValueError(f"{name} is a capture, or packed with gzip, and a list has a path on each line")
     with open(name, encoding="utf-8", errors="surrogateescape") as lines:
         found = [line.rstrip("\n") for line in lines if line.strip()]
     if not found:

@@ -56,7 +56,12 @@ def conversations(parser, words, objects, progress, before_read=lambda: None, fa
 def conversation(parser, words, path, stream, objects, progress, before_read, fast=None, known=UNREAD):
     """The conversation of one input; `known` are the facts of the recording, where they were read before."""
     times, name = None, words.recording or path
-    is_recording = stream.peek(4)[:4] in zkr.MARKS
+    source = "standard input" if path == listing.STANDARD_INPUT else path
+    mark = stream.peek(4)[:4]
+    is_recording = mark in zkr.MARKS
+    if mark.startswith(zkr.CAPTURES):
+        raise listing.NoListing(f"{source} is a capture, or packed with gzip: pcap2zkr.py makes recordings of a "
+                                "capture, and gunzip unpacks other files")
     if known is UNREAD:
         known = facts.facts_of(name) if words.recording or is_recording and path != listing.STANDARD_INPUT else None
     if is_recording:
@@ -76,7 +81,6 @@ def conversation(parser, words, path, stream, objects, progress, before_read, fa
         lines = listing.lines_of(stream, before_read)
     first = next(lines, None)
     if first is None:
-        source = "standard input" if path == listing.STANDARD_INPUT else path
         raise listing.NoListing(f"{source} is empty: a listing has at least its last line, as zkdump show writes it")
     lines = itertools.chain([first], lines)
     if objects and first.startswith("{"):

@@ -26,7 +26,10 @@ from running import (Progress, allow_many_files, complain, hold_standard_streams
 
 CLIENT, SERVER = b"C", b"S"
 OTHER = {CLIENT: SERVER, SERVER: CLIENT}
-MARKS = (b"ZKR1", b"ZKR2")          # the first bytes of a recording
+# The first bytes of a recording; and those of a capture, of pcap, of pcapng, or packed with gzip.
+MARKS = (b"ZKR1", b"ZKR2")
+CAPTURES = (b"\xa1\xb2\xc3\xd4", b"\xd4\xc3\xb2\xa1", b"\xa1\xb2\x3c\x4d", b"\x4d\x3c\xb2\xa1", b"\x0a\x0d\x0d\x0a",
+            b"\x1f\x8b")
 LARGEST_PIECE = 16_777_220
 TIME = re.compile(r"\d{1,19}(?:\.\d{1,9})?\n?", re.ASCII)
 LONGEST_TIME = 32
@@ -161,9 +164,14 @@ class Reader:
 
 def is_recording(path):
     """Whether there is a file at this path that begins as a recording does."""
+    return begins_with(path, MARKS)
+
+
+def begins_with(path, marks):
+    """Whether there is a file at this path that begins with one of these."""
     try:
         with open(path, "rb") as file:
-            return file.read(4) in MARKS
+            return file.read(4).startswith(marks)
     except OSError:
         return False
 

@@ -16,8 +16,6 @@ import listing
 import zkr
 
 TOOLS = pathlib.Path(__file__).resolve().parent.parent
-CAPTURES = (b"\xa1\xb2\xc3\xd4", b"\xd4\xc3\xb2\xa1", b"\xa1\xb2\x3c\x4d", b"\x4d\x3c\xb2\xa1", b"\x0a\x0d\x0d\x0a",
-            b"\x1f\x8b")
 LISTINGS = re.compile(rb"[CS] |\. |\{")
 CAPTURED = re.compile(r"(.+) (\S+) > (\S+) begun (\S+)(?: ended (\S+))?((?: \S+)*)")
 PART = re.compile(r"-(\d+)(?:\.(\d+))?\.zkr")
@@ -108,7 +106,7 @@ def sources_of(paths, folder, port, warnings):
             found = Source(path, name.removesuffix(".zkr"))
             found.take_facts(parts)
             yield found
-        elif mark.startswith(CAPTURES):
+        elif mark.startswith(zkr.CAPTURES):
             yield from captured(path, name, os.path.join(tempfile.mkdtemp(dir=folder), "capture"), port, warnings)
         elif LISTINGS.match(mark):
             yield Source(path, name.removesuffix(".show"), mark)

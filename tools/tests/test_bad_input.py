@@ -103,6 +103,16 @@ class BadInput(ToolCase):
                     self.assertIn((status, err.count("\n")), ((0, 0), (1, 1), (2, 1)), err)
                     self.assertTrue(err[:-1].isprintable() and "Error" not in err, err)
 
+    def test_a_capture_in_place_of_a_recording(self):
+        """The line says which tool makes recordings of it."""
+        for data in (b"\xd4\xc3\xb2\xa1" + bytes(20), b"\x0a\x0d\x0d\x0a" + bytes(8), b"\x1f\x8b\x08\0"):
+            (self.folder / "c.pcap").write_bytes(data)
+            for tool in ("zkstat.py", "zkjson.py"):
+                told = "is a capture, or packed with gzip: pcap2zkr.py makes recordings of a capture, and gunzip unpacks " \
+                       "other files\n"
+                self.assertEqual(self.run_inside(tool, self.folder / "c.pcap"),
+                                 (1, "", f"{tool}: {self.folder}/c.pcap {told}"))
+
     def test_output_that_is_not_utf_8(self):
         name = self.folder / "größe.show"
         name.write_bytes(LISTING.read_bytes())

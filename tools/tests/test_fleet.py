@@ -124,6 +124,10 @@ class FleetCase(ToolCase):
                                  (f"@{copy}", f"{copy} is a recording, and a list has a path on each line: leave out the @")):
                 done = self.output(tool, *words, self.fleet, path)
                 self.assertEqual(done, (1, b"", f"{tool}: {wanted}\n".encode()))
+        copy.with_name("capture").write_bytes(b"\xd4\xc3\xb2\xa1\n\0")
+        self.assertEqual(self.output("zkfleet.py", "check", self.folder / "capture"),
+                         (1, b"", f"zkfleet.py: {self.folder}/capture is a capture, or packed with gzip, and a list has a "
+                          "path on each line\n".encode()))
         for path in (copy, self.names[0]):
             self.assertIn(b"\n1 recordings, ", b"\n" + self.output("zkfleet.py", "check", path)[1])
 
