@@ -15,8 +15,8 @@ import time
 
 import wire
 from captured import SMALL, PcapCase, capture_of, disturbed, packed
-from support import CAPTURES, TOOLS, TOP, pieces, sides, zkr
-from test_record import echo, exactly, serve
+from support import CAPTURES, TOOLS, TOP, pieces, receive, sides, zkr
+from test_record import echo, serve
 
 
 class Forms(PcapCase):
@@ -278,9 +278,9 @@ class Others(PcapCase):
         with socket.create_connection(("127.0.0.1", port)) as client:
             for at in range(0, len(said), 700):
                 client.sendall(said[at:at + 700])
-                self.assertEqual(exactly(client, len(said[at:at + 700])), said[at:at + 700])
+                self.assertEqual(receive(client, len(said[at:at + 700])), said[at:at + 700])
             client.shutdown(socket.SHUT_WR)
-            exactly(client, 3)
+            receive(client, 3)
         listening.join()
         status, _, made = self.convert(wire.pcap(packets, snap=1 << 18), "--port", port)
         self.assertEqual((status, sides(made[0])), (0, (said, said + b"end")))

@@ -97,7 +97,7 @@ class Programs(TroubleCase):
         time.sleep(0.1)
         self.tool.terminate()
         self.assertEqual(self.tool.wait(SECONDS), 0)
-        self.assertEqual([line.partition(" ")[2] for line in self.watched(4)[1:]], ["C 0", "S 0", ". whole show --profile "
+        self.assertEqual([line.partition(" ")[2] for line in self.watched(4)[1:]], ["C 0 2", "S 0 2", ". whole show --profile "
                                                                                     "3.4 --limit 4194304"])
 
     def test_a_program_that_does_not_read(self):
