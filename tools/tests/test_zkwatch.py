@@ -121,6 +121,8 @@ class Zkwatch(ToolCase):
             self.assertEqual(of_one[1:], [f"C 0 {size}", f"S 0 {size}", WHOLE])
 
     def test_bytes_go_on_after_a_refusal(self):
+        # It reads only once the connection is over.
+        self.stand_in.write_text(STAND_IN.replace("import sys\n", "import sys, time\ntime.sleep(1)\n", 1))
         watcher, address = self.watch(f"127.0.0.1:{self.echo().port}", "--once")
         said = b"\0\0\0\0" + bytes(range(256)) * 4000
         with socket.create_connection(address, SECONDS) as client:
