@@ -80,8 +80,9 @@ class Facts(NamedTuple):
         return words + [f"hole={side}" for side in self.hole] + ["snapped"] * self.snapped
 
     def to_object(self):
-        """The members that have another value than usual."""
-        return {name: value for name, value in self._asdict().items() if value != self._field_defaults[name]}
+        """The members that have another value than usual, as JSON has them."""
+        made = {name: value for name, value in self._asdict().items() if value != self._field_defaults[name]}
+        return {**made, "hole": list(self.hole)} if self.hole else made
 
 
 def counts(found):

@@ -45,6 +45,7 @@ class Format(FactsCase):
         self.assertEqual(" ".join(found.words()), "closed=C reset=S broken=C:EIO open lost=C:1,S:2 skipped=C:3,S:4 "
                                                   "unasked=5 hole=C hole=S snapped")
         self.assertEqual(facts.Facts().to_object(), {})
+        self.assertEqual(facts.from_object(found.to_object()), found)
 
     def test_the_mark(self):
         """A change in the first or in the last 65,536 bytes, or of the length, makes another mark."""
@@ -151,7 +152,13 @@ class Holes(FactsCase):
                 self.assertEqual(sum(len(each.get("notCaptured", ())) for each in endings), len(found["notCaptured"]))
                 status, out, err = self.run_inside("zkstat.py", "--json", stdin=objects.encode())
                 self.assertEqual((status, json.loads(out)), (1, found))
-                self.assertIn(" replies not captured, if there were any\n", self.run_inside("zkstat.py", *paths)[1])
+                status, out, err = self.run_inside("zkstat.py", *paths)
+                self.assertEqual((status, err), (1, ""))
+                self.assertIn(" replies not captured, if there were any\n", out)
+                rows = [line for line in out.splitlines() if line.startswith(str(self.folder)) and " whole " in line]
+                self.assertEqual(len(rows), len(paths))
+                self.assertTrue(all(" hole=" in row or " lost=" in row for row in rows), rows)
+                self.assertIn("\nslowest: asked at ", out)
 
     def test_a_reply_that_is_left_out(self):
         """One of more bytes than are searched for a frame, after a loss: its request is not unanswered."""
