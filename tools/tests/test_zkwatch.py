@@ -19,7 +19,7 @@ C 1 exists path="/a" watch=1
 S 1 exists zxid=5 err=-101/NONODE
 . whole unanswered=0
 """
-WHOLE = ". whole show --profile 3.4 --limit 4194304"       # the last line of the stand-in
+WHOLE = ". whole show --profile 3.4 --limit 4194304"       # the last line of STAND_IN
 LINE = re.compile(r"\d{4}-\d\d-\d\dT\d\d:\d\d:\d\d\.\d{3}Z (#\d+) (.*)")
 SECONDS = 20
 
