@@ -26,8 +26,7 @@ class Facts(NamedTuple):
     """What is known of a recording, or of a connection that has none. Times are milliseconds since 1970.
 
     A connection that was not captured whole has several recordings: `part` counts them, from 1, and the `client`, the
-    `server` and when the connection began, `connected`, are the same in all. `session` is the connection's, in
-    hexadecimal. Of the last part, `closed` is the side that ended the connection first, `reset` that which reset it,
+    `server`, when the connection began, `connected`, and its `session`, in hexadecimal, are the same in all. Of the last part, `closed` is the side that ended the connection first, `reset` that which reset it,
     `broken` the side and the error that broke it; or it is still `open`. `late` says that it began before the capture,
     and `snapped` that packets were not captured whole. `lost` counts the bytes of each side that are missing before the
     recording, and `hole` names the sides of which bytes are missing after it. `skipped` counts captured bytes that are
@@ -56,8 +55,9 @@ class Facts(NamedTuple):
     overlooked: bool = False
 
     def connection(self):
-        """What is the same of all parts of a connection, and of no others."""
-        return self.client, self.server, self.connected
+        """What is the same of all parts of a connection. Where two recordings have the same, and the same `part`, they
+        are of two connections, or of one that was recorded twice."""
+        return self.client, self.server, self.connected, self.session
 
     def has_hole(self):
         """Whether bytes are missing before or after it."""

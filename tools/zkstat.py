@@ -221,7 +221,8 @@ def begun(connection):
 
 def is_part(one, other):
     """Whether these are parts of one connection."""
-    return bool(one.facts and other.facts) and one.facts.connection() == other.facts.connection()
+    return bool(one.facts and other.facts) and one.facts.connection() == other.facts.connection() \
+        and one.facts.part != other.facts.part
 
 
 def time(moment):

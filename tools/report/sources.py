@@ -40,7 +40,8 @@ class Source:
             self.notes[word] = value if equals else None
 
     def take_facts(self, parts):
-        """Takes the facts beside the recording. `parts` has the first part of each connection that has several."""
+        """Takes the facts beside the recording. `parts` has the first part of each connection that has several, and
+        which parts there are."""
         self.facts = known = facts.facts_of(self.path)
         if known:
             self.server, self.begun, self.ended, self.part = known.server, known.begun, known.ended, known.part
@@ -49,10 +50,15 @@ class Source:
             self.join(parts)
 
     def join(self, parts):
-        """Joins the parts of its connection."""
-        if self.is_of_parts:
-            first = parts.setdefault(self.facts.connection(), self)
-            self.first = None if first is self else first
+        """Joins the parts of its connection; where this part is there already, another connection begins."""
+        if not self.is_of_parts:
+            return
+        first, numbers = parts.get(self.facts.connection(), (self, set()))
+        if self.part in numbers:
+            first, numbers = self, set()
+        numbers.add(self.part)
+        parts[self.facts.connection()] = first, numbers
+        self.first = None if first is self else first
 
 
 class Opener:

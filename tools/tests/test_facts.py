@@ -176,6 +176,13 @@ class Holes(FactsCase):
         found = json.loads(out)
         self.assertEqual((status, found["unanswered"], len(found["notCaptured"])), (1, [], 2))
 
+    def test_each_part_has_its_number(self):
+        for depth in (1, 8):
+            _, paths = self.recordings(depth, name=f"p{depth}")
+            self.assertGreater(len(paths), 3)
+            numbers = {path.stem: facts.facts_of(path).part for path in paths}
+            self.assertEqual(numbers, {stem: int(stem.partition(".")[2] or 1) for stem in numbers})
+
     def test_a_report(self):
         capture, paths = self.recordings(8)
         texts = []
@@ -277,6 +284,21 @@ class Others(FactsCase):
         made_up, sent = (value.to_bytes(8, "big", signed=True) for value in (-1, 0x1234))
         for session, wanted in ((made_up, None), (sent, "0x1234"), (bytes(8), None)):
             self.assertEqual(contents.session_in(bytes(8) + session + bytes(20)), wanted)
+
+    def test_connections_of_the_same_ends(self):
+        """Two that began at the same time are two, also where one was recorded twice."""
+        captures = [path for path in CAPTURES if path.stem in ("kazoo_basic", "go_basic")]
+        for number, path in enumerate((*captures, captures[0])):
+            capture = self.folder / f"{number}.pcap"
+            self.run_inside("zkr2pcap.py", path, capture)
+            self.run_inside("pcap2zkr.py", "--times", capture, self.folder / str(number))
+        names = [self.folder / f"{number}-1.zkr" for number in range(3)]
+        self.assertEqual(len({facts.facts_of(name).connection()[:3] for name in names}), 1)
+        for words, wanted in ((names[:2], "2 connections, 2 sessions, "), (names[::2], "2 connections, 1 sessions, "),
+                              (names, "3 connections, 2 sessions, ")):
+            for more in ((), ("--jobs", 2)):
+                status, out, err = self.run_tool("zkreport.py", "--text", *words, *more)
+                self.assertEqual((status, err, out[:len(wanted)]), (0, "", wanted))
 
     def test_zkskip_hands_them_on(self):
         path = self.copy("old")
