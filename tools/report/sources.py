@@ -35,9 +35,9 @@ class Source:
         self.part, self.notes, self.is_of_parts = 1, {}, False
 
     def take_words(self, words):
-        """Takes what is known of the connection, as pcap2zkr prints it."""
+        """Takes what is known of the connection, as pcap2zkr prints it; a word that comes twice has both values."""
         for word, equals, value in (each.partition("=") for each in words):
-            self.notes[word] = value if equals else None
+            self.notes[word] = ",".join(filter(None, (self.notes.get(word), value))) if equals else None
 
     def take_facts(self, parts):
         """Takes the facts beside the recording. `parts` has the first part of each connection that has several, and

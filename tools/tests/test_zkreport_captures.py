@@ -37,6 +37,12 @@ class Captures(ToolCase):
                          ["no ending line", "no ending line, resent=2, hole=S", "no ending line, lost=C:0,S:81",
                           "nothing recorded, late", "no ending line"])
 
+    def test_bytes_of_both_sides_are_missing(self):
+        line = LINES.splitlines()[1].replace(" hole=S", " hole=C hole=S")
+        self.assertIn(" hole=C hole=S", line)
+        connection, = self.run_of([line]).connections
+        self.assertEqual(summary.ending_of(connection), "no ending line, resent=2, hole=C,S")
+
     def test_parts_of_a_connection_are_of_its_session_and_have_no_gap(self):
         run = self.run_of(LINES.splitlines())
         first, other, later = run.connections[1], run.connections[4], run.connections[2]
