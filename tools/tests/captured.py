@@ -98,7 +98,8 @@ class PcapCase(ToolCase):
         first = {each.side: each.number + 1 for each in sent[:2]}
         for each in sent[3:]:
             if each.data:
-                least[each.side].append((each.number - first[each.side], each.acknowledged - first[zkr.OTHER[each.side]]))
+                least[each.side].append((each.number - first[each.side],
+                                         each.acknowledged - first[zkr.OTHER[each.side]]))
         written = {zkr.CLIENT: 0, zkr.SERVER: 0}
         for piece in pieces(made):
             end = written[piece.side] + len(piece.data)

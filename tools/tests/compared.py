@@ -19,15 +19,18 @@ from support import TOOLS, run_main, zkr
 
 import columns
 
-CHOICES = ((), ("--path", "/"), ("--path", "/a", "--path", "/kazoo"), ("--op", "event", "--op", "multi", "--op", "create"),
-           ("--slower", "0.5"), ("--from", "1763843467121", "--to", "1763843467190"), ("--session", "0x100003780a60004"),
+CHOICES = ((), ("--path", "/"), ("--path", "/a", "--path", "/kazoo"),
+           ("--op", "event", "--op", "multi", "--op", "create"), ("--slower", "0.5"),
+           ("--from", "1763843467121", "--to", "1763843467190"),
+           ("--session", "0x100003780a60004"),
            ("--op", "connect", "--path", "/", "--slower", "0"))
 FEW = CHOICES[:2]
 LONG = 70_000
 SMALL, E_ACUTE, BLANK = "612020", "c3a9", "e2808b"     # U+200B can't be printed
 TEXTS = ('~', '""', '"/a"', '"/\\c3\\a9"', '"/\\22\\5c"', '"/\\0a\\7f"', '"/\\e2\\80\\8b\\c3\\a9"', f'"/{"x" * LONG}"',
          f'"/{"x" * LONG}\\c3\\a9\\01{"y" * LONG}\\c3\\a9"', '"/\\f0\\9f\\98\\80"')
-BLOBS = ("~", "#", "#00", "#" + SMALL, "#0a0d09", "#7f", "#" + E_ACUTE, "#" + BLANK, "#ff", "#eda080", "#c0af", "#f4908080",
+BLOBS = ("~", "#", "#00", "#" + SMALL, "#0a0d09", "#7f", "#" + E_ACUTE, "#" + BLANK, "#ff", "#eda080", "#c0af",
+         "#f4908080",
          "#" + E_ACUTE * LONG, "#" + "61" * LONG + BLANK, "#" + "62" * LONG, "#61c3")
 LISTS = ("~", "[]", '["a"]', '["a","b"]', "[~]", '["a",~,"\\c3\\a9"]', '["\\22","b"]',
          "[" + ",".join(f'"{number}"' for number in range(14_000)) + "]", "[" + ",".join(['"\\00"'] * 7_000) + "]")
@@ -57,14 +60,16 @@ def values():
         yield from exchange(f"setData path=\"/a\" blob={blob} version=-1", "err=-103/BADVERSION")
     for names in LISTS:
         yield from exchange("getChildren path=\"/a\" watch=0", f"names={names}")
-        yield from (f"C -8 setWatches zxid=9 dataWatches={names} existWatches=[] childWatches=~", "S -8 setWatches zxid=0")
+        yield from (f"C -8 setWatches zxid=9 dataWatches={names} existWatches=[] childWatches=~",
+                    "S -8 setWatches zxid=0")
     yield from exchange(f'getChildren path="/{"x" * LONG}" watch=0', 'names=["a","b"]')
     yield from exchange("multi {}", "{}")
     yield from exchange("multi {delete path=~ version=1}", "err=-4/CONNECTIONLOSS")
     yield from exchange("multi {delete path=~ version=1;setData path=~ blob=~ version=3}",
                         f"{{delete;setData stat={STAT}}}")
     yield from exchange("multi {delete path=\"/a\" version=1}", "{fail err=0/OK}")
-    yield from ("C -2 ping", "C -4 auth kind=3 scheme=\"digest\" auth=#616263", "S -4 auth zxid=0", "C 900 closeSession")
+    yield from ("C -2 ping", "C -4 auth kind=3 scheme=\"digest\" auth=#616263", "S -4 auth zxid=0",
+                "C 900 closeSession")
 
 
 def cut(data, chance):
@@ -84,7 +89,8 @@ def cut(data, chance):
     if chance.random() < 0.4:
         del made[chance.randrange(len(made)):]
     if chance.random() < 0.1:
-        made += chance.choice((b"C", b"S\0\0", b"X", b"C\0\0\0\0", b"C\0\0\0\5", b"S" + b"\xff" * 4, b"C\x80" + bytes(11)))
+        made += chance.choice((b"C", b"S\0\0", b"X", b"C\0\0\0\0", b"C\0\0\0\5", b"S" + b"\xff" * 4,
+                               b"C\x80" + bytes(11)))
     return bytes(made), times
 
 
@@ -102,7 +108,8 @@ def lossy_recordings(folder, paths):
                 kept += whole[at:end]
             at = end
         capture.write_bytes(kept)
-        subprocess.run([sys.executable, TOOLS / "pcap2zkr.py", "--times", "--late", capture, prefix], stdout=subprocess.DEVNULL,
+        subprocess.run([sys.executable, TOOLS / "pcap2zkr.py", "--times", "--late", capture, prefix],
+                       stdout=subprocess.DEVNULL,
                        check=False)
     return sorted(folder.glob("lossy*.zkr"))
 
@@ -131,7 +138,8 @@ def recordings(zkdump, folder, paths):
             except zkr.Damaged:
                 continue
             if times and chance.random() < 0.1:
-                times[chance.randrange(len(times))] = chance.choice(("x", "1.", ".5", "1" * 20, "1.1234567890", "-1", " 1", ""))
+                times[chance.randrange(len(times))] = chance.choice(("x", "1.", ".5", "1" * 20, "1.1234567890", "-1",
+                                                                     " 1", ""))
             end = chance.choice(("\n", "\n", "\r\n", "\r"))
             path.with_name(path.name + ".times").write_bytes((end.join(times) + chance.choice(("", end))).encode())
         yield path

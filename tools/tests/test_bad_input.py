@@ -37,7 +37,8 @@ class BadInput(ToolCase):
 
     def test_a_full_disk(self):
         for command in (f"zkstat.py {LISTING}", f"zkjson.py {LISTING}"):
-            self.assert_ends(f"TOOLS/{command} > /dev/full", 3, f"{command[:9]}: standard output: No space left on device\n")
+            self.assert_ends(f"TOOLS/{command} > /dev/full", 3,
+                             f"{command[:9]}: standard output: No space left on device\n")
         done = self.shell(f"TOOLS/zkskip.py < {RECORDING} > /dev/full")
         self.assertEqual((done.returncode, done.stderr.decode().splitlines()[-1]),
                          (3, "zkskip.py: standard output: No space left on device"))

@@ -73,7 +73,8 @@ class Tools(ToolCase):
     def test_a_tool_that_fails_has_no_figures(self):
         if not PROGRAM.exists():
             self.skipTest("the program zkdump is not built")
-        done = subprocess.run([sys.executable, TOP / "bench" / "tools.py", "--megabytes", "1", "--python", "/bin/false"],
+        done = subprocess.run([sys.executable, TOP / "bench" / "tools.py", "--megabytes", "1", "--python",
+                               "/bin/false"],
                               capture_output=True, text=True, check=False)
         self.assertEqual((done.returncode, len(done.stdout.splitlines())), (1, 2), done.stdout)
         self.assertRegex(done.stderr, r"^/bin/false \S*/zkstat.py \S*/timed.zkr ended with status 1: ")

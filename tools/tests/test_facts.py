@@ -33,7 +33,8 @@ class FactsCase(ToolCase):
 
 class Format(FactsCase):
     def test_of_every_kind(self):
-        found = facts.Facts("pcap2zkr", "10.0.0.7:1", "[::1]:2181", 1.5, 2.5, 3.5, 2, "0x5", "3.5", "C", "S", "C:EIO", True,
+        found = facts.Facts("pcap2zkr", "10.0.0.7:1", "[::1]:2181", 1.5, 2.5, 3.5, 2, "0x5", "3.5", "C", "S", "C:EIO",
+                            True,
                             True, True, {"C": 1, "S": 2}, ("C", "S"), {"C": 3, "S": 4}, 5, True)
         path = self.folder / "a.zkr"
         path.write_bytes(b"ZKR1")
@@ -62,12 +63,16 @@ class Format(FactsCase):
         for name, value, told in (
                 ("recording", {"bytes": 9, "sha256": ""}, "they are of another recording, of 9 bytes"),
                 ("recording", {"bytes": 153, "sha256": "0"}, "they are of another recording of the same length"),
-                ("facts", 2, "this is no object of facts of version 1"), ("recording", 3, "this is no object of facts of "
+                ("facts", 2, "this is no object of facts of version 1"),
+                ("recording", 3, "this is no object of facts of "
                  "version 1"), ("hole", ["X"], "no facts have this value of 'hole'"),
-                ("hole", "S", "no facts have this value of 'hole'"), ("session", "5", "no facts have this value of 'session'"),
-                ("lost", {"C": -1, "S": 0}, "no facts have this value of 'lost'"), ("part", 1.5, "no facts have this value "
+                ("hole", "S", "no facts have this value of 'hole'"),
+                ("session", "5", "no facts have this value of 'session'"),
+                ("lost", {"C": -1, "S": 0}, "no facts have this value of 'lost'"),
+                ("part", 1.5, "no facts have this value "
                  "of 'part'"), ("client", "\x1b[2J", "no facts have this value of 'client'"),
-                ("closed", "X", "no facts have this value of 'closed'"), ("ended", -1, "no facts have this value of 'ended'")):
+                ("closed", "X", "no facts have this value of 'closed'"),
+                ("ended", -1, "no facts have this value of 'ended'")):
             path = self.without("r")
             facts.write(path, facts.Facts())
             self.change("r", **{name: value})
@@ -101,7 +106,8 @@ class Times(FactsCase):
         one, other = self.copy("one"), self.copy("other", range(10, 14))
         for words in (("--times", f"{other}.times", one), ("--times", f"{one}.times", other)):
             status, out, err = self.run_inside("zkstat.py", *words)
-            self.assertEqual((status, out, err), (1, "", f"zkstat.py: {words[1]} has the times of another recording than "
+            self.assertEqual((status, out, err),
+                             (1, "", f"zkstat.py: {words[1]} has the times of another recording than "
                                                          f"{words[2]}, by the facts beside them\n"))
         shutil.copyfile(f"{other}.times", f"{one}.times")
         self.assertEqual(self.run_inside("zkjson.py", one)[0], 1)
@@ -142,7 +148,8 @@ class Holes(FactsCase):
                 self.assertEqual((status, err, found["unanswered"]), (1, "", []))
                 self.assertEqual(found["operations"]["connect"]["asked"], 1)
                 self.assertEqual({each["session"] for each in found["connections"]}, {"0x5"})
-                asked, answered = (sum(each[word] for each in found["operations"].values()) for word in ("asked", "answered"))
+                asked, answered = (sum(each[word] for each in found["operations"].values())
+                                   for word in ("asked", "answered"))
                 self.assertEqual(asked - answered, len(found["notCaptured"]))
                 self.assertGreater(len(found["notCaptured"]), 0)
                 status, objects, _ = self.run_inside("zkjson.py", *paths)
@@ -170,7 +177,8 @@ class Holes(FactsCase):
         sent = talk.segments()
         gone = next(at for at, each in enumerate(sent) if each.data == talk.said[talk.pairs[n] - 1].data)
         capture = self.folder / "r.pcap"
-        capture.write_bytes(wire.pcap([(each.milliseconds, wire.packet(each)) for at, each in enumerate(sent) if at != gone]))
+        capture.write_bytes(wire.pcap([(each.milliseconds, wire.packet(each)) for at,
+                                       each in enumerate(sent) if at != gone]))
         self.run_inside("pcap2zkr.py", capture, self.folder / "r")
         status, out, _ = self.run_inside("zkstat.py", "--json", *sorted(self.folder.glob("r-*.zkr")))
         found = json.loads(out)
@@ -190,7 +198,8 @@ class Holes(FactsCase):
             page = self.folder / f"{len(texts)}.html"
             status, out, err = self.run_tool("zkreport.py", "--text", "-o", page, *words)
             self.assertEqual((status, err), (1, ""))
-            self.assertRegex(out.partition("\n")[0], r"^1 connections, 1 sessions, .* 0 failed, 0 unanswered, [1-9]\d* replies "
+            self.assertRegex(out.partition("\n")[0],
+                             r"^1 connections, 1 sessions, .* 0 failed, 0 unanswered, [1-9]\d* replies "
                              "not captured, 0 events$".replace("0 failed", r"\d+ failed"))
             self.assertIn("\nRequests whose replies, if there were any, were not captured\n", out)
             self.assertNotIn("\nUnanswered requests\n", out)
@@ -233,7 +242,8 @@ class Recorded(TroubleCase):
         self.tool.wait()
         found = json.loads((self.folder / "r-1.facts.json").read_text("ascii"))
         path = self.folder / "r-1.zkr"
-        self.assertEqual((found["tool"], found["closed"], found["server"]), ("record", "C", f"127.0.0.1:{self.echo.port}"))
+        self.assertEqual((found["tool"], found["closed"], found["server"]),
+                         ("record", "C", f"127.0.0.1:{self.echo.port}"))
         self.assertEqual((found["recording"], found["times"]), (facts.mark_of(path), facts.mark_of(f"{path}.times")))
         self.assertLess(found["begun"], found["ended"])
 

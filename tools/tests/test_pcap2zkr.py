@@ -109,7 +109,8 @@ class Forms(PcapCase):
         capture.write_bytes(capture_of(wire.conversation(pieces(SMALL[0].read_bytes()))))
         for words, closed, told in (("- PREFIX", "<&-", "-: standard input is closed, or a folder"),
                                     ("CAPTURE PREFIX", ">&-", "standard output is closed"),
-                                    ("CAPTURE PREFIX", ">/dev/full", "standard output: No space left on device; the recordings are "
+                                    ("CAPTURE PREFIX", ">/dev/full",
+                                     "standard output: No space left on device; the recordings are "
                                      "complete, and lines are lost")):
             with self.subTest(closed=closed):
                 words = words.replace("CAPTURE", str(capture)).replace("PREFIX", str(self.folder / "s"))
@@ -124,7 +125,8 @@ class Forms(PcapCase):
         """Its bytes are printed, also where standard output takes UTF-8 alone."""
         capture, prefix = self.folder / "c.pcap", bytes(self.folder) + b"/\xff"
         capture.write_bytes(capture_of(wire.conversation(pieces(SMALL[0].read_bytes()))))
-        done = subprocess.run([sys.executable, TOOLS / "pcap2zkr.py", capture, prefix], capture_output=True, check=False,
+        done = subprocess.run([sys.executable, TOOLS / "pcap2zkr.py", capture, prefix], capture_output=True,
+                              check=False,
                               env={**os.environ, "PYTHONIOENCODING": "utf-8:strict"})
         self.assertEqual((done.returncode, done.stderr, done.stdout.split()[0]), (0, b"", prefix + b"-1.zkr"))
 

@@ -100,15 +100,18 @@ class Zkr2pcap(ToolCase):
         sent = zkr2pcap.Sent(0, zkr.CLIENT, 1001, 2001, wire.PUSH | wire.ACK, b"abc")
         packet = zkr2pcap.ipv4(zkr.CLIENT, zkr2pcap.tcp(sent, 40_001, 2181))
         self.assertEqual(zkr2pcap.checksum(packet[:20]), bytes(2))
-        self.assertEqual(zkr2pcap.checksum(packet[12:20] + struct.pack(">HH", 6, len(packet) - 20) + packet[20:]), bytes(2))
+        self.assertEqual(zkr2pcap.checksum(packet[12:20] + struct.pack(">HH", 6, len(packet) - 20) + packet[20:]),
+                         bytes(2))
 
     def test_what_it_cannot_do(self):
         capture = self.convert(CONNECT)
         self.assertEqual(stat.S_IMODE(capture.stat().st_mode), 0o600)
         for words, status, told in (((CONNECT, capture), 3, f"{capture}: File exists"),
-                                    ((self.folder / "no", self.folder / "new"), 3, f"{self.folder}/no: No such file or directory"),
+                                    ((self.folder / "no", self.folder / "new"), 3,
+                                     f"{self.folder}/no: No such file or directory"),
                                     ((self.folder, self.folder / "new"), 3, f"{self.folder}: Is a directory"),
-                                    ((capture, self.folder / "new"), 1, f"{capture}: this is no recording, which begins with ZKR1 or ZKR2 "
+                                    ((capture, self.folder / "new"), 1,
+                                     f"{capture}: this is no recording, which begins with ZKR1 or ZKR2 "
                                      "(offset=0 reason=BadHead)")):
             with self.subTest(told=told):
                 self.assertEqual(self.run_tool("zkr2pcap.py", *words), (status, "", f"zkr2pcap.py: {told}\n"))
@@ -116,7 +119,8 @@ class Zkr2pcap(ToolCase):
         cut = self.folder / "cut.zkr"
         cut.write_bytes(CONNECT.read_bytes()[:40])
         status, _, err = self.run_tool("zkr2pcap.py", cut, self.folder / "front")
-        self.assertEqual((status, err), (1, f"zkr2pcap.py: {cut}: the recording ends within a piece, or within its head "
+        self.assertEqual((status, err),
+                         (1, f"zkr2pcap.py: {cut}: the recording ends within a piece, or within its head "
                                   "(offset=9 reason=Short)\n"))
         self.assertEqual(sum(len(packet) > 54 for _, packet in packets_of((self.folder / "front").read_bytes())), 1)
         self.assert_bad_words("zkr2pcap.py")

@@ -186,7 +186,8 @@ class Zkreport(ToolCase):
     def test_a_trace_needs_times(self):
         path = self.listing("a.show", LISTING.format(**HERE))
         status, out, err = self.run_tool("zkreport.py", "--trace", self.folder / "t", path)
-        self.assertEqual((status, out, err), (1, "", "zkreport.py: there are no times, which a trace needs: record with "
+        self.assertEqual((status, out, err),
+                         (1, "", "zkreport.py: there are no times, which a trace needs: record with "
                                                  "--times\n"))
         self.assertFalse((self.folder / "t").exists())
 
@@ -246,7 +247,8 @@ class Zkreport(ToolCase):
     def test_what_is_no_input(self):
         path = self.listing("words", "words")
         self.assertEqual(self.run_tool("zkreport.py", "--text", path),
-                         (1, "", f"zkreport.py: {path} is no capture, no recording, no listing of zkdump show, and has no "
+                         (1, "",
+                          f"zkreport.py: {path} is no capture, no recording, no listing of zkdump show, and has no "
                                 "lines of zkjson\n"))
         status, _, err = self.run_tool("zkreport.py", "--text", self.folder / "none")
         self.assertEqual((status, err.count("\n")), (3, 1))

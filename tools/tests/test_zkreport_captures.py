@@ -107,7 +107,8 @@ class Captures(ToolCase):
         recording = next(each for each in CAPTURES if each.stem == "kazoo_basic")
         packets = [(wire.BEGUN + number, wire.packet(sent, client=1 + number))
                    for number in range(3000) for sent in wire.conversation([], close=number % 2)]
-        packets += [(sent.milliseconds, wire.packet(sent)) for sent in wire.conversation(pieces(recording.read_bytes()))]
+        packets += [(sent.milliseconds,
+                     wire.packet(sent)) for sent in wire.conversation(pieces(recording.read_bytes()))]
         path, page = self.folder / "empty.pcap", self.folder / "empty.html"
         path.write_bytes(wire.pcap(packets))
         status, out, err = self.run_tool("zkreport.py", "--text", "-o", page, path)

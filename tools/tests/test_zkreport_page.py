@@ -61,7 +61,8 @@ class PageCase(ToolCase):
         if name not in self.pages:
             path = self.made / f"{name}.html"
             inputs = [source(self.made / f"{name}{number}.json") for number, source in enumerate(sources)]
-            self.assertEqual(self.run_tool("zkreport.py", "-o", path, *words, *inputs, seconds=SECONDS), (status, "", ""))
+            self.assertEqual(self.run_tool("zkreport.py", "-o", path, *words, *inputs, seconds=SECONDS),
+                             (status, "", ""))
             self.pages[name] = path
         return self.pages[name]
 
@@ -173,7 +174,8 @@ class Script(ToolCase):
 
     def test_the_axis_of_latencies(self):
         """Latencies of no milliseconds, as whole ones often are, have an axis; where there are none there is none."""
-        for milliseconds, wanted in (((), None), (("NaN",), None), ((0, "NaN", 0), [0, 1, True]), ((0, 3), [0, 1, True]),
+        for milliseconds, wanted in (((), None), (("NaN",), None), ((0, "NaN", 0), [0, 1, True]),
+                                     ((0, 3), [0, 1, True]),
                                      ((0.02, 30), [-2, 2, True])):
             self.assertEqual(self.axis(*milliseconds), wanted, milliseconds)
 

@@ -270,7 +270,8 @@ class Zkstat(ToolCase):
                 path = self.folder / "wrong.show"
                 path.write_text(f"C -2 ping\n{line}\n", "ascii")
                 status, out, err = self.run_tool(*words, path)
-                self.assertEqual((status, out, err), (1, "", f"{words[0]}: {path}: line 2: from column {column} on this "
+                self.assertEqual((status, out, err),
+                                 (1, "", f"{words[0]}: {path}: line 2: from column {column} on this "
                                                       "is no line as zkdump show writes it\n"))
 
     def test_latencies(self):
@@ -323,5 +324,6 @@ class Zkstat(ToolCase):
             self.assert_bad_words("zkstat.py", *words)
         self.assertEqual(self.run_tool("zkstat.py", stdin=b"nonsense\n")[::2],
                          (1, "zkstat.py: line 1: from column 1 on this is no line as zkdump show writes it\n"))
-        self.assertEqual(self.run_tool("zkstat.py"), (1, "", "zkstat.py: standard input is empty: a listing has at least "
+        self.assertEqual(self.run_tool("zkstat.py"),
+                         (1, "", "zkstat.py: standard input is empty: a listing has at least "
                                                          "its last line, as zkdump show writes it\n"))
