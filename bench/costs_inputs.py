@@ -1,7 +1,7 @@
 """The inputs of costs.py: small recordings, each made by seed, so with the same bytes each time.
 
-A row of costs.py names its input. The lists are those of the replies to getChildren, the texts are the paths of syncs and
-of their replies.
+A row of costs.py names its input. The lists are those of the replies to getChildren, the texts are the paths of syncs
+and of their replies.
 """
 
 import io
@@ -34,7 +34,8 @@ class Foreign(making.Small):
     """As small, with every path and name in Cyrillic or Chinese."""
 
     def path(self):
-        forms = ("/Настройки/ключ-%04d", "/Службы/узел-%04d", "/服务/配置/节点-%04d", "/应用程序/键-%04d", "/Брокеры/темы/主题-%04d")
+        forms = ("/Настройки/ключ-%04d", "/Службы/узел-%04d", "/服务/配置/节点-%04d", "/应用程序/键-%04d",
+                 "/Брокеры/темы/主题-%04d")
         return self.chance.choice(forms) % self.chance.randrange(10_000)
 
     def names(self):

@@ -17,13 +17,12 @@ import pathlib
 import selectors
 import socket
 import statistics
-import subprocess
 import sys
 import tempfile
 import time
 from multiprocessing import Pipe, Process
 
-from measure_record import ASK, connect
+from measure_record import ASK, begin, connect, serve
 
 TOOLS = pathlib.Path(__file__).resolve().parent.parent / "tools"
 ALONE = 2                   # the seconds that the busy clients are alone
@@ -37,27 +36,6 @@ def clocks(process):
 
 def since(begun, process):
     return tuple(now - then for now, then in zip(clocks(process), begun))
-
-
-def serve(listener):
-    """Answers with the bytes that it receives, whatever becomes of a client."""
-    ready = selectors.DefaultSelector()
-    ready.register(listener, selectors.EVENT_READ)
-    while True:
-        for key, _ in ready.select():
-            if key.fileobj is listener:
-                client, _ = listener.accept()
-                client.setsockopt(socket.IPPROTO_TCP, socket.TCP_NODELAY, 1)
-                ready.register(client, selectors.EVENT_READ)
-                continue
-            try:
-                data = key.fileobj.recv(1 << 16)
-                key.fileobj.sendall(data)
-            except OSError:
-                data = b""
-            if not data:
-                ready.unregister(key.fileobj)
-                key.fileobj.close()
 
 
 def be_busy(port, process, clients, pause, told):
@@ -108,9 +86,7 @@ def come(port, process, clients):
 def measured(tools, server, words):
     """A run: by the clock and by the processor, the figures of a row."""
     with tempfile.TemporaryDirectory() as folder:
-        recorder = subprocess.Popen([sys.executable, tools / "record.py", "0", f"127.0.0.1:{server}", f"{folder}/r"],
-                                    stdout=subprocess.DEVNULL, stderr=subprocess.PIPE, text=True)
-        port = int(recorder.stderr.readline().split(";")[0].rpartition(":")[2])
+        recorder, port = begin(tools / "record.py", server, folder)
         told, end = Pipe()
         busy = Process(target=be_busy, args=(port, recorder.pid, words.busy, words.pause / 1000, end), daemon=True)
         busy.start()

@@ -23,7 +23,7 @@ ASK = bytes(100)
 
 
 def serve(listener):
-    """Answers with the bytes that it receives."""
+    """Answers with the bytes that it receives, whatever becomes of a client."""
     ready = selectors.DefaultSelector()
     ready.register(listener, selectors.EVENT_READ)
     while True:
@@ -32,11 +32,22 @@ def serve(listener):
                 client, _ = listener.accept()
                 client.setsockopt(socket.IPPROTO_TCP, socket.TCP_NODELAY, 1)
                 ready.register(client, selectors.EVENT_READ)
-            elif data := key.fileobj.recv(1 << 18):
+                continue
+            try:
+                data = key.fileobj.recv(1 << 18)
                 key.fileobj.sendall(data)
-            else:
+            except OSError:
+                data = b""
+            if not data:
                 ready.unregister(key.fileobj)
                 key.fileobj.close()
+
+
+def begin(record, server, folder):
+    """A recorder in front of the server at this port, which records in the folder; and the port that it listens on."""
+    recorder = subprocess.Popen([sys.executable, record, "0", f"127.0.0.1:{server}", f"{folder}/r"],
+                                stdout=subprocess.DEVNULL, stderr=subprocess.PIPE, text=True)
+    return recorder, int(recorder.stderr.readline().split(";")[0].rpartition(":")[2])
 
 
 def connect(port):
@@ -107,9 +118,7 @@ def main():
     server.start()
     direct = listener.getsockname()[1]
     with tempfile.TemporaryDirectory() as folder:
-        recorder = subprocess.Popen([sys.executable, RECORD, "0", f"127.0.0.1:{direct}", f"{folder}/r"],
-                                    stdout=subprocess.DEVNULL, stderr=subprocess.PIPE, text=True)
-        through = int(recorder.stderr.readline().split(";")[0].rpartition(":")[2])
+        recorder, through = begin(RECORD, direct, folder)
         print("| | Clients | Requests at once | p50 ms | p99 ms | Rounds a second |\n|---|---|---|---|---|---|")
         row("direct", direct, words)
         row("through record.py", through, words)

@@ -28,15 +28,15 @@ sys.path.insert(0, str(TOOLS))
 import zkr  # noqa: E402
 
 PROGRAM = TOP / "crates" / "zkdump" / "out" / "zkdump"
-RUNS = (("check", None), ("zkstat.py", ("{timed}",)), ("zkstat.py", ("--path", "/", "{timed}")), ("zkjson.py", ("{timed}",)),
-        ("zkreport.py", ("--text", "{timed}")), ("zkreport.py", ("-o", "{page}", "{timed}")),
-        ("pcap2zkr.py", ("--times", "{capture}", "{made}")))
+RUNS = (("check", None), ("zkstat.py", ("{timed}",)), ("zkstat.py", ("--path", "/", "{timed}")),
+        ("zkjson.py", ("{timed}",)), ("zkreport.py", ("--text", "{timed}")),
+        ("zkreport.py", ("-o", "{page}", "{timed}")), ("pcap2zkr.py", ("--times", "{capture}", "{made}")))
 
 
 def make(folder, megabytes):
     """The recording with its times, and the capture; how many messages there are."""
-    subprocess.run([sys.executable, TOP / "bench" / "make_recording.py", "small", str(megabytes), folder / "small.zkr"], check=True,
-                   stdout=subprocess.DEVNULL)
+    subprocess.run([sys.executable, TOP / "bench" / "make_recording.py", "small", str(megabytes), folder / "small.zkr"],
+                   check=True, stdout=subprocess.DEVNULL)
     chance, moment, count, cutter = random.Random(5), 1763843467120.0, 0, zkr.Cutter(zkr.LARGEST_FRAMES)
     with open(folder / "small.zkr", "rb") as source, open(folder / "timed.zkr", "wb") as made, \
             open(folder / "timed.zkr.times", "w", encoding="ascii") as times:
@@ -57,6 +57,8 @@ def spent(words, **more):
     before = resource.getrusage(resource.RUSAGE_CHILDREN)
     done = subprocess.run(["/usr/bin/env", "time", "-f", "%M", *map(str, words)], stdout=subprocess.DEVNULL,
                           stderr=subprocess.PIPE, text=True, check=False, **more)
+    if done.returncode:
+        raise SystemExit(f"{' '.join(map(str, words))} ended with status {done.returncode}: {done.stderr.strip()}")
     after = resource.getrusage(resource.RUSAGE_CHILDREN)
     return after.ru_utime + after.ru_stime - before.ru_utime - before.ru_stime, int(done.stderr.split()[-1]) // 1024
 
@@ -76,8 +78,8 @@ def one_core(python, folder, count):
             else:
                 command = [python, TOOLS / tool, *(word.format(**names) for word in words)]
                 found.append(spent(command, env={**os.environ, **environment}))
-        print(f"{' '.join([tool, *(words or ())[:-1]]):<24}", *(f"{seconds / count * 1e6:8.2f}" for seconds, _ in found),
-              f"{found[0][1]:6}", flush=True)
+        figures = [f"{seconds / count * 1e6:8.2f}" for seconds, _ in found]
+        print(f"{' '.join([tool, *(words or ())[:-1]]):<24}", *figures, f"{found[0][1]:6}", flush=True)
 
 
 def many_cores(python, folder, jobs):

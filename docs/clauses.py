@@ -39,7 +39,8 @@ def clauses_at(text, at):
 
 
 def known():
-    """By each name of a function, with its type and without, the names of its clauses; by each name of a type its calls."""
+    """By each name of a function, with its type and without, the names of its clauses; by each name of a type its
+    calls."""
     clauses, members = collections.defaultdict(set), collections.defaultdict(set)
     for path in sorted((TOP / "crates").glob("*/src/*.rt")):
         text = re.sub(r"//.*", "", path.read_text())

@@ -7,7 +7,8 @@ It prints each page's words (those of `wc -w`, without the parts that scripts wr
 sentence. With --check it prints only what is wrong: a page or docs/ above its limit of words, a sentence above the
 page's, a word of DIALECT more often than its number allows, a date, a machine or an hour outside of bench/README.md and
 CHANGELOG.md, a link between pages whose file or heading isn't there, and a word of DIALECT in a script's comments or
-texts, which are its messages and help, or in a comment of a crate's sources. There a fast form "stands for" a plain one.
+texts, which are its messages and help, or in a comment of a crate's sources. There a fast form "stands for" a plain
+one.
 
 A sentence ends with a full stop, a question or an exclamation mark; a table's cell, an item of a list and a heading are
 sentences of their own. Code within a sentence is one word; blocks of code are none.
@@ -23,7 +24,8 @@ import tokenize
 TOP = pathlib.Path(__file__).resolve().parent.parent
 
 # The greatest number of words of a page, and of all of docs/; and of words in one sentence.
-WORDS = {"README.md": 1300, "tools/README.md": 3500, "docs/DECISIONS.md": 3000, "docs/MUST_FAIL.md": 1500, "docs/": 22000}
+WORDS = {"README.md": 1300, "tools/README.md": 3500, "docs/DECISIONS.md": 3000, "docs/MUST_FAIL.md": 1500,
+         "docs/": 22000}
 SHORT, LONG = 40, 60
 
 # The page of what was measured and changed for speed, which docs/ is counted without.

@@ -73,8 +73,10 @@ def missing():
 
 def libc(*paths):
     """The version of the C library that is needed, by the versions of the names that these files use."""
-    text = "".join(subprocess.run(["objdump", "-T", path], capture_output=True, text=True, check=True).stdout for path in paths)
-    newest = max((tuple(map(int, version.split("."))) for version in re.findall(r"\bGLIBC_([\d.]+)", text)), default=(2, 2))
+    text = "".join(subprocess.run(["objdump", "-T", path], capture_output=True, text=True,
+                                  check=True).stdout for path in paths)
+    newest = max((tuple(map(int, version.split("."))) for version in re.findall(r"\bGLIBC_([\d.]+)", text)),
+                 default=(2, 2))
     return f"libc6 (>= {'.'.join(map(str, newest))})"
 
 

@@ -1,5 +1,6 @@
 #!/usr/bin/env python3
-"""What a passed gate says at its end of what it has passed: the commit, and the checksums of the program and the library.
+"""What a passed gate says at its end of what it has passed: the commit, and the checksums of the program and the
+library.
 
 ./test prints these lines last, and ./release takes a log only where they are its last lines still.
 """

@@ -25,7 +25,8 @@ def escaped(text):
 
 def calls():
     """Each function of the header, with its comment there."""
-    for said, function in re.findall(r"/\* ((?:(?!\*/).)*?) \*/\n([a-z][\w ]*[ *]zk_\w+\([^)]*\);)", HEADER.read_text(), re.S):
+    for said, function in re.findall(r"/\* ((?:(?!\*/).)*?) \*/\n([a-z][\w ]*[ *]zk_\w+\([^)]*\);)",
+                                     HEADER.read_text(), re.S):
         yield f"*{escaped(function)}*\n\t{escaped(said.replace(chr(10) + ' *', ' '))}\n"
 
 

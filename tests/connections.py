@@ -1,13 +1,12 @@
 """Tests of the plugin for Wireshark that are about connections: pairs, losses, captures in disorder, and passes."""
 
-import collections
 import json
 import random
 import re
 import subprocess
 
 import dissected
-from dissected import TOP, capture_of, joined, lossy, pieces_of, wire
+from dissected import TOP, joined, lossy, pieces_of, wire
 from captured import disturbed
 
 CAPTURES = sorted((TOP / "captures").glob("*.zkr"))

@@ -20,7 +20,8 @@ from build_library import LIBRARY  # noqa: E402
 
 NOBODY = 65534
 PROFILES = {"3.4": "ZooKeeper 3.4", "3.5": "ZooKeeper 3.5 (create2)"}
-FLAGS = ("-std=gnu11", "-fPIC", "-shared", "-fvisibility=hidden", "-Wall", "-Wextra", "-Werror", f"-I{TOP / 'include'}", f"-I{SOURCES}")
+FLAGS = ("-std=gnu11", "-fPIC", "-shared", "-fvisibility=hidden", "-Wall", "-Wextra", "-Werror",
+         f"-I{TOP / 'include'}", f"-I{SOURCES}")
 SANITIZED = ("-O1", "-g", "-fsanitize=address,undefined", "-fno-sanitize=alignment")
 BOOLEANS = ("zookeeper.watch", "zookeeper.read_only", "zookeeper.part.done")
 # What no run may say.
@@ -47,7 +48,8 @@ def missing_for_cmake():
 
 
 def words_of_pkg(*words):
-    return subprocess.run(["pkg-config", *words, "wireshark"], capture_output=True, text=True, check=True).stdout.split()
+    return subprocess.run(["pkg-config", *words, "wireshark"], capture_output=True, text=True,
+                          check=True).stdout.split()
 
 
 class Plugin:
@@ -69,7 +71,8 @@ class Plugin:
         if sanitized:
             preloaded = [subprocess.run(["cc", f"-print-file-name={name}"], capture_output=True, text=True,
                                         check=True).stdout.strip() for name in ("libasan.so", "libubsan.so")]
-            self.environment.update(LD_PRELOAD=" ".join(preloaded), ASAN_OPTIONS="detect_leaks=0:detect_odr_violation=0")
+            self.environment.update(LD_PRELOAD=" ".join(preloaded),
+                                    ASAN_OPTIONS="detect_leaks=0:detect_odr_violation=0")
         for path in (pathlib.Path(folder), *pathlib.Path(folder).rglob("*")):
             path.chmod(0o755 if path.is_dir() or path.suffix == ".so" else 0o644)
         self.capture = pathlib.Path(folder, "capture.pcap")

@@ -230,7 +230,8 @@ def measure_client(program):
         found = subprocess.run(words, capture_output=True, text=True)
         server.shutdown()
     closings = [bytes.fromhex(f"{xid:08x} fffffff5") for xid in (25, *(1,) * 20)]
-    good = found.returncode == 0 and len(re.findall(r"^(?:getData|session): [0-9.]+ micro.* of 20$", found.stdout, re.M)) == 2
+    good = found.returncode == 0 and len(re.findall(r"^(?:getData|session): [0-9.]+ micro.* of 20$", found.stdout,
+                                                    re.M)) == 2
     yield "client, rounds", good, f"client: {found.returncode}, {found.stdout}{found.stderr}"
     heard = [payload for payload in server.heard if payload[4:] == closings[0][4:]]
     yield "client, sessions", heard == closings, f"client: it ends sessions by {heard}"

@@ -9,8 +9,8 @@ The fields of payloads, and of recordings' messages, are compared with a second 
 messages.py), and those of requests written again (written.py). Handles that are begun anew are compared with new ones
 (renewed.py). The examples and the tests in C are compiled and run (examples.py): listings of every recording, a proxy
 and a client over sockets, null pointers, handles that go from thread to thread, the memory that stays of closed ones,
-and --calls (1,000,000) calls at random between guard pages, from a seed. The packages for Python, Rust and Go are built, and run their own tests
-(packages.py). What is skipped, since a compiler or a module is missing, is reported.
+and --calls (1,000,000) calls at random between guard pages, from a seed. The packages for Python, Rust and Go are
+built, and run their own tests (packages.py). What is skipped, since a compiler or a module is missing, is reported.
 
 Where no other is named, the library is proved and built here, over the libraries below it that `rt ci` left; where it
 left none, `rt lib` proves these too. It prints what failed and one last line. The status is 0 where nothing did.

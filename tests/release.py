@@ -3,8 +3,8 @@
 
     release.py
 
-The number in VERSION is that of zk.h and of CHANGELOG.md. The header compiles without a warning as C11 and as C++17. The
-archive is unpacked: its program prints the listing of a recording, and examples/listing.c, linked with each of its
+The number in VERSION is that of zk.h and of CHANGELOG.md. The header compiles without a warning as C11 and as C++17.
+The archive is unpacked: its program prints the listing of a recording, and examples/listing.c, linked with each of its
 libraries, too. The libraries export the header's functions and no other name. The Debian packages are installed below a
 folder, used and removed. A second release has the same bytes. What is skipped, since a tool is missing, is reported.
 
@@ -117,8 +117,10 @@ def logs():
     commit, program, library = (line.rpartition(": ")[2] for line in lines)
     cases = {"its own": (passed, 0), "another commit's": (passed.replace(commit, "0" * 40), 1),
              "another program's": (passed.replace(program, "0" * 64), 1),
-             "another library's": (passed.replace(library, "0" * 64), 1), "no log": ("/bin/true\n", 3), "empty": ("", 3),
-             "one of another end": (f"{passed}more\n", 1), "one that failed": (passed.replace("0 failed", "1 failed"), 1)}
+             "another library's": (passed.replace(library, "0" * 64), 1), "no log": ("/bin/true\n", 3),
+             "empty": ("", 3),
+             "one of another end": (f"{passed}more\n", 1),
+             "one that failed": (passed.replace("0 failed", "1 failed"), 1)}
     usual = set(release.faults(None))
     for name, (log, count) in cases.items():
         found = [line for line in release.faults(log) if line not in usual]
@@ -173,7 +175,8 @@ def libraries(top, work):
     """Programs over both libraries of a prefix, and the names that these show."""
     archive, shared = top / "lib" / "libzk.a", top / "lib" / "libzk.so.1"
     example, loaded = TOP / "examples" / "listing.c", {"LD_LIBRARY_PATH": str(top / "lib")}
-    for name, words in (("libzk.a", ("-g", "--defined-only", archive)), ("libzk.so.1", ("-D", "--defined-only", shared))):
+    for name, words in (("libzk.a", ("-g", "--defined-only", archive)),
+                        ("libzk.so.1", ("-D", "--defined-only", shared))):
         shown = {line.split()[2].split("@")[0] for line in run("nm", *words).stdout.decode().splitlines()
                  if len(line.split()) == 3 and line.split()[1] != "A"}
         yield name, shown == set(make_library.calls()), f"{name} shows {sorted(shown ^ set(make_library.calls()))}"
@@ -191,7 +194,8 @@ def libraries(top, work):
     yield ends_well("cc with libzk.a", "cc", *STRICT, f"-I{top / 'include'}", "-o", work / "listing", example, archive)
     yield lists("listing.c over libzk.a", work / "listing", RECORDING)
     if not skip("zk.pc", "pkg-config"):
-        found = run("pkg-config", "--cflags", "--libs", "zk", env={**os.environ, "PKG_CONFIG_PATH": str(top / "lib/pkgconfig")})
+        found = run("pkg-config", "--cflags", "--libs", "zk",
+                    env={**os.environ, "PKG_CONFIG_PATH": str(top / "lib/pkgconfig")})
         words = found.stdout.decode().split()
         yield ends_well("cc with zk.pc", "cc", *STRICT, "-o", work / "listing", example, *words)
         yield lists("listing.c over libzk.so.1", work / "listing", RECORDING, **loaded)
@@ -219,7 +223,8 @@ def packages(dist, root):
     for folder in ("info", "updates"):
         (state / folder).mkdir(parents=True)
     (state / "status").touch()
-    dpkg = ("dpkg", f"--root={root}", f"--log={root}.log", "--force-depends", "--force-script-chrootless", "--force-not-root")
+    dpkg = ("dpkg", f"--root={root}", f"--log={root}.log", "--force-depends", "--force-script-chrootless",
+            "--force-not-root")
     yield ends_well("dpkg --install", *dpkg, "--install", *sorted(dist.glob("*.deb")))
     yield lists("the package's program", root / "usr/bin/zkdump", "show")
     yield ends_well("the package's tool", root / "usr/bin/zkjson", "--help")

@@ -34,7 +34,8 @@ REFUSED = (
     ((*BEGUN, ("C", MULTI)), "S", "00000003 0000000000000005 00000000 00000001 00 00000000", "BAD_PART"),
     (BEGUN, "S", EVENT[:26] + "00000001" + EVENT[34:], "EVENT_ERR"),
     (BEGUN, "C", None, "LENGTH_RANGE"), (ASKED, "S", None, "LENGTH_RANGE"),
-    ((*BEGUN, *(("C", EXISTS),) * WAITING), "C", EXISTS, "QUEUE_FULL"), ((*ASKED, ("C", PING)), "C", MULTI, "QUEUE_FULL"),
+    ((*BEGUN, *(("C", EXISTS),) * WAITING), "C", EXISTS, "QUEUE_FULL"),
+    ((*ASKED, ("C", PING)), "C", MULTI, "QUEUE_FULL"),
     (BEGUN, "S", NO_NODE, "UNASKED"), ((), "S", WELCOME, "UNASKED"),
     ((*ASKED, ("C", SECOND)), "S", "00000002" + NO_NODE[8:], "XID_ORDER"),
 )
@@ -134,7 +135,8 @@ def after_faults(again, numbers_of, follows):
         status = again.give(bytes_of((*before, (side, digits))))
         yield reason, status == numbers_of[reason], f"{side} {digits}: the status {status}, not {reason}"
         yield again.agree(f"{side} {digits}, {reason}", follows)
-    for side, digits, before in (("C", MULTI, BEGUN), ("S", NO_NODE, ASKED), ("C", HELLO, ()), ("S", WELCOME, BEGUN[:1])):
+    for side, digits, before in (("C", MULTI, BEGUN), ("S", NO_NODE, ASKED), ("C", HELLO, ()),
+                                 ("S", WELCOME, BEGUN[:1])):
         whole = frame(digits)
         for cut in range(len(whole) + 1):
             status = again.give([*bytes_of(before), (0 if side == "C" else 1, whole[:cut])])
@@ -182,7 +184,8 @@ def speakers(talk, library, listings):
         for number in range(200):
             lines = chance.choice(listings)[:chance.randrange(1, 30)]
             if chance.random() < 0.5:
-                lines[chance.randrange(len(lines))] = chance.choice((b"", b"C 1 ping", b"S 9 sync", chance.choice(lines)))
+                lines[chance.randrange(len(lines))] = chance.choice((b"", b"C 1 ping", b"S 9 sync",
+                                                                     chance.choice(lines)))
             status = library.zk_speaker_renew(kept.handle)
             found = list(answers.said(kept.handle, lines))
             with talk.Speaker(library, limit=LIMIT, waiting=WAITING, profile=PROFILE) as new:

@@ -2,8 +2,8 @@
 
 tests/library.py calls it. The messages are those of the table of tests/fields.py and of the stored recordings. Their
 fields are read by the reader there. They are written over the payload, and over a content that has the texts and blobs
-alone: each time the frame has to be the payload's. With less room nothing is written. Messages that are written by hand
-have the bytes of docs/FORMATS.md. Fields that say nothing are reported by their index.
+alone: each time the frame has to be the payload's. With less room nothing is written. Messages that are written by
+hand have the bytes of docs/FORMATS.md. Fields that say nothing are reported by their index.
 """
 
 import collections

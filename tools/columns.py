@@ -30,7 +30,7 @@ NOT_READ = 4                    # the status of a recording whose trouble the pl
 ERROR, XID, PATH, NULL_PATH, CHOSEN, WATCH, MADE_UP = (1 << bit for bit in range(7))
 CLIENT = ord("C")
 CONNECT, EVENT = 1000, 1001     # in place of an operation's number
-# The fields of a record, as columns.c has them.
+# The fields of a record, as columns/state.h has them.
 FIELDS = (("n", "u8"), ("of", "u8"), ("moment", "f8"), ("asked_moment", "f8"), ("microseconds", "f8"), ("zxid", "i8"),
           ("text", "u8"), ("text_length", "u4"), ("at_length", "u4"), ("path", "u4"), ("path_length", "u4"),
           ("xid", "i4"), ("operation", "i4"), ("error", "i4"), ("flags", "u2"), ("side", "u1"), ("spare", "u1"))
@@ -223,7 +223,8 @@ class Columns(listing.Listing):
         for block in self.blocks():
             text, paths = block.text.decode(), block.paths
             for record in RECORD.iter_unpack(block.records):
-                n, of, moment, _, microseconds, _, begin, length, at_length, place, size, xid, op, _, flags, side, _ = record
+                (n, of, moment, _, microseconds, _, begin, length, at_length, place, size, xid, op, _, flags, side,
+                 _) = record
                 name, xid, path = operations[op], str(xid) if flags & XID else nothing, nothing
                 if flags & PATH and not of:
                     path = "~" if flags & NULL_PATH else listing.spelled(paths[place:place + size].decode())

@@ -6,6 +6,7 @@ import facts
 import zkr
 
 LARGEST_CONNECTED = 1 << 10
+MADE_UP = b"\xff" * 8       # the session in a connect response that pcap2zkr makes up
 
 
 def session_of(path):
@@ -27,7 +28,7 @@ def session_of(path):
 def session_in(payload):
     """The session of a connect response; None where it has none."""
     session = payload[8:16]
-    return f"0x{int.from_bytes(session, 'big'):x}" if any(session) else None
+    return f"0x{int.from_bytes(session, 'big'):x}" if any(session) and session != MADE_UP else None
 
 
 def times_beside(path, beside=None):

@@ -189,6 +189,7 @@ class Conversation:
         """Writes bytes."""
         if not stretch.recording:
             stretch.recording, self.number, self.part = self.series.next(self.number, self.part)
+            stretch.part = self.part
             if not stretch.whole:
                 for each in SIDES:
                     stretch.recording.take(each, number, milliseconds, MADE_UP[each])
@@ -275,7 +276,7 @@ class Conversation:
         first, began = (recording.first, recording.began) if lost and recording else (stretch.first, stretch.began)
         known = facts.Facts(
             tool="pcap2zkr", client=self.client, server=self.server, connected=self.began, begun=began, ended=ended,
-            part=self.part, session=self.session, profile=self.series.profile(), late=self.late and not lost,
+            part=stretch.part, session=self.session, profile=self.series.profile(), late=self.late and not lost,
             snapped=self.stream.snapped, lost=by_letter(stretch.lost), unasked=stretch.unasked,
             overlooked=not stretch.anchored and stretch.skipped[zkr.SERVER] > 0,
             skipped=by_letter(stretch.skipped) if whole and not stretch.whole else None,

@@ -18,7 +18,7 @@ from newfile import NewFile
 VERSION, MARKED, LONGEST = 1, 1 << 16, 1 << 16
 SIDES = ("C", "S")
 NO_BYTES = {"C": 0, "S": 0}
-PRINTABLE = re.compile("[!-~]{1,200}")
+PRINTABLE, LONGEST_NAME = re.compile("[!-~]{1,200}"), 300
 SESSION = re.compile("0x[0-9a-f]{1,16}")
 
 
@@ -26,8 +26,7 @@ class Facts(NamedTuple):
     """What is known of a recording, or of a connection that has none. Times are milliseconds since 1970.
 
     A connection that was not captured whole has several recordings: `part` counts them, from 1, and the `client`, the
-    `server` and when the connection began, `connected`, are the same in all. `session` is the connection's, in
-    hexadecimal. Of the last part, `closed` is the side that ended the connection first, `reset` that which reset it,
+    `server`, when the connection began, `connected`, and its `session`, in hexadecimal, are the same in all. Of the last part, `closed` is the side that ended the connection first, `reset` that which reset it,
     `broken` the side and the error that broke it; or it is still `open`. `late` says that it began before the capture,
     and `snapped` that packets were not captured whole. `lost` counts the bytes of each side that are missing before the
     recording, and `hole` names the sides of which bytes are missing after it. `skipped` counts captured bytes that are
@@ -56,8 +55,9 @@ class Facts(NamedTuple):
     overlooked: bool = False
 
     def connection(self):
-        """What is the same of all parts of a connection, and of no others."""
-        return self.client, self.server, self.connected
+        """What is the same of all parts of a connection. Where two recordings have the same, and the same `part`, they
+        are of two connections, or of one that was recorded twice."""
+        return self.client, self.server, self.connected, self.session
 
     def has_hole(self):
         """Whether bytes are missing before or after it."""
@@ -80,8 +80,9 @@ class Facts(NamedTuple):
         return words + [f"hole={side}" for side in self.hole] + ["snapped"] * self.snapped
 
     def to_object(self):
-        """The members that have another value than usual."""
-        return {name: value for name, value in self._asdict().items() if value != self._field_defaults[name]}
+        """The members that have another value than usual, as JSON has them."""
+        made = {name: value for name, value in self._asdict().items() if value != self._field_defaults[name]}
+        return {**made, "hole": list(self.hole)} if self.hole else made
 
 
 def counts(found):
@@ -90,6 +91,11 @@ def counts(found):
 
 def is_text(value):
     return isinstance(value, str) and bool(PRINTABLE.fullmatch(value))
+
+
+def is_address(value):
+    """Whether this is a text as record.py takes an address: the name of a host may have letters of any script."""
+    return isinstance(value, str) and 0 < len(value) <= LONGEST_NAME and value.isprintable()
 
 
 def is_number(value):
@@ -109,7 +115,7 @@ def are_counts(value):
 
 
 CHECKS = {
-    **dict.fromkeys(("tool", "client", "server", "broken"), is_text),
+    **dict.fromkeys(("tool", "broken"), is_text), **dict.fromkeys(("client", "server"), is_address),
     **dict.fromkeys(("connected", "begun", "ended"), is_number), **dict.fromkeys(("part", "unasked"), is_count),
     **dict.fromkeys(("open", "late", "snapped", "overlooked"), lambda value: type(value) is bool),
     **dict.fromkeys(("closed", "reset"), lambda value: value in SIDES and isinstance(value, str)),
@@ -178,7 +184,8 @@ def read(path):
 
 
 def facts_of(path):
-    """The facts of the recording at this path; None where it has none, or where they don't fit it, which is reported."""
+    """The facts of the recording at this path; None where it has none, or where they don't fit it, which is
+    reported."""
     try:
         made = read(path)
         if made is None:

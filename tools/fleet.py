@@ -1,9 +1,9 @@
 """Does the same work with many recordings: over the cores of this machine, or over the workers of a Dask scheduler.
 
-Recordings that follow one another are a chunk, whatever the number of workers. A tool's function `partial` gives what is
-found of a chunk, and the tool merges that in the order of the recordings, so what it prints is the same for any number
-of workers. A chunk whose worker dies is done again, recording by recording. One that can't be read has an Unread for its
-result, and so has one whose worker died three times.
+Recordings that follow one another are a chunk, whatever the number of workers. A tool's function `partial` gives what
+is found of a chunk, and the tool merges that in the order of the recordings, so what it prints is the same for any
+number of workers. A chunk whose worker dies is done again, recording by recording. One that can't be read has an Unread
+for its result, and so has one whose worker died three times.
 """
 
 import collections
@@ -49,18 +49,42 @@ def is_asked(words):
 
 
 def expanded(inputs):
-    """The files that these inputs name, without repetition."""
-    return list(dict.fromkeys(path for each in inputs for path in files_of(each)))
+    """The files that these inputs name, each once, however its path is written. A ValueError where an input has
+    none."""
+    found = {}
+    for each in inputs:
+        for path in files_of(each):
+            found.setdefault(os.path.abspath(path), path)
+    return list(found.values())
 
 
 def files_of(path):
     if path.startswith("@"):
-        with open(path[1:], encoding="utf-8", errors="surrogateescape") as lines:
-            return [line.rstrip("\n") for line in lines if line.strip()]
-    if not os.path.isdir(path):
-        return [path]
-    return sorted(os.path.join(folder, name) for folder, _, names in os.walk(path) for name in names
-                  if name.endswith(".zkr"))
+        return paths_of(path[1:])
+    return recordings_in(path) if os.path.isdir(path) else [path]
+
+
+def paths_of(name):
+    """The paths in a list."""
+    if zkr.is_recording(name):
+        raise ValueError(f"{name} is a recording, and a list has a path on each line: leave out the @")
+    if zkr.begins_with(name, zkr.CAPTURES):
+        raise ValueError(f"{name} is a capture, or packed with gzip, and a list has a path on each line")
+    with open(name, encoding="utf-8", errors="surrogateescape") as lines:
+        found = [line.rstrip("\n") for line in lines if line.strip()]
+    if not found:
+        raise ValueError(f"{name} is empty: a list has a path on each line")
+    return found
+
+
+def recordings_in(folder):
+    """The recordings in a folder and below it. A folder that can't be read is one of them, and so becomes a row."""
+    found = []
+    for place, _, names in os.walk(folder, onerror=lambda error: found.append(error.filename)):
+        found += [os.path.join(place, name) for name in names if name.endswith(".zkr")]
+    if not found:
+        raise ValueError(f"{folder} has no recordings: NAME.zkr in it or in folders below")
+    return sorted(found)
 
 
 class Strict(zkr.Words):
@@ -80,7 +104,8 @@ def attempt(function, path):
     try:
         return function(path)
     except OSError as error:
-        return Unread(error.strerror or str(error))
+        other = error.filename not in (None, path)
+        return Unread(f"{os.fsdecode(error.filename)}: {error.strerror}" if other else error.strerror or str(error))
     except ValueError as error:
         return Unread(str(error).removeprefix(f"{path}: "))
     except MemoryError:
@@ -209,7 +234,7 @@ class Shown:
 def size_of(path):
     try:
         return os.stat(path).st_size
-    except OSError:
+    except (OSError, ValueError):
         return 0
 
 

@@ -25,6 +25,15 @@ def add_words(parser):
     program.add_program(parser)
 
 
+def refuse_repetition(parser, paths):
+    """Refuses arguments that name a file twice, however its path is written."""
+    seen = set()
+    for path in paths:
+        if os.path.abspath(path) in seen:
+            parser.error(f"{path} is named twice: its messages would count twice")
+        seen.add(os.path.abspath(path))
+
+
 def conversations(parser, words, objects, progress, before_read=lambda: None, fast=None):
     """The conversations that these arguments name, each a Listing, or a Joined where `objects` allows those, or Columns
     where that can be and `fast` gives their options. Before each read `before_read` is called; `progress` is updated
@@ -33,9 +42,7 @@ def conversations(parser, words, objects, progress, before_read=lambda: None, fa
         parser.error("--recording names the recording of one listing: name one listing, or none for standard input")
     if words.times and not words.recording and len(words.inputs) != 1:
         parser.error("--times has the times of one recording: name just that recording")
-    for path in words.inputs:
-        if words.inputs.count(path) > 1:
-            parser.error(f"{path} is named twice: its messages would count twice")
+    refuse_repetition(parser, words.inputs)
     for path in words.inputs or [listing.STANDARD_INPUT]:
         try:
             with zkr.standard_input() if path == listing.STANDARD_INPUT else open(path, "rb") as stream:
@@ -49,7 +56,12 @@ def conversations(parser, words, objects, progress, before_read=lambda: None, fa
 def conversation(parser, words, path, stream, objects, progress, before_read, fast=None, known=UNREAD):
     """The conversation of one input; `known` are the facts of the recording, where they were read before."""
     times, name = None, words.recording or path
-    is_recording = stream.peek(4)[:4] in (b"ZKR1", b"ZKR2")
+    source = "standard input" if path == listing.STANDARD_INPUT else path
+    mark = stream.peek(4)[:4]
+    is_recording = mark in zkr.MARKS
+    if mark.startswith(zkr.CAPTURES):
+        raise listing.NoListing(f"{source} is a capture, or packed with gzip: pcap2zkr.py makes recordings of a "
+                                "capture, and gunzip unpacks other files")
     if known is UNREAD:
         known = facts.facts_of(name) if words.recording or is_recording and path != listing.STANDARD_INPUT else None
     if is_recording:
@@ -69,7 +81,6 @@ def conversation(parser, words, path, stream, objects, progress, before_read, fa
         lines = listing.lines_of(stream, before_read)
     first = next(lines, None)
     if first is None:
-        source = "standard input" if path == listing.STANDARD_INPUT else path
         raise listing.NoListing(f"{source} is empty: a listing has at least its last line, as zkdump show writes it")
     lines = itertools.chain([first], lines)
     if objects and first.startswith("{"):

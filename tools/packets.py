@@ -72,8 +72,9 @@ def segments(stream):
             if kind == IPV4_KIND and version == IPV4_PLAIN and protocol == TCP and not fragment & FRAGMENTED:
                 if length >= 0x50:
                     whole = at + 14 + size if size else end
-                    yield (number, milliseconds, packet[at + 26:at + 38], source_port, target_port, sequence, acknowledged,
-                           flags, packet[at + 34 + (length >> 4) * 4:whole if whole < end else end], whole > end)
+                    yield (number, milliseconds, packet[at + 26:at + 38], source_port, target_port, sequence,
+                           acknowledged, flags, packet[at + 34 + (length >> 4) * 4:whole if whole < end else end],
+                           whole > end)
                 continue
         at = network_place(link, packet, at)
         if end - at >= 40 and packet[at] == 0x45:

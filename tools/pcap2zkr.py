@@ -218,39 +218,35 @@ def words_of():
     return words, parser.head_of(words)
 
 
-def complain(text):
-    if sys.stderr:
-        print(f"pcap2zkr.py: {text}", file=sys.stderr)
-
-
 def main():
     words, head = words_of()
     if not sys.stdout:
-        complain("standard output is closed")
+        zkr.complain("standard output is closed")
         return 3
     capture = Capture(words, head)
     try:
         with zkr.standard_input() if words.capture == "-" else open(words.capture, "rb") as stream:
             capture.convert(stream)
     except EOFError:
-        complain(f"{words.capture}: the capture ends within a packet, and was read up to there")
+        zkr.complain(f"{words.capture}: the capture ends within a packet, and was read up to there")
         return 1
     except DAMAGED:
-        complain(f"{words.capture}: the capture is damaged, and was read up to there")
+        zkr.complain(f"{words.capture}: the capture is damaged, and was read up to there")
         return 3
     except OSError as error:
         left = ", ".join(capture.series.begun())
-        complain(f"{error.filename or words.capture}: {error.strerror or error}"
+        zkr.complain(f"{error.filename or words.capture}: {error.strerror or error}"
                  + f"; these recordings are not complete: {left}" * bool(left))
         return 3
     except packets.NotRead as error:
-        complain(f"{words.capture}: {error}")
+        zkr.complain(f"{words.capture}: {error}")
         return 3
     if capture.series.unsaid:
-        complain(f"standard output: {capture.series.unsaid.strerror}; the recordings are complete, and lines are lost")
+        zkr.complain(f"standard output: {capture.series.unsaid.strerror}; the recordings are complete, and lines are "
+                     "lost")
         return 3
     if not capture.begun:
-        complain(f"{words.capture}: no connection to port {words.port}{capture.ports_heard()}")
+        zkr.complain(f"{words.capture}: no connection to port {words.port}{capture.ports_heard()}")
     return 1 if capture.left_out or not capture.begun else 0
 
 

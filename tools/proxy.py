@@ -23,7 +23,6 @@ from printer import Printer
 
 BLOCK = 65536
 READ, WRITE = selectors.EVENT_READ, selectors.EVENT_WRITE
-OTHER = {zkr.CLIENT: zkr.SERVER, zkr.SERVER: zkr.CLIENT}
 AT_ONCE = 12                # the most clients that are accepted before the connections come again
 REST = 0.1                  # the seconds without new clients, once the system has no room for one
 LAST_WORDS = 30             # the seconds that observers have to end, unless a second signal comes
@@ -137,7 +136,7 @@ class Connection:
             pass
         except OSError as error:
             # Nothing more can be sent to this end; what it sent before is still passed on.
-            self.broke(OTHER[way.side], error)
+            self.broke(zkr.OTHER[way.side], error)
             way.unsent, way.ended = b"", True
 
     def broke(self, side, error):
@@ -152,7 +151,7 @@ class Connection:
         broken = [side for side, how in self.ends if how != "FIN"]
         for side, end in ((zkr.CLIENT, self.client), (zkr.SERVER, self.server)):
             self.proxy.wait_for(end, 0)
-            if OTHER[side] in broken:
+            if zkr.OTHER[side] in broken:
                 end.setsockopt(socket.SOL_SOCKET, socket.SO_LINGER, struct.pack("ii", 1, 0))
             end.close()
         self.room.close()
@@ -291,8 +290,8 @@ class Proxy:
 
     def rest(self, error):
         """Accepts no clients for a moment; the connections continue."""
-        self.complaints.print_once(f"new clients have to wait: {error.strerror} (ulimit -Hn is how many may be open); the "
-                                   "connections go on")
+        self.complaints.print_once(f"new clients have to wait: {error.strerror} (ulimit -Hn is how many may be open); "
+                                   "the connections go on")
         for listener in self.listeners:
             self.wait_for(listener, 0)
         self.after(REST, self.take_clients)

@@ -121,7 +121,7 @@ def main():
         zkr.Series(words.prefix, head, words.times).next().remove()
         server, listeners = addresses.found(words.server), addresses.listen(words.listen)
     except OSError as error:
-        print(f"record.py: {error.filename or words.prefix}: {error.strerror}", file=sys.stderr)
+        zkr.complain(f"{error.filename or words.prefix}: {error.strerror}")
         return 3
     recorder = Recorder(server, zkr.Series(words.prefix, head, words.times), addresses.address_text(words.server))
     for listener in listeners:

@@ -3,6 +3,8 @@
 import collections
 import contextlib
 import io
+import os
+import sys
 
 import zkr
 
@@ -135,7 +137,11 @@ class Series:
     def say(self, line):
         """Prints a line; where nobody reads it any more, the rest continues."""
         try:
-            print(line, flush=True)
+            try:
+                print(line, flush=True)
+            except UnicodeEncodeError:      # the bytes of a name that is no UTF-8
+                sys.stdout.buffer.write(os.fsencode(line) + b"\n")
+                sys.stdout.flush()
         except OSError as error:
             self.unsaid = error
             zkr.drop_standard_output()

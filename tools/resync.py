@@ -51,7 +51,6 @@ MAY_BEGIN = {
     zkr.CLIENT: re.compile(rb"(?s)(?=[\0\1].{7}(?:\0\0\0[\1-\x6b]|\xff\xff\xff\xf5))"),
     zkr.SERVER: re.compile(rb"(?s)(?=[\0\1].{3}(?:[\0-\x7f]...|\xff{3}[\xff\xfe\xfc\xf8])(?:[\0-\x7f].{7}|\xff{8})"
                            rb"(?:\0{4}|\xff{3}.))")}
-CLIENT_HEAD, SERVER_HEAD = struct.Struct(">iii"), struct.Struct(">iiqi")
 
 
 def resynchronise(side, data, limit):

@@ -7,6 +7,7 @@ import re
 import columns
 import forms
 import listing
+import zkr
 
 MILLISECONDS = re.compile(r"\d{1,15}", re.ASCII)
 LATENCY = re.compile(r"\d{1,15}(?:\.\d{1,9})?", re.ASCII)
@@ -63,6 +64,13 @@ def add_words(parser):
                         "earlier")
 
 
+def complain(untimed):
+    """Reports this number of connections with messages without times."""
+    if untimed:
+        zkr.complain(f"connections with messages without times: {untimed}; --slower, --from and --to left these out: "
+                     "record with --times")
+
+
 class Selection:
     """What the arguments choose: requests with their replies, or with --slower replies and nothing else."""
 
@@ -72,6 +80,7 @@ class Selection:
         self.needs_times = (self.slower, self.begin, self.end) != (None,) * 3
         self.by_message = bool(self.needs_times or self.paths or self.operations)
         self.all = not self.by_message and not self.sessions
+        self.untimed = set()        # the connections with a message without a time, where times choose
 
     def chosen(self, talk):
         """The chosen messages, as iterating over `talk` yields messages."""
@@ -83,8 +92,16 @@ class Selection:
         return [made for made in talk.left() if (made.chosen and self.slower is None or not self.by_message)
                 and (not self.sessions or made.connection.session in self.sessions)]
 
+    def take_untimed(self):
+        """How many of the connections that were read since the last call have messages without times, which the
+        choices by time leave out."""
+        untimed, self.untimed = self.untimed, set()
+        return sum(not self.sessions or each.session in self.sessions for each in untimed)
+
     def of_messages(self, talk):
         for line, made, asked in talk:
+            if self.needs_times and made.moment is None:
+                self.untimed.add(made.connection)
             if asked:
                 if asked.chosen is None:    # the request itself isn't there
                     asked.chosen = self.takes(asked, [asked.path])
@@ -121,6 +138,8 @@ class Selection:
         held, codes = [], [number for number, name in talk.operations.items() if name in (self.operations or ())]
         for block in talk.blocks():
             held.append(block)
+            if self.needs_times and columns.numpy.isnan(block.array()["moment"]).any():
+                self.untimed.add(talk.connection)
             if not self.sessions or talk.connection.known:
                 yield from self.arrays_of(held, talk, codes)
                 held = []

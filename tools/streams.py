@@ -14,7 +14,6 @@ import zkr
 from packets import ACK, FIN, RST, SYN
 
 SIDES = (zkr.CLIENT, zkr.SERVER)
-OTHER = {zkr.CLIENT: zkr.SERVER, zkr.SERVER: zkr.CLIENT}
 WRAP, MASK = 1 << 31, (1 << 32) - 1
 # The memory of a part that waits, without its bytes.
 PART_COST = 256

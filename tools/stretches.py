@@ -39,7 +39,8 @@ class Message(NamedTuple):
 
 
 class Stretch:
-    """Calls `put(stretch, message)` with what is kept. `whole` says that it begins with the connection.
+    """Calls `put(stretch, message)` with what is kept. `whole` says that it begins with the connection, and `part` which
+    of the connection's recordings it has.
 
     `ordinary` has the requests that wait for their replies, the oldest first, and `waiting` those of pings, auth and
     setWatches by themselves: of each its xid, where its frame begins among the client's bytes in the recording, its
@@ -50,7 +51,7 @@ class Stretch:
 
     def __init__(self, put, number, milliseconds, whole):
         self.put, self.first, self.began, self.whole = put, number, milliseconds, whole
-        self.recording, self.holes = None, set()
+        self.recording, self.part, self.holes = None, 1, set()
         self.lost, self.skipped, self.unasked = dict.fromkeys(SIDES, 0), dict.fromkeys(SIDES, 0), 0
         self.anchored, self.matched = whole, whole
         # How many replies to pings may be to pings from before it, and those that came; and the last messages that were

@@ -3,9 +3,9 @@
 
     zkfleet.py check [--jobs N | --scheduler ADDRESS] [--all] [--json] [--profile 3.4|3.5] DIR|LIST ..
 
-A DIR has recordings, NAME.zkr in it and below it; a LIST has a path on each line; an input that ends with .zkr is a
-recording. Each recording that isn't whole has a line with its ending, or why it couldn't be read; with --all each has
-one. Then come the counts of endings, and of refusals by reason and place. The status is 1 if one wasn't whole.
+A DIR has recordings, NAME.zkr in it and below it; a LIST has a path on each line; a recording may be named, too. Each
+recording that isn't whole has a line with its ending, or why it couldn't be read; with --all each has one. Then come
+the counts of endings, and of refusals by reason and place. The status is 1 if one wasn't whole.
 """
 
 import collections
@@ -91,8 +91,11 @@ class Counts:
 
 def paths_of(inputs):
     """The recordings that these inputs name."""
-    return fleet.expanded(each if os.path.isdir(each) or each.endswith(".zkr") or each.startswith("@") else f"@{each}"
-                          for each in inputs)
+    return fleet.expanded(each if is_no_list(each) else f"@{each}" for each in inputs)
+
+
+def is_no_list(path):
+    return path.startswith("@") or path.endswith(".zkr") or os.path.isdir(path) or zkr.is_recording(path)
 
 
 def main():

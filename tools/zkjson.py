@@ -165,8 +165,9 @@ def ending_of(talk, chosen):
 
 
 def write_all(parser, words, progress, out):
-    """Writes what the arguments choose; whether bytes of a connection are missing."""
-    chosen, has_hole = selection.Selection(words), False
+    """Writes what the arguments choose. Whether bytes of a connection are missing, and how many connections have
+    messages that choices by time left out."""
+    chosen, has_hole, untimed = selection.Selection(words), False, 0
 
     def fast(name):
         return [*chosen.options(name), "--json", head_of(name), *["--no-part-paths"] * (chosen.slower is not None)]
@@ -181,7 +182,8 @@ def write_all(parser, words, progress, out):
         has_hole |= talk.connection.has_hole()
         if talk.connection.ending:
             print(f"{head}, {json.dumps(ending_of(talk, chosen))[1:]}", file=out)
-    return has_hole
+        untimed += chosen.take_untimed()
+    return has_hole, untimed
 
 
 def words_of(arguments=None, kind=zkr.Words):
@@ -199,24 +201,25 @@ def partial(options, paths):
 
 
 def part_of(options, path):
-    """The JSON of one file: a file of it, or where it goes over a network its bytes, compressed. And whether bytes of a
-    connection are missing."""
+    """The JSON of one file: a file of it, or where it goes over a network its bytes, compressed. And what `write_all`
+    returns."""
     parser, words = words_of(options, fleet.Strict)
     words.inputs, packed = [path], io.BytesIO()
     made = None if words.scheduler else tempfile.NamedTemporaryFile(dir=words.parts, delete=False)
     try:
         with io.TextIOWrapper(made or gzip.GzipFile(fileobj=packed, mode="wb", compresslevel=1), "utf-8") as out:
-            has_hole = write_all(parser, words, zkr.Progress("zkjson", False), out)
+            more = write_all(parser, words, zkr.Progress("zkjson", False), out)
     except BaseException:
         if made:
             os.unlink(made.name)
         raise
-    return made.name if made else packed.getvalue(), has_hole
+    return (made.name if made else packed.getvalue(), *more)
 
 
 def write_parts(parser, words, out):
-    """Writes the JSON of many files, in their order; what can't be read has its line. Whether something is missing."""
-    missing = False
+    """Writes the JSON of many files, in their order; what can't be read has its line. Whether something is missing, and
+    how many connections have messages that choices by time left out."""
+    missing, untimed = False, 0
     with tempfile.TemporaryDirectory(prefix="zkjson-") as folder:
         for (path,), result in fleet.of_inputs(parser, words, "zkjson", "--parts", folder):
             if isinstance(result, fleet.Unread):
@@ -224,23 +227,27 @@ def write_parts(parser, words, out):
                 print(f'{head_of(path)}, "ending": "unread", "reason": {forms.readable(result.reason)}}}',
                       file=out, flush=True)
                 continue
-            part, has_hole = result
-            missing |= has_hole
+            part, has_hole, of_part = result
+            missing, untimed = missing or has_hole, untimed + of_part
             if isinstance(part, bytes):
                 out.buffer.write(gzip.decompress(part))
             else:
                 with open(part, "rb") as made:
                     shutil.copyfileobj(made, out.buffer, 1 << 20)
                 os.unlink(part)
-    return missing
+    return missing, untimed
 
 
 def main():
     parser, words = words_of()
     sys.stdout.reconfigure(encoding="utf-8")
     if fleet.is_asked(words):
-        return 1 if write_parts(parser, words, sys.stdout) else 0
-    return 1 if write_all(parser, words, zkr.Progress("zkjson", may=not sys.stdout.isatty()), sys.stdout) else 0
+        missing, untimed = write_parts(parser, words, sys.stdout)
+    else:
+        progress = zkr.Progress("zkjson", may=not sys.stdout.isatty())
+        missing, untimed = write_all(parser, words, progress, sys.stdout)
+    selection.complain(untimed)
+    return 1 if missing or untimed else 0
 
 
 if __name__ == "__main__":

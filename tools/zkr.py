@@ -25,6 +25,11 @@ from running import (Progress, allow_many_files, complain, hold_standard_streams
                      report, shown, standard_input, tool)
 
 CLIENT, SERVER = b"C", b"S"
+OTHER = {CLIENT: SERVER, SERVER: CLIENT}
+# The first bytes of a recording; and those of a capture, of pcap, of pcapng, or packed with gzip.
+MARKS = (b"ZKR1", b"ZKR2")
+CAPTURES = (b"\xa1\xb2\xc3\xd4", b"\xd4\xc3\xb2\xa1", b"\xa1\xb2\x3c\x4d", b"\x4d\x3c\xb2\xa1", b"\x0a\x0d\x0d\x0a",
+            b"\x1f\x8b")
 LARGEST_PIECE = 16_777_220
 TIME = re.compile(r"\d{1,19}(?:\.\d{1,9})?\n?", re.ASCII)
 LONGEST_TIME = 32
@@ -96,7 +101,7 @@ class Reader:
     def __init__(self, stream):
         self.stream, self.offset = stream, 0
         mark = stream.read(4)
-        if mark not in (b"ZKR1", b"ZKR2"):
+        if mark not in MARKS:
             raise Damaged(0, "BadHead")
         self.offset, self.head = 4, Head()
         if mark == b"ZKR2":
@@ -155,6 +160,20 @@ class Reader:
                 return Damaged(self.offset + 1, "BadTime")
             at = 9
         return Damaged(self.offset + at, "Short" if len(begin) < PIECE_HEADS[self.head.form].size else "BadSize")
+
+
+def is_recording(path):
+    """Whether there is a file at this path that begins as a recording does."""
+    return begins_with(path, MARKS)
+
+
+def begins_with(path, marks):
+    """Whether there is a file at this path that begins with one of these."""
+    try:
+        with open(path, "rb") as file:
+            return file.read(4).startswith(marks)
+    except OSError:
+        return False
 
 
 def times_path(path):

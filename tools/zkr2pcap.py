@@ -19,14 +19,14 @@ from typing import NamedTuple
 import contents
 import facts
 import zkr
+from packets import ACK, ETHERNET, FIN, SYN
 
-FIN, SYN, RST, PUSH, ACK = 1, 2, 4, 8, 16
+PUSH = 8
 CLIENT_HOST, SERVER_HOST = b"\x0a\0\0\1", b"\x0a\0\0\2"
 FIRST_PORT, MOST_CONNECTIONS = 40_001, 20_000
 MOST_DATA = 1448
-MAGIC_OF_NANOSECONDS, ETHERNET = 0xA1B23C4D, 1
+MAGIC_OF_NANOSECONDS, LATEST = 0xA1B23C4D, (1 << 32) * 10**9
 ETHERNET_HEAD = bytes(12) + b"\x08\x00"
-OTHER = {zkr.CLIENT: zkr.SERVER, zkr.SERVER: zkr.CLIENT}
 
 
 class Sent(NamedTuple):
@@ -49,7 +49,7 @@ def conversation(pieces, most=MOST_DATA, numbers=(1000, 2000), close=True, begun
 
     def send(side, flags, data=b""):
         nonlocal now
-        acknowledged = first[OTHER[side]] + said[OTHER[side]] if flags & ACK else 0
+        acknowledged = first[zkr.OTHER[side]] + said[zkr.OTHER[side]] if flags & ACK else 0
         sent = Sent(now, side, first[side] + said[side], acknowledged, flags, data)
         said[side] += len(data) + bool(flags & (SYN | FIN))
         now += begun is not None
@@ -111,7 +111,9 @@ def timed(path, reader):
             if times:
                 moment = nanoseconds(next(times))
             else:
-                moment = (number if piece.milliseconds is None else piece.milliseconds) * 10**6
+                moment = (piece.milliseconds or number) * 10**6
+            if moment >= LATEST:
+                raise ValueError(f"{path} has a time after the year 2106, and a capture can't have such a time")
             yield piece._replace(milliseconds=moment)
     except zkr.Damaged as damage:
         raise ValueError(f"{path}: {damage}") from None
@@ -129,7 +131,7 @@ def write(out, found):
     out.write(struct.pack("<IHHiIII", MAGIC_OF_NANOSECONDS, 2, 4, 0, 0, 65535, ETHERNET))
     for moment, _, packet in found:
         seconds, part = divmod(moment, 10**9)
-        out.write(struct.pack("<IIII", seconds & 0xFFFFFFFF, part, len(packet), len(packet)) + packet)
+        out.write(struct.pack("<IIII", seconds, part, len(packet), len(packet)) + packet)
 
 
 def main():

@@ -26,6 +26,7 @@ import fleet
 import program
 import selection
 import zkr
+from inputs import refuse_repetition
 from report import against, gather, merged, messages, page, sources, summary, text, trace
 
 NAMED = 6       # the files that a page's title names
@@ -120,8 +121,12 @@ def words_of(arguments=None, kind=zkr.Words):
         parser.error("choose what to write: -o FILE, --text or --trace FILE")
     if words.against and (words.session, words.slower, words.begin, words.end) != (None,) * 4:
         parser.error("--against compares what --path and --op choose: leave out the other choices")
-    if fleet.is_asked(words) and (words.output or words.trace or words.against):
-        parser.error("--jobs and --scheduler are for --text")
+    if fleet.is_asked(words):
+        if words.output or words.trace or words.against:
+            parser.error("--jobs and --scheduler are for --text")
+    else:
+        refuse_repetition(parser, words.inputs)
+        refuse_repetition(parser, words.against or ())
     return parser, words
 
 
@@ -147,12 +152,18 @@ def read_all(parser, words):
     return summary.Summary(found.run), unread
 
 
+def is_incomplete(found):
+    """Whether something is missing of what was to be read; reports messages without times, where these choose."""
+    selection.complain(found.run.untimed)
+    return found.run.warnings or found.has_hole() or found.run.untimed
+
+
 def main():
     parser, words = words_of()
     if fleet.is_asked(words):
         found, unread = read_all(parser, words)
         write_text(found, None)
-        return 1 if unread or found.run.warnings or found.has_hole() else 0
+        return 1 if unread or is_incomplete(found) else 0
     with contextlib.ExitStack() as stack:
         reader = Reader(parser, words, stack.enter_context(tempfile.TemporaryDirectory(prefix="zkreport-")))
         out, traced = (stack.enter_context(new_file(path)) for path in (words.output, words.trace))
@@ -162,10 +173,11 @@ def main():
             tracing.close()
         compared = reader.compare(found, words.against) if words.against else None
         if out:
-            out.waiting += page_of(reader, found, compared, title(words.inputs)).encode()
+            # The name of a file may be no UTF-8.
+            out.waiting += page_of(reader, found, compared, title(words.inputs)).encode(errors="backslashreplace")
     if words.text:
         write_text(found, compared)
-    return 1 if found.run.warnings or found.has_hole() or compared and compared["first"] else 0
+    return 1 if is_incomplete(found) or compared and compared["first"] else 0
 
 
 if __name__ == "__main__":

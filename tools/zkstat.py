@@ -95,6 +95,7 @@ class Statistics:
         self.operations, self.connections = collections.defaultdict(Counts), {}
         self.events, self.waiting, self.lost, self.has_hole = collections.Counter(), [], [], False
         self.slowest, self.order, self.least, self.has_unread = [], itertools.count(), -1, False
+        self.untimed = 0        # the connections with messages that choices by time left out
 
     def counts_of(self, connection):
         """What is counted of a connection."""
@@ -120,6 +121,7 @@ class Statistics:
             made.path = cut(made.path)
             (self.waiting if made.captured else self.lost).append(request(made))
         self.has_hole |= any(connection.has_hole() for connection in talk.connections())
+        self.untimed += self.selection.take_untimed()
 
     def read_messages(self, talk):
         """Counts the messages of a conversation one by one; counted.add_block does it with columns."""
@@ -167,12 +169,12 @@ class Statistics:
         """What was counted, for `merge` in another process."""
         connections = {connection: Finished(counts) for connection, counts in self.connections.items()}
         return (dict(self.operations), connections, self.events, self.waiting, self.lost, self.has_hole,
-                self.has_unread,
+                self.has_unread, self.untimed,
                 [(microseconds, row) for microseconds, _, row in sorted(self.slowest, key=lambda entry: -entry[1])])
 
     def merge(self, partial):
         """Adds what was counted of other conversations."""
-        operations, connections, events, waiting, lost, has_hole, has_unread, slowest = partial
+        operations, connections, events, waiting, lost, has_hole, has_unread, untimed, slowest = partial
         for name, counts in operations.items():
             self.operations[name].merge(counts)
         self.connections.update(connections)
@@ -180,6 +182,7 @@ class Statistics:
         self.waiting += waiting
         self.lost += lost
         self.has_hole, self.has_unread = self.has_hole or has_hole, self.has_unread or has_unread
+        self.untimed += untimed
         for microseconds, row in slowest:
             if microseconds > self.least:
                 self.put_slow(microseconds, row)
@@ -218,7 +221,8 @@ def begun(connection):
 
 def is_part(one, other):
     """Whether these are parts of one connection."""
-    return bool(one.facts and other.facts) and one.facts.connection() == other.facts.connection()
+    return bool(one.facts and other.facts) and one.facts.connection() == other.facts.connection() \
+        and one.facts.part != other.facts.part
 
 
 def time(moment):
@@ -276,7 +280,8 @@ def main():
     else:
         for line in tables.lines(found.summary()):
             print(line.rstrip())
-    return 1 if found.has_hole or found.has_unread else 0
+    selection.complain(found.untimed)
+    return 1 if found.has_hole or found.has_unread or found.untimed else 0
 
 
 if __name__ == "__main__":

@@ -1,4 +1,5 @@
-/* What the files of zkcolumns share: growing bytes, the recording that is read, the requests that wait, and JSON. */
+/* What the files of zkcolumns share: growing bytes, the recording that is read, the requests that wait, and JSON
+ * (state.h has the rest). */
 #ifndef COLUMNS_H
 #define COLUMNS_H
 
@@ -11,7 +12,7 @@
 
 /* Statuses beside 0: what Python alone reports, before anything was written, and what the system refuses. */
 enum { STATUS_WORDS = 2, STATUS_SYSTEM = 3, STATUS_NOT_READ = 4 };
-enum { LARGEST_PIECE = 16777220, LONGEST_TIME = 32, BLOCK = 1 << 16 };
+enum { LARGEST_PIECE = 16777220, LONGEST_TIME = 32, BLOCK = 1 << 16, MULTI = 14 };
 
 /* Ends the program with a line on standard error. */
 _Noreturn void stop(int status, const char *what);
@@ -38,7 +39,8 @@ struct source {
 };
 
 /* A recording that is being read, and what is known of its present piece: its side, its size, how many of its bytes are
- * still to come, and its time, which is NAN if there is none, with its spelling. `damage` is the reason of a damage, at `offset`. */
+ * still to come, and its time, which is NAN if there is none, with its spelling. `damage` is the reason of a damage, at
+ * `offset`. */
 struct recording {
     struct source bytes, times;
     bool is_zkr2, has_times;
@@ -62,8 +64,8 @@ const uint8_t *piece_bytes(struct recording *recording, size_t *length);
 
 /* ---- The requests that wait for their replies (waiting.c) */
 
-/* A request that waits. `paths` is the size of its paths, `count` of them, of which the lane's bytes have the length (-1
- * for null) and the bytes of each. */
+/* A request that waits. `paths` is the size of its paths, `count` of them, of which the lane's bytes have the length
+ * (-1 for null) and the bytes of each. */
 struct asked {
     uint64_t n;
     double moment;
@@ -100,8 +102,8 @@ struct patch {
     uint32_t length, kind;
 };
 
-/* A message with its fields. `paths` are those of the request that it answers, if `asked` isn't null; `is_long` says that
- * its line as `zkdump show` writes it, or its request's path there, has more than BLOCK characters. */
+/* A message with its fields. `paths` are those of the request that it answers, if `asked` isn't null; `is_long` says
+ * that its line as `zkdump show` writes it, or its request's path there, has more than BLOCK characters. */
 struct message {
     struct zk_message view;
     uint64_t n;
@@ -117,9 +119,10 @@ struct message {
 };
 
 /* Writes a message as zkjson.py does (short and pieces there), after `head`, which names the connection. */
-void put_json(struct bytes *out, struct bytes *patches, const char *head, const struct message *message, bool part_paths);
+void put_json(struct bytes *out, struct bytes *patches, const char *head, const struct message *message,
+              bool part_paths);
 
-/* The name of an operation, of a connect message or of an event. */
-const char *name_of(const struct zk_message *view);
+/* The length of a field's content; -1 for null. */
+int32_t length_of(const struct zk_field *field);
 
 #endif

@@ -1,6 +1,6 @@
-/* JSON of a message: tools/zkjson.py's plain form is the model, byte for byte (`short`, `pieces`; the names of the fields
- * are those of tools/forms.py). Whether a character that isn't ASCII can be printed only Python says, so a text or data
- * that has one goes out as it is, with a patch beside it. */
+/* JSON of a message: tools/zkjson.py's plain form is the model, byte for byte (`short`, `pieces`; the names of the
+ * fields are those of tools/forms.py). Whether a character that isn't ASCII can be printed only Python says, so a text
+ * or data that has one goes out as it is, with a patch beside it. */
 #include "columns.h"
 
 static const char DIGITS[] = "0123456789abcdef";
@@ -19,7 +19,8 @@ static bool is_utf8(const uint8_t *at, size_t length) {
         if (first < 0x80) continue;
         size_t more = first >= 0xf0 ? 3 : first >= 0xe0 ? 2 : 1;
         if (first < 0xc2 || first > 0xf4 || length - i < more) return false;
-        uint8_t least = first == 0xe0 ? 0xa0 : first == 0xf0 ? 0x90 : 0x80, most = first == 0xed ? 0x9f : first == 0xf4 ? 0x8f : 0xbf;
+        uint8_t least = first == 0xe0 ? 0xa0 : first == 0xf0 ? 0x90 : 0x80;
+        uint8_t most = first == 0xed ? 0x9f : first == 0xf4 ? 0x8f : 0xbf;
         if (at[i] < least || at[i] > most) return false;
         for (size_t j = 1; j < more; j++)
             if ((at[i + j] & 0xc0) != 0x80) return false;
@@ -160,9 +161,9 @@ static bool is_plain(const struct message *message, const struct zk_field *eleme
     return element->null == 0;
 }
 
-static int32_t length_of(const struct zk_field *field) { return field->null ? -1 : (int32_t)field->length; }
+int32_t length_of(const struct zk_field *field) { return field->null ? -1 : (int32_t)field->length; }
 
-/* A list of texts. As in the model, one that is spelled in a short line as JSON spells it has no blank after a comma. */
+/* A list of texts. As in the model, one that a short line spells as JSON does has no blank after a comma. */
 static void put_texts(struct walk *walk, int64_t count) {
     const struct message *message = walk->message;
     const struct zk_field *elements = message->fields + walk->next;
@@ -171,7 +172,8 @@ static void put_texts(struct walk *walk, int64_t count) {
     put_text(walk->out, "[");
     for (int64_t i = 0; i < count; i++) {
         if (i > 0) put_text(walk->out, plain ? "," : ", ");
-        put_string(walk->out, walk->patches, message->payload + elements[i].place, length_of(elements + i), PATCH_WHOLE_TEXT);
+        put_string(walk->out, walk->patches, message->payload + elements[i].place, length_of(elements + i),
+                   PATCH_WHOLE_TEXT);
     }
     put_text(walk->out, "]");
     walk->next += (size_t)count;
@@ -293,12 +295,30 @@ static void put_parts(struct walk *walk, bool part_paths) {
     put_text(walk->out, "]");
 }
 
-const char *name_of(const struct zk_message *view) {
+/* The name of an operation, of a connect message or of an event. */
+static const char *name_of(const struct zk_message *view) {
     if (view->kind == ZK_EVENT) return "event";
     return view->kind == ZK_CONNECT || view->kind == ZK_CONNECTED ? "connect" : zk_operation_name(view->operation);
 }
 
-void put_json(struct bytes *out, struct bytes *patches, const char *head, const struct message *message, bool part_paths) {
+/* How long a reply took, the number of its request, and the path of that. */
+static void put_asked(struct bytes *out, struct bytes *patches, const struct message *message) {
+    if (!isnan(message->microseconds)) {
+        put_text(out, ", \"ms\": ");
+        put_milliseconds(out, message->microseconds);
+    }
+    put_text(out, ", \"of\": ");
+    put_number(out, (int64_t)message->asked->n);
+    if (message->asked->count == 0 || message->asked->operation == MULTI) return;
+    const uint8_t *paths = message->paths;
+    int32_t length;
+    const uint8_t *path = next_path(&paths, &length);
+    put_text(out, ", \"asked\": ");
+    put_string(out, patches, path, length, PATCH_TEXT);
+}
+
+void put_json(struct bytes *out, struct bytes *patches, const char *head, const struct message *message,
+              bool part_paths) {
     const struct zk_message *view = &message->view;
     struct walk walk = {out, patches, message, 0};
     bool ordinary = view->kind == ZK_REQUEST || view->kind == ZK_REPLY;
@@ -318,7 +338,7 @@ void put_json(struct bytes *out, struct bytes *patches, const char *head, const 
         put_hexadecimal(out, view->zxid);
     }
     if (view->kind == ZK_REPLY && view->err != 0) put_code(out, "err", view->err, zk_error_name(view->err));
-    else if (ordinary && view->operation == 14) put_parts(&walk, part_paths);
+    else if (ordinary && view->operation == MULTI) put_parts(&walk, part_paths);
     bool has_ro = message->count > 0 && message->fields[message->count - 1].name == ZK_NAME_READ_ONLY;
     while (walk.next < message->count) put_field(&walk);
     if ((view->kind == ZK_CONNECT || view->kind == ZK_CONNECTED) && !has_ro) put_text(out, ", \"ro\": null");
@@ -326,20 +346,6 @@ void put_json(struct bytes *out, struct bytes *patches, const char *head, const 
         put_text(out, ", \"at\": ");
         put_text(out, message->at);
     }
-    if (message->asked != NULL) {
-        if (!isnan(message->microseconds)) {
-            put_text(out, ", \"ms\": ");
-            put_milliseconds(out, message->microseconds);
-        }
-        put_text(out, ", \"of\": ");
-        put_number(out, (int64_t)message->asked->n);
-        if (message->asked->count > 0 && message->asked->operation != 14) {
-            const uint8_t *paths = message->paths;
-            int32_t length;
-            const uint8_t *path = next_path(&paths, &length);
-            put_text(out, ", \"asked\": ");
-            put_string(out, patches, path, length, PATCH_TEXT);
-        }
-    }
+    if (message->asked != NULL) put_asked(out, patches, message);
     put_text(out, "}\n");
 }

@@ -113,6 +113,7 @@ class Run:
 
     def __init__(self):
         self.connections, self.by_source, self.warnings, self.whole, self.silent = [], {}, [], 0, 0
+        self.untimed = 0        # the connections with messages that choices by time left out
         self.kept, self.density = kept.Kept(), kept.Density()
         self.paths = kept.Counted(Path)
         self.watches = kept.Counted(Watch, MOST_WATCHES)
@@ -138,6 +139,7 @@ class Run:
             if chosen.all:
                 for known in talk.connections():
                     reading(known)
+        self.untimed += chosen.take_untimed()
         if chosen.all and not readings:
             self.connection(source, source.name)
         for each in readings.values():

@@ -21,7 +21,10 @@ function latencyAxis(indices) {
     if (requests.ms[i] > high) high = requests.ms[i];
   }
   if (showsDensity()) low = Math.min(low, 10 ** (leastBin() / BINS_OF_TEN + LEAST_EXPONENT));
-  if (low === Infinity) return null;
+  if (low === Infinity) {
+    if (!indices.some(i => requests.ms[i] === 0)) return null;
+    low = 1;              // all of them are shorter than a time's unit
+  }
   const from = Math.floor(Math.log10(low)), to = Math.max(from + 1, Math.ceil(Math.log10(high)));
   const on = scale([from, to], [TALL - FOOT, BAND + 8]);
   const most = Math.max(from + 0.5, Math.log10(high)), share = ms => ms > 0 ? (Math.log10(ms) - from) / (most - from) : 0;
@@ -100,7 +103,7 @@ function drawAxes(pen, width, axis, to, colour, hasBand) {
     pen.fillText(label, Math.min(at, right - pen.measureText(label).width / 2 + 18), foot + 13);
   }
   pen.textAlign = "left";
-  pen.fillText(axis ? "latency" : "no latencies: the recordings have no times", 0, BAND / 2 + 30);
+  pen.fillText(axis ? "latency" : timed ? "no latencies" : "no latencies: the recordings have no times", 0, BAND / 2 + 30);
   pen.textAlign = "right";
   pen.fillText(axisName(), right, foot + 31);
 }

@@ -7,8 +7,8 @@ from report import gather, kept
 
 
 class Merged:
-    """What is found of files, one after the other: `run` is as gather.Run finds it of all of them. Density, which only a
-    page shows, is left out."""
+    """What is found of files, one after the other: `run` is as gather.Run finds it of all of them. Density, which only
+    a page shows, is left out."""
 
     def __init__(self):
         self.run, self.parts = gather.Run(), {}
@@ -20,6 +20,7 @@ class Merged:
         numbers = self.add_connections(other)
         run = self.run
         run.warnings += other.warnings
+        run.untimed += other.untimed
         add_kept(run.kept, other.kept, numbers)
         for path, entry in other.paths.entries.items():
             add_path(run.paths.entry(path), entry, numbers)

@@ -16,9 +16,6 @@ import listing
 import zkr
 
 TOOLS = pathlib.Path(__file__).resolve().parent.parent
-RECORDINGS = (b"ZKR1", b"ZKR2")
-CAPTURES = (b"\xa1\xb2\xc3\xd4", b"\xd4\xc3\xb2\xa1", b"\xa1\xb2\x3c\x4d", b"\x4d\x3c\xb2\xa1", b"\x0a\x0d\x0d\x0a",
-            b"\x1f\x8b")
 LISTINGS = re.compile(rb"[CS] |\. |\{")
 CAPTURED = re.compile(r"(.+) (\S+) > (\S+) begun (\S+)(?: ended (\S+))?((?: \S+)*)")
 PART = re.compile(r"-(\d+)(?:\.(\d+))?\.zkr")
@@ -38,12 +35,13 @@ class Source:
         self.part, self.notes, self.is_of_parts = 1, {}, False
 
     def take_words(self, words):
-        """Takes what is known of the connection, as pcap2zkr prints it."""
+        """Takes what is known of the connection, as pcap2zkr prints it; a word that comes twice has both values."""
         for word, equals, value in (each.partition("=") for each in words):
-            self.notes[word] = value if equals else None
+            self.notes[word] = ",".join(filter(None, (self.notes.get(word), value))) if equals else None
 
     def take_facts(self, parts):
-        """Takes the facts beside the recording. `parts` has the first part of each connection that has several."""
+        """Takes the facts beside the recording. `parts` has the first part of each connection that has several, and
+        which parts there are."""
         self.facts = known = facts.facts_of(self.path)
         if known:
             self.server, self.begun, self.ended, self.part = known.server, known.begun, known.ended, known.part
@@ -52,10 +50,15 @@ class Source:
             self.join(parts)
 
     def join(self, parts):
-        """Joins the parts of its connection."""
-        if self.is_of_parts:
-            first = parts.setdefault(self.facts.connection(), self)
-            self.first = None if first is self else first
+        """Joins the parts of its connection; where this part is there already, another connection begins."""
+        if not self.is_of_parts:
+            return
+        first, numbers = parts.get(self.facts.connection(), (self, set()))
+        if self.part in numbers:
+            first, numbers = self, set()
+        numbers.add(self.part)
+        parts[self.facts.connection()] = first, numbers
+        self.first = None if first is self else first
 
 
 class Opener:
@@ -105,11 +108,11 @@ def sources_of(paths, folder, port, warnings):
         with open(path, "rb") as stream:
             mark = stream.read(4)
         name = os.path.basename(path)
-        if mark in RECORDINGS:
+        if mark in zkr.MARKS:
             found = Source(path, name.removesuffix(".zkr"))
             found.take_facts(parts)
             yield found
-        elif mark.startswith(CAPTURES):
+        elif mark.startswith(zkr.CAPTURES):
             yield from captured(path, name, os.path.join(tempfile.mkdtemp(dir=folder), "capture"), port, warnings)
         elif LISTINGS.match(mark):
             yield Source(path, name.removesuffix(".show"), mark)
@@ -122,7 +125,8 @@ def captured(path, name, prefix, port, warnings):
     """The connections of a capture: recordings that begin with the prefix."""
     words = [sys.executable, TOOLS / "pcap2zkr.py", "--times", "--late", "--port", str(port), path, prefix]
     done = subprocess.run(words, stdout=subprocess.PIPE, stderr=subprocess.PIPE, check=False)
-    lines, error = done.stdout.decode().splitlines(), done.stderr.decode().strip().removeprefix("pcap2zkr.py: ")
+    lines, error = (os.fsdecode(each).strip() for each in (done.stdout, done.stderr))
+    lines, error = lines.splitlines(), error.removeprefix("pcap2zkr.py: ")
     if not lines:
         raise ValueError(error or f"{path}: the capture has no connection to port {port}")
     if error:

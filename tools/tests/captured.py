@@ -21,7 +21,6 @@ try:
 finally:
     print(*[line for line in open("/proc/self/status") if "VmHWM" in line], file=sys.stderr, end="")
 """
-OTHER = {zkr.CLIENT: zkr.SERVER, zkr.SERVER: zkr.CLIENT}
 SMALL = [path for path in CAPTURES if path.stat().st_size < 60_000]
 
 
@@ -99,10 +98,11 @@ class PcapCase(ToolCase):
         first = {each.side: each.number + 1 for each in sent[:2]}
         for each in sent[3:]:
             if each.data:
-                least[each.side].append((each.number - first[each.side], each.acknowledged - first[OTHER[each.side]]))
+                least[each.side].append((each.number - first[each.side],
+                                         each.acknowledged - first[zkr.OTHER[each.side]]))
         written = {zkr.CLIENT: 0, zkr.SERVER: 0}
         for piece in pieces(made):
             end = written[piece.side] + len(piece.data)
             while least[piece.side] and least[piece.side][0][0] < end:
-                self.assertGreaterEqual(written[OTHER[piece.side]], least[piece.side].pop(0)[1])
+                self.assertGreaterEqual(written[zkr.OTHER[piece.side]], least[piece.side].pop(0)[1])
             written[piece.side] = end

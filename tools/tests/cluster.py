@@ -24,7 +24,8 @@ def main():
     words = parser.parse_args()
     with distributed.LocalCluster(n_workers=words.workers, threads_per_worker=1, processes=True, dashboard_address=None,
                                   silence_logs=50) as cluster:
-        with subprocess.Popen([sys.executable, words.tool, *words.words, "--scheduler", cluster.scheduler_address]) as tool:
+        with subprocess.Popen([sys.executable, words.tool, *words.words, "--scheduler",
+                               cluster.scheduler_address]) as tool:
             time.sleep(words.after)
             os.kill(next(iter(cluster.workers.values())).pid, signal.SIGKILL)
         return tool.returncode

@@ -14,26 +14,23 @@ import random
 import struct
 import subprocess
 import sys
-import unittest.mock
 
-TOOLS = pathlib.Path(__file__).resolve().parent.parent
-sys.path.insert(0, str(TOOLS))
+from support import TOOLS, run_main, zkr
 
-import columns  # noqa: E402
-import zkjson  # noqa: E402
-import zkr  # noqa: E402
-import zkreport  # noqa: E402
-import zkstat  # noqa: E402
+import columns
 
-CHOICES = ((), ("--path", "/"), ("--path", "/a", "--path", "/kazoo"), ("--op", "event", "--op", "multi", "--op", "create"),
-           ("--slower", "0.5"), ("--from", "1763843467121", "--to", "1763843467190"), ("--session", "0x100003780a60004"),
+CHOICES = ((), ("--path", "/"), ("--path", "/a", "--path", "/kazoo"),
+           ("--op", "event", "--op", "multi", "--op", "create"), ("--slower", "0.5"),
+           ("--from", "1763843467121", "--to", "1763843467190"),
+           ("--session", "0x100003780a60004"),
            ("--op", "connect", "--path", "/", "--slower", "0"))
 FEW = CHOICES[:2]
 LONG = 70_000
 SMALL, E_ACUTE, BLANK = "612020", "c3a9", "e2808b"     # U+200B can't be printed
 TEXTS = ('~', '""', '"/a"', '"/\\c3\\a9"', '"/\\22\\5c"', '"/\\0a\\7f"', '"/\\e2\\80\\8b\\c3\\a9"', f'"/{"x" * LONG}"',
          f'"/{"x" * LONG}\\c3\\a9\\01{"y" * LONG}\\c3\\a9"', '"/\\f0\\9f\\98\\80"')
-BLOBS = ("~", "#", "#00", "#" + SMALL, "#0a0d09", "#7f", "#" + E_ACUTE, "#" + BLANK, "#ff", "#eda080", "#c0af", "#f4908080",
+BLOBS = ("~", "#", "#00", "#" + SMALL, "#0a0d09", "#7f", "#" + E_ACUTE, "#" + BLANK, "#ff", "#eda080", "#c0af",
+         "#f4908080",
          "#" + E_ACUTE * LONG, "#" + "61" * LONG + BLANK, "#" + "62" * LONG, "#61c3")
 LISTS = ("~", "[]", '["a"]', '["a","b"]', "[~]", '["a",~,"\\c3\\a9"]', '["\\22","b"]',
          "[" + ",".join(f'"{number}"' for number in range(14_000)) + "]", "[" + ",".join(['"\\00"'] * 7_000) + "]")
@@ -63,14 +60,16 @@ def values():
         yield from exchange(f"setData path=\"/a\" blob={blob} version=-1", "err=-103/BADVERSION")
     for names in LISTS:
         yield from exchange("getChildren path=\"/a\" watch=0", f"names={names}")
-        yield from (f"C -8 setWatches zxid=9 dataWatches={names} existWatches=[] childWatches=~", "S -8 setWatches zxid=0")
+        yield from (f"C -8 setWatches zxid=9 dataWatches={names} existWatches=[] childWatches=~",
+                    "S -8 setWatches zxid=0")
     yield from exchange(f'getChildren path="/{"x" * LONG}" watch=0', 'names=["a","b"]')
     yield from exchange("multi {}", "{}")
     yield from exchange("multi {delete path=~ version=1}", "err=-4/CONNECTIONLOSS")
     yield from exchange("multi {delete path=~ version=1;setData path=~ blob=~ version=3}",
                         f"{{delete;setData stat={STAT}}}")
     yield from exchange("multi {delete path=\"/a\" version=1}", "{fail err=0/OK}")
-    yield from ("C -2 ping", "C -4 auth kind=3 scheme=\"digest\" auth=#616263", "S -4 auth zxid=0", "C 900 closeSession")
+    yield from ("C -2 ping", "C -4 auth kind=3 scheme=\"digest\" auth=#616263", "S -4 auth zxid=0",
+                "C 900 closeSession")
 
 
 def cut(data, chance):
@@ -90,7 +89,8 @@ def cut(data, chance):
     if chance.random() < 0.4:
         del made[chance.randrange(len(made)):]
     if chance.random() < 0.1:
-        made += chance.choice((b"C", b"S\0\0", b"X", b"C\0\0\0\0", b"C\0\0\0\5", b"S" + b"\xff" * 4, b"C\x80" + bytes(11)))
+        made += chance.choice((b"C", b"S\0\0", b"X", b"C\0\0\0\0", b"C\0\0\0\5", b"S" + b"\xff" * 4,
+                               b"C\x80" + bytes(11)))
     return bytes(made), times
 
 
@@ -108,7 +108,8 @@ def lossy_recordings(folder, paths):
                 kept += whole[at:end]
             at = end
         capture.write_bytes(kept)
-        subprocess.run([sys.executable, TOOLS / "pcap2zkr.py", "--times", "--late", capture, prefix], stdout=subprocess.DEVNULL,
+        subprocess.run([sys.executable, TOOLS / "pcap2zkr.py", "--times", "--late", capture, prefix],
+                       stdout=subprocess.DEVNULL,
                        check=False)
     return sorted(folder.glob("lossy*.zkr"))
 
@@ -137,7 +138,8 @@ def recordings(zkdump, folder, paths):
             except zkr.Damaged:
                 continue
             if times and chance.random() < 0.1:
-                times[chance.randrange(len(times))] = chance.choice(("x", "1.", ".5", "1" * 20, "1.1234567890", "-1", " 1", ""))
+                times[chance.randrange(len(times))] = chance.choice(("x", "1.", ".5", "1" * 20, "1.1234567890", "-1",
+                                                                     " 1", ""))
             end = chance.choice(("\n", "\n", "\r\n", "\r"))
             path.with_name(path.name + ".times").write_bytes((end.join(times) + chance.choice(("", end))).encode())
         yield path
@@ -145,18 +147,8 @@ def recordings(zkdump, folder, paths):
 
 def run(tool, zkcolumns, words):
     """What a tool prints: its status, standard output and standard error."""
-    out, err = io.BytesIO(), io.BytesIO()
-    streams = [io.TextIOWrapper(each, "utf-8") for each in (io.BufferedReader(io.BytesIO()), out, err)]
     os.environ["ZKCOLUMNS"] = zkcolumns
-    with unittest.mock.patch.multiple("sys", argv=[tool.__name__, *map(str, words)], stdin=streams[0], stdout=streams[1],
-                                      stderr=streams[2]):
-        try:
-            status = zkr.tool(tool.main)
-        except SystemExit as ended:
-            status = ended.code
-    for stream in streams[1:]:
-        stream.flush()
-    return status, out.getvalue(), err.getvalue()
+    return run_main(tool, words)
 
 
 def main():
@@ -164,13 +156,13 @@ def main():
     columns.said, runs, different = True, 0, 0
     paths = [pathlib.Path(path) for path in paths]
     for path in recordings(zkdump, pathlib.Path(folder), paths):
-        for tool, words in ((zkjson, ()), (zkstat, ("--json",)), (zkreport, ("--text",))):
+        for tool, words in (("zkjson.py", ()), ("zkstat.py", ("--json",)), ("zkreport.py", ("--text",))):
             for choice in CHOICES if path.stat().st_size < 20_000 and path in paths or path.name == "values.zkr" else FEW:
                 fast, plain = (run(tool, which, (*words, *choice, path)) for which in (zkcolumns, ""))
                 runs += 1
                 if fast != plain:
                     different += 1
-                    print(tool.__name__, *choice, path, fast[0], plain[0], fast[2][-300:], plain[2][-300:])
+                    print(tool, *choice, path, fast[0], plain[0], fast[2][-300:], plain[2][-300:])
                     lines = itertools.zip_longest(*(each[1].split(b"\n") for each in (fast, plain)))
                     print(*next(((one[:500], two[:500]) for one, two in lines if one != two), ()), sep="\n")
     print(f"{runs} runs, {different} different")

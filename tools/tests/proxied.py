@@ -15,7 +15,7 @@ from support import TOOLS, ToolCase, receive
 
 SECONDS = 20
 STAND_IN = f"""#!{sys.executable} -SE
-# Prints each frame as its side and its number; a frame of no bytes is refused.
+# Prints each frame as its side, its number and its number of bytes; a frame of no bytes is refused.
 import sys
 sys.path.insert(0, {str(TOOLS)!r})
 import zkr
@@ -25,7 +25,7 @@ for piece in zkr.Reader(sys.stdin.buffer):
         if not frame.payload:
             print(". refused", flush=True)
             sys.exit(1)
-        print(frame.side.decode(), frame.number, flush=True)
+        print(frame.side.decode(), frame.number, len(frame.payload), flush=True)
 print(". whole", *sys.argv[1:])
 """
 # Runs a tool where there is no IPv6, though a name of the server has such an address first.

@@ -17,7 +17,11 @@ class Result(unittest.TextTestResult):
 
     def __init__(self, *words, **more):
         super().__init__(*words, **more)
-        self.failed = set()
+        self.failed, self.passed = set(), 0
+
+    def addSuccess(self, test):
+        self.passed += 1
+        super().addSuccess(test)
 
     def addFailure(self, test, err):
         self.failed.add(test.id())
@@ -39,11 +43,9 @@ def main():
     files = [path.stem for path in sorted(HERE.glob("test_*.py")) if any(word in path.stem for word in words)]
     tests = unittest.TestSuite(unittest.defaultTestLoader.loadTestsFromName(name) for name in files)
     result = unittest.TextTestRunner(stream=sys.stdout, resultclass=Result, verbosity=2).run(tests)
-    skipped = {test.id() for test, _ in result.skipped} - result.failed
     for test, reason in result.skipped:
         print(f"not run: {test.id()}: {reason}")
-    passed = result.testsRun - len(result.failed) - len(skipped)
-    print(f"{passed} passed, {len(result.failed)} failed")
+    print(f"{result.passed} passed, {len(result.failed)} failed")
     return 1 if result.failed or not result.testsRun else 0
 
 

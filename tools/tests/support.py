@@ -19,6 +19,21 @@ sys.path.insert(0, str(TOOLS))
 import zkr  # noqa: E402  (found by the line above)
 
 
+def run_main(tool, words, stdin=b""):
+    """Runs a tool within this process: its status, and the bytes on standard output and standard error."""
+    main, out, err = importlib.import_module(tool.removesuffix(".py")).main, io.BytesIO(), io.BytesIO()
+    streams = [io.TextIOWrapper(each, "utf-8") for each in (io.BufferedReader(io.BytesIO(stdin)), out, err)]
+    with unittest.mock.patch.multiple("sys", argv=[tool, *map(str, words)], stdin=streams[0], stdout=streams[1],
+                                      stderr=streams[2]):
+        try:
+            status = zkr.tool(main)
+        except SystemExit as ended:
+            status = ended.code
+    for stream in streams[1:]:
+        stream.flush()
+    return status, out.getvalue(), err.getvalue()
+
+
 class ToolCase(unittest.TestCase):
     """A test with a temporary folder of its own, `folder`. It fails after a minute."""
 
@@ -45,18 +60,8 @@ class ToolCase(unittest.TestCase):
 
     def run_inside(self, tool, *words, stdin=b"", seconds=60):
         """Runs a tool as run_tool does, but within this process, which takes less time."""
-        module = importlib.import_module(tool.removesuffix(".py"))
-        out, err = io.BytesIO(), io.BytesIO()
-        streams = [io.TextIOWrapper(each, "utf-8") for each in (io.BufferedReader(io.BytesIO(stdin)), out, err)]
-        with unittest.mock.patch.multiple("sys", argv=[tool, *map(str, words)], stdin=streams[0], stdout=streams[1],
-                                          stderr=streams[2]):
-            try:
-                status = zkr.tool(module.main)
-            except SystemExit as ended:
-                status = ended.code
-        for stream in streams[1:]:
-            stream.flush()
-        return status or 0, out.getvalue().decode(), err.getvalue().decode()
+        status, out, err = run_main(tool, words, stdin)
+        return status or 0, out.decode(), err.decode()
 
     def assert_bad_words(self, tool, *words):
         """That these arguments are refused with one line on standard error and status 2, and nothing else is

@@ -37,7 +37,8 @@ class BadInput(ToolCase):
 
     def test_a_full_disk(self):
         for command in (f"zkstat.py {LISTING}", f"zkjson.py {LISTING}"):
-            self.assert_ends(f"TOOLS/{command} > /dev/full", 3, f"{command[:9]}: standard output: No space left on device\n")
+            self.assert_ends(f"TOOLS/{command} > /dev/full", 3,
+                             f"{command[:9]}: standard output: No space left on device\n")
         done = self.shell(f"TOOLS/zkskip.py < {RECORDING} > /dev/full")
         self.assertEqual((done.returncode, done.stderr.decode().splitlines()[-1]),
                          (3, "zkskip.py: standard output: No space left on device"))
@@ -102,6 +103,16 @@ class BadInput(ToolCase):
                 with self.subTest(tool=tool, data=data[:20]):
                     self.assertIn((status, err.count("\n")), ((0, 0), (1, 1), (2, 1)), err)
                     self.assertTrue(err[:-1].isprintable() and "Error" not in err, err)
+
+    def test_a_capture_in_place_of_a_recording(self):
+        """The line says which tool makes recordings of it."""
+        for data in (b"\xd4\xc3\xb2\xa1" + bytes(20), b"\x0a\x0d\x0d\x0a" + bytes(8), b"\x1f\x8b\x08\0"):
+            (self.folder / "c.pcap").write_bytes(data)
+            for tool in ("zkstat.py", "zkjson.py"):
+                told = "is a capture, or packed with gzip: pcap2zkr.py makes recordings of a capture, and gunzip unpacks " \
+                       "other files\n"
+                self.assertEqual(self.run_inside(tool, self.folder / "c.pcap"),
+                                 (1, "", f"{tool}: {self.folder}/c.pcap {told}"))
 
     def test_output_that_is_not_utf_8(self):
         name = self.folder / "größe.show"

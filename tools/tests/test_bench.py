@@ -125,7 +125,8 @@ class Faults(BenchCase):
         self.assertEqual(self.ended(), (0, ["played: 55 bytes of the client, 41 of the server"], []))
 
     def test_a_fault_that_was_not_made_is_reported(self):
-        for words in (("--cut-at", "2"), ("--reset-at", "2:5"), ("--flip", "1:16"), ("--flip", "1:15", "--cut-at", "1:3")):
+        for words in (("--cut-at", "2"), ("--reset-at", "2:5"), ("--flip", "1:16"),
+                      ("--flip", "1:15", "--cut-at", "1:3")):
             with self.subTest(words=words):
                 client = self.client(self.play(RUN, *words), CLIENT_BYTES)
                 receive(client, 41 + 7)

@@ -1,11 +1,12 @@
-"""Tests of bench/run, over scripts in the place of the programs of two checkouts, and of the jobs that it runs."""
+"""Tests of bench/run, over scripts in the place of the programs of two checkouts, of the jobs that it runs, and of
+bench/tools.py."""
 
 import pathlib
 import re
 import subprocess
 import sys
 
-from support import TOP, ToolCase
+from support import PROGRAM, TOP, ToolCase
 
 JOBS = TOP / "crates" / "bench_jobs" / "out" / "bench_jobs"
 NAMES = ["check", "single", "show", "build", "clients", "archive"]
@@ -66,3 +67,14 @@ class Jobs(ToolCase):
 
     def test_a_job_that_there_is_not(self):
         self.assertEqual(self.run_job("chek", "1", "1"), (1, "", "Error: no such job\n"))
+
+
+class Tools(ToolCase):
+    def test_a_tool_that_fails_has_no_figures(self):
+        if not PROGRAM.exists():
+            self.skipTest("the program zkdump is not built")
+        done = subprocess.run([sys.executable, TOP / "bench" / "tools.py", "--megabytes", "1", "--python",
+                               "/bin/false"],
+                              capture_output=True, text=True, check=False)
+        self.assertEqual((done.returncode, len(done.stdout.splitlines())), (1, 2), done.stdout)
+        self.assertRegex(done.stderr, r"^/bin/false \S*/zkstat.py \S*/timed.zkr ended with status 1: ")

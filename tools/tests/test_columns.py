@@ -25,7 +25,8 @@ SLOWER = "numpy isn't there"
 def interpreter():
     """A Python that has numpy, or None."""
     for python in (sys.executable, "/usr/bin/python3"):
-        if shutil.which(python) and subprocess.run([python, "-c", "import numpy"], capture_output=True, check=False).returncode == 0:
+        if shutil.which(python) and subprocess.run([python, "-c", "import numpy"], capture_output=True,
+                                                   check=False).returncode == 0:
             return python
     return None
 
@@ -57,7 +58,8 @@ class Same(ColumnsCase):
         signal.alarm(600)
         done = subprocess.run([python, HERE / "compared.py", self.program, PROGRAM, self.folder, *CAPTURES],
                               capture_output=True, text=True, check=False)
-        self.assertTrue(re.fullmatch(r"[1-9]\d* runs, 0 different\n", done.stdout), done.stdout[:3000] + done.stderr[-2000:])
+        self.assertTrue(re.fullmatch(r"[1-9]\d* runs, 0 different\n", done.stdout),
+                        done.stdout[:3000] + done.stderr[-2000:])
 
 
 class Program(ColumnsCase):
@@ -72,7 +74,8 @@ class Program(ColumnsCase):
     def test_times_that_do_not_fit(self):
         recording, times = self.folder / "a.zkr", self.folder / "a.zkr.times"
         recording.write_bytes(b"ZKR1" + b"C\0\0\0\1a" + b"S\0\0\0\1b")
-        for text in ("1\n", "1\n2\n3\n", "1\nx\n", "1\n2.\n", "1\n\n", "1\n2.1234567890\n", f"1\n{'2' * 20}\n", f"1\n{'2' * 99}\n"):
+        for text in ("1\n", "1\n2\n3\n", "1\nx\n", "1\n2.\n", "1\n\n", "1\n2.1234567890\n", f"1\n{'2' * 20}\n",
+                     f"1\n{'2' * 99}\n"):
             times.write_text(text)
             done = self.columns("--times", times, recording)
             self.assertEqual((done.returncode, done.stdout), (4, b""), text)
@@ -88,7 +91,8 @@ class Program(ColumnsCase):
         """No compiler warns of it."""
         for compiler in filter(shutil.which, ("gcc", "clang")):
             for source in make_columns.SOURCES.glob("*.c"):
-                done = subprocess.run([compiler, *make_columns.STRICT, "-Wshadow", f"-I{TOP / 'include'}", "-fsyntax-only", source],
+                done = subprocess.run([compiler, *make_columns.STRICT, "-Wshadow", f"-I{TOP / 'include'}",
+                                       "-fsyntax-only", source],
                                       capture_output=True, text=True, check=False)
                 self.assertEqual((done.returncode, done.stderr), (0, ""), (compiler, source))
 
@@ -105,7 +109,8 @@ class Missing(ToolCase):
             *(f'C {n} setData path="/a" blob=#{"61" * 2_000_000} version=1' for n in range(1, 6))]).encode()).stdout)
         small = CAPTURES[0]
         for path, lines in ((recording, 1), (small, 0)):
-            done = subprocess.run([sys.executable, TOOLS / "zkstat.py", path], capture_output=True, text=True, check=False,
+            done = subprocess.run([sys.executable, TOOLS / "zkstat.py", path], capture_output=True, text=True,
+                                  check=False,
                                   env={**os.environ, "ZKCOLUMNS": ""})
             self.assertEqual((done.returncode, done.stderr.count("\n")), (0, lines), done.stderr)
             if lines:

@@ -66,7 +66,8 @@ class Rows(ToolCase):
         self.assertRegex(costs.fault(ROW, KEPT, now), "; memcpy had less than 10,000, and has 25,000$")
 
     def test_less_and_the_same(self):
-        self.assertRegex(costs.fault(ROW, KEPT, cost(memcpy=-30_000)), r"970,000 \(-3.0%\): keep the gain by .* --update$")
+        self.assertRegex(costs.fault(ROW, KEPT, cost(memcpy=-30_000)),
+                         r"970,000 \(-3.0%\): keep the gain by .* --update$")
         for change in (-20_000, 0, 20_000):
             self.assertEqual(costs.fault(ROW, KEPT, cost(memcpy=change)), "")
 
@@ -90,7 +91,8 @@ class Rows(ToolCase):
     def test_what_callgrind_wrote(self):
         path = self.folder / "callgrind"
         path.write_text(CALLGRIND)
-        self.assertEqual(dict(costs.read_functions(path)), {"zk_talk::talk::Talk::step": 35, "zk_items::list::Put::put": 13,
+        self.assertEqual(dict(costs.read_functions(path)), {"zk_talk::talk::Talk::step": 35,
+                                                            "zk_items::list::Put::put": 13,
                                                             "memcpy": 400, "libc.so.6": 3})
 
     def test_the_rows_that_are_kept_are_those_that_are_counted(self):
@@ -148,5 +150,6 @@ class Whole(ToolCase):
             self.assertEqual(costs.main(), 1)
         *_, fault, last = said.getvalue().splitlines()
         self.assertEqual(last, "0 passed, 1 failed")
-        self.assertEqual(fault, f"{self.ROW}: {now.count - gained:,} instructions came to {now.count:,} (+3.0%); {most} had "
+        self.assertEqual(fault,
+                         f"{self.ROW}: {now.count - gained:,} instructions came to {now.count:,} (+3.0%); {most} had "
                                 f"{now.functions[most] - gained:,}, and has {now.functions[most]:,}")

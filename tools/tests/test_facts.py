@@ -11,6 +11,7 @@ import test_pcap_pairs as made
 import wire
 from proxied import TroubleCase
 from support import CAPTURES, PROGRAM, TOOLS, TOP, ToolCase, sides
+import contents
 import facts
 
 RUN = TOP / "crates" / "zkdump" / "stdin"
@@ -32,7 +33,8 @@ class FactsCase(ToolCase):
 
 class Format(FactsCase):
     def test_of_every_kind(self):
-        found = facts.Facts("pcap2zkr", "10.0.0.7:1", "[::1]:2181", 1.5, 2.5, 3.5, 2, "0x5", "3.5", "C", "S", "C:EIO", True,
+        found = facts.Facts("pcap2zkr", "10.0.0.7:1", "[::1]:2181", 1.5, 2.5, 3.5, 2, "0x5", "3.5", "C", "S", "C:EIO",
+                            True,
                             True, True, {"C": 1, "S": 2}, ("C", "S"), {"C": 3, "S": 4}, 5, True)
         path = self.folder / "a.zkr"
         path.write_bytes(b"ZKR1")
@@ -44,6 +46,7 @@ class Format(FactsCase):
         self.assertEqual(" ".join(found.words()), "closed=C reset=S broken=C:EIO open lost=C:1,S:2 skipped=C:3,S:4 "
                                                   "unasked=5 hole=C hole=S snapped")
         self.assertEqual(facts.Facts().to_object(), {})
+        self.assertEqual(facts.from_object(found.to_object()), found)
 
     def test_the_mark(self):
         """A change in the first or in the last 65,536 bytes, or of the length, makes another mark."""
@@ -60,12 +63,16 @@ class Format(FactsCase):
         for name, value, told in (
                 ("recording", {"bytes": 9, "sha256": ""}, "they are of another recording, of 9 bytes"),
                 ("recording", {"bytes": 153, "sha256": "0"}, "they are of another recording of the same length"),
-                ("facts", 2, "this is no object of facts of version 1"), ("recording", 3, "this is no object of facts of "
+                ("facts", 2, "this is no object of facts of version 1"),
+                ("recording", 3, "this is no object of facts of "
                  "version 1"), ("hole", ["X"], "no facts have this value of 'hole'"),
-                ("hole", "S", "no facts have this value of 'hole'"), ("session", "5", "no facts have this value of 'session'"),
-                ("lost", {"C": -1, "S": 0}, "no facts have this value of 'lost'"), ("part", 1.5, "no facts have this value "
+                ("hole", "S", "no facts have this value of 'hole'"),
+                ("session", "5", "no facts have this value of 'session'"),
+                ("lost", {"C": -1, "S": 0}, "no facts have this value of 'lost'"),
+                ("part", 1.5, "no facts have this value "
                  "of 'part'"), ("client", "\x1b[2J", "no facts have this value of 'client'"),
-                ("closed", "X", "no facts have this value of 'closed'"), ("ended", -1, "no facts have this value of 'ended'")):
+                ("closed", "X", "no facts have this value of 'closed'"),
+                ("ended", -1, "no facts have this value of 'ended'")):
             path = self.without("r")
             facts.write(path, facts.Facts())
             self.change("r", **{name: value})
@@ -99,7 +106,8 @@ class Times(FactsCase):
         one, other = self.copy("one"), self.copy("other", range(10, 14))
         for words in (("--times", f"{other}.times", one), ("--times", f"{one}.times", other)):
             status, out, err = self.run_inside("zkstat.py", *words)
-            self.assertEqual((status, out, err), (1, "", f"zkstat.py: {words[1]} has the times of another recording than "
+            self.assertEqual((status, out, err),
+                             (1, "", f"zkstat.py: {words[1]} has the times of another recording than "
                                                          f"{words[2]}, by the facts beside them\n"))
         shutil.copyfile(f"{other}.times", f"{one}.times")
         self.assertEqual(self.run_inside("zkjson.py", one)[0], 1)
@@ -140,7 +148,8 @@ class Holes(FactsCase):
                 self.assertEqual((status, err, found["unanswered"]), (1, "", []))
                 self.assertEqual(found["operations"]["connect"]["asked"], 1)
                 self.assertEqual({each["session"] for each in found["connections"]}, {"0x5"})
-                asked, answered = (sum(each[word] for each in found["operations"].values()) for word in ("asked", "answered"))
+                asked, answered = (sum(each[word] for each in found["operations"].values())
+                                   for word in ("asked", "answered"))
                 self.assertEqual(asked - answered, len(found["notCaptured"]))
                 self.assertGreater(len(found["notCaptured"]), 0)
                 status, objects, _ = self.run_inside("zkjson.py", *paths)
@@ -150,7 +159,13 @@ class Holes(FactsCase):
                 self.assertEqual(sum(len(each.get("notCaptured", ())) for each in endings), len(found["notCaptured"]))
                 status, out, err = self.run_inside("zkstat.py", "--json", stdin=objects.encode())
                 self.assertEqual((status, json.loads(out)), (1, found))
-                self.assertIn(" replies not captured, if there were any\n", self.run_inside("zkstat.py", *paths)[1])
+                status, out, err = self.run_inside("zkstat.py", *paths)
+                self.assertEqual((status, err), (1, ""))
+                self.assertIn(" replies not captured, if there were any\n", out)
+                rows = [line for line in out.splitlines() if line.startswith(str(self.folder)) and " whole " in line]
+                self.assertEqual(len(rows), len(paths))
+                self.assertTrue(all(" hole=" in row or " lost=" in row for row in rows), rows)
+                self.assertIn("\nslowest: asked at ", out)
 
     def test_a_reply_that_is_left_out(self):
         """One of more bytes than are searched for a frame, after a loss: its request is not unanswered."""
@@ -162,11 +177,19 @@ class Holes(FactsCase):
         sent = talk.segments()
         gone = next(at for at, each in enumerate(sent) if each.data == talk.said[talk.pairs[n] - 1].data)
         capture = self.folder / "r.pcap"
-        capture.write_bytes(wire.pcap([(each.milliseconds, wire.packet(each)) for at, each in enumerate(sent) if at != gone]))
+        capture.write_bytes(wire.pcap([(each.milliseconds, wire.packet(each)) for at,
+                                       each in enumerate(sent) if at != gone]))
         self.run_inside("pcap2zkr.py", capture, self.folder / "r")
         status, out, _ = self.run_inside("zkstat.py", "--json", *sorted(self.folder.glob("r-*.zkr")))
         found = json.loads(out)
         self.assertEqual((status, found["unanswered"], len(found["notCaptured"])), (1, [], 2))
+
+    def test_each_part_has_its_number(self):
+        for depth in (1, 8):
+            _, paths = self.recordings(depth, name=f"p{depth}")
+            self.assertGreater(len(paths), 3)
+            numbers = {path.stem: facts.facts_of(path).part for path in paths}
+            self.assertEqual(numbers, {stem: int(stem.partition(".")[2] or 1) for stem in numbers})
 
     def test_a_report(self):
         capture, paths = self.recordings(8)
@@ -175,7 +198,8 @@ class Holes(FactsCase):
             page = self.folder / f"{len(texts)}.html"
             status, out, err = self.run_tool("zkreport.py", "--text", "-o", page, *words)
             self.assertEqual((status, err), (1, ""))
-            self.assertRegex(out.partition("\n")[0], r"^1 connections, 1 sessions, .* 0 failed, 0 unanswered, [1-9]\d* replies "
+            self.assertRegex(out.partition("\n")[0],
+                             r"^1 connections, 1 sessions, .* 0 failed, 0 unanswered, [1-9]\d* replies "
                              "not captured, 0 events$".replace("0 failed", r"\d+ failed"))
             self.assertIn("\nRequests whose replies, if there were any, were not captured\n", out)
             self.assertNotIn("\nUnanswered requests\n", out)
@@ -218,9 +242,22 @@ class Recorded(TroubleCase):
         self.tool.wait()
         found = json.loads((self.folder / "r-1.facts.json").read_text("ascii"))
         path = self.folder / "r-1.zkr"
-        self.assertEqual((found["tool"], found["closed"], found["server"]), ("record", "C", f"127.0.0.1:{self.echo.port}"))
+        self.assertEqual((found["tool"], found["closed"], found["server"]),
+                         ("record", "C", f"127.0.0.1:{self.echo.port}"))
         self.assertEqual((found["recording"], found["times"]), (facts.mark_of(path), facts.mark_of(f"{path}.times")))
         self.assertLess(found["begun"], found["ended"])
+
+    def test_a_host_whose_name_is_not_ascii(self):
+        """Its facts are read again. The name is that of this host, in wide letters, which a resolver makes narrow."""
+        server = f"\uff4c\uff4f\uff43\uff41\uff4c\uff48\uff4f\uff53\uff54:{self.echo.port}"
+        self.run_proxy([sys.executable, TOOLS / "record.py", "0", server, self.prefix], subprocess.PIPE)
+        client = self.client(self.port())
+        self.ask(client)
+        client.close()
+        self.lines(2)
+        self.tool.terminate()
+        self.tool.wait()
+        self.assertEqual(facts.facts_of(self.folder / "r-1.zkr").server, server)
 
     def test_a_recording_that_could_not_go_on_has_a_hole(self):
         port = self.begin("record.py")
@@ -251,6 +288,27 @@ class Others(FactsCase):
                              ("zkplay", "C", SESSION, address))
             self.assertEqual(found["times"], facts.mark_of(f"{path}.times"))
             self.assertEqual(self.run_inside("zkstat.py", path)[0], 0)
+
+    def test_what_is_played_of_a_later_part_has_no_session(self):
+        """Its connect response was made up: -1 is no session."""
+        made_up, sent = (value.to_bytes(8, "big", signed=True) for value in (-1, 0x1234))
+        for session, wanted in ((made_up, None), (sent, "0x1234"), (bytes(8), None)):
+            self.assertEqual(contents.session_in(bytes(8) + session + bytes(20)), wanted)
+
+    def test_connections_of_the_same_ends(self):
+        """Two that began at the same time are two, also where one was recorded twice."""
+        captures = [path for path in CAPTURES if path.stem in ("kazoo_basic", "go_basic")]
+        for number, path in enumerate((*captures, captures[0])):
+            capture = self.folder / f"{number}.pcap"
+            self.run_inside("zkr2pcap.py", path, capture)
+            self.run_inside("pcap2zkr.py", "--times", capture, self.folder / str(number))
+        names = [self.folder / f"{number}-1.zkr" for number in range(3)]
+        self.assertEqual(len({facts.facts_of(name).connection()[:3] for name in names}), 1)
+        for words, wanted in ((names[:2], "2 connections, 2 sessions, "), (names[::2], "2 connections, 1 sessions, "),
+                              (names, "3 connections, 2 sessions, ")):
+            for more in ((), ("--jobs", 2)):
+                status, out, err = self.run_tool("zkreport.py", "--text", *words, *more)
+                self.assertEqual((status, err, out[:len(wanted)]), (0, "", wanted))
 
     def test_zkskip_hands_them_on(self):
         path = self.copy("old")

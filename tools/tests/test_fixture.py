@@ -18,7 +18,8 @@ class Fixture(ToolCase):
 
     def run_pytest(self, python, **more):
         """The status of pytest, and what it prints."""
-        done = subprocess.run([python, "-m", "pytest", "-q", "-rs", "-p", "no:cacheprovider", TOP / "examples" / "pytest"],
+        done = subprocess.run([python, "-m", "pytest", "-q", "-rs", "-p", "no:cacheprovider",
+                               TOP / "examples" / "pytest"],
                               capture_output=True, text=True, check=False,
                               env={**os.environ, "PYTHONDONTWRITEBYTECODE": "1", **more})
         return done.returncode, done.stdout

@@ -10,6 +10,7 @@ import subprocess
 import sys
 import time
 import unittest
+import unittest.mock
 
 from support import CAPTURES, PROGRAM, TOOLS, ToolCase
 
@@ -48,7 +49,8 @@ class FleetCase(ToolCase):
 
     def output(self, *words):
         """The status of a tool, its standard output and its standard error."""
-        done = subprocess.run([sys.executable, TOOLS / words[0], *map(str, words[1:])], capture_output=True, check=False,
+        done = subprocess.run([sys.executable, TOOLS / words[0], *map(str, words[1:])], capture_output=True,
+                              check=False,
                               timeout=200)
         return done.returncode, done.stdout, done.stderr
 
@@ -65,7 +67,8 @@ class FleetCase(ToolCase):
             wanted = self.output(*tool, *self.names)
             for jobs in (1, 3):
                 self.assertEqual(self.output(*tool, "--jobs", jobs, self.fleet), wanted, tool)
-            done = subprocess.run(self.in_small_chunks(*tool, "--jobs", 2, self.fleet), capture_output=True, check=False)
+            done = subprocess.run(self.in_small_chunks(*tool, "--jobs", 2, self.fleet), capture_output=True,
+                                  check=False)
             self.assertEqual((done.returncode, done.stdout, done.stderr), wanted, tool)
         checked = [self.output("zkfleet.py", "check", "--jobs", jobs, self.fleet) for jobs in (1, 4)]
         self.assertEqual(checked[0], checked[1])
@@ -73,9 +76,11 @@ class FleetCase(ToolCase):
     def test_choices_and_list(self):
         listed = self.folder / "list"
         listed.write_text("".join(f"{name}\n" for name in self.names))
-        for tool, choice in zip(TOOLS_WITH_WORDS, (("--path", "/"), ("--session", "0x100003780a60004"), ("--slower", "0"),
+        for tool, choice in zip(TOOLS_WITH_WORDS, (("--path", "/"), ("--session", "0x100003780a60004"),
+                                                   ("--slower", "0"),
                                                    ("--op", "create", "--op", "event"))):
-            self.assertEqual(self.output(*tool, *choice, "--jobs", 2, f"@{listed}"), self.output(*tool, *choice, *self.names))
+            self.assertEqual(self.output(*tool, *choice, "--jobs", 2, f"@{listed}"),
+                             self.output(*tool, *choice, *self.names))
 
     def test_parts_of_connections(self):
         """The recordings of connections that were not captured whole."""
@@ -83,9 +88,9 @@ class FleetCase(ToolCase):
         folder.mkdir()
         names = compared.lossy_recordings(folder, self.names[:6])
         self.assertGreater(len(names), 10)
-        for tool in TOOLS_WITH_WORDS[::2] + TOOLS_WITH_WORDS[3:]:
+        for tool in TOOLS_WITH_WORDS:
             wanted = self.output(*tool, *names)
-            self.assertEqual(wanted[0], 1)
+            self.assertEqual(wanted[::2], (1, b""))
             self.assertEqual(self.output(*tool, "--jobs", 3, folder), wanted, tool)
 
     def test_unread(self):
@@ -110,6 +115,57 @@ class FleetCase(ToolCase):
         self.assertEqual((status, counts["recordings"], counts["endings"]),
                          (1, len(self.names) + 3, {"recording": 1, "refused": REFUSED, "unread": 1,
                                                    "whole": len(self.names) + 1 - REFUSED}))
+
+    def test_inputs_that_name_no_recording(self):
+        """An empty folder or list isn't many good recordings, and a recording is no list of paths."""
+        folder, names, copy = self.folder / "none", self.folder / "names", self.folder / "copy"
+        folder.mkdir()
+        names.write_text("\n\n")
+        shutil.copy(self.names[0], copy)
+        for tool, *words in (("zkfleet.py", "check"), *((*tool, "--jobs", 2) for tool in TOOLS_WITH_WORDS)):
+            for path, wanted in ((folder, f"{folder} has no recordings: NAME.zkr in it or in folders below"),
+                                 (f"@{names}", f"{names} is empty: a list has a path on each line"),
+                                 (f"@{copy}",
+                                  f"{copy} is a recording, and a list has a path on each line: leave out the @")):
+                done = self.output(tool, *words, self.fleet, path)
+                self.assertEqual(done, (1, b"", f"{tool}: {wanted}\n".encode()))
+        copy.with_name("capture").write_bytes(b"\xd4\xc3\xb2\xa1\n\0")
+        self.assertEqual(self.output("zkfleet.py", "check", self.folder / "capture"),
+                         (1, b"",
+                          f"zkfleet.py: {self.folder}/capture is a capture, or packed with gzip, and a list has a "
+                          "path on each line\n".encode()))
+        for path in (copy, self.names[0]):
+            self.assertIn(b"\n1 recordings, ", b"\n" + self.output("zkfleet.py", "check", path)[1])
+
+    def test_each_recording_counts_once(self):
+        wanted = self.output("zkfleet.py", "check", self.fleet)
+        self.assertEqual(self.output("zkfleet.py", "check", self.fleet, f"{self.folder}/./fleet", *self.names), wanted)
+
+    def test_a_folder_that_cannot_be_read_is_a_row(self):
+        locked, scandir = str(self.fleet / "1"), os.scandir
+
+        def refusing(path):
+            if path == locked:
+                raise PermissionError(13, "Permission denied", path)
+            return scandir(path)
+        with unittest.mock.patch("os.scandir", refusing):
+            found = fleet.expanded([str(self.fleet)])
+        self.assertEqual(found, sorted([locked, *(str(name) for name in self.names if str(name.parent) != locked)]))
+        self.assertEqual(fleet.attempt(lambda path: open(path, "rb"), locked), fleet.Unread("Is a directory"))
+
+    def test_another_file_that_is_not_there(self):
+        """As the program on a machine of a Dask scheduler: not the recording is missing."""
+        self.assertEqual([fleet.attempt(lambda _, name=name: open(name, "rb"), "a.zkr")
+                          for name in ("a.zkr", "/no/zkdump")],
+                         [fleet.Unread("No such file or directory"),
+                          fleet.Unread("/no/zkdump: No such file or directory")])
+
+    def test_a_list_of_what_is_no_path(self):
+        names = self.folder / "names"
+        names.write_bytes(b"a\0b\n")
+        status, out, err = self.output("zkfleet.py", "check", names)
+        self.assertEqual((status, err), (1, b""))
+        self.assertIn(b"unread: embedded null byte\n", out)
 
     def test_dead_worker(self):
         """A worker that dies has its recording done again."""
@@ -136,9 +192,12 @@ class FleetCase(ToolCase):
         sys.path.insert(0, str(self.folder))
         self.addCleanup(sys.path.remove, str(self.folder))
         for together in (False, True):
-            found = list(fleet.results(argparse.Namespace(jobs=2, scheduler=None), "deadly", ["x"], ["a", "b", "c", "d"], together))
+            found = list(fleet.results(argparse.Namespace(jobs=2, scheduler=None), "deadly", ["x"],
+                                       ["a", "b", "c", "d"], together))
             wanted = {path: (["x"], [path]) for path in "acd"}
-            self.assertEqual(found, [([path], wanted.get(path, fleet.Unread("its worker died again and again"))) for path in "abcd"])
+            self.assertEqual(found,
+                             [([path],
+                               wanted.get(path, fleet.Unread("its worker died again and again"))) for path in "abcd"])
 
     def test_chunks(self):
         sizes = {"a": fleet.LEAST_CHUNK - 1, "b": 1, "c": 1, "d": fleet.LEAST_CHUNK + 5, "e": 0}
@@ -154,8 +213,10 @@ class FleetCase(ToolCase):
             return b""
 
     def test_words(self):
-        for words in (("zkstat.py", "--jobs", "0", "a.zkr"), ("zkstat.py", "--jobs", "2"), ("zkjson.py", "--jobs", "x", "a.zkr"),
-                      ("zkstat.py", "--jobs", "2", "--times", "t", "a.zkr"), ("zkfleet.py", "list", "a.zkr"), ("zkfleet.py",),
+        for words in (("zkstat.py", "--jobs", "0", "a.zkr"), ("zkstat.py", "--jobs", "2"),
+                      ("zkjson.py", "--jobs", "x", "a.zkr"),
+                      ("zkstat.py", "--jobs", "2", "--times", "t", "a.zkr"), ("zkfleet.py", "list", "a.zkr"),
+                      ("zkfleet.py",),
                       ("zkreport.py", "--jobs", "2", "-o", self.folder / "page", "a.zkr")):
             self.assert_bad_words(*words)
 
@@ -166,7 +227,8 @@ class FleetCase(ToolCase):
             self.skipTest("Dask is not installed")
         for tool in TOOLS_WITH_WORDS[::2]:
             wanted = self.output(*tool, "--jobs", 1, self.fleet)
-            done = subprocess.run([python, HERE / "cluster.py", TOOLS / tool[0], *tool[1:], self.fleet], capture_output=True,
+            done = subprocess.run([python, HERE / "cluster.py", TOOLS / tool[0], *tool[1:], self.fleet],
+                                  capture_output=True,
                                   timeout=200, check=False)
             self.assertEqual((done.returncode, done.stdout), wanted[:2], done.stderr[-2000:])
 

@@ -14,7 +14,8 @@ ASK, REPLY = zkr.Piece(zkr.CLIENT, None, bytes(300)), zkr.Piece(zkr.SERVER, None
 
 
 def small_disk(case, room):
-    """A folder on a disk of its own with room for this number of files of up to 4 kB. The test is skipped where none can be mounted."""
+    """A folder on a disk of its own with room for this number of files of up to 4 kB. The test is skipped where none
+    can be mounted."""
     folder = case.folder / "disk"
     folder.mkdir()
     if subprocess.run(["mount", "-t", "tmpfs", "-o", "size=64k", "none", folder], capture_output=True,
@@ -80,7 +81,8 @@ class Zkskip(PcapCase):
 class Zkr2pcap(PcapCase):
     def test_no_part_of_a_capture_is_left(self):
         capture = self.folder / "made.pcap"
-        done = subprocess.run(["prlimit", "--fsize=100:100", sys.executable, TOOLS / "zkr2pcap.py", CAPTURES[0], capture],
+        done = subprocess.run(["prlimit", "--fsize=100:100", sys.executable, TOOLS / "zkr2pcap.py", CAPTURES[0],
+                               capture],
                               capture_output=True, text=True, timeout=60, check=False)
         self.assertEqual((done.returncode, done.stderr), (3, f"zkr2pcap.py: {capture}: File too large\n"))
         self.assertFalse(capture.exists())
@@ -119,7 +121,8 @@ class Pcap2zkr(PcapCase):
         """Which has room for one recording, its times and its facts."""
         disk, capture = small_disk(self, 3), self.folder / "capture"
         sent = [wire.conversation([ASK, REPLY] * 4, close=False) for _ in range(5)]
-        capture.write_bytes(wire.pcap([each for at, talk in enumerate(sent) for each in packed(talk, client=3000 + at)]))
+        capture.write_bytes(wire.pcap([each for at, talk in enumerate(sent)
+                                       for each in packed(talk, client=3000 + at)]))
         status, lines, told = self.run_tool("pcap2zkr.py", "--times", capture, disk / "r")
         self.assertEqual((status, told), (3, f"pcap2zkr.py: {disk}/r-2.zkr: No space left on device\n"))
         self.assertEqual([line.split()[0] for line in lines.splitlines()], [f"{disk}/r-1.zkr"])

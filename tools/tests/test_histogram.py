@@ -9,7 +9,8 @@ from histogram import Histogram  # found by the line above
 # By HdrHistogram's rule with three significant digits: the greatest number that is equivalent to this one. Up to 2,047
 # a number is alone; from 2,048 on two are equivalent, from 4,096 on four, and so on.
 EQUIVALENT = {0: 0, 1: 1, 1999: 1999, 2047: 2047, 2048: 2049, 2049: 2049, 2050: 2051, 4095: 4095, 4096: 4099,
-              4099: 4099, 4100: 4103, 8191: 8191, 8192: 8199, 10_000: 10_007, 1_000_000: 1_000_447, 2**40: 2**40 + 2**30 - 1}
+              4099: 4099, 4100: 4103, 8191: 8191, 8192: 8199, 10_000: 10_007, 1_000_000: 1_000_447,
+              2**40: 2**40 + 2**30 - 1}
 # The numbers at the ranks 1, 5, 6, 10 and 10 of these ten.
 TEN, OF_TEN = (5, 1, 9, 7, 3, 2, 8, 4, 10, 6), {1: 1, 50: 5, 51: 6, 95: 10, 100: 10}
 

@@ -2,6 +2,7 @@
 
 import contextlib
 import gzip
+import os
 import random
 import re
 import shutil
@@ -14,8 +15,8 @@ import time
 
 import wire
 from captured import SMALL, PcapCase, capture_of, disturbed, packed
-from support import CAPTURES, TOOLS, TOP, pieces, sides, zkr
-from test_record import echo, exactly, serve
+from support import CAPTURES, TOOLS, TOP, pieces, receive, sides, zkr
+from test_record import echo, serve
 
 
 class Forms(PcapCase):
@@ -108,7 +109,8 @@ class Forms(PcapCase):
         capture.write_bytes(capture_of(wire.conversation(pieces(SMALL[0].read_bytes()))))
         for words, closed, told in (("- PREFIX", "<&-", "-: standard input is closed, or a folder"),
                                     ("CAPTURE PREFIX", ">&-", "standard output is closed"),
-                                    ("CAPTURE PREFIX", ">/dev/full", "standard output: No space left on device; the recordings are "
+                                    ("CAPTURE PREFIX", ">/dev/full",
+                                     "standard output: No space left on device; the recordings are "
                                      "complete, and lines are lost")):
             with self.subTest(closed=closed):
                 words = words.replace("CAPTURE", str(capture)).replace("PREFIX", str(self.folder / "s"))
@@ -118,6 +120,15 @@ class Forms(PcapCase):
         done = subprocess.run(["sh", "-c", f"{sys.executable} {TOOLS}/pcap2zkr.py {capture} {self.folder}/t 2>&-"],
                               capture_output=True, text=True, check=False)
         self.assertEqual((done.returncode, done.stdout.count("\n")), (0, 1))
+
+    def test_a_prefix_that_is_no_utf_8(self):
+        """Its bytes are printed, also where standard output takes UTF-8 alone."""
+        capture, prefix = self.folder / "c.pcap", bytes(self.folder) + b"/\xff"
+        capture.write_bytes(capture_of(wire.conversation(pieces(SMALL[0].read_bytes()))))
+        done = subprocess.run([sys.executable, TOOLS / "pcap2zkr.py", capture, prefix], capture_output=True,
+                              check=False,
+                              env={**os.environ, "PYTHONIOENCODING": "utf-8:strict"})
+        self.assertEqual((done.returncode, done.stderr, done.stdout.split()[0]), (0, b"", prefix + b"-1.zkr"))
 
     def test_bad_words(self):
         for words in ((), ("a",), ("a", "b", "c"), ("--port", "0", "a", "b"), ("--port", "x", "a", "b"),
@@ -269,9 +280,9 @@ class Others(PcapCase):
         with socket.create_connection(("127.0.0.1", port)) as client:
             for at in range(0, len(said), 700):
                 client.sendall(said[at:at + 700])
-                self.assertEqual(exactly(client, len(said[at:at + 700])), said[at:at + 700])
+                self.assertEqual(receive(client, len(said[at:at + 700])), said[at:at + 700])
             client.shutdown(socket.SHUT_WR)
-            exactly(client, 3)
+            receive(client, 3)
         listening.join()
         status, _, made = self.convert(wire.pcap(packets, snap=1 << 18), "--port", port)
         self.assertEqual((status, sides(made[0])), (0, (said, said + b"end")))

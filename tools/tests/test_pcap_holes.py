@@ -6,7 +6,7 @@ import struct
 import subprocess
 
 import wire
-from captured import SMALL, PcapCase, capture_of, packed
+from captured import SMALL, PcapCase, capture_of
 from support import PROGRAM, pieces, sides, zkr
 
 
@@ -169,7 +169,8 @@ class AfterLoss(JoinedCase):
         said = [*map(ask, range(1, 8)), *map(reply, range(1, 8))]
         for gone, parts in (((4, 8), [[*said[:2], reply(1)], [*said[2:4], reply(3), reply(4)],
                                       [*said[5:7], reply(6), reply(7)]]),
-                            ((4, 8, 12), [[*said[:2], reply(1)], [*said[2:4], reply(3), reply(4)], [ask(7), reply(7)]])):
+                            ((4, 8, 12), [[*said[:2], reply(1)], [*said[2:4], reply(3), reply(4)],
+                                          [ask(7), reply(7)]])):
             names, ends, made = self.parts(said, *gone)
             self.assert_parts(made, *parts)
             self.assertEqual([re.sub(" skipped.*|.*resent=0 ", "", end) for end in ends],

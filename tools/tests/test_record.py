@@ -12,7 +12,7 @@ import sys
 import threading
 import time
 
-from support import CAPTURES, TOOLS, ToolCase, pieces, sides, zkr
+from support import CAPTURES, TOOLS, ToolCase, pieces, receive, sides, zkr
 
 SECONDS = 20
 
@@ -43,14 +43,6 @@ def echo(connection):
     while data := connection.recv(65536):
         connection.sendall(data)
     connection.sendall(b"end")
-
-
-def exactly(connection, size):
-    """`size` bytes, or all up to the end."""
-    data = b""
-    while len(data) < size and (part := connection.recv(size - len(data))):
-        data += part
-    return data
 
 
 class RecordCase(ToolCase):
@@ -98,7 +90,7 @@ class Passing(RecordCase):
         client = self.client(self.record(self.server()))
         said = b"".join(path.read_bytes() for path in CAPTURES[:4])
         threading.Thread(target=lambda: (client.sendall(said), client.shutdown(socket.SHUT_WR)), daemon=True).start()
-        self.assertEqual(exactly(client, len(said) + 4), said + b"end")
+        self.assertEqual(receive(client, len(said) + 4), said + b"end")
         path, peer, begun, moment = self.next_line()
         self.assertEqual((path, peer, begun), (f"{self.prefix}-1.zkr", "%s:%d" % client.getsockname(), "begun"))
         self.assertRegex(moment, r"^\d{4}-\d\d-\d\dT\d\d:\d\d:\d\d\.\d{3}Z$")
@@ -109,7 +101,7 @@ class Passing(RecordCase):
         client = self.client(self.record(self.server()))
         for number in range(200):
             client.sendall(b"%5d" % number)
-            self.assertEqual(exactly(client, 5), b"%5d" % number)
+            self.assertEqual(receive(client, 5), b"%5d" % number)
         found = pieces(self.recording())
         self.assertEqual([piece.data for piece in found], [b"%5d" % (number // 2) for number in range(400)])
         self.assertEqual([piece.side for piece in found], [b"C", b"S"] * 200)
@@ -120,7 +112,7 @@ class Passing(RecordCase):
             with self.client(port) as client:
                 client.sendall(b"ruok")
                 client.shutdown(socket.SHUT_WR)
-                self.assertEqual(exactly(client, 8), b"ruokend")
+                self.assertEqual(receive(client, 8), b"ruokend")
 
     def test_the_server_may_end_its_side_first(self):
         heard = queue.Queue()
@@ -128,9 +120,9 @@ class Passing(RecordCase):
         def talk(connection):
             connection.sendall(b"bye")
             connection.shutdown(socket.SHUT_WR)
-            heard.put(exactly(connection, 8))
+            heard.put(receive(connection, 8))
         client = self.client(self.record(self.server(talk)))
-        self.assertEqual(exactly(client, 4), b"bye")
+        self.assertEqual(receive(client, 4), b"bye")
         client.sendall(b"still me")
         client.close()
         self.ended()
@@ -139,13 +131,13 @@ class Passing(RecordCase):
 
     def test_a_reset_is_passed_on(self):
         def talk(connection):
-            exactly(connection, 2)
+            receive(connection, 2)
             connection.sendall(b"last words")
             time.sleep(0.2)
             connection.setsockopt(socket.SOL_SOCKET, socket.SO_LINGER, struct.pack("ii", 1, 0))
         client = self.client(self.record(self.server(talk)))
         client.sendall(b"hi")
-        self.assertEqual(exactly(client, 10), b"last words")
+        self.assertEqual(receive(client, 10), b"last words")
         with self.assertRaises(ConnectionResetError):
             client.recv(1)
         self.ended()
@@ -160,7 +152,7 @@ class Passing(RecordCase):
             for _ in range(3):
                 client.sendall(b"set")
                 time.sleep(0.0003)
-            exactly(client, 9)
+            receive(client, 9)
             took.append(time.monotonic() - begun)
         self.assertLess(sorted(took)[15], 0.030)
 
@@ -183,7 +175,7 @@ class Passing(RecordCase):
                 client.sendall(b"%4d:%d" % (number, round_))
         for number, client in enumerate(clients):
             client.shutdown(socket.SHUT_WR)
-            self.assertEqual(exactly(client, 22), b"".join(b"%4d:%d" % (number, n) for n in range(3)) + b"end")
+            self.assertEqual(receive(client, 22), b"".join(b"%4d:%d" % (number, n) for n in range(3)) + b"end")
         for _ in clients:
             self.ended()
         said = {sides(self.recording(number))[0][:4] for number in range(1, 257)}
@@ -195,7 +187,7 @@ class Files(RecordCase):
         self.prefix.with_name("r-1.zkr").write_bytes(b"mine")
         client = self.client(self.record(self.server(), "--times"))
         client.sendall(b"hi")
-        exactly(client, 2)
+        receive(client, 2)
         self.assertEqual(self.next_line()[0], f"{self.prefix}-2.zkr")
         self.assertEqual(self.recording(1), b"mine")
         for name in ("r-2.zkr", "r-2.zkr.times"):
@@ -207,7 +199,7 @@ class Files(RecordCase):
                                          "--waiting", "9", "--profile", "3.5"))
         for _ in range(3):
             client.sendall(b"hi")
-            exactly(client, 2)
+            receive(client, 2)
             time.sleep(0.01)
         after = time.time() * 1000
         found = pieces(self.recording())
@@ -223,7 +215,7 @@ class Files(RecordCase):
                 self.prefix = self.folder / number.name
                 client = self.client(self.record(self.server(), "--times"))
                 threading.Thread(target=lambda: self.flood(client), daemon=True).start()
-                got = exactly(client, 3_000_000)
+                got = receive(client, 3_000_000)
                 self.tool.send_signal(number)
                 with contextlib.suppress(ConnectionResetError):
                     while part := client.recv(1 << 20):
@@ -245,7 +237,7 @@ class Files(RecordCase):
         client = self.client(port)
         for _ in range(10):
             client.sendall(bytes(300))
-            self.assertEqual(exactly(client, 300), bytes(300))
+            self.assertEqual(receive(client, 300), bytes(300))
         self.assertEqual([len(piece.data) for piece in pieces(self.recording())], [300, 300, 300])
         self.assertIn("goes on without it", self.tool.stderr.readline())
         self.tool.terminate()
@@ -258,7 +250,7 @@ class Addresses(RecordCase):
             server = gone.getsockname()[1]
         port = self.record(server)
         with self.client(port) as client:
-            self.assertEqual(exactly(client, 1), b"")
+            self.assertEqual(receive(client, 1), b"")
         self.assertRegex(self.tool.stderr.readline(), "no connection to the server: Connection refused")
         back = socket.create_server(("127.0.0.1", server))
         self.addCleanup(back.close)
@@ -266,7 +258,7 @@ class Addresses(RecordCase):
         connection, _ = back.accept()
         with connection:
             connection.sendall(b"here")
-            self.assertEqual(exactly(client, 4), b"here")
+            self.assertEqual(receive(client, 4), b"here")
         self.assertEqual(self.next_line()[0], f"{self.prefix}-1.zkr")
 
     def test_ipv6(self):
@@ -276,13 +268,13 @@ class Addresses(RecordCase):
             self.skipTest(f"no IPv6 here: {error}")
         client = self.client(self.record(f"[::1]:{server}", listen="[::1]:0"), "::1")
         client.sendall(b"six")
-        self.assertEqual(exactly(client, 3), b"six")
+        self.assertEqual(receive(client, 3), b"six")
         self.assertRegex(self.next_line()[1], r"^\[::1\]:\d+$")
 
     def test_a_name_whose_first_address_has_no_server(self):
         client = self.client(self.record(f"localhost:{self.server()}", listen="localhost:0"))
         client.sendall(b"name")
-        self.assertEqual(exactly(client, 4), b"name")
+        self.assertEqual(receive(client, 4), b"name")
 
     def test_what_is_in_use_or_not_there_is_reported(self):
         with socket.create_server(("127.0.0.1", 0)) as taken:

@@ -48,7 +48,8 @@ class Output(TroubleCase):
 
     def test_closed_standard_streams(self):
         tool = TOOLS / "record.py"
-        self.run_proxy(["sh", "-c", f"exec {sys.executable} {tool} 0 127.0.0.1:{self.echo.port} {self.folder}/r <&- >&-"],
+        self.run_proxy(["sh", "-c",
+                        f"exec {sys.executable} {tool} 0 127.0.0.1:{self.echo.port} {self.folder}/r <&- >&-"],
                        None)
         self.assert_pace(self.client(self.port()))
         for tool in ("zkwatch.py --zkdump /bin/echo", "zkplay.py"):
@@ -79,7 +80,8 @@ class Programs(TroubleCase):
                          "#1 zkdump show has ended with status 9: what follows is passed on, and not read")
         self.stand_in.unlink()
         self.assert_pace(self.client(port))
-        self.assertRegex(self.watched(4)[3], "^#2 .*: No such file or directory: what follows is passed on, and not read$")
+        self.assertRegex(self.watched(4)[3],
+                         "^#2 .*: No such file or directory: what follows is passed on, and not read$")
         self.assert_pace(first)
 
     def test_after_a_refusal(self):
@@ -97,7 +99,8 @@ class Programs(TroubleCase):
         time.sleep(0.1)
         self.tool.terminate()
         self.assertEqual(self.tool.wait(SECONDS), 0)
-        self.assertEqual([line.partition(" ")[2] for line in self.watched(4)[1:]], ["C 0", "S 0", ". whole show --profile "
+        self.assertEqual([line.partition(" ")[2] for line in self.watched(4)[1:]],
+                         ["C 0 2", "S 0 2", ". whole show --profile "
                                                                                     "3.4 --limit 4194304"])
 
     def test_a_program_that_does_not_read(self):
@@ -109,7 +112,8 @@ class Programs(TroubleCase):
         for _ in range(40):
             self.ask(client, bytes(1 << 20))
             self.assert_pace(other, rounds=3)
-        self.assertRegex(self.watched(5)[-1], "^#1 .* bytes of it wait to be read: what follows is passed on, and not read$")
+        self.assertRegex(self.watched(5)[-1],
+                         "^#1 .* bytes of it wait to be read: what follows is passed on, and not read$")
 
     def test_the_profile_and_the_limit(self):
         client = self.client(self.begin("zkwatch.py", "--profile", "3.5", "--limit", "1000", "--once"))

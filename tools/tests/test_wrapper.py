@@ -15,9 +15,10 @@ from support import TOOLS, TOP, ToolCase
 sys.path.insert(0, str(TOOLS))
 import build_program  # noqa: E402
 
-# Writes down where it was called and how, and when that ended. Like the toolchain, it refuses a crates.txt with a line of
-# a crate that has no folder, and keeps every other call out of the crate and those that it uses, which are in the file
-# uses; a library is there once it is built. At the last crate it makes a program that prints its words and its input.
+# Writes down where it was called and how, and when that ended. Like the toolchain, it refuses a crates.txt with a line
+# of a crate that has no folder, and keeps every other call out of the crate and those that it uses, which are in the
+# file uses; a library is there once it is built. At the last crate it makes a program that prints its words and its
+# input.
 RT = """#!/bin/sh
 name=$(basename "$PWD")
 echo "$name $*" >> "$CALLS"
@@ -107,7 +108,8 @@ class Wrapper(WrapperCase):
         for told in ("proving low, crate 1 of 4\n", "proving zkdump, crate 4 of 4\n", "low took "):
             self.assertIn(told, err)
         self.assertTrue(all(line.startswith("zkdump: ") for line in err.splitlines()))
-        self.assertEqual(sorted(path.name for path in (self.top / "crates" / "zkdump").iterdir()), ["out", "src", "stdin"])
+        self.assertEqual(sorted(path.name for path in (self.top / "crates" / "zkdump").iterdir()),
+                         ["out", "src", "stdin"])
         self.assertEqual(sorted(path.name for path in self.program.parent.iterdir()), ["took", "zkdump"])
         self.assertEqual(self.zkdump("check"), (7, "ran check\ninput", "", []))
 
@@ -167,7 +169,8 @@ class Wrapper(WrapperCase):
         self.assertIn(f"{self.top}/crates/zkdump cannot be written", err)
         folders = os.environ["PATH"].split(":")
         self.path = ":".join(folder for folder in folders if not os.path.exists(os.path.join(folder, "rt")))
-        self.assertRegex(self.zkdump()[2], "^zkdump: the program has to be built, and the command rt .* is not on .*\n$")
+        self.assertRegex(self.zkdump()[2],
+                         "^zkdump: the program has to be built, and the command rt .* is not on .*\n$")
 
     def test_without_python_once_it_is_built(self):
         self.zkdump()
@@ -257,7 +260,8 @@ class Lanes(WrapperCase):
         text = "# all\na: kit\nb staticlib may_abort=2: a # low\n\nc: a\nd: c b kit\ne: d\n"
         self.assertEqual(build_program.crates_below(text, "d"), {"a": [], "c": ["a"], "b": ["a"], "d": ["c", "b"]})
         found = list(build_program.crates_below((TOP / "crates.txt").read_text(), "zkdump"))
-        self.assertEqual((found[-1], set(found) - {path.name for path in (TOP / "crates").iterdir()}), ("zkdump", set()))
+        self.assertEqual((found[-1], set(found) - {path.name for path in (TOP / "crates").iterdir()}),
+                         ("zkdump", set()))
         # Each tool that may be run by its name is a user's command once it is installed.
         self.assertFalse(pathlib.Path(TOP / "tools" / "build_program.py").stat().st_mode & 0o100)
 

@@ -128,7 +128,8 @@ class Zkjson(ToolCase):
 
     def test_what_is_no_listing(self):
         for line, told in (("", "column 1 on"), ("C 1", "column 1 on"),
-                           ("S 1 exists zxid=5", "the request of this reply is missing before it: name the whole listing"),
+                           ("S 1 exists zxid=5",
+                            "the request of this reply is missing before it: name the whole listing"),
                            ('C 1 exists path="/a', "column 11 on"), ("C 1 ping\r", "column 9 on"),
                            ('C 1 delete path="/a" version=1 stat=(1,2)', "column 31 on"),
                            ('{"side": "C"}', "column 1 on"), ("C 1 multi {delete", "column 18 on"),
@@ -136,7 +137,8 @@ class Zkjson(ToolCase):
                            ('C 1 setACL path="/a" acl=[1:"a"]', "column 21 on"),
                            ('C 1 getData path="/a"watch=0', "column 12 on"),
                            ('C 1 setData path="/a" blob=#6', "column 22 on"), 
-                           (". whole x", "this begins with a dot, and is no last line"), (". cut", "this begins with a dot, and is no last line"),
+                           (". whole x", "this begins with a dot, and is no last line"),
+                           (". cut", "this begins with a dot, and is no last line"),
                            (". refused side=X", "this begins with a dot, and is no last line"),
                            ("C 1 nonsense", "column 13 on")):
             with self.subTest(line=line):
@@ -183,7 +185,8 @@ class Zkjson(ToolCase):
     def test_lines_after_the_ending_line_and_of_zkjson(self):
         lines = "C -2 ping\n. whole unanswered=1\nS -2 ping zxid=5\n"
         status, out, err = self.run_tool("zkjson.py", stdin=lines.encode())
-        self.assertEqual((status, out.count("\n"), err), (1, 1, "zkjson.py: line 3: a line after the last one of a connection: name the "
+        self.assertEqual((status, out.count("\n"), err),
+                         (1, 1, "zkjson.py: line 3: a line after the last one of a connection: name the "
                                                        "listings of two connections each by itself\n"))
 
     def test_lists_of_texts(self):
@@ -290,7 +293,8 @@ class Times(ToolCase):
         for count in (0, 1, 7, 9):
             (self.folder / "two.zkr.times").write_text("1000\n" * count, "ascii")
             self.assertEqual(self.run_tool("zkjson.py", "--recording", path, stdin=self.LISTING.encode()),
-                             (1, "", f"zkjson.py: {path}.times has {count} times, and {path} 8 pieces: these are not the times of "
+                             (1, "",
+                              f"zkjson.py: {path}.times has {count} times, and {path} 8 pieces: these are not the times of "
                                     "this recording\n"))
 
     def test_another_recording(self):
@@ -317,16 +321,20 @@ class Times(ToolCase):
             payload = struct.pack(form, *values)
             return side, len(payload).to_bytes(4, "big") + payload
         path = self.folder / "one.zkr"
-        frames = [frame(b"C", ">iqiqi2s?", 0, 0, 9, 7, 2, b"ab", False), frame(b"S", ">iiqi2s?", 0, 9, 8, 2, b"cd", False),
+        frames = [frame(b"C", ">iqiqi2s?", 0, 0, 9, 7, 2, b"ab", False),
+                  frame(b"S", ">iiqi2s?", 0, 9, 8, 2, b"cd", False),
                   frame(b"C", ">iii2s?", 1, 3, 2, b"/a", True), frame(b"S", ">iqi", 1, 5, -101),
                   frame(b"S", ">iqiiii2s", -1, -1, 0, 3, 3, 2, b"/a"), frame(b"C", ">iiii", 2, 4, -1, 0),
-                  frame(b"S", ">iqii68s", 2, 5, 0, -1, bytes(68)), frame(b"C", ">ii", 3, -11), frame(b"S", ">iqi", 3, 6, 0)]
+                  frame(b"S", ">iqii68s", 2, 5, 0, -1, bytes(68)), frame(b"C", ">ii", 3, -11),
+                  frame(b"S", ">iqi", 3, 6, 0)]
         head = zkr.Head("zkr2")
-        path.write_bytes(head.to_bytes() + b"".join(head.piece(side, at + 1, data) for at, (side, data) in enumerate(frames)))
+        path.write_bytes(head.to_bytes() + b"".join(head.piece(side, at + 1, data) for at,
+                                                    (side, data) in enumerate(frames)))
         lines = ["C connect version=0 zxid=0 timeout=9 session=7 passwd=#6162 ro=0",
                  "S connect version=0 timeout=9 session=8 passwd=#6364 ro=0", 'C 1 exists path="/a" watch=1',
                  "S 1 exists zxid=5 err=-101/NONODE", 'S event zxid=-1 kind=3/NodeDataChanged state=3 path="/a"',
-                 "C 2 getData path=~ watch=0", f"S 2 getData zxid=5 blob=~ stat=({','.join('0' * 11)})", "C 3 closeSession",
+                 "C 2 getData path=~ watch=0", f"S 2 getData zxid=5 blob=~ stat=({','.join('0' * 11)})",
+                 "C 3 closeSession",
                  "S 3 closeSession zxid=6"]
         found = self.run_tool("zkjson.py", "--recording", path, stdin="\n".join(lines).encode())
         self.assertEqual((found[0], found[1].count('"at": ')), (0, 9), found)
@@ -359,7 +367,8 @@ class Times(ToolCase):
                          (1, "zkjson.py: the listing has 4 messages, and the recording 3\n"))
 
     def test_words(self):
-        for words in (["--nonsense"], ["a", "b", "--recording", "c"], ["--times", "a"], ["a", "a"], ["--op", "none"],
+        for words in (["--nonsense"], ["a", "b", "--recording", "c"], ["--times", "a"], ["a", "a"], ["a", "./a"],
+                      ["--op", "none"],
                       ["--slower", "-1"], ["--slower", "nan"], ["--from", "noon"], ["--session", "x"],
                       ["--profile", "3.6"]):
             self.assert_bad_words("zkjson.py", *words)

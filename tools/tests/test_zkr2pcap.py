@@ -5,6 +5,7 @@ import stat
 import struct
 
 from support import CAPTURES, ToolCase, pieces, sides, zkr
+import wire
 import zkr2pcap
 
 CONNECT = CAPTURES[0]
@@ -67,6 +68,23 @@ class Zkr2pcap(ToolCase):
         found = [moment for moment, packet in packets_of(self.convert(path).read_bytes()) if len(packet) > 54]
         self.assertEqual(found, [0, 10**6, 2 * 10**6])
 
+    def test_the_time_0_is_none(self):
+        """A migrated recording without times has the packets of the one that it is made of."""
+        migrated, head = self.folder / "new.zkr", zkr.Head("zkr2")
+        migrated.write_bytes(head.to_bytes() + b"".join(head.piece(piece.side, 0, piece.data)
+                                                        for piece in pieces(CONNECT.read_bytes())))
+        wanted = self.convert(CONNECT).read_bytes()
+        self.assertEqual(self.convert(migrated).read_bytes(), wanted)
+
+    def test_a_time_that_no_capture_has(self):
+        """The seconds of a packet's time are 32 bits."""
+        path, capture = self.folder / "late.zkr", self.folder / "late.pcap"
+        for seconds, status in ((2**32 - 1, 0), (2**32, 1)):
+            path.write_bytes(zkr.Head("zkr2").to_bytes() + zkr.Head("zkr2").piece(zkr.CLIENT, 1000 * seconds, b"x"))
+            err = f"zkr2pcap.py: {path} has a time after the year 2106, and a capture can't have such a time\n"
+            self.assertEqual(self.run_tool("zkr2pcap.py", path, capture), (status, "", err * status))
+            capture.unlink()
+
     def test_several_are_in_the_order_of_time(self):
         head, paths = zkr.Head("zkr2"), []
         for at, times in enumerate(((10, 30), (20, 40))):
@@ -79,18 +97,21 @@ class Zkr2pcap(ToolCase):
 
     def test_checksums(self):
         """The sum over what has its checksum in it is 0."""
-        sent = zkr2pcap.Sent(0, zkr.CLIENT, 1001, 2001, zkr2pcap.PUSH | zkr2pcap.ACK, b"abc")
+        sent = zkr2pcap.Sent(0, zkr.CLIENT, 1001, 2001, wire.PUSH | wire.ACK, b"abc")
         packet = zkr2pcap.ipv4(zkr.CLIENT, zkr2pcap.tcp(sent, 40_001, 2181))
         self.assertEqual(zkr2pcap.checksum(packet[:20]), bytes(2))
-        self.assertEqual(zkr2pcap.checksum(packet[12:20] + struct.pack(">HH", 6, len(packet) - 20) + packet[20:]), bytes(2))
+        self.assertEqual(zkr2pcap.checksum(packet[12:20] + struct.pack(">HH", 6, len(packet) - 20) + packet[20:]),
+                         bytes(2))
 
     def test_what_it_cannot_do(self):
         capture = self.convert(CONNECT)
         self.assertEqual(stat.S_IMODE(capture.stat().st_mode), 0o600)
         for words, status, told in (((CONNECT, capture), 3, f"{capture}: File exists"),
-                                    ((self.folder / "no", self.folder / "new"), 3, f"{self.folder}/no: No such file or directory"),
+                                    ((self.folder / "no", self.folder / "new"), 3,
+                                     f"{self.folder}/no: No such file or directory"),
                                     ((self.folder, self.folder / "new"), 3, f"{self.folder}: Is a directory"),
-                                    ((capture, self.folder / "new"), 1, f"{capture}: this is no recording, which begins with ZKR1 or ZKR2 "
+                                    ((capture, self.folder / "new"), 1,
+                                     f"{capture}: this is no recording, which begins with ZKR1 or ZKR2 "
                                      "(offset=0 reason=BadHead)")):
             with self.subTest(told=told):
                 self.assertEqual(self.run_tool("zkr2pcap.py", *words), (status, "", f"zkr2pcap.py: {told}\n"))
@@ -98,7 +119,8 @@ class Zkr2pcap(ToolCase):
         cut = self.folder / "cut.zkr"
         cut.write_bytes(CONNECT.read_bytes()[:40])
         status, _, err = self.run_tool("zkr2pcap.py", cut, self.folder / "front")
-        self.assertEqual((status, err), (1, f"zkr2pcap.py: {cut}: the recording ends within a piece, or within its head "
+        self.assertEqual((status, err),
+                         (1, f"zkr2pcap.py: {cut}: the recording ends within a piece, or within its head "
                                   "(offset=9 reason=Short)\n"))
         self.assertEqual(sum(len(packet) > 54 for _, packet in packets_of((self.folder / "front").read_bytes())), 1)
         self.assert_bad_words("zkr2pcap.py")

@@ -1,6 +1,7 @@
 """Tests of zkreport: the tables as text, the trace, and two runs compared."""
 
 import json
+import os
 
 import report_lines
 from support import CAPTURES, ToolCase
@@ -185,7 +186,8 @@ class Zkreport(ToolCase):
     def test_a_trace_needs_times(self):
         path = self.listing("a.show", LISTING.format(**HERE))
         status, out, err = self.run_tool("zkreport.py", "--trace", self.folder / "t", path)
-        self.assertEqual((status, out, err), (1, "", "zkreport.py: there are no times, which a trace needs: record with "
+        self.assertEqual((status, out, err),
+                         (1, "", "zkreport.py: there are no times, which a trace needs: record with "
                                                  "--times\n"))
         self.assertFalse((self.folder / "t").exists())
 
@@ -237,16 +239,25 @@ class Zkreport(ToolCase):
 
     def test_words(self):
         for words in ([], [self.one], ["--text"], ["--text", self.one, "--nonsense"],
-                      ["--port", "0", "--text", self.one]):
+                      ["--port", "0", "--text", self.one], ["--text", self.one, self.one],
+                      ["--text", self.one, f"{self.folder}/./{self.one.name}"],
+                      ["--text", self.one, "--against", self.other, "--against", self.other]):
             self.assert_bad_words("zkreport.py", *words)
 
     def test_what_is_no_input(self):
         path = self.listing("words", "words")
         self.assertEqual(self.run_tool("zkreport.py", "--text", path),
-                         (1, "", f"zkreport.py: {path} is no capture, no recording, no listing of zkdump show, and has no "
+                         (1, "",
+                          f"zkreport.py: {path} is no capture, no recording, no listing of zkdump show, and has no "
                                 "lines of zkjson\n"))
         status, _, err = self.run_tool("zkreport.py", "--text", self.folder / "none")
         self.assertEqual((status, err.count("\n")), (3, 1))
+
+    def test_a_name_that_is_no_utf_8(self):
+        path, page = self.folder / os.fsdecode(b"\xff.show"), self.folder / "page.html"
+        path.write_bytes(self.one.read_bytes())
+        self.assertEqual(self.run_tool("zkreport.py", "-o", page, path), (0, "", ""))
+        self.assertIn("<title>\\udcff.show</title>", page.read_text("utf-8"))
 
     def test_no_file_is_overwritten(self):
         for option in ("-o", "--trace"):

@@ -37,6 +37,12 @@ class Captures(ToolCase):
                          ["no ending line", "no ending line, resent=2, hole=S", "no ending line, lost=C:0,S:81",
                           "nothing recorded, late", "no ending line"])
 
+    def test_bytes_of_both_sides_are_missing(self):
+        line = LINES.splitlines()[1].replace(" hole=S", " hole=C hole=S")
+        self.assertIn(" hole=C hole=S", line)
+        connection, = self.run_of([line]).connections
+        self.assertEqual(summary.ending_of(connection), "no ending line, resent=2, hole=C,S")
+
     def test_parts_of_a_connection_are_of_its_session_and_have_no_gap(self):
         run = self.run_of(LINES.splitlines())
         first, other, later = run.connections[1], run.connections[4], run.connections[2]
@@ -101,7 +107,8 @@ class Captures(ToolCase):
         recording = next(each for each in CAPTURES if each.stem == "kazoo_basic")
         packets = [(wire.BEGUN + number, wire.packet(sent, client=1 + number))
                    for number in range(3000) for sent in wire.conversation([], close=number % 2)]
-        packets += [(sent.milliseconds, wire.packet(sent)) for sent in wire.conversation(pieces(recording.read_bytes()))]
+        packets += [(sent.milliseconds,
+                     wire.packet(sent)) for sent in wire.conversation(pieces(recording.read_bytes()))]
         path, page = self.folder / "empty.pcap", self.folder / "empty.html"
         path.write_bytes(wire.pcap(packets))
         status, out, err = self.run_tool("zkreport.py", "--text", "-o", page, path)

@@ -4,6 +4,7 @@ import html.parser
 import json
 import pathlib
 import re
+import shutil
 import signal
 import subprocess
 import sys
@@ -60,7 +61,8 @@ class PageCase(ToolCase):
         if name not in self.pages:
             path = self.made / f"{name}.html"
             inputs = [source(self.made / f"{name}{number}.json") for number, source in enumerate(sources)]
-            self.assertEqual(self.run_tool("zkreport.py", "-o", path, *words, *inputs, seconds=SECONDS), (status, "", ""))
+            self.assertEqual(self.run_tool("zkreport.py", "-o", path, *words, *inputs, seconds=SECONDS),
+                             (status, "", ""))
             self.pages[name] = path
         return self.pages[name]
 
@@ -156,6 +158,26 @@ class Page(PageCase):
         self.assertEqual((data["counts"]["messages"], data["counts"]["asked"], data["complete"]), (3, 3, True))
         shown = [message["n"] for message in data["messages"]["0"]]
         self.assertEqual(shown, [*range(1, 8), *range(10, 22), *range(10_010, 10_022), *range(20_010, 20_022)])
+
+
+class Script(ToolCase):
+    def axis(self, *milliseconds):
+        """The axis of latencies: its least and its greatest power of ten, and the place of no time at all."""
+        code = ("const document = { getElementById() {} }, data = { complete: true, density: {} }, filter = {}, "
+                f"requests = {{ ms: [{', '.join(map(str, milliseconds))}] }};\n"
+                + "".join((TOOLS / "report" / name).read_text("utf-8") for name in ("draw.js", "latency.js"))
+                + "const axis = latencyAxis(requests.ms.map((_, i) => i));\n"
+                "console.log(JSON.stringify(axis && [axis.from, axis.to, axis.y(0) === axis.y(10 ** axis.from)]));")
+        if not shutil.which("node"):
+            self.skipTest("node is not here")
+        return json.loads(subprocess.run(["node", "-e", code], capture_output=True, check=True).stdout)
+
+    def test_the_axis_of_latencies(self):
+        """Latencies of no milliseconds, as whole ones often are, have an axis; where there are none there is none."""
+        for milliseconds, wanted in (((), None), (("NaN",), None), ((0, "NaN", 0), [0, 1, True]),
+                                     ((0, 3), [0, 1, True]),
+                                     ((0.02, 30), [-2, 2, True])):
+            self.assertEqual(self.axis(*milliseconds), wanted, milliseconds)
 
 
 @unittest.skipIf(browser.MISSING, browser.MISSING)

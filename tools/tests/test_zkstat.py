@@ -1,11 +1,10 @@
 """Tests of zkstat: what is counted, and what is printed of it."""
 
 import json
+import shutil
 import struct
 
-from support import CAPTURES, ToolCase, zkr
-
-import zkstat  # found by the line above
+from support import CAPTURES, PROGRAM, TOP, ToolCase, zkr
 
 LISTING = r"""C connect version=0 zxid=0 timeout=30000 session=0 passwd=#00 ro=0
 S connect version=0 timeout=30000 session=72057594037927937 passwd=#00 ro=0
@@ -271,7 +270,8 @@ class Zkstat(ToolCase):
                 path = self.folder / "wrong.show"
                 path.write_text(f"C -2 ping\n{line}\n", "ascii")
                 status, out, err = self.run_tool(*words, path)
-                self.assertEqual((status, out, err), (1, "", f"{words[0]}: {path}: line 2: from column {column} on this "
+                self.assertEqual((status, out, err),
+                                 (1, "", f"{words[0]}: {path}: line 2: from column {column} on this "
                                                       "is no line as zkdump show writes it\n"))
 
     def test_latencies(self):
@@ -289,6 +289,25 @@ class Zkstat(ToolCase):
                                       "       4 errors: exists NONODE", "       3 of 4 replies timed",
                                       "       1 replies have a time before that of their request"])
 
+    def test_choices_by_time_where_there_are_no_times(self):
+        """That nothing is chosen isn't all that is said: nobody knows whether a reply was slow."""
+        none, some, silent = CAPTURES[0], self.folder / "some.zkr", self.folder / "silent.zkr"
+        if not PROGRAM.exists():
+            self.skipTest("the program zkdump is not built")
+        shutil.copy(TOP / "crates" / "zkdump" / "stdin", some)
+        (self.folder / "some.zkr.times").write_text("1000\n1001\n1002\n1003\n")
+        silent.write_bytes(b"ZKR1")
+        for tool, *words in (("zkstat.py",), ("zkjson.py",), ("zkreport.py", "--text")):
+            wanted = f"{tool}: connections with messages without times: 1; --slower, --from and --to left these out: " \
+                     "record with --times\n"
+            for choice in (("--slower", "1"), ("--from", "5"), ("--to", "5"), ("--to", "5", "--op", "ping")):
+                for more in ((), ("--jobs", "2")):
+                    found = self.run_tool(tool, *words, *choice, *more, some, silent, none)
+                    self.assertEqual(found[::2], (1, wanted), (tool, choice, more))
+                    self.assertEqual(self.run_tool(tool, *words, *choice, *more, some, silent)[::2], (0, ""))
+            self.assertEqual(self.run_tool(tool, *words, "--session", "0x1", "--slower", "1", none)[::2], (0, ""))
+            self.assertEqual(self.run_tool(tool, *words, "--path", "/", none)[::2], (0, ""))
+
     def test_every_capture(self):
         listings = [capture.with_suffix(".show") for capture in CAPTURES]
         found = {each["connection"]: each for each in json.loads(self.stat("--json", *listings))["connections"]}
@@ -301,9 +320,10 @@ class Zkstat(ToolCase):
                                  each["asked"] - each["answered"])
 
     def test_words(self):
-        for words in (["--nonsense"], ["a", "b", "--recording", "c"], ["--times", "a"], ["a", "a"]):
+        for words in (["--nonsense"], ["a", "b", "--recording", "c"], ["--times", "a"], ["a", "a"], ["a", "./a"]):
             self.assert_bad_words("zkstat.py", *words)
         self.assertEqual(self.run_tool("zkstat.py", stdin=b"nonsense\n")[::2],
                          (1, "zkstat.py: line 1: from column 1 on this is no line as zkdump show writes it\n"))
-        self.assertEqual(self.run_tool("zkstat.py"), (1, "", "zkstat.py: standard input is empty: a listing has at least "
+        self.assertEqual(self.run_tool("zkstat.py"),
+                         (1, "", "zkstat.py: standard input is empty: a listing has at least "
                                                          "its last line, as zkdump show writes it\n"))

@@ -9,6 +9,7 @@ import sys
 import threading
 import time
 
+from proxied import STAND_IN
 from support import PROGRAM, TOOLS, TOP, ToolCase, receive, sides
 
 RUN = TOP / "crates" / "zkdump" / "stdin"
@@ -18,20 +19,7 @@ C 1 exists path="/a" watch=1
 S 1 exists zxid=5 err=-101/NONODE
 . whole unanswered=0
 """
-STAND_IN = f"""#!{sys.executable}
-# Prints each frame as its side, its number and its number of bytes; a frame of no bytes is refused.
-import sys
-sys.path.insert(0, {str(TOOLS)!r})
-import zkr
-cutter = zkr.Cutter()
-for piece in zkr.Reader(sys.stdin.buffer):
-    for frame in cutter.take(piece):
-        if not frame.payload:
-            print(". refused", flush=True)
-            sys.exit(1)
-        print(frame.side.decode(), frame.number, len(frame.payload), flush=True)
-print(". whole")
-"""
+WHOLE = ". whole show --profile 3.4 --limit 4194304"       # the last line of STAND_IN
 LINE = re.compile(r"\d{4}-\d\d-\d\dT\d\d:\d\d:\d\d\.\d{3}Z (#\d+) (.*)")
 SECONDS = 20
 
@@ -102,7 +90,7 @@ class Zkwatch(ToolCase):
             client.shutdown(socket.SHUT_WR)
             self.assertEqual(receive(client, 100), b"\0\0\0\2ab\0\0\0\1c")
             peer = f"from 127.0.0.1:{client.getsockname()[1]}"
-        told = [peer, "C 0 2", "C 1 1", "S 0 2", "S 1 1", ". whole"]
+        told = [peer, "C 0 2", "C 1 1", "S 0 2", "S 1 1", WHOLE]
         self.assertEqual(self.lines(watcher), [("#1", line) for line in told])
 
     def test_lines_come_while_the_connection_lives(self):
@@ -113,7 +101,7 @@ class Zkwatch(ToolCase):
             told = [LINE.fullmatch(watcher.stdout.readline().rstrip()).groups() for _ in range(3)]
             self.assertEqual(told[1:], [("#1", "C 0 2"), ("#1", "S 0 2")])
             self.assertEqual(receive(client, 6), b"\0\0\0\2ab")
-            self.assertEqual(self.stopped(watcher), [("#1", ". whole")])
+            self.assertEqual(self.stopped(watcher), [("#1", WHOLE)])
 
     def test_many_connections(self):
         watcher, address = self.watch(f"127.0.0.1:{self.echo().port}")
@@ -130,9 +118,11 @@ class Zkwatch(ToolCase):
         for number in numbers:
             of_one = [line for each, line in told if each == number]
             size = of_one[1].split(" ")[2]
-            self.assertEqual(of_one[1:], [f"C 0 {size}", f"S 0 {size}", ". whole"])
+            self.assertEqual(of_one[1:], [f"C 0 {size}", f"S 0 {size}", WHOLE])
 
     def test_bytes_go_on_after_a_refusal(self):
+        # It reads only once the connection is over.
+        self.stand_in.write_text(STAND_IN.replace("import sys\n", "import sys, time\ntime.sleep(1)\n", 1))
         watcher, address = self.watch(f"127.0.0.1:{self.echo().port}", "--once")
         said = b"\0\0\0\0" + bytes(range(256)) * 4000
         with socket.create_connection(address, SECONDS) as client:
@@ -166,7 +156,7 @@ class Zkwatch(ToolCase):
             client.sendall(b"\0\0\0\1a")
             self.assertEqual(receive(client, 5), b"\0\0\0\1a")
             peer = f"from [::1]:{client.getsockname()[1]}"
-        self.assertEqual([line for _, line in self.lines(watcher)], [peer, "C 0 1", "S 0 1", ". whole"])
+        self.assertEqual([line for _, line in self.lines(watcher)], [peer, "C 0 1", "S 0 1", WHOLE])
 
     def test_no_server(self):
         with socket.create_server(("127.0.0.1", 0)) as closed:

@@ -3,7 +3,8 @@
 import struct
 
 from support import zkr
-from zkr2pcap import ACK, FIN, PUSH, RST, SYN, Sent, tcp  # noqa: F401
+from packets import ACK, FIN, RST, SYN  # noqa: F401
+from zkr2pcap import PUSH, Sent, tcp  # noqa: F401
 import zkr2pcap
 
 BEGUN = 1_700_000_000_000

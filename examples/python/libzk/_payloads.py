@@ -1,4 +1,5 @@
-"""Payloads by themselves: read into fields, judged, and written from fields; and the listing of a whole conversation."""
+"""Payloads by themselves: read into fields, judged, and written from fields; and the listing of a whole
+conversation."""
 
 import ctypes
 from typing import Callable, List, Sequence, Tuple, Union
@@ -130,8 +131,8 @@ def _fit(bits: int, *numbers: int) -> None:
 
 
 def write_request(xid: int, operation: str, items: Sequence[Item] = ()) -> bytes:
-    """The frame of a request: of each field, in order, its kind and its value, as of a message's fields. A null is None,
-    a list its count, a part of a multi its operation. Whether the frame may come next is judged by a talk."""
+    """The frame of a request: of each field, in order, its kind and its value, as of a message's fields. A null is
+    None, a list its count, a part of a multi its operation. Whether the frame may come next is judged by a talk."""
     _fit(31, xid)
     return _write(items, lambda *given: library.zk_write_request(xid, number_of(operation), *given))
 

@@ -1,0 +1,62 @@
+/* What is known of the recording so far, and the blocks that are written of it (columns.c, messages.c). */
+#ifndef STATE_H
+#define STATE_H
+
+#include "columns.h"
+
+enum { BLOCK_NAMES = 0, BLOCK_MESSAGES = 1, BLOCK_END = 2 };
+enum {
+    FLAG_ERROR = 1,
+    FLAG_XID = 2,
+    FLAG_PATH = 4,
+    FLAG_NULL_PATH = 8,
+    FLAG_CHOSEN = 16,
+    FLAG_WATCH = 32,
+    FLAG_MADE_UP = 64
+};
+/* In place of an operation's number. */
+enum { OP_CONNECT = 1000, OP_EVENT = 1001 };
+
+struct head {
+    uint32_t kind, records, patches, known;
+    uint64_t paths, text, session, backwards;
+    double begun, ended;
+};
+
+/* A message. Of a reply path, path_length, FLAG_CHOSEN, asked_moment and `of` are those of its request. Times are
+ * milliseconds since 1970, and NAN where there is none. */
+struct record {
+    uint64_t n, of;
+    double moment, asked_moment, microseconds;
+    int64_t zxid;
+    uint64_t text;
+    uint32_t text_length, at_length, path, path_length;
+    int32_t xid, operation, error;
+    uint16_t flags;
+    uint8_t side, spare;
+};
+
+struct state {
+    struct zk_talk talk;
+    struct recording recording;
+    const char *json, **chosen;
+    bool lines, part_paths;
+    size_t chosen_count, fields_room;
+    struct zk_field *fields;
+    struct bytes records, patches, paths, text, payload, line, of_message;
+    struct lane lanes[LANES];
+    struct head head;
+    uint64_t n;
+};
+
+/* Writes what was gathered as a block of this kind. */
+void write_block(struct state *state, uint32_t kind);
+
+/* Takes the message that a side's last step completed. Its frame ends at `end`, in a piece of which `used` bytes were
+ * used by then. */
+void take_message(struct state *state, uint32_t side, const uint8_t *end, size_t used);
+
+/* The path of a request that has one, in the block's paths. */
+void put_path(struct state *state, struct record *record, const struct asked *asked, const uint8_t *paths);
+
+#endif

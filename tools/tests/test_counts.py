@@ -1,0 +1,44 @@
+"""A test of run.py: what it counts as passed and as failed."""
+
+import shutil
+import subprocess
+import sys
+import unittest
+
+from support import TOOLS, ToolCase
+
+TESTS = """
+import unittest
+
+class Some(unittest.TestCase):
+    def test_good(self):
+        pass
+    def test_bad(self):
+        for number in range(3):
+            with self.subTest(number):
+                self.assertEqual(number, 0)
+    def test_left_out(self):
+        self.skipTest("it is not here")
+
+class Never(unittest.TestCase):
+    @classmethod
+    def setUpClass(cls):
+        raise OSError("nothing is here")
+    def test_one(self):
+        pass
+    def test_other(self):
+        pass
+"""
+
+
+class Counts(ToolCase):
+    def test_counts(self):
+        shutil.copy(TOOLS / "tests" / "run.py", self.folder)
+        (self.folder / "test_some.py").write_text(TESTS)
+        done = subprocess.run([sys.executable, self.folder / "run.py"], capture_output=True, text=True, check=False)
+        self.assertEqual((done.returncode, done.stdout.splitlines()[-2:]),
+                         (1, ["not run: test_some.Some.test_left_out: it is not here", "1 passed, 2 failed"]))
+
+
+if __name__ == "__main__":
+    unittest.main()
