@@ -85,6 +85,12 @@ struct zk_speaker {
     bool live;
 };
 
+/* A handle: a passage, or nothing where it is all zeros. Its fields are the library's. */
+struct zk_through {
+    void *held;
+    bool live;
+};
+
 /* Why a conversation is refused, and where; all 0 where it isn't. expected and got are of ZK_XID_ORDER. */
 struct zk_fault {
     uint64_t frame;
@@ -101,6 +107,26 @@ struct zk_step {
     size_t used;
     uint32_t status;
     bool whole;
+    struct zk_fault fault;
+};
+
+/* What became of the bytes of a passage's step. */
+enum {
+    ZK_WITHIN = 0,   /* no frame is whole */
+    ZK_MESSAGE = 1,  /* a frame is whole: a message */
+    ZK_ASKED = 2,    /* a request is whole whose operation the profile lacks: it is left out */
+    ZK_ANSWERED = 3, /* the reply to such a request is whole: it is left out */
+    ZK_FULL = 4      /* as many requests wait as may: nothing of the client's piece was used */
+};
+
+/* What a passage's step returns: the bytes used of the piece, and what became of them. xid and operation are those of the
+ * request of ZK_ASKED and ZK_ANSWERED. */
+struct zk_passed {
+    size_t used;
+    uint32_t status;
+    uint32_t went;
+    int32_t xid;
+    int32_t operation;
     struct zk_fault fault;
 };
 
@@ -305,6 +331,31 @@ struct zk_line zk_talk_ending_line(struct zk_talk *talk, uint8_t *out, size_t ro
 
 /* Frees the talk; the handle is then empty. */
 void zk_talk_free(struct zk_talk *talk);
+
+/* Makes a passage: a talk that goes on where the profile ends. The numbers are those of zk_talk_new. What is judged is the
+ * conversation without the requests under ordinary xids whose operations the profile lacks, such as getEphemerals, and
+ * without the replies to them. It holds twice the memory of a talk, and the requests that wait. */
+uint32_t zk_through_new(struct zk_through *through, uint32_t client, uint32_t server, uint32_t waiting, uint32_t profile);
+
+/* Begins anew with the same limits, as zk_talk_renew. */
+uint32_t zk_through_renew(struct zk_through *through);
+
+/* Takes a piece as zk_talk_step does. A fault's frame and offset are the side's own, those left out counted. After ZK_FULL
+ * the server's bytes come first: give the client's piece again when a request has its reply. A multi, a ping, an auth and a
+ * setWatches may be refused with ZK_QUEUE_FULL all the same. */
+struct zk_passed zk_through_step(struct zk_through *through, uint32_t side, const uint8_t *piece, size_t length);
+
+/* The message of the side's newest whole frame; ZK_NO_MESSAGE if that was left out. */
+struct zk_message zk_through_view(struct zk_through *through, uint32_t side);
+
+/* The fields of that message, as zk_talk_fields writes them. */
+struct zk_read zk_through_fields(struct zk_through *through, uint32_t side, struct zk_field *out, size_t room);
+
+/* Writes the payload of the frame that the side's last step left out; ZK_NO_MESSAGE if it left none out. */
+struct zk_line zk_through_payload(struct zk_through *through, uint32_t side, uint8_t *out, size_t room);
+
+/* Frees the passage; the handle is then empty. */
+void zk_through_free(struct zk_through *through);
 
 /* Makes a speaker, which has said nothing; the numbers are those of zk_talk_new. */
 uint32_t zk_speaker_new(struct zk_speaker *speaker, uint32_t client, uint32_t server, uint32_t waiting, uint32_t profile);
@@ -644,6 +695,46 @@ static inline void zk_safe_talk_free(struct zk_talk *talk) {
     }
 }
 
+static inline uint32_t zk_safe_through_new(struct zk_through *through, uint32_t client, uint32_t server, uint32_t waiting, uint32_t profile) {
+    uint32_t fault = zk_fault_at(through, 1, sizeof *through);
+    return fault != ZK_WELL ? fault : zk_through_new(through, client, server, waiting, profile);
+}
+
+static inline uint32_t zk_safe_through_renew(struct zk_through *through) {
+    uint32_t fault = zk_fault_at(through, 1, sizeof *through);
+    return fault != ZK_WELL ? fault : zk_through_renew(through);
+}
+
+static inline struct zk_passed zk_safe_through_step(struct zk_through *through, uint32_t side, const uint8_t *piece, size_t length) {
+    struct zk_passed answer = ZK_ZEROS;
+    answer.status = zk_first_of(zk_fault_at(through, 1, sizeof *through), zk_fault_of(piece, length, sizeof *piece));
+    return answer.status != ZK_WELL ? answer : zk_through_step(through, side, (const uint8_t *)zk_from(piece), length);
+}
+
+static inline struct zk_message zk_safe_through_view(struct zk_through *through, uint32_t side) {
+    struct zk_message answer = ZK_ZEROS;
+    answer.status = zk_fault_at(through, 1, sizeof *through);
+    return answer.status != ZK_WELL ? answer : zk_through_view(through, side);
+}
+
+static inline struct zk_read zk_safe_through_fields(struct zk_through *through, uint32_t side, struct zk_field *out, size_t room) {
+    struct zk_read answer = ZK_ZEROS;
+    answer.status = zk_first_of(zk_fault_at(through, 1, sizeof *through), zk_fault_of(out, room, sizeof *out));
+    return answer.status != ZK_WELL ? answer : zk_through_fields(through, side, (struct zk_field *)zk_into(out), room);
+}
+
+static inline struct zk_line zk_safe_through_payload(struct zk_through *through, uint32_t side, uint8_t *out, size_t room) {
+    struct zk_line answer = ZK_ZEROS;
+    answer.status = zk_first_of(zk_fault_at(through, 1, sizeof *through), zk_fault_of(out, room, sizeof *out));
+    return answer.status != ZK_WELL ? answer : zk_through_payload(through, side, (uint8_t *)zk_into(out), room);
+}
+
+static inline void zk_safe_through_free(struct zk_through *through) {
+    if (zk_fault_at(through, 1, sizeof *through) == ZK_WELL) {
+        zk_through_free(through);
+    }
+}
+
 static inline uint32_t zk_safe_speaker_new(struct zk_speaker *speaker, uint32_t client, uint32_t server, uint32_t waiting, uint32_t profile) {
     uint32_t fault = zk_fault_at(speaker, 1, sizeof *speaker);
     return fault != ZK_WELL ? fault : zk_speaker_new(speaker, client, server, waiting, profile);
@@ -781,6 +872,13 @@ static inline struct zk_line zk_safe_listing(const struct zk_piece *pieces, size
 #define zk_talk_finish zk_safe_talk_finish
 #define zk_talk_ending_line zk_safe_talk_ending_line
 #define zk_talk_free zk_safe_talk_free
+#define zk_through_new zk_safe_through_new
+#define zk_through_renew zk_safe_through_renew
+#define zk_through_step zk_safe_through_step
+#define zk_through_view zk_safe_through_view
+#define zk_through_fields zk_safe_through_fields
+#define zk_through_payload zk_safe_through_payload
+#define zk_through_free zk_safe_through_free
 #define zk_speaker_new zk_safe_speaker_new
 #define zk_speaker_renew zk_safe_speaker_renew
 #define zk_speaker_say zk_safe_speaker_say
