@@ -1,9 +1,9 @@
 //! What C calls: a conversation that is read as it comes, or said, of which C keeps a handle.
 //!
 //! `zk_talk_new`, `zk_talk_step` and their like wrap a `Talk` (`zk_talk`), `zk_speaker_new` and `zk_speaker_say` a
-//! `Speaker`; each is in a box that a handle owns, which is all zeros while it holds nothing. `zk_judge_first` and its like
-//! judge single payloads without a handle, and `zk_write_request` and its like write a frame from its fields. `zk_listing`
-//! lists a conversation that is there whole.
+//! `Speaker`, `zk_through_new` a `Through` (`zk_through`); each is in a box that a handle owns, which is all zeros while it
+//! holds nothing. `zk_judge_first` and its like judge single payloads without a handle, and `zk_write_request` and its
+//! like write a frame from its fields. `zk_listing` lists a conversation that is there whole.
 //!
 //! Each call returns numbers: a status, 0 if the call did what it is for, and a struct that include/zk.h declares too.
 //! The contracts repeat those of `Talk` and `Speaker` over these numbers. What a caller owes, the header says; its safe
