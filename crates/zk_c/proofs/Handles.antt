@@ -1,5 +1,5 @@
 -- The talk that a handle held is the one that made the step.
-use Rattle.std.proofs.Common.{◌≡◌, ℕ, List, Some, Result, ap, subst}
+use Rattle.std.proofs.Common.{◌≡◌, ℕ, Bool, List, Some, Result, refl, ap, subst}
 use Rattle.std.specs.Prelude.{unwrap_or}
 use Rattle.zk_talk.specs.declared.message.Side.{Side}
 use Rattle.zk_talk.specs.declared.message.Fault.{Fault}
@@ -10,6 +10,9 @@ use Rattle.zk_c.specs.Handle.{Call, IsFinish}
 use Rattle.zk_c.specs.declared.said.SayAnswer.{SayAnswer}
 use Rattle.zk_c.specs.Voice.{VoiceState}
 use Rattle.zk_c.specs.Saying.{TellsSay}
+use Rattle.zk_talk.specs.declared.message.Side.TheVariants.{Client, Server}
+use Rattle.zk_through.specs.Runs.{ThroughState}
+use Rattle.zk_c.specs.Passage.{newest_on}
 
 pub same_value : {A : Type 0} {x y : A} → Some x ≡ Some y → x ≡ y
 same_value {x = x} e = ap (λ o. unwrap_or o x) e
@@ -23,3 +26,8 @@ finish_of {ending = ending} same finish = subst (λ (s : TalkState). IsFinish s 
 
 pub say_of : {v w new : VoiceState} {text : List ℕ} {answer : SayAnswer} → v ≡ w → TellsSay v text new answer → TellsSay w text new answer
 say_of {new = new} {text = text} {answer = answer} same says = subst (λ (u : VoiceState). TellsSay u text new answer) same says
+
+-- which frame is the newest doesn't depend on what came
+pub same_newest : (side : Side) (t u : ThroughState) (client server : Bool) → newest_on side (record { through = t; client = client; server = server }) ≡ newest_on side (record { through = u; client = client; server = server })
+same_newest Client t u client server = refl
+same_newest Server t u client server = refl

@@ -1,0 +1,20 @@
+use Rattle.std.proofs.Common.{Err, subst}
+use Rattle.zk_talk.specs.Viewed.{other_side}
+use Rattle.zk_c.specs.Passage.{PassageState}
+use Rattle.zk_c.specs.Passing.{IsPassing}
+use Rattle.zk_c.proofs.Handles.{same_newest}
+use Rattle.zk_c.proofs.passage.Passage.step.Goals as goal
+
+pub returns-in-Err : goal.returns-in-Err
+returns-in-Err c =
+    let was = c.self.inside in
+    let after : PassageState = record { through = c.step.new.self; client = was.client; server = was.server } in
+    subst (λ (p : PassageState). IsPassing p c.args.side c.args.piece.now (Err c.in-Err.fault) after) c.self.view_is (record {
+      limits = c.in-Err.ensures.limits;
+      ok = tt;
+      err = c.in-Err.ensures.err;
+      other = c.in-Err.ensures.other;
+      kept = c.in-Err.ensures.kept;
+      newest = same_newest c.args.side c.step.new.self was.through was.client was.server;
+      others = same_newest (other_side c.args.side) c.step.new.self was.through was.client was.server;
+    })
