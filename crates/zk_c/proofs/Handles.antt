@@ -12,7 +12,9 @@ use Rattle.zk_c.specs.Voice.{VoiceState}
 use Rattle.zk_c.specs.Saying.{TellsSay}
 use Rattle.zk_talk.specs.declared.message.Side.TheVariants.{Client, Server}
 use Rattle.zk_through.specs.Runs.{ThroughState}
-use Rattle.zk_c.specs.Passage.{newest_on}
+use Rattle.zk_through.specs.declared.through.Passed.{Passed}
+use Rattle.zk_c.specs.Passage.{PassageState, newest_on}
+use Rattle.zk_c.specs.Passing.{IsPassing}
 
 pub same_value : {A : Type 0} {x y : A} → Some x ≡ Some y → x ≡ y
 same_value {x = x} e = ap (λ o. unwrap_or o x) e
@@ -31,3 +33,7 @@ say_of {new = new} {text = text} {answer = answer} same says = subst (λ (u : Vo
 pub same_newest : (side : Side) (t u : ThroughState) (client server : Bool) → newest_on side (record { through = t; client = client; server = server }) ≡ newest_on side (record { through = u; client = client; server = server })
 same_newest Client t u client server = refl
 same_newest Server t u client server = refl
+
+pub passing_of : {p q new : PassageState} {s r : Side} {piece : List ℕ} {outcome : Result Passed Fault} → p ≡ q → s ≡ r → IsPassing p s piece outcome new → IsPassing q r piece outcome new
+passing_of {new = new} {piece = piece} {outcome = outcome} same_passage same_side is =
+    subst (λ (x : PassageState × Side). IsPassing x.0 x.1 piece outcome new) (λ i. (same_passage i, same_side i)) is

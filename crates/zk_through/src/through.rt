@@ -1,7 +1,7 @@
 //! `Through`: a conversation, with what its profile lacks left out.
-ghost use Rattle.std.specs.Prelude.{◌≡◌, ◌≢◌, ◌≤◌, ◌<◌, ◌+◌, ◌^◌, ℕ, List, [], ◌∷◌, ◌++◌, length, take, None, Some, Err, OnOk, IfOk, IfErr, IfSome, IfNone, MatchOption, true, false, slice_get};
+ghost use Rattle.std.specs.Prelude.{◌≡◌, ◌≢◌, ◌≤◌, ◌<◌, ◌+◌, ◌^◌, ℕ, List, [], ◌∷◌, ◌++◌, length, None, Some, Err, OnOk, IfOk, IfErr, MatchOption, slice_get};
 ghost use Rattle.circular_buffer.specs.Buffer.{buffer};
-ghost use Rattle.zk_frames.specs.Framing.{frame, IsFrame};
+ghost use Rattle.zk_frames.specs.Framing.{frame};
 ghost use Rattle.zk_talk.specs.declared.message.Fault.{Fault};
 ghost use Rattle.zk_talk.specs.declared.message.Side.TheVariants.{Client, Server};
 ghost use Rattle.zk_talk.specs.Fault.{fault_of, side_limit};
@@ -10,10 +10,9 @@ ghost use Rattle.zk_talk.specs.Streams.{IsAtFrame, passed};
 ghost use Rattle.zk_talk.specs.Held.{Message};
 ghost use Rattle.zk_talk.specs.Stands.{held_on, kept_on};
 ghost use Rattle.zk_talk.specs.Viewed.{Leaves, Shows, other_side};
-ghost use Rattle.zk_through.specs.LeftOut.{is_plain, xid_of};
-ghost use Rattle.zk_through.specs.Runs.{WentOn, IsRefused, IsTold, IsNotTold, Runs, turn_of, given_up, stream_on, left_on, LeavesSide};
+ghost use Rattle.zk_through.specs.Runs.{WentOn, IsRefused, IsTold, IsNotTold, Runs, given_up, stream_on, left_on, LeavesSide};
 
-use crate::ahead::{is_foreign, reply_ahead, request_ahead};
+use crate::ahead::{asked, is_foreign, replied};
 use crate::turn::Turn;
 use circular_buffer::HeapCircularBuffer;
 use std::alloc::{AllocError, Global};
@@ -110,36 +109,6 @@ fn push(turns: &mut HeapCircularBuffer<Turn>, turn: Turn)
     match turns.try_push_back(turn) {
         Ok(()) => {}
         Err(_full) => unreachable!(),
-    }
-}
-
-/// The request of the client's whole frame, if it is a later one under a plain xid.
-fn asked(client: &Stream) -> Option<Turn>
-    requires { IsFrame client.now.limit client.now.held }
-    ensures some { IfSome result (λ turn. (0 < client.now.count) × ((p : List ℕ) → client.now.held ≡ frame p → (is_plain 8 p ≡ true) × (turn ≡ turn_of p))) }
-    ensures none { IfNone result ((0 < client.now.count) → (p : List ℕ) → client.now.held ≡ frame p → is_plain 8 p ≡ false) }
-{
-    if client.count() == 0 {
-        return None;
-    }
-    match request_ahead(client.payload()) {
-        Some(turn) => Some(turn),
-        None => None,
-    }
-}
-
-/// The xid of the server's whole frame, if it is a later one under a plain xid.
-fn replied(server: &Stream) -> Option<i32>
-    requires { IsFrame server.now.limit server.now.held }
-    ensures some { IfSome result (λ xid. (0 < server.now.count) × ((p : List ℕ) → server.now.held ≡ frame p → (is_plain 16 p ≡ true) × (xid ≡ xid_of p))) }
-    ensures none { IfNone result ((0 < server.now.count) → (p : List ℕ) → server.now.held ≡ frame p → is_plain 16 p ≡ false) }
-{
-    if server.count() == 0 {
-        return None;
-    }
-    match reply_ahead(server.payload()) {
-        Some(xid) => Some(xid),
-        None => None,
     }
 }
 

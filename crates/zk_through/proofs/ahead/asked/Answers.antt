@@ -2,7 +2,7 @@ use Rattle.std.proofs.Common.{◌≡◌, ◌∙◌, ℕ, List, true, false, sym,
 use Rattle.zk_through.specs.LeftOut.{is_plain}
 use Rattle.zk_through.specs.Runs.{turn_of}
 use Rattle.zk_through.proofs.Carried.{carried}
-use Rattle.zk_through.proofs.through.asked.Goals as goal
+use Rattle.zk_through.proofs.ahead.asked.Goals as goal
 
 pub returns-in-Some-clause-some : goal.returns-in-Some-clause-some
 returns-in-Some-clause-some c = (

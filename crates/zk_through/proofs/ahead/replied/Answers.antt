@@ -2,7 +2,7 @@ use Rattle.std.proofs.Common.{rules, ◌≡◌, ◌∙◌, ℕ, List, true, fals
 use Rattle.std.proofs.lemmas.Int.{to_z-of_z}
 use Rattle.zk_through.specs.LeftOut.{is_plain, xid_of}
 use Rattle.zk_through.proofs.Carried.{carried}
-use Rattle.zk_through.proofs.through.replied.Goals as goal
+use Rattle.zk_through.proofs.ahead.replied.Goals as goal
 
 pub returns-in-Some-clause-some : goal.returns-in-Some-clause-some
 returns-in-Some-clause-some c =
