@@ -109,7 +109,7 @@ class Talk(_Held):
 
     def skip(self, side: Side, piece: bytes) -> int:
         """Takes bytes of a side and judges them as `feed`, but makes no message: how many they complete."""
-        return sum(step.whole for step in self._steps(library.zk_talk_pass, Side(side), bytes(piece)))
+        return sum(1 for step in self._steps(library.zk_talk_pass, Side(side), bytes(piece)) if step.whole)
 
     def _newest(self, side: Side) -> Message:
         view = library.zk_talk_view(self._handle, side)
