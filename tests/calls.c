@@ -5,90 +5,13 @@
  * FILEs are recordings and listings of captures/. Handles are used in any order, empty or not; pieces of recordings,
  * payloads, fields and lines come as they are or damaged (payloads.h); limits, sides, profiles and operations are right
  * or wrong; rooms are ample, exact, too small or none; pointers are null with 0 and without (chosen.h). What is read and
- * written is between guard pages (calls.h). It prints the first answer that can't be, and how often each status came;
- * the status is 0 if all could. */
-#include "payloads.h"
+ * written is between guard pages (calls.h). It prints the first answer that can't be, and how often each status came,
+ * and what became of passages' bytes; the status is 0 if all could. */
+#include "handles.h"
 
-enum { TALKS = 6, SPEAKERS = 3 };
+/* ---- Steps */
 
-/* A handle, and how far it has come in a recording or a listing. */
-struct played {
-    struct zk_talk talk;
-    struct zk_speaker speaker;
-    bool live, broken;
-    const struct recording *recording;
-    size_t piece, used;
-};
-
-static struct played talks[TALKS], speakers[SPEAKERS];
-static struct played talks[TALKS], speakers[SPEAKERS];
-
-/* ---- Handles */
-
-/* What a call on a handle may answer: an empty one is refused, and a side or a profile that is none. */
-static void refused(uint32_t status, bool live, bool side) {
-    if (!side) must(status == ZK_RANGE, "a side that is none");
-    else if (!live) must(status == ZK_EMPTY, "an empty handle");
-    else must(status != ZK_EMPTY && status != ZK_NULL && status != ZK_IN_USE, "a status that this call has not");
-}
-
-/* A handle that has taken or said nothing begins with a recording or a listing. */
-static void choose(struct played *it, bool talk) {
-    it->broken = false;
-    it->recording = talk ? &recordings[chance(recording_count)] : &listings[chance(listing_count)];
-    it->piece = it->used = 0;
-}
-
-static void begin(struct played *it, bool talk) {
-    uint32_t client = any_limit(), server = any_limit(), waiting = any_waiting(), profile = any_profile();
-    bool good = client >= 64 && client <= 1 << 24 && server >= 64 && server <= 1 << 24 && waiting >= 1
-                && waiting <= 1 << 20 && (profile == 34 || profile == 35);
-    uint32_t status = answered(talk ? zk_talk_new(&it->talk, client, server, waiting, profile)
-                                    : zk_speaker_new(&it->speaker, client, server, waiting, profile));
-    must(status == (it->live ? ZK_IN_USE : good ? ZK_WELL : ZK_RANGE), "a handle that is made");
-    if (status != ZK_WELL) return;
-    it->live = true;
-    choose(it, talk);
-}
-
-/* The handle is begun anew, whatever came before. */
-static void renew(struct played *it, bool talk) {
-    bool none = one_in(50);
-    uint32_t status = answered(talk ? zk_talk_renew(none ? NULL : &it->talk)
-                                    : zk_speaker_renew(none ? NULL : &it->speaker));
-    must(status == (none ? ZK_NULL : it->live ? ZK_WELL : ZK_EMPTY), "a handle that is begun anew");
-    if (status != ZK_WELL) return;
-    choose(it, talk);
-    if (!talk) {
-        clear(&text, any_room());
-        struct zk_line frame = zk_speaker_frame(&it->speaker, text.at, text.room);
-        answered(frame.status);
-        within(&text, 0);
-        must(frame.status == ZK_WELL && frame.length == 0, "a frame of a speaker that has said nothing");
-        return;
-    }
-    struct zk_waiting waiting = zk_talk_waiting(&it->talk);
-    answered(waiting.status);
-    must(waiting.requests == 0 && waiting.weight == 0, "a request that waits since before the talk was begun anew");
-    for (uint32_t side = ZK_CLIENT; side <= ZK_SERVER; side++) {
-        struct zk_held held = zk_talk_held(&it->talk, side);
-        answered(held.status);
-        must(held.bytes == 0, "bytes of before the talk was begun anew");
-        must(answered(zk_talk_view(&it->talk, side).status) == ZK_NO_MESSAGE, "a frame of before");
-    }
-    struct zk_ending ending = zk_talk_finish(&it->talk);
-    answered(ending.status);
-    must(ending.kind == ZK_WHOLE && ending.unanswered == 0, "an ending of before the talk was begun anew");
-}
-
-static void end(struct played *it, bool talk) {
-    counted++;
-    if (talk) zk_talk_free(one_in(50) ? NULL : &it->talk);
-    else zk_speaker_free(one_in(50) ? NULL : &it->speaker);
-    it->live = talk ? it->talk.live : it->speaker.live;
-}
-
-/* Whether the talk's recording goes on, and its next bytes. */
+/* Whether the handle's recording goes on, and its next bytes. */
 static bool goes_on(const struct played *it, uint32_t *side, const uint8_t **from, size_t *length) {
     if (!it->live || it->broken || it->piece >= it->recording->count) return false;
     const struct piece *piece = &pieces[it->recording->first + it->piece];
@@ -98,35 +21,64 @@ static bool goes_on(const struct played *it, uint32_t *side, const uint8_t **fro
     return true;
 }
 
-static void step(struct played *it) {
-    uint32_t side = any_side();
+/* How often each of ZK_WITHIN to ZK_FULL came. */
+static unsigned long wents[ZK_FULL + 1];
+
+/* What a step is given. */
+struct given {
+    uint32_t side, expected;
+    const uint8_t *at;
+    size_t length;
+    bool next; /* the bytes are the recording's next ones */
+};
+
+/* The recording's next bytes or any payload, as they are or damaged. Once in `foreign` times, if that isn't 0, the
+ * client asks what no profile has. */
+static struct given give(struct played *it, uint64_t foreign) {
+    struct given given = {any_side(), 0, NULL, 0, false};
     const struct payload *any = &payloads[chance(payload_count)];
-    const uint8_t *from = any->bytes, *at;
+    const uint8_t *from = any->bytes;
     size_t length = any->length;
-    bool next = !one_in(60) && goes_on(it, &side, &from, &length);
+    given.next = !one_in(60) && goes_on(it, &given.side, &from, &length);
     if (length > 0 && one_in(3)) length = 1 + (size_t)chance(length);
-    put_bytes(from, length, next ? 400 : 2);
-    at = bytes.at;
-    length = bytes.length;
-    uint32_t expected = astray(&at, &length);
-    bool passes = one_in(4);
-    struct zk_step step = passes ? zk_talk_pass(&it->talk, side, at, length) : zk_talk_step(&it->talk, side, at, length);
-    answered(step.status);
+    memcpy(bytes.copy, from, length);
+    bool asks = given.next && given.side == ZK_CLIENT && it->used == 0 && it->piece > 0 && length >= 12;
+    if (foreign > 0 && asks && one_in(foreign)) bytes.copy[11] = 103; /* getEphemerals, if a frame begins here */
+    put(&bytes, one_in(given.next ? 400 : 2) ? damaged(bytes.copy, length) : length);
+    given.at = bytes.at;
+    given.length = bytes.length;
+    given.expected = astray(&given.at, &given.length);
+    return given;
+}
+
+/* What any step may answer; whether it was made. */
+static bool stepped(struct played *it, struct given given, uint32_t status, size_t used, struct zk_fault fault) {
+    answered(status);
     unchanged(&bytes);
-    if (expected != ZK_WELL) {
-        must(step.status == expected && step.used == 0, "a pointer or a length astray");
-        return;
+    if (given.expected != ZK_WELL) {
+        must(status == given.expected && used == 0, "a pointer or a length astray");
+        return false;
     }
-    refused(step.status, it->live, side <= ZK_SERVER);
-    must(step.used <= length && (!step.whole || step.used > 0), "more is used than came");
-    must(step.status == ZK_WELL || !step.whole, "a whole frame that is refused");
-    must((step.fault.reason != 0) == (step.status != ZK_WELL && step.status <= ZK_STREAM_END), "a fault");
-    if (step.whole) must(zk_talk_view(&it->talk, side).status == (passes ? ZK_NO_MESSAGE : ZK_WELL), "the frame kept");
-    if (step.status != ZK_WELL || !next) it->broken = true;
-    else if ((it->used += step.used) >= pieces[it->recording->first + it->piece].length) { /* damage may add bytes */
+    refused(status, it->live, given.side <= ZK_SERVER);
+    must(used <= given.length, "more is used than came");
+    must((fault.reason != 0) == (status != ZK_WELL && status <= ZK_STREAM_END), "a fault");
+    if (status != ZK_WELL || !given.next) it->broken = true;
+    else if ((it->used += used) >= pieces[it->recording->first + it->piece].length) { /* damage may add bytes */
         it->used = 0;
         it->piece++;
     }
+    return true;
+}
+
+static void step(struct played *it) {
+    struct given given = give(it, 0);
+    bool passes = one_in(4);
+    struct zk_step step = passes ? zk_talk_pass(&it->talk, given.side, given.at, given.length)
+                                 : zk_talk_step(&it->talk, given.side, given.at, given.length);
+    if (!stepped(it, given, step.status, step.used, step.fault)) return;
+    must(!step.whole || (step.used > 0 && step.status == ZK_WELL), "a whole frame of nothing, or one that is refused");
+    if (!step.whole) return;
+    must(zk_talk_view(&it->talk, given.side).status == (passes ? ZK_NO_MESSAGE : ZK_WELL), "the frame kept");
 }
 
 /* What waits and is held. */
@@ -156,37 +108,76 @@ static void wrote(struct zk_line line, const char *what) {
     must(line.status == ZK_WELL || line.status == ZK_ROOM || line.length == 0, what);
 }
 
-typedef struct zk_line written_call(struct zk_talk *talk, uint32_t side, uint8_t *out, size_t room);
+typedef struct zk_line written_call(struct played *it, uint32_t side, uint8_t *out, size_t room);
 
-static struct zk_line ending_line(struct zk_talk *talk, uint32_t side, uint8_t *out, size_t room) {
-    (void)side;
-    return zk_talk_ending_line(talk, out, room);
+static struct zk_line line(struct played *it, uint32_t side, uint8_t *out, size_t room) {
+    return zk_talk_line(&it->talk, side, out, room);
 }
 
-/* A call that writes a text; again with just the room that it needs. */
-static void write_text(struct played *it, written_call *call, uint32_t side) {
+static struct zk_line payload(struct played *it, uint32_t side, uint8_t *out, size_t room) {
+    return zk_talk_payload(&it->talk, side, out, room);
+}
+
+static struct zk_line left_out(struct played *it, uint32_t side, uint8_t *out, size_t room) {
+    return zk_through_payload(&it->through, side, out, room);
+}
+
+static struct zk_line ending_line(struct played *it, uint32_t side, uint8_t *out, size_t room) {
+    (void)side;
+    return zk_talk_ending_line(&it->talk, out, room);
+}
+
+/* A call that writes a text; again with just the room that it needs. What it returned last. */
+static struct zk_line write_text(struct played *it, written_call *call, uint32_t side) {
     clear(&text, any_room());
-    struct zk_line line = call(&it->talk, side, text.at, text.room);
+    struct zk_line line = call(it, side, text.at, text.room);
     wrote(line, "a text's length");
     refused(line.status, it->live, side <= ZK_SERVER);
-    if (line.status != ZK_ROOM || line.length > SIZE / 2) return;
+    if (line.status != ZK_ROOM || line.length > SIZE / 2) return line;
     size_t length = line.length;
     clear(&text, length);
-    line = call(&it->talk, side, text.at, text.room);
+    line = call(it, side, text.at, text.room);
     wrote(line, "a text's length again");
     must(line.status == ZK_WELL && line.length == length, "a text with just its room");
+    return line;
 }
 
-static void talk_fields(struct played *it, uint32_t side) {
+static void show_fields(struct played *it, enum kind kind, uint32_t side) {
     size_t room;
     struct zk_field *out = room_for(&room);
-    struct zk_message message = zk_talk_view(&it->talk, side);
+    struct zk_message message = kind == TALK ? zk_talk_view(&it->talk, side) : zk_through_view(&it->through, side);
     answered(message.status);
     refused(message.status, it->live, side <= ZK_SERVER);
-    struct zk_read read = zk_talk_fields(&it->talk, side, out, room);
+    struct zk_read read = kind == TALK ? zk_talk_fields(&it->talk, side, out, room)
+                                       : zk_through_fields(&it->through, side, out, room);
     fitting(read, room, message.size);
     must(read.kind == message.kind && read.xid == message.xid && read.operation == message.operation, "another message");
     must(read.err == message.err && read.zxid == message.zxid, "other numbers of the header");
+}
+
+/* A step of a passage: what became of the bytes, and what is then shown and left out. */
+static void pass_through(struct played *it) {
+    struct given given = give(it, 6);
+    uint32_t side = given.side;
+    struct zk_passed step = zk_through_step(&it->through, side, given.at, given.length);
+    if (!stepped(it, given, step.status, step.used, step.fault)) return;
+    if (step.went <= ZK_FULL) wents[step.went]++;
+    bool asked = step.went == ZK_ASKED, answers = step.went == ZK_ANSWERED, left = asked || answers;
+    must(step.went <= ZK_FULL && (step.status == ZK_WELL || step.went == ZK_WITHIN), "what became of the bytes");
+    must(left || (step.xid == 0 && step.operation == 0), "a request that wasn't left out");
+    must(!asked || side == ZK_CLIENT, "a request of the server");
+    must(!answers || side == ZK_SERVER, "a reply of the client");
+    must(step.went != ZK_FULL || (side == ZK_CLIENT && step.used == 0), "bytes that are used where none may wait");
+    must(step.went != ZK_WITHIN || step.status != ZK_WELL || step.used == given.length, "bytes that aren't used");
+    must(!(left || step.went == ZK_MESSAGE) || step.used > 0, "a whole frame of nothing");
+    if (step.went == ZK_FULL && one_in(9)) it->broken = true;
+    struct zk_line found = write_text(it, left_out, side);
+    must(step.status != ZK_WELL || (found.status == ZK_NO_MESSAGE) != left, "the payload of what is left out");
+    if (step.status != ZK_WELL || (!left && step.went != ZK_MESSAGE)) return;
+    must(answered(zk_through_view(&it->through, side).status) == (left ? ZK_NO_MESSAGE : ZK_WELL), "the message kept");
+    if (!left || found.status != ZK_WELL) return;
+    must(found.length >= 8 && number_at(text.at) == step.xid, "the xid of what is left out");
+    must(answers || number_at(text.at + 4) == step.operation, "the operation of what is left out");
 }
 
 /* ---- Lines and listings */
@@ -256,36 +247,50 @@ static void name(void) {
 static void call_talk(struct played *it) {
     uint32_t side = any_side();
     switch (chance(24)) {
-    case 0: begin(it, true); break;
-    case 1: if (one_in(it->broken ? 8 : 40)) end(it, true);
-            else if (one_in(it->broken ? 4 : 40)) renew(it, true);
+    case 0: begin(it, TALK); break;
+    case 1: if (one_in(it->broken ? 8 : 40)) end(it, TALK);
+            else if (one_in(it->broken ? 4 : 40)) renew(it, TALK);
             break;
     case 2: finish(it); break;
     case 3: write_text(it, ending_line, ZK_CLIENT); break;
-    case 4: case 5: write_text(it, zk_talk_line, side); break;
-    case 6: case 7: write_text(it, zk_talk_payload, side); break;
-    case 8: case 9: talk_fields(it, side); break;
+    case 4: case 5: write_text(it, line, side); break;
+    case 6: case 7: write_text(it, payload, side); break;
+    case 8: case 9: show_fields(it, TALK, side); break;
     case 10: count_all(it, side); break;
     default: step(it);
     }
 }
 
+static void call_passage(struct played *it) {
+    uint32_t side = any_side();
+    switch (chance(12)) {
+    case 0: begin(it, PASSAGE); break;
+    case 1: if (one_in(it->broken ? 8 : 40)) end(it, PASSAGE);
+            else if (one_in(it->broken ? 3 : 40)) renew(it, PASSAGE);
+            break;
+    case 2: write_text(it, left_out, side); break;
+    case 3: show_fields(it, PASSAGE, side); break;
+    default: pass_through(it);
+    }
+}
+
 static void call_speaker(struct played *it) {
     switch (chance(12)) {
-    case 0: begin(it, false); break;
-    case 1: if (one_in(40)) end(it, false);
-            else if (one_in(20)) renew(it, false);
+    case 0: begin(it, SPEAKER); break;
+    case 1: if (one_in(40)) end(it, SPEAKER);
+            else if (one_in(20)) renew(it, SPEAKER);
             break;
     default: say(it);
     }
 }
 
 static void call(void) {
-    switch (chance(16)) {
+    switch (chance(20)) {
     case 0: case 1: case 2: case 3: read_payload(); break;
     case 4: write_payload(); break;
     case 5: case 6: case 7: call_speaker(&speakers[chance(SPEAKERS)]); break;
     case 8: if (one_in(40)) list(); else name(); break;
+    case 9: case 10: case 11: case 12: call_passage(&passages[chance(PASSAGES)]); break;
     default: call_talk(&talks[chance(TALKS)]);
     }
 }
@@ -302,6 +307,7 @@ int main(int given, char **words) {
     if (bytes.copy == NULL || numbers.copy == NULL || cuts.copy == NULL || items.copy == NULL) return 2;
     while (counted < strtoul(words[2], NULL, 10)) call();
     for (size_t i = 0; i < TALKS; i++) zk_talk_free(&talks[i].talk);
+    for (size_t i = 0; i < PASSAGES; i++) zk_through_free(&passages[i].through);
     for (size_t i = 0; i < SPEAKERS; i++) zk_speaker_free(&speakers[i].speaker);
     while (kept_count > 0) free(kept[--kept_count]);
     free(pieces), free(lines), free(payloads);
@@ -309,6 +315,7 @@ int main(int given, char **words) {
     printf("%lu calls from the seed %lu:", counted, seed);
     for (uint32_t i = 0; i < 128; i++)
         if (statuses[i] > 0) printf(" %s %lu", zk_status_name(i), statuses[i]);
+    printf("; of passages, asked %lu, answered %lu, full %lu", wents[ZK_ASKED], wents[ZK_ANSWERED], wents[ZK_FULL]);
     putchar('\n');
     return 0;
 }

@@ -41,11 +41,12 @@ C_TYPES = {"u8": "uint8_t", "u16": "uint16_t", "u32": "uint32_t", "u64": "uint64
            "usize": "size_t", "bool": "bool",
            "*mut u8": "void *", "TalkBox": "void *", "TalkHandle": "struct zk_talk", "VoiceBox": "void *",
            "SpeakerHandle": "struct zk_speaker", "SayAnswer": "struct zk_say", "FaultNumbers": "struct zk_fault",
+           "PassageBox": "void *", "ThroughHandle": "struct zk_through", "PassedAnswer": "struct zk_passed",
            "StepAnswer": "struct zk_step", "EndingAnswer": "struct zk_ending", "MessageAnswer": "struct zk_message",
            "LineAnswer": "struct zk_line", "Piece": "struct zk_piece", "PayloadAnswer": "struct zk_payload",
            "Field": "struct zk_field", "ReadAnswer": "struct zk_read", "WriteAnswer": "struct zk_written",
            "WaitingAnswer": "struct zk_waiting", "HeldAnswer": "struct zk_held"}
-INSIDE = {"TalkBox", "VoiceBox"}
+INSIDE = {"TalkBox", "PassageBox", "VoiceBox"}
 FIELDS, RECORDS = (TOP / "crates" / name / "src" for name in ("zk_fields", "zk_records"))
 
 
@@ -94,6 +95,12 @@ def field_names():
     """The number of each name of a field."""
     text = (FIELDS / "name.rt").read_text()
     return {name: int(n) for name, n in re.findall(r"const (\w+): u16 = (\d+);", text)}
+
+
+def went_numbers():
+    """The number of each thing that a passage's step does."""
+    text = (CRATE / "src" / "passed.rt").read_text()
+    return {name.upper(): int(n) for name, n in re.findall(r"Went::(\w+)(?:\(\w+\))? => \((\d+),", text)}
 
 
 def crate_names(numbers):
@@ -145,6 +152,7 @@ def compare_header():
         yield (kind, ours.get(kind) == theirs.get(kind),
                f"names of {kind}: {ours.get(kind)}, the header {theirs.get(kind)}")
     numbers.update((f"NAME_{name}", number) for name, number in field_names().items())
+    numbers.update(went_numbers())
     for name, number in sorted(numbers.items()):
         yield (name, c_numbers.get(name) == number,
                f"number {name}: the crate has {number}, the header {c_numbers.get(name)}")

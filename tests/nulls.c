@@ -1,5 +1,5 @@
-/* Null pointers, and lengths above PTRDIFF_MAX, are refused by a status and change nothing; a null pointer with the
- * length 0 is no bytes. It prints each call that returns something else. */
+/* Null pointers, lengths above PTRDIFF_MAX and empty handles are refused by a status and change nothing; a null pointer
+ * with the length 0 is no bytes. It prints each call that returns something else. */
 #include "zk.h"
 
 #include <stdio.h>
@@ -13,6 +13,7 @@ static const size_t room = 1, most = (size_t)PTRDIFF_MAX, more = (size_t)PTRDIFF
 static uint8_t out[1] = {7};
 static struct zk_field field = {7, 7, 7, 7, 7, 7};
 static struct zk_talk talk = ZK_ZEROS;
+static struct zk_through through = ZK_ZEROS;
 static struct zk_speaker speaker = ZK_ZEROS;
 static int failures;
 
@@ -37,6 +38,13 @@ static void handles_that_are_null(void) {
     expect("zk_talk_finish", zk_talk_finish(NULL).status, ZK_NULL);
     expect("zk_talk_ending_line", zk_talk_ending_line(NULL, out, room).status, ZK_NULL);
     zk_talk_free(NULL);
+    expect("zk_through_new", zk_through_new(NULL, 64, 64, 1, 34), ZK_NULL);
+    expect("zk_through_renew", zk_through_renew(NULL), ZK_NULL);
+    expect("zk_through_step", zk_through_step(NULL, ZK_CLIENT, &byte, 1).status, ZK_NULL);
+    expect("zk_through_view", zk_through_view(NULL, ZK_CLIENT).status, ZK_NULL);
+    expect("zk_through_fields", zk_through_fields(NULL, ZK_CLIENT, &field, 1).status, ZK_NULL);
+    expect("zk_through_payload", zk_through_payload(NULL, ZK_CLIENT, out, room).status, ZK_NULL);
+    zk_through_free(NULL);
     expect("zk_speaker_new", zk_speaker_new(NULL, 64, 64, 1, 34), ZK_NULL);
     expect("zk_speaker_renew", zk_speaker_renew(NULL), ZK_NULL);
     expect("zk_speaker_say", zk_speaker_say(NULL, &byte, 1).status, ZK_NULL);
@@ -89,6 +97,47 @@ static void messages(void) {
     expect("zk_talk_pass, no talk", zk_talk_pass(&talk, ZK_CLIENT, &byte, 1).status, ZK_EMPTY);
     expect("zk_talk_waiting, no talk", zk_talk_waiting(&talk).status, ZK_EMPTY);
     expect("zk_talk_held, no talk", zk_talk_held(&talk, ZK_CLIENT).status, ZK_EMPTY);
+}
+
+static void empty_passages(void) {
+    expect("zk_through_renew, no passage", zk_through_renew(&through), ZK_EMPTY);
+    expect("zk_through_step, no passage", zk_through_step(&through, ZK_CLIENT, &byte, 1).status, ZK_EMPTY);
+    expect("zk_through_step, no passage, used", (uint32_t)zk_through_step(&through, ZK_CLIENT, &byte, 1).used, 0);
+    expect("zk_through_step, no passage, no side", zk_through_step(&through, 2, &byte, 1).status, ZK_RANGE);
+    expect("zk_through_view, no passage", zk_through_view(&through, ZK_CLIENT).status, ZK_EMPTY);
+    expect("zk_through_fields, no passage", zk_through_fields(&through, ZK_CLIENT, &field, 1).status, ZK_EMPTY);
+    expect("zk_through_payload, no passage", zk_through_payload(&through, ZK_CLIENT, out, room).status, ZK_EMPTY);
+    zk_through_free(&through);
+}
+
+static void passages(void) {
+    struct zk_passed step;
+
+    empty_passages();
+    expect("zk_through_new, a limit out of range", zk_through_new(&through, 63, 64, 1, 34), ZK_RANGE);
+    expect("zk_through_new, no profile", zk_through_new(&through, 64, 64, 1, 36), ZK_RANGE);
+    expect("zk_through_new, well", zk_through_new(&through, 64, 64, 1, 34), ZK_WELL);
+    expect("zk_through_new, in use", zk_through_new(&through, 64, 64, 1, 34), ZK_IN_USE);
+    expect("zk_through_step, null", zk_through_step(&through, ZK_CLIENT, NULL, 1).status, ZK_NULL);
+    step = zk_through_step(&through, ZK_CLIENT, NULL, 0);
+    expect("zk_through_step, no bytes", step.status, ZK_WELL);
+    expect("zk_through_step, no bytes, used", (uint32_t)step.used, 0);
+    expect("zk_through_step, no bytes, went", step.went, ZK_WITHIN);
+    expect("zk_through_step, no bytes, no side", zk_through_step(&through, 2, NULL, 0).status, ZK_RANGE);
+    expect("zk_through_step, too long", zk_through_step(&through, ZK_CLIENT, &byte, more).status, ZK_RANGE);
+    expect("zk_through_view, no message", zk_through_view(&through, ZK_CLIENT).status, ZK_NO_MESSAGE);
+    expect("zk_through_view, no side", zk_through_view(&through, 2).status, ZK_RANGE);
+    expect("zk_through_fields, null", zk_through_fields(&through, ZK_CLIENT, NULL, 1).status, ZK_NULL);
+    expect("zk_through_fields, no room", zk_through_fields(&through, ZK_CLIENT, NULL, 0).status, ZK_NO_MESSAGE);
+    expect("zk_through_fields, no side", zk_through_fields(&through, 2, &field, 1).status, ZK_RANGE);
+    expect("zk_through_fields, too much room", zk_through_fields(&through, ZK_CLIENT, &field, most / sizeof field + 1).status, ZK_RANGE);
+    expect("zk_through_payload, null", zk_through_payload(&through, ZK_CLIENT, NULL, 1).status, ZK_NULL);
+    expect("zk_through_payload, no room", zk_through_payload(&through, ZK_CLIENT, NULL, 0).status, ZK_NO_MESSAGE);
+    expect("zk_through_payload, no side", zk_through_payload(&through, 2, out, room).status, ZK_RANGE);
+    expect("zk_through_payload, too long", zk_through_payload(&through, ZK_CLIENT, out, more).status, ZK_RANGE);
+    expect("zk_through_renew", zk_through_renew(&through), ZK_WELL);
+    zk_through_free(&through);
+    empty_passages();
 }
 
 static void speakers(void) {
@@ -177,6 +226,7 @@ int main(void) {
     handles_that_are_null();
     pieces();
     messages();
+    passages();
     speakers();
     judged_payloads();
     read_payloads();

@@ -40,10 +40,13 @@ KEPT = {"nothing"}
 USES = """#include <zk.h>
 int main(void) {
     struct zk_talk talk = ZK_ZEROS;
+    struct zk_through through = ZK_ZEROS;
     struct zk_speaker speaker = ZK_ZEROS;
     struct zk_step step = zk_talk_step(&talk, ZK_CLIENT, NULL, 0);
+    struct zk_passed passed = zk_through_step(&through, ZK_CLIENT, NULL, 0);
     struct zk_say say = zk_speaker_say(&speaker, NULL, 0);
-    return step.status == ZK_EMPTY && say.status == ZK_EMPTY && sizeof ZK_VERSION > 1 ? 0 : 1;
+    bool empty = step.status == ZK_EMPTY && passed.status == ZK_EMPTY && say.status == ZK_EMPTY;
+    return empty && sizeof ZK_VERSION > 1 ? 0 : 1;
 }
 """
 CMAKE = """cmake_minimum_required(VERSION 3.13)

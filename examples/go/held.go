@@ -119,9 +119,15 @@ func (it *talk) newest(side C.uint32_t) (*Message, error) {
 	if err != nil {
 		return nil, err
 	}
-	message, err := read(payload, func(out *C.struct_zk_field, room C.size_t) C.struct_zk_read {
+	return shown(view, payload, func(out *C.struct_zk_field, room C.size_t) C.struct_zk_read {
 		return C.zk_safe_talk_fields(&it.handle, side, out, room)
 	})
+}
+
+// shown returns the message that a handle shows.
+func shown(view C.struct_zk_message, payload []byte,
+	call func(*C.struct_zk_field, C.size_t) C.struct_zk_read) (*Message, error) {
+	message, err := read(payload, call)
 	if err == nil {
 		message.Frame = uint64(view.frame)
 	}

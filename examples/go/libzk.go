@@ -3,7 +3,7 @@
 //
 // It is built where the compiler finds zk.h and libzk: an installed library, or one that CGO_CFLAGS and CGO_LDFLAGS
 // name. With the tag pkgconfig, pkg-config is asked for both.
-// Messages are copies: they have no memory of the library's. Talks and speakers may be used by any goroutine.
+// Messages are copies: they have no memory of the library's. Talks, passages and speakers may be used by any goroutine.
 package libzk
 
 // #cgo !pkgconfig LDFLAGS: -lzk

@@ -8,18 +8,18 @@
 
     frame = write_request(1, "exists", [(FieldKind.TEXT, "/a"), (FieldKind.BOOL, True)])
 
-What comes may be any bytes: what is no message raises Refused. A talk or a speaker that is closed raises it, too.
+What comes may be any bytes: what is no message raises Refused. So does a talk, a passage or a speaker that is closed.
 """
 
-from ._held import Cut, Ending, Speaker, Talk, Waiting
+from ._held import Cut, Ending, Passed, Speaker, Talk, Through, Waiting, Went
 from ._messages import Fault, Field, FieldKind, Kind, Message, Profile, Refused, Side, Value
 from ._names import ERRORS, EVENTS, FIELDS, OPERATIONS, STATUSES
 from ._payloads import (Item, judge_connected, judge_event, judge_first, judge_reply, judge_request, listing,
                         read_connected, read_event, read_first, read_reply, read_request, write_connected, write_event,
                         write_first, write_reply, write_request)
 
-__all__ = ["ERRORS", "EVENTS", "FIELDS", "OPERATIONS", "STATUSES", "Cut", "Ending", "Fault", "Field", "FieldKind", "Item",
-           "Kind", "Message", "Profile", "Refused", "Side", "Speaker", "Talk", "Value", "Waiting", "judge_connected",
-           "judge_event", "judge_first", "judge_reply", "judge_request", "listing", "read_connected", "read_event",
-           "read_first", "read_reply", "read_request", "write_connected", "write_event", "write_first", "write_reply",
-           "write_request"]
+__all__ = ["ERRORS", "EVENTS", "FIELDS", "OPERATIONS", "STATUSES", "Cut", "Ending", "Fault", "Field", "FieldKind",
+           "Item", "Kind", "Message", "Passed", "Profile", "Refused", "Side", "Speaker", "Talk", "Through", "Value",
+           "Waiting", "Went", "judge_connected", "judge_event", "judge_first", "judge_reply", "judge_request",
+           "listing", "read_connected", "read_event", "read_first", "read_reply", "read_request", "write_connected",
+           "write_event", "write_first", "write_reply", "write_request"]

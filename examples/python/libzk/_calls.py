@@ -12,7 +12,7 @@ I32, I64, SIZE, BYTES = ctypes.c_int32, ctypes.c_int64, ctypes.c_size_t, ctypes.
 
 
 class Handle(ctypes.Structure):
-    """A talk or a speaker; all zeros where there is none."""
+    """A talk, a passage or a speaker; all zeros where there is none."""
     _fields_ = [("held", ctypes.c_void_p), ("live", ctypes.c_bool)]
 
 
@@ -23,6 +23,10 @@ class Fault(ctypes.Structure):
 
 class Step(ctypes.Structure):
     _fields_ = [("used", SIZE), ("status", U32), ("whole", ctypes.c_bool), ("fault", Fault)]
+
+
+class Passed(ctypes.Structure):
+    _fields_ = [("used", SIZE), ("status", U32), ("went", U32), ("xid", I32), ("operation", I32), ("fault", Fault)]
 
 
 class Message(ctypes.Structure):
@@ -88,6 +92,13 @@ CALLS = {
     "zk_talk_finish": (Ending, HANDLE),
     "zk_talk_ending_line": (Line, HANDLE, BYTES, SIZE),
     "zk_talk_free": (None, HANDLE),
+    "zk_through_new": (U32, HANDLE, U32, U32, U32, U32),
+    "zk_through_renew": (U32, HANDLE),
+    "zk_through_step": (Passed, HANDLE, U32, BYTES, SIZE),
+    "zk_through_view": (Message, HANDLE, U32),
+    "zk_through_fields": (Read, HANDLE, U32, FIELDS, SIZE),
+    "zk_through_payload": (Line, HANDLE, U32, BYTES, SIZE),
+    "zk_through_free": (None, HANDLE),
     "zk_speaker_new": (U32, HANDLE, U32, U32, U32, U32),
     "zk_speaker_renew": (U32, HANDLE),
     "zk_speaker_say": (Say, HANDLE, BYTES, SIZE),

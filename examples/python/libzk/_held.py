@@ -1,15 +1,16 @@
-"""Talks and speakers: what holds a handle."""
+"""Talks, passages and speakers: what holds a handle."""
 
 import ctypes
+import enum
 from typing import Callable, Iterator, List, NamedTuple, NoReturn, Optional, Tuple, TypeVar
 
 from . import _calls
 from ._calls import library
-from ._messages import RANGE, Fault, Kind, Message, Profile, Refused, Side, fault_of, fields_of, written
-from ._names import OPERATIONS
+from ._messages import RANGE, Fault, Message, Profile, Refused, Side, fault_of, message_of, written
 
 _WHOLE, _CUT = 1, 2
 _Self = TypeVar("_Self", bound="_Held")
+_Step = TypeVar("_Step", _calls.Step, _calls.Passed)
 
 
 class Waiting(NamedTuple):
@@ -54,6 +55,18 @@ class _Held:
         if status:
             raise Refused(status)
 
+    def _steps(self, take: Callable[..., _Step], side: Side, piece: bytes) -> Iterator[_Step]:
+        """Takes all of the piece: what each step returns, which ends wherever a frame is whole."""
+        begin, length, at = ctypes.cast(ctypes.c_char_p(piece), ctypes.c_void_p).value or 0, len(piece), 0
+        while True:
+            step = take(self._handle, side, begin + at, length - at)
+            if step.status:
+                raise Refused(step.status, step.fault.place, fault=fault_of(step.fault))
+            at += step.used
+            yield step
+            if at == length:
+                return
+
     def close(self) -> None:
         self._free(self._handle)
 
@@ -86,8 +99,9 @@ class Talk(_Held):
         messages: List[Message] = []
         side = Side(side)
         try:
-            for _ in self._steps(library.zk_talk_step, side, piece):
-                messages.append(self._newest(side))
+            for step in self._steps(library.zk_talk_step, side, bytes(piece)):
+                if step.whole:
+                    messages.append(self._newest(side))
         except Refused as refused:
             refused.messages = tuple(messages)
             raise
@@ -95,31 +109,15 @@ class Talk(_Held):
 
     def skip(self, side: Side, piece: bytes) -> int:
         """Takes bytes of a side and judges them as `feed`, but makes no message: how many they complete."""
-        return sum(1 for _ in self._steps(library.zk_talk_pass, Side(side), piece))
-
-    def _steps(self, take: Callable[..., _calls.Step], side: Side, piece: bytes) -> Iterator[None]:
-        """Takes all of the piece, and stops wherever a frame is whole."""
-        piece = bytes(piece)
-        begin, length, at = ctypes.cast(ctypes.c_char_p(piece), ctypes.c_void_p).value or 0, len(piece), 0
-        while True:
-            step = take(self._handle, side, begin + at, length - at)
-            if step.status:
-                raise Refused(step.status, step.fault.place, fault=fault_of(step.fault))
-            at += step.used
-            if step.whole:
-                yield None
-            if at == length:
-                return
+        return sum(1 for step in self._steps(library.zk_talk_pass, Side(side), bytes(piece)) if step.whole)
 
     def _newest(self, side: Side) -> Message:
         view = library.zk_talk_view(self._handle, side)
         payload = written(lambda *out: library.zk_talk_payload(self._handle, side, *out), max(view.size, 1))
-        _, fields = fields_of(lambda *out: library.zk_talk_fields(self._handle, side, *out), lambda: payload)
         line = None
         if self._lines:
             line = written(lambda *out: library.zk_talk_line(self._handle, side, *out)).decode()
-        operation = OPERATIONS.get(view.operation, "")
-        return Message(Kind(view.kind), view.xid, operation, view.err, view.zxid, fields, payload, view.frame, line)
+        return message_of(view, lambda *out: library.zk_talk_fields(self._handle, side, *out), payload, line)
 
     def waiting(self) -> Waiting:
         """What waits for replies; after a fault, before the byte that decided it."""
@@ -145,6 +143,72 @@ class Talk(_Held):
         return Ending(line, ending.unanswered if ending.kind == _WHOLE else None,
                       Cut(Side(ending.side), ending.frame, ending.got) if ending.kind == _CUT else None,
                       fault_of(ending.fault))
+
+
+class Went(enum.IntEnum):
+    """What became of bytes of a passage."""
+    WITHIN = 0
+    MESSAGE = 1
+    ASKED = 2
+    ANSWERED = 3
+    FULL = 4
+
+
+class Passed(NamedTuple):
+    """What became of the `used` bytes of a step. WITHIN: no frame is whole. MESSAGE: a frame is, and `message` is its
+    message. ASKED: a request is whole whose operation the profile lacks, and is left out; ANSWERED: so is the reply to
+    one. Both have the request's xid and the number of its operation, and the payload that is left out. FULL: as many
+    requests wait as may, and nothing was used."""
+    went: Went
+    used: int
+    message: Optional[Message] = None
+    xid: Optional[int] = None
+    operation: Optional[int] = None
+    payload: Optional[bytes] = None
+
+
+class Through(_Held):
+    """A passage: a conversation that goes on where its profile ends. The limits are those of a talk."""
+
+    def __init__(self, client: int = 4194304, server: int = 4194304, waiting: int = 65536,
+                 profile: Profile = Profile.V34):
+        super().__init__(library.zk_through_new, library.zk_through_renew, library.zk_through_free,
+                         (client, server, waiting, Profile(profile)))
+        self._came = (bytearray(), bytearray())
+
+    def renew(self) -> None:
+        super().renew()
+        self._came = (bytearray(), bytearray())
+
+    def feed(self, side: Side, piece: bytes) -> List[Passed]:
+        """What became of these bytes of a side, step by step. Where the last step is FULL, feed the server's bytes, and
+        then again those of the piece that weren't used. A refusal has the messages before it."""
+        every: List[Passed] = []
+        side, piece, at = Side(side), bytes(piece), 0
+        try:
+            for step in self._steps(library.zk_through_step, side, piece):
+                every.append(self._passed(side, step, piece[at:at + step.used]))
+                at += step.used
+                if step.went == Went.FULL:
+                    break
+        except Refused as refused:
+            refused.messages = tuple(passed.message for passed in every if passed.message)
+            raise
+        return every
+
+    def _passed(self, side: Side, step: _calls.Passed, used: bytes) -> Passed:
+        went, came = Went(step.went), self._came[side]
+        came += used
+        if went in (Went.WITHIN, Went.FULL):
+            return Passed(went, step.used)
+        frame = bytes(came)
+        came.clear()
+        if went == Went.MESSAGE:
+            view = library.zk_through_view(self._handle, side)
+            read = message_of(view, lambda *out: library.zk_through_fields(self._handle, side, *out), frame[4:])
+            return Passed(went, step.used, read)
+        payload = written(lambda *out: library.zk_through_payload(self._handle, side, *out), len(frame))
+        return Passed(went, step.used, None, step.xid, step.operation, payload)
 
 
 class Speaker(_Held):

@@ -144,6 +144,14 @@ def fields_of(read: Callable[..., _calls.Read],
                                field.length) for field in room[:answer.count])
 
 
+def message_of(view: _calls.Message, read: Callable[..., _calls.Read], payload: bytes,
+               line: Optional[str] = None) -> Message:
+    """The message that a handle shows."""
+    _, fields = fields_of(read, lambda: payload)
+    operation = OPERATIONS.get(view.operation, "")
+    return Message(Kind(view.kind), view.xid, operation, view.err, view.zxid, fields, payload, view.frame, line)
+
+
 def written(write: Callable[..., _calls.Line], room: int = 4096) -> bytes:
     """What a call writes, in a room that is large enough."""
     out = ctypes.create_string_buffer(room)

@@ -12,6 +12,13 @@ pub struct zk_talk {
     pub live: bool,
 }
 
+/// A passage, or none.
+#[repr(C)]
+pub struct zk_through {
+    pub held: *mut u8,
+    pub live: bool,
+}
+
 /// A speaker, or none.
 #[repr(C)]
 pub struct zk_speaker {
@@ -37,6 +44,17 @@ pub struct zk_step {
     pub used: usize,
     pub status: u32,
     pub whole: bool,
+    pub fault: zk_fault,
+}
+
+#[repr(C)]
+#[derive(Clone, Copy, Debug)]
+pub struct zk_passed {
+    pub used: usize,
+    pub status: u32,
+    pub went: u32,
+    pub xid: i32,
+    pub operation: i32,
     pub fault: zk_fault,
 }
 
@@ -166,6 +184,34 @@ extern "C" {
     ) -> zk_read;
     pub fn zk_talk_ending_line(talk: *mut zk_talk, out: *mut u8, room: usize) -> zk_line;
     pub fn zk_talk_free(talk: *mut zk_talk);
+    pub fn zk_through_new(
+        through: *mut zk_through,
+        client: u32,
+        server: u32,
+        waiting: u32,
+        profile: u32,
+    ) -> u32;
+    pub fn zk_through_renew(through: *mut zk_through) -> u32;
+    pub fn zk_through_step(
+        through: *mut zk_through,
+        side: u32,
+        piece: *const u8,
+        length: usize,
+    ) -> zk_passed;
+    pub fn zk_through_view(through: *mut zk_through, side: u32) -> zk_message;
+    pub fn zk_through_fields(
+        through: *mut zk_through,
+        side: u32,
+        out: *mut zk_field,
+        room: usize,
+    ) -> zk_read;
+    pub fn zk_through_payload(
+        through: *mut zk_through,
+        side: u32,
+        out: *mut u8,
+        room: usize,
+    ) -> zk_line;
+    pub fn zk_through_free(through: *mut zk_through);
     pub fn zk_speaker_new(
         speaker: *mut zk_speaker,
         client: u32,

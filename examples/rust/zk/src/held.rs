@@ -4,7 +4,7 @@ use crate::ending::refusal;
 use crate::message::{Message, Reader};
 use crate::{well, Ending, Fault, Profile, Side, Waiting, ROOM};
 use std::ptr::null_mut;
-use zk_sys::{zk_line, zk_piece, zk_speaker, zk_step, zk_talk};
+use zk_sys::{zk_fault, zk_line, zk_piece, zk_speaker, zk_talk};
 
 /// The greatest payloads of the sides in bytes, how many requests may wait, and the operations.
 #[derive(Clone, Copy, Debug)]
@@ -23,6 +23,23 @@ impl Default for Limits {
             waiting: 65_536,
             profile: Profile::V34,
         }
+    }
+}
+
+/// What makes a handle of limits: the greatest payloads, how many requests may wait, and the profile.
+type Make<H> = unsafe extern "C" fn(*mut H, u32, u32, u32, u32) -> u32;
+
+impl Limits {
+    /// Has a handle made, which is all zeros and stays where nothing copies it.
+    pub(crate) fn make<H>(self, make: Make<H>, handle: &mut H) -> Result<(), Fault> {
+        let Limits {
+            client,
+            server,
+            waiting,
+            profile,
+        } = self;
+        let status = unsafe { make(handle, client, server, waiting, profile as u32) };
+        well(status, 0)
     }
 }
 
@@ -47,17 +64,9 @@ impl Talk {
             payload: Vec::new(),
             reader: Reader::new(),
         };
-        let Limits {
-            client,
-            server,
-            waiting,
-            profile,
-        } = limits;
-        // The handle is all zeros, and stays in the talk, which nothing copies.
-        let status = unsafe {
-            zk_sys::zk_talk_new(&mut talk.handle, client, server, waiting, profile as u32)
-        };
-        well(status, 0).map(|()| talk)
+        limits
+            .make(zk_sys::zk_talk_new, &mut talk.handle)
+            .map(|()| talk)
     }
 
     /// Begins anew with the same limits, whatever came before: for one conversation after another.
@@ -79,7 +88,8 @@ impl Talk {
         } = self;
         let side = side as u32;
         let step = unsafe { zk_sys::zk_talk_step(handle, side, piece.as_ptr(), piece.len()) };
-        if !taken(&step, piece)? {
+        take(piece, step.used, step.status, &step.fault)?;
+        if !step.whole {
             return Ok(None);
         }
         let view = unsafe { zk_sys::zk_talk_view(handle, side) };
@@ -97,7 +107,8 @@ impl Talk {
     pub fn pass(&mut self, side: Side, piece: &mut &[u8]) -> Result<bool, Fault> {
         let (bytes, length) = (piece.as_ptr(), piece.len());
         let step = unsafe { zk_sys::zk_talk_pass(&mut self.handle, side as u32, bytes, length) };
-        taken(&step, piece)
+        take(piece, step.used, step.status, &step.fault)?;
+        Ok(step.whole)
     }
 
     /// What waits for replies; after a fault, before the byte that decided it.
@@ -159,16 +170,9 @@ impl Speaker {
             },
             frame: Vec::new(),
         };
-        let Limits {
-            client,
-            server,
-            waiting,
-            profile,
-        } = limits;
-        let status = unsafe {
-            zk_sys::zk_speaker_new(&mut speaker.handle, client, server, waiting, profile as u32)
-        };
-        well(status, 0).map(|()| speaker)
+        limits
+            .make(zk_sys::zk_speaker_new, &mut speaker.handle)
+            .map(|()| speaker)
     }
 
     /// Begins anew with the same limits: it has said nothing.
@@ -195,14 +199,20 @@ impl Drop for Speaker {
     }
 }
 
-/// Takes away what a step used; whether a frame is whole.
-fn taken(step: &zk_step, piece: &mut &[u8]) -> Result<bool, Fault> {
-    if step.fault.reason != 0 {
-        return Err(refusal(&step.fault));
+/// Takes away what a step used, and returns it; or why the step was refused.
+pub(crate) fn take<'p>(
+    piece: &mut &'p [u8],
+    used: usize,
+    status: u32,
+    fault: &zk_fault,
+) -> Result<&'p [u8], Fault> {
+    if fault.reason != 0 {
+        return Err(refusal(fault));
     }
-    well(step.status, 0)?;
-    *piece = piece.get(step.used..).unwrap_or_default();
-    Ok(step.whole)
+    well(status, 0)?;
+    let (taken, rest) = piece.split_at(used.min(piece.len()));
+    *piece = rest;
+    Ok(taken)
 }
 
 /// Writes the listing of a whole conversation into `text`, in place of what is there: the line of each message and of the
@@ -236,7 +246,7 @@ pub fn listing(limits: Limits, pieces: &[(Side, &[u8])], text: &mut Vec<u8>) -> 
 }
 
 /// Has a text written into the room that it has, and once more if that is too small.
-fn written(
+pub(crate) fn written(
     text: &mut Vec<u8>,
     mut write: impl FnMut(*mut u8, usize) -> zk_line,
 ) -> Result<(), Fault> {

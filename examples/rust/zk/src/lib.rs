@@ -34,7 +34,8 @@
 //! drop(one);
 //! ```
 //!
-//! Talks and speakers are freed when they are dropped. They may go to another thread, but can't be shared or copied.
+//! Talks, passages and speakers are freed when they are dropped. They may go to another thread, but can't be shared or
+//! copied.
 
 use std::fmt;
 
@@ -43,12 +44,14 @@ mod held;
 mod judge;
 mod message;
 mod names;
+mod through;
 mod write;
 
 pub use ending::{Ending, Waiting};
 pub use held::{listing, Limits, Speaker, Talk};
 pub use judge::{judge_connected, judge_event, judge_first, judge_reply, judge_request};
 pub use message::{Field, Kind, Message, Reader, Value};
+pub use through::{LeftOut, Through, Went};
 pub use write::Writer;
 
 pub use names::{error_name, event_name, field_name, operation_name, status_name};

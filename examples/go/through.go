@@ -1,0 +1,122 @@
+package libzk
+
+// #include <zk.h>
+import "C"
+
+import (
+	"runtime"
+	"sync"
+)
+
+// Went is what became of bytes of a passage.
+type Went uint32
+
+// WentWithin: no frame is whole. WentMessage: a frame is whole, a message. WentAsked: a request is whole whose operation
+// the profile lacks, and is left out. WentAnswered: so is the reply to one. WentFull: as many requests wait as may, and
+// nothing was used.
+const (
+	WentWithin   Went = C.ZK_WITHIN
+	WentMessage  Went = C.ZK_MESSAGE
+	WentAsked    Went = C.ZK_ASKED
+	WentAnswered Went = C.ZK_ANSWERED
+	WentFull     Went = C.ZK_FULL
+)
+
+// Passed is what became of the Used bytes of a step. With WentMessage it has the Message. With WentAsked and
+// WentAnswered it has the request's xid and operation, and the payload that is left out.
+type Passed struct {
+	Went      Went
+	Used      int
+	Message   *Message
+	Xid       int32
+	Operation int32
+	Payload   []byte
+}
+
+// through is what a Through points to. It has what came of each side after its last whole frame.
+type through struct {
+	sync.Mutex
+	handle C.struct_zk_through
+	came   [2][]byte
+}
+
+// Through is a passage: a conversation that goes on where its profile ends. Its zero value is a closed one.
+type Through struct{ it *through }
+
+// NewThrough makes a passage of which nothing has come. It is freed when it is closed or collected.
+func NewThrough(limits Limits) (Through, error) {
+	it := &through{}
+	status := C.zk_safe_through_new(&it.handle, C.uint32_t(limits.Client), C.uint32_t(limits.Server),
+		C.uint32_t(limits.Waiting), C.uint32_t(limits.Profile))
+	if err := fault(status, 0); err != nil {
+		return Through{}, err
+	}
+	runtime.SetFinalizer(it, func(it *through) { Through{it}.Close() })
+	return Through{it}, nil
+}
+
+// Close frees the passage, whose calls are then refused.
+func (p Through) Close() {
+	if p.it != nil {
+		p.it.Lock()
+		defer p.it.Unlock()
+		C.zk_safe_through_free(&p.it.handle)
+	}
+}
+
+// Renew begins the passage anew with its limits, whatever came before: for one conversation after another.
+func (p Through) Renew() error {
+	if p.it == nil {
+		return empty
+	}
+	p.it.Lock()
+	defer p.it.Unlock()
+	p.it.came = [2][]byte{}
+	return fault(C.zk_safe_through_renew(&p.it.handle), 0)
+}
+
+// Feed returns what became of these bytes of a side, step by step, and the first fault. Where the last step is WentFull,
+// feed the server's bytes, and then again those of the piece that weren't used.
+func (p Through) Feed(side Side, piece []byte) (every []Passed, err error) {
+	if p.it == nil {
+		return nil, empty
+	}
+	p.it.Lock()
+	defer p.it.Unlock()
+	for {
+		step := C.zk_safe_through_step(&p.it.handle, C.uint32_t(side), start(piece), C.size_t(len(piece)))
+		if err := refusal(step.status, step.fault); err != nil {
+			return every, err
+		}
+		passed, err := p.it.passed(side, step, piece[:step.used])
+		if err != nil {
+			return every, err
+		}
+		every = append(every, passed)
+		if piece = piece[step.used:]; len(piece) == 0 || passed.Went == WentFull {
+			return every, nil
+		}
+	}
+}
+
+// passed returns what became of the bytes that a step used.
+func (it *through) passed(side Side, step C.struct_zk_passed, used []byte) (passed Passed, err error) {
+	passed = Passed{Went: Went(step.went), Used: len(used), Xid: int32(step.xid), Operation: int32(step.operation)}
+	it.came[side] = append(it.came[side], used...)
+	if passed.Went == WentWithin || passed.Went == WentFull {
+		return passed, nil
+	}
+	payload := it.came[side][4:]
+	it.came[side] = nil
+	if passed.Went == WentMessage {
+		view := C.zk_safe_through_view(&it.handle, C.uint32_t(side))
+		passed.Message, err = shown(view, payload, func(out *C.struct_zk_field, room C.size_t) C.struct_zk_read {
+			return C.zk_safe_through_fields(&it.handle, C.uint32_t(side), out, room)
+		})
+		return passed, err
+	}
+	passed.Payload, err = written(len(payload), func(out *C.uint8_t, room C.size_t) C.struct_zk_line {
+		return C.zk_safe_through_payload(&it.handle, C.uint32_t(side), out, room)
+	})
+	return passed, err
+}

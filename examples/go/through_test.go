@@ -1,0 +1,166 @@
+package libzk
+
+// getEphemerals of ZooKeeper 3.6 (103), which no profile has, under xid 1, and an exists request under xid 2 before its
+// reply. The other payloads are those of docs/EXAMPLES.md and docs/FORMATS.md.
+
+import (
+	"fmt"
+	"reflect"
+	"testing"
+)
+
+const (
+	ephemerals = "00000001 00000067 00000002 2f61"
+	none       = "00000001 0000000000000005 00000000 00000000"
+	existsTwo  = "00000002 00000003 00000002 2f61 01"
+	noNodeTwo  = "00000002 0000000000000005 ffffff9b"
+)
+
+var came = []struct {
+	side    Side
+	payload string
+	told    string
+}{
+	{Client, hello, "message 0 0 of frame 0"},
+	{Server, welcome, "message 0 0 of frame 0"},
+	{Client, ephemerals, "asked 1 103"},
+	{Client, existsTwo, "message 2 3 of frame 2"},
+	{Server, none, "answered 1 103"},
+	{Server, noNodeTwo, "message 2 3 of frame 2"},
+}
+
+func newThrough(t *testing.T, waiting uint32) Through {
+	limits := Usual
+	limits.Waiting = waiting
+	found, err := NewThrough(limits)
+	if err != nil {
+		t.Fatal(err)
+	}
+	return found
+}
+
+// told returns what became of each step, and how many bytes it used.
+func told(t *testing.T, p Through, side Side, piece []byte) (found []string, used []int) {
+	every, err := p.Feed(side, piece)
+	if err != nil {
+		t.Fatal(err)
+	}
+	for _, step := range every {
+		of := fmt.Sprintf("%d %d", step.Xid, step.Operation)
+		switch step.Went {
+		case WentWithin:
+			of = "within"
+		case WentFull:
+			of = "full"
+		case WentAsked:
+			of = "asked " + of
+		case WentAnswered:
+			of = "answered " + of
+		default:
+			it := step.Message
+			of = fmt.Sprintf("message %d %d of frame %d", it.Xid, it.Operation, it.Frame)
+		}
+		found, used = append(found, of), append(used, step.Used)
+	}
+	return
+}
+
+func TestPairsAreLeftOut(t *testing.T) {
+	p := newThrough(t, 65536)
+	for _, cut := range []int{1, 7, 1000} {
+		for _, row := range came {
+			bytes := framed(row.payload)
+			for ; len(bytes) > cut; bytes = bytes[cut:] {
+				if found, used := told(t, p, row.side, bytes[:cut]); found[0] != "within" || used[0] != cut {
+					t.Error(row.payload, found, used)
+				}
+			}
+			if found, used := told(t, p, row.side, bytes); found[0] != row.told || used[0] != len(bytes) {
+				t.Error(row.payload, found, used)
+			}
+		}
+		if err := p.Renew(); err != nil {
+			t.Error(err)
+		}
+	}
+}
+
+func TestPayloadsOfPassages(t *testing.T) {
+	p := newThrough(t, 65536)
+	defer p.Close()
+	for _, row := range came {
+		every, err := p.Feed(row.side, framed(row.payload))
+		if err != nil || len(every) != 1 {
+			t.Fatal(every, err)
+		}
+		found := every[0].Payload
+		if every[0].Message != nil {
+			found = every[0].Message.Payload
+		}
+		if !reflect.DeepEqual(found, payload(row.payload)) {
+			t.Error(row.payload, found)
+		}
+		if row.payload != existsTwo {
+			continue
+		}
+		if path, there := every[0].Message.Get("path"); !there || string(path.Content) != "/a" {
+			t.Error(path)
+		}
+	}
+}
+
+func TestFull(t *testing.T) {
+	p := newThrough(t, 1)
+	told(t, p, Client, framed(hello))
+	told(t, p, Server, framed(welcome))
+	for _, row := range []struct {
+		side  Side
+		piece []byte
+		told  []string
+		used  []int
+	}{
+		{Client, framed(ephemerals, existsTwo), []string{"asked 1 103", "full"}, []int{18, 0}},
+		{Client, framed(existsTwo)[:9], []string{"within"}, []int{9}},
+		{Client, framed(existsTwo)[9:], []string{"full"}, []int{0}},
+		{Server, framed(none), []string{"answered 1 103"}, []int{24}},
+		{Client, framed(existsTwo)[9:], []string{"message 2 3 of frame 2"}, []int{10}},
+	} {
+		found, used := told(t, p, row.side, row.piece)
+		if !reflect.DeepEqual(found, row.told) || !reflect.DeepEqual(used, row.used) {
+			t.Error(found, used, "not", row.told, row.used)
+		}
+	}
+}
+
+func TestReplyBeforeItsTurn(t *testing.T) {
+	p := newThrough(t, 65536)
+	told(t, p, Client, framed(hello, ephemerals, existsTwo))
+	told(t, p, Server, framed(welcome))
+	wanted := Fault{Status: 14, Refused: true, At: At{Server, 1, 61, 1, 2}}
+	for _, side := range []Side{Server, Client} {
+		if every, err := p.Feed(side, framed(noNodeTwo)); len(every) != 0 || err != wanted {
+			t.Error(every, err)
+		}
+	}
+}
+
+func TestClosedPassages(t *testing.T) {
+	p := newThrough(t, 65536)
+	if _, err := p.Feed(2, nil); err != (Fault{Status: 67}) {
+		t.Error(err)
+	}
+	p.Close()
+	p.Close()
+	for _, it := range []Through{p, {}} {
+		if _, err := it.Feed(Client, []byte{0}); err != empty {
+			t.Error(err)
+		}
+		if err := it.Renew(); err != empty {
+			t.Error(err)
+		}
+		it.Close()
+	}
+	if _, err := NewThrough(Limits{63, 64, 1, Profile34}); err != (Fault{Status: 67}) {
+		t.Error(err)
+	}
+}

@@ -1,0 +1,134 @@
+//! Passages: conversations that go on where their profile ends.
+
+use crate::held::{take, written, Limits};
+use crate::message::{Message, Reader};
+use crate::{Fault, Side};
+use std::mem::swap;
+use std::ptr::null_mut;
+use zk_sys::{zk_passed, zk_through};
+
+const MESSAGE: u32 = 1;
+const ASKED: u32 = 2;
+const ANSWERED: u32 = 3;
+const FULL: u32 = 4;
+
+/// What became of the bytes that a step took.
+#[derive(Clone, Copy, Debug)]
+pub enum Went<'t> {
+    /// No frame is whole.
+    Within,
+    /// A frame is whole: a message.
+    Message(Message<'t>),
+    /// A request is whole whose operation the profile lacks: it is left out.
+    Asked(LeftOut<'t>),
+    /// The reply to such a request is whole: it is left out.
+    Answered(LeftOut<'t>),
+    /// As many requests wait as may: nothing was taken. The server's bytes come first; then the client's piece again.
+    Full,
+}
+
+/// A frame that is left out. The xid and the operation are those of the request, also where it is the reply.
+#[derive(Clone, Copy, Debug, PartialEq, Eq)]
+pub struct LeftOut<'t> {
+    pub xid: i32,
+    pub operation: i32,
+    pub payload: &'t [u8],
+}
+
+impl<'t> LeftOut<'t> {
+    fn went(step: &zk_passed, payload: &'t [u8]) -> Went<'t> {
+        let left = LeftOut {
+            xid: step.xid,
+            operation: step.operation,
+            payload,
+        };
+        match step.went {
+            ASKED => Went::Asked(left),
+            _ => Went::Answered(left),
+        }
+    }
+}
+
+/// A passage: a conversation as it comes, of which the requests whose operations the profile lacks are left out, and the
+/// replies to them. The limits are those of a talk.
+pub struct Through {
+    handle: zk_through,
+    /// What came of each side after its last whole frame.
+    came: [Vec<u8>; 2],
+    /// The frame that the last step completed, or the payload of the one that it left out.
+    newest: Vec<u8>,
+    reader: Reader,
+}
+
+// As for a talk.
+unsafe impl Send for Through {}
+
+impl Through {
+    pub fn new(limits: Limits) -> Result<Through, Fault> {
+        let mut through = Through {
+            handle: zk_through {
+                held: null_mut(),
+                live: false,
+            },
+            came: [Vec::new(), Vec::new()],
+            newest: Vec::new(),
+            reader: Reader::new(),
+        };
+        limits
+            .make(zk_sys::zk_through_new, &mut through.handle)
+            .map(|()| through)
+    }
+
+    /// Begins anew with the same limits, whatever came before: for one conversation after another.
+    pub fn renew(&mut self) {
+        // As for a talk.
+        unsafe { zk_sys::zk_through_renew(&mut self.handle) };
+        self.came.iter_mut().for_each(Vec::clear);
+    }
+
+    /// Takes bytes of a side away from the front of `piece`, up to the end of the first frame. Returns what became of
+    /// them.
+    pub fn step<'t>(&'t mut self, side: Side, piece: &mut &[u8]) -> Result<Went<'t>, Fault> {
+        let Through {
+            handle,
+            came: [client, server],
+            newest,
+            reader,
+        } = self;
+        let came = match side {
+            Side::Client => client,
+            Side::Server => server,
+        };
+        let side = side as u32;
+        let step = unsafe { zk_sys::zk_through_step(handle, side, piece.as_ptr(), piece.len()) };
+        came.extend_from_slice(take(piece, step.used, step.status, &step.fault)?);
+        match step.went {
+            MESSAGE => {
+                swap(came, newest);
+                came.clear();
+                let view = unsafe { zk_sys::zk_through_view(handle, side) };
+                let payload = newest.get(4..).unwrap_or_default();
+                let mut message = reader.read(payload, |out, room| unsafe {
+                    zk_sys::zk_through_fields(handle, side, out, room)
+                })?;
+                message.frame = view.frame;
+                Ok(Went::Message(message))
+            }
+            ASKED | ANSWERED => {
+                came.clear();
+                written(newest, |out, room| unsafe {
+                    zk_sys::zk_through_payload(handle, side, out, room)
+                })?;
+                Ok(LeftOut::went(&step, newest))
+            }
+            FULL => Ok(Went::Full),
+            _ => Ok(Went::Within),
+        }
+    }
+}
+
+impl Drop for Through {
+    fn drop(&mut self) {
+        unsafe { zk_sys::zk_through_free(&mut self.handle) }
+    }
+}

@@ -1,0 +1,169 @@
+//! getEphemerals of ZooKeeper 3.6 (103), which no profile has, and an exists request before its reply. The payloads are
+//! those of docs/EXAMPLES.md and docs/FORMATS.md.
+
+use zk::{At, Fault, LeftOut, Limits, Message, Order, Side, Through, Value, Went};
+
+const HELLO: [u8; 45] = [
+    0, 0, 0, 0, 0, 0, 0, 0, 0, 0, 0, 0, 0, 0, 117, 48, 0, 0, 0, 0, 0, 0, 0, 0, 0, 0, 0, 16, 0, 0,
+    0, 0, 0, 0, 0, 0, 0, 0, 0, 0, 0, 0, 0, 0, 0,
+];
+const WELCOME: [u8; 37] = [
+    0, 0, 0, 0, 0, 0, 117, 48, 1, 0, 0, 0, 0, 0, 0, 1, 0, 0, 0, 16, 0, 1, 2, 3, 4, 5, 6, 7, 8, 9,
+    10, 11, 12, 13, 14, 15, 0,
+];
+const EPHEMERALS: [u8; 14] = [0, 0, 0, 1, 0, 0, 0, 103, 0, 0, 0, 2, b'/', b'a'];
+const EXISTS: [u8; 15] = [0, 0, 0, 2, 0, 0, 0, 3, 0, 0, 0, 2, b'/', b'a', 1];
+const NONE: [u8; 20] = [0, 0, 0, 1, 0, 0, 0, 0, 0, 0, 0, 5, 0, 0, 0, 0, 0, 0, 0, 0];
+const NO_NODE: [u8; 16] = [0, 0, 0, 2, 0, 0, 0, 0, 0, 0, 0, 5, 255, 255, 255, 155];
+const CAME: [(Side, &[u8]); 6] = [
+    (Side::Client, &HELLO),
+    (Side::Server, &WELCOME),
+    (Side::Client, &EPHEMERALS),
+    (Side::Client, &EXISTS),
+    (Side::Server, &NONE),
+    (Side::Server, &NO_NODE),
+];
+
+fn frame(payload: &[u8]) -> Vec<u8> {
+    [&(payload.len() as u32).to_be_bytes(), payload].concat()
+}
+
+fn passage(waiting: u32) -> Through {
+    let limits = Limits {
+        waiting,
+        ..Limits::default()
+    };
+    Through::new(limits).expect("a passage")
+}
+
+/// What became of a step's bytes: the xid, the operation, the payload's length, and the number of a message's frame.
+fn told(went: Went) -> String {
+    let of = |left: LeftOut| format!("{} {} {}", left.xid, left.operation, left.payload.len());
+    match went {
+        Went::Within => "within".into(),
+        Went::Full => "full".into(),
+        Went::Asked(left) => format!("asked {}", of(left)),
+        Went::Answered(left) => format!("answered {}", of(left)),
+        Went::Message(Message {
+            xid,
+            operation,
+            payload,
+            frame,
+            ..
+        }) => format!("message {xid} {operation} {} frame {frame}", payload.len()),
+    }
+}
+
+/// Whether the step takes this many bytes, and what became of them.
+fn step(through: &mut Through, side: Side, bytes: &[u8], used: usize) -> String {
+    let mut piece = bytes;
+    let told = told(through.step(side, &mut piece).expect("a conversation"));
+    assert_eq!((piece.len(), piece), (bytes.len() - used, &bytes[used..]));
+    told
+}
+
+#[test]
+fn pairs_are_left_out() {
+    let wanted = [
+        "message 0 0 45 frame 0",
+        "message 0 0 37 frame 0",
+        "asked 1 103 14",
+        "message 2 3 15 frame 2",
+        "answered 1 103 20",
+        "message 2 3 16 frame 2",
+    ];
+    let mut through = passage(65_536);
+    for cut in [1, 7, 1000] {
+        for ((side, payload), wanted) in CAME.iter().zip(wanted) {
+            let bytes = frame(payload);
+            let last = (bytes.len() - 1) / cut * cut;
+            for piece in bytes[..last].chunks(cut) {
+                assert_eq!(step(&mut through, *side, piece, piece.len()), "within");
+            }
+            let rest = &bytes[last..];
+            assert_eq!(step(&mut through, *side, rest, rest.len()), wanted);
+        }
+        through.renew();
+    }
+}
+
+#[test]
+fn payloads_and_fields() {
+    let mut through = passage(65_536);
+    for (side, payload) in CAME {
+        let bytes = frame(payload);
+        match through.step(side, &mut &bytes[..]).expect("a conversation") {
+            Went::Asked(left) | Went::Answered(left) => assert_eq!(left.payload, payload),
+            Went::Message(message) => {
+                assert_eq!(message.payload, payload);
+                if message.xid == 2 && side == Side::Client {
+                    assert_eq!(message.get("path"), Some(Value::Text("/a")));
+                }
+            }
+            went => panic!("{went:?}"),
+        }
+    }
+}
+
+#[test]
+fn full() {
+    let mut through = passage(1);
+    let (exists, none) = (frame(&EXISTS), frame(&NONE));
+    for (side, payload) in &CAME[..2] {
+        step(&mut through, *side, &frame(payload), payload.len() + 4);
+    }
+    let asked = [frame(&EPHEMERALS), exists.clone()].concat();
+    assert_eq!(
+        step(&mut through, Side::Client, &asked, 18),
+        "asked 1 103 14"
+    );
+    assert_eq!(step(&mut through, Side::Client, &exists, 0), "full");
+    assert_eq!(step(&mut through, Side::Client, &exists[..9], 9), "within");
+    assert_eq!(step(&mut through, Side::Client, &exists[9..], 0), "full");
+    assert_eq!(
+        step(&mut through, Side::Server, &none, 24),
+        "answered 1 103 20"
+    );
+    assert_eq!(
+        step(&mut through, Side::Client, &exists[9..], 10),
+        "message 2 3 15 frame 2"
+    );
+}
+
+#[test]
+fn a_reply_before_its_turn() {
+    let mut through = passage(65_536);
+    for (side, payload) in &CAME[..4] {
+        step(&mut through, *side, &frame(payload), payload.len() + 4);
+    }
+    let order = Some(Order {
+        expected: 1,
+        got: 2,
+    });
+    let at = At {
+        side: Side::Server,
+        frame: 1,
+        offset: 61,
+        order,
+    };
+    let fault = Fault {
+        status: 14,
+        place: 0,
+        at: Some(at),
+    };
+    for (side, bytes) in [(Side::Server, frame(&NO_NODE)), (Side::Client, Vec::new())] {
+        let mut piece = &bytes[..];
+        assert_eq!(through.step(side, &mut piece).map(told), Err(fault));
+        assert_eq!(piece, bytes);
+    }
+    let limits = Limits {
+        waiting: 0,
+        ..Limits::default()
+    };
+    assert_eq!(
+        Through::new(limits)
+            .map(|_| ())
+            .map_err(|fault| fault.status),
+        Err(67)
+    );
+}
