@@ -398,7 +398,8 @@ struct zk_read zk_read_request(uint32_t profile, const uint8_t *payload, size_t 
 /* The same for the answer to a connect request. */
 struct zk_read zk_read_connected(const uint8_t *payload, size_t length, struct zk_field *out, size_t room);
 
-/* The same for a reply; operation and parts, ZK_RANGE and ZK_MISFIT as for zk_judge_reply. */
+/* The same for a reply; operation and parts, ZK_RANGE and ZK_MISFIT as for zk_judge_reply. But where no operation has the
+ * number, the answer has the numbers of the header, and is ZK_UNKNOWN_OP at 16, where the body begins. */
 struct zk_read zk_read_reply(int32_t operation, const int32_t *parts, size_t count, const uint8_t *payload, size_t length, struct zk_field *out, size_t room);
 
 /* The same for an event; ZK_MISFIT as for zk_judge_event. */

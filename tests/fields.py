@@ -168,7 +168,12 @@ TABLE = (
     ("reply 4", "00000001 0000000000000005 00000000 00000003 6162", "SHORT 16 xid 1 zxid 5", ""),
     ("reply 3", "00000001 0000000000000005 ffffff9b 00", "TRAILING 16 xid 1 zxid 5 err -101", ""),
     ("reply 3", "ffffffff ffffffffffffffff 00000000", "MISFIT 0", ""),
-    ("reply 10", "00000001 0000000000000005 00000000", "RANGE 0", ""),
+    ("reply 10", "00000001 0000000000000005 00000000", "UNKNOWN_OP 16 xid 1 zxid 5", ""),
+    ("reply 105", "fffffff8 0000000000000005 ffffff9b", "UNKNOWN_OP 16 xid -8 zxid 5 err -101", ""),
+    ("reply 103 1", "00000003 0000000000000005 00000000 00000001 00000002 2f61", "UNKNOWN_OP 16 xid 3 zxid 5", ""),
+    ("reply 13", "00000003 0000000000000005 0000", "SHORT 12 xid 3 zxid 5", ""),
+    ("reply 0", "ffffffff ffffffffffffffff 00000000", "MISFIT 0", ""),
+    ("reply 3 1", "00000001 0000000000000005 ffffff9b", "RANGE 0", ""),
     ("event", "ffffffff ffffffffffffffff 00000001 00000003", "EVENT_ERR 12 xid -1 zxid -1 err 1", ""),
     ("event", "ffffffff ffffffffffffffff 00000000 00000003 0000", "SHORT 20 xid -1 zxid -1", """
         16+4 type int 3"""),

@@ -1,9 +1,9 @@
 -- What is returned of a message whose fields are written.
 use Rattle.std.specs.Prelude.{◌≡◌, ◌≢◌, ◌⊎◌, ◌<◌, ◌^◌, ℕ, ℤ, pos, negsuc, List, [], length, Option, Some, None, Ok, Err, nat_le, if◌then◌else◌}
 use Rattle.zk_jute.specs.declared.fault.Reason.{Reason}
-use Rattle.zk_jute.specs.declared.fault.Reason.TheVariants.{NoMemory}
+use Rattle.zk_jute.specs.declared.fault.Reason.TheVariants.{NoMemory, UnknownOp}
 use Rattle.zk_jute.specs.declared.fault.ItemFault.{ItemFault}
-use Rattle.zk_jute.specs.Reading.{Read, int_at, long_at}
+use Rattle.zk_jute.specs.Reading.{Read, ◌>>=◌, int_at, long_at, told_fault}
 use Rattle.zk_jute.specs.Told.{IsTold}
 use Rattle.zk_records.specs.declared.op.Op.{Op}
 use Rattle.zk_records.specs.declared.profile.Profile.{Profile}
@@ -156,6 +156,24 @@ refused_read head fault count = record head { status = reason_number fault.reaso
 abbrev pub fields_before : Option Opened → List ℕ → ℕ → List Field
 fields_before None payload place = []
 fields_before (Some o) payload place = opened_fields o payload place
+
+-- a reply to an operation that has no number here: its header ends where the body begins, which is read no further
+abbrev pub head_read : List ℕ → Read ℤ
+head_read payload = int_at payload 0 >>= λ xid. long_at payload xid.1 >>= λ zxid. int_at payload zxid.1
+
+abbrev pub unknown_fault : Read ℤ → ItemFault
+unknown_fault (Ok x) = record { place = 16; reason = UnknownOp }
+unknown_fault (Err f) = told_fault f
+
+abbrev pub unknown_read : List ℕ → ReadAnswer
+unknown_read payload = refused_read (answer_head payload) (unknown_fault (head_read payload)) 0
+
+abbrev pub TellsUnknown : List ℕ → List Field → List Field → ReadAnswer → Type 0
+TellsUnknown payload before after answer = (answer ≡ unknown_read payload) × (after ≡ before)
+
+-- an operation has the number
+abbrev pub IsOp : ℤ → Type 0
+IsOp number = (op : Op) × (number ≡ op_number op)
 
 -- these are written, as many as there is room for; the answer counts them, and has the header's numbers and the fault
 pub record TellsRefused (o : Option Opened) (payload : List ℕ) (fault : ItemFault) (before after : List Field) (answer : ReadAnswer) : Type 0 where

@@ -1,12 +1,13 @@
 //! The fields of single payloads, with no handle.
 ghost use Rattle.std.specs.Prelude.{◌≡◌, ◌≤◌, ◌^◌, length};
 ghost use Rattle.zk_records.specs.declared.profile.Profile.{Profile};
-ghost use Rattle.zk_records.specs.Codes.{profile_number};
+ghost use Rattle.zk_records.specs.declared.profile.Profile.TheVariants as profiles;
+ghost use Rattle.zk_records.specs.Codes.{profile_number, IsNoOp};
 ghost use Rattle.zk_asks.specs.Held.{ClientFrame};
 ghost use Rattle.zk_answers.specs.Held.{ServerFrame};
 ghost use Rattle.zk_c.specs.Asked.{parts_of, AreNoneAsked, WhereAsked};
 ghost use Rattle.zk_c.specs.Judged.{IsConnect, IsWelcome, IsNotice, HasHead, HasNoHead, IsOfEvent, IsOfReply};
-ghost use Rattle.zk_c.specs.Read.{HasPlaces, TellsNone, TellsClient, TellsServer, IsAskOf, ConnectOrFault, ReadsRequest, RequestOrFault, WelcomeOrFault, ReadsReply, ReplyOrFault, WhereReply, NoticeOrFault};
+ghost use Rattle.zk_c.specs.Read.{HasPlaces, IsOp, no_read, unknown_read, TellsNone, TellsUnknown, TellsClient, TellsServer, IsAskOf, ConnectOrFault, ReadsRequest, RequestOrFault, WelcomeOrFault, ReadsReply, ReplyOrFault, WhereReply, NoticeOrFault};
 
 use crate::asked::Numbered;
 use crate::number::{MISFIT, RANGE};
@@ -108,6 +109,25 @@ fn reply_in(asked: &Numbered<'_>, payload: &[u8], room: &mut [Field]) -> ReadAns
     }
 }
 
+/// What is read of a reply to a request that is none: of an operation with other parts, or of no operation.
+fn unasked(operation: i32, payload: &[u8]) -> ReadAnswer
+    ensures range { IsOp operation → result ≡ no_read 67 }
+    ensures long { 2 ^ 32 ≤ length payload.now → result ≡ no_read 67 }
+    ensures event { IsNoOp profiles.V35 operation → HasPlaces payload.now → HasHead IsOfEvent payload.now → result ≡ no_read 82 }
+    ensures unknown { IsNoOp profiles.V35 operation → HasPlaces payload.now → HasNoHead IsOfEvent payload.now → result ≡ unknown_read payload.now }
+{
+    if let Some(_op) = op_of(Profile::V35, operation) {
+        return ReadAnswer::none(RANGE);
+    }
+    if payload.len() > u32::MAX as usize {
+        return ReadAnswer::none(RANGE);
+    }
+    if is_of_event(payload) {
+        return ReadAnswer::none(MISFIT);
+    }
+    ReadAnswer::unknown(payload)
+}
+
 /// Writes the fields of a reply to a request of this operation with parts of these, as far as there is room.
 #[unsafe(no_mangle)]
 pub extern "C" fn zk_read_reply(
@@ -116,18 +136,21 @@ pub extern "C" fn zk_read_reply(
     payload: &[u8],
     room: &mut [Field],
 ) -> ReadAnswer
-    // Numbers that are none's, or parts of another operation than multi, are refused, and a length of 4 GiB or more.
-    ensures range { AreNoneAsked operation parts.now → TellsNone 67 room.old room.new result }
+    // Parts that are none's, or of another operation than multi, are refused, and a length of 4 GiB or more.
+    ensures range { AreNoneAsked operation parts.now → IsOp operation → TellsNone 67 room.old room.new result }
     ensures long { 2 ^ 32 ≤ length payload.now → TellsNone 67 room.old room.new result }
     // A header with the xid of events is another message's.
     ensures event { WhereAsked operation parts.now (λ op ops. HasPlaces payload.now → HasHead IsOfEvent payload.now → TellsNone 82 room.old room.new result) }
+    ensures other { IsNoOp profiles.V35 operation → HasPlaces payload.now → HasHead IsOfEvent payload.now → TellsNone 82 room.old room.new result }
+    // Where no operation has the number, the header is read, and the place of the body is that of UnknownOp.
+    ensures unknown { IsNoOp profiles.V35 operation → HasPlaces payload.now → HasNoHead IsOfEvent payload.now → TellsUnknown payload.now room.old room.new result }
     // If it is a reply to what was asked, its fields are written.
     ensures only { WhereReply operation parts.now payload.now (λ op ops. ReadsReply op ops payload.now room.old room.new result) }
     // It is one, or the first case that applies is returned.
     ensures found { WhereReply operation parts.now payload.now (λ op ops. ReplyOrFault op ops payload.now room.old room.new result) }
 {
     let Some(asked) = Numbered::of(operation, parts) else {
-        return ReadAnswer::none(RANGE);
+        return unasked(operation, payload);
     };
     if payload.len() > u32::MAX as usize {
         return ReadAnswer::none(RANGE);

@@ -34,7 +34,7 @@ use Rattle.zk_fields.specs.declared.write.Unwritten.{Unwritten}
 use Rattle.zk_fields.specs.declared.write.Unwritten.TheVariants as unwritten
 use Rattle.zk_fields.specs.Names.{the_path, the_data, the_acl, the_children, the_read_only}
 use Rattle.zk_fields.specs.Fields.{Entry, Under, Head, entry_items, items_of, size_of, size_all, field_of, fields_from}
-use Rattle.zk_fields.specs.Named.{Named, ArePlain, a_boolean, a_text, a_blob}
+use Rattle.zk_fields.specs.Named.{Shape, Nothing, An, Both, Many, Times, Elements, IsOf, Named, a_boolean, a_text, a_blob}
 use Rattle.zk_fields.specs.Contents.{content_of, IsAt, AreAt}
 use Rattle.zk_fields.specs.Asks.{record_entries, part_entries, ask_entries}
 use Rattle.zk_fields.specs.Answers.{done_entries, body_entries}
@@ -70,11 +70,6 @@ ToldBefore heads more (e ∷ es) = IsTold heads e (es ++ more) × ToldBefore hea
 abbrev AreTold : Heads → List Entry → Type 0
 AreTold heads es = (more : List Entry) → ToldBefore heads more es
 
-plain : (heads : Heads) (es : List Entry) → ArePlain es → AreTold heads es
-plain heads [] p more = tt
-plain heads (Under name i ∷ es) p more = (tt, plain heads es p more)
-plain heads (Head h ∷ es) p more = absurd p
-
 both : (heads : Heads) (x y : List Entry) → AreTold heads x → AreTold heads y → AreTold heads (x ++ y)
 both heads [] y p q more = q more
 both heads (e ∷ x) y p q more = (subst (IsTold heads e) (sym (append_assoc x y more)) (p (y ++ more)).0, both heads x y (λ others. (p others).1) q more)
@@ -83,20 +78,35 @@ each : (heads : Heads) {X : Type 0} (f : X → List Entry) → ((x : X) → AreT
 each heads f are [] more = tt
 each heads f are (x ∷ xs) more = both heads (f x) (flat_map f xs) (are x) (each heads f are xs) more
 
+-- entries of a shape have no headers
+times : (heads : Heads) (P : List Entry → Type 0) → ((es : List Entry) → P es → AreTold heads es) → (n : ℕ) (es : List Entry) → Times P n es → AreTold heads es
+times heads P are zero es p = subst (AreTold heads) (sym p) (λ more. tt)
+times heads P are (suc n) es p = subst (AreTold heads) (sym p.4) (both heads p.0 p.1 (are p.0 p.2) (times heads P are n p.1 p.3))
+
+elements : (heads : Heads) (P : List Entry → Type 0) → ((es : List Entry) → P es → AreTold heads es) → (n : Option ℕ) (es : List Entry) → Elements P n es → AreTold heads es
+elements heads P are None es p = subst (AreTold heads) (sym p) (λ more. tt)
+elements heads P are (Some n) es p = times heads P are n es p
+
+plain : (heads : Heads) (s : Shape) (es : List Entry) → IsOf s es → AreTold heads es
+plain heads Nothing es p = subst (AreTold heads) (sym p) (λ more. tt)
+plain heads (An name kind) es p = subst (AreTold heads) (sym p.2) (λ more. (tt, tt))
+plain heads (Both a b) es p = subst (AreTold heads) (sym p.4) (both heads p.0 p.1 (plain heads a p.0 p.2) (plain heads b p.1 p.3))
+plain heads (Many name s) es p = subst (AreTold heads) (sym p.3) (λ more. (tt, elements heads (IsOf s) (plain heads s) p.0 p.1 p.2 more))
+
 one : {X : Type 0} (heads : Heads) (k : Named X) (name : ℕ) (x : X) → AreTold heads (k.entries name x)
-one heads k name x = plain heads (k.entries name x) (k.plain name x)
+one heads k name x = plain heads (k.shape name) (k.entries name x) (k.formed name x)
 
 two : {X Y : Type 0} (heads : Heads) (k : Named X) (l : Named Y) (name : ℕ) (x : X) (y : Y) → AreTold heads (k.entries name x ++ l.entries 0 y)
 two heads k l name x y = both heads (k.entries name x) (l.entries 0 y) (one heads k name x) (one heads l 0 y)
 
-record_plain : (p : Part) → ArePlain (record_entries p)
-record_plain (part.Create r) = create_ask.plain 0 r
-record_plain (part.Delete r) = delete_ask.plain 0 r
-record_plain (part.SetData r) = set_data_ask.plain 0 r
-record_plain (part.Check r) = check_ask.plain 0 r
+record_told : (p : Part) → AreTold head.Parts (record_entries p)
+record_told (part.Create r) = one head.Parts create_ask 0 r
+record_told (part.Delete r) = one head.Parts delete_ask 0 r
+record_told (part.SetData r) = one head.Parts set_data_ask 0 r
+record_told (part.Check r) = one head.Parts check_ask 0 r
 
 part_told : (p : Part) → AreTold head.Parts (part_entries p)
-part_told p more = ((λ place have. refl), plain head.Parts (record_entries p) (record_plain p) more)
+part_told p more = ((λ place have. refl), record_told p more)
 
 ask_told : (a : Ask) → AreTold head.Parts (ask_entries a)
 ask_told (ask.Create r) = one head.Parts create_ask 0 r

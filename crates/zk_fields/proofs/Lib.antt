@@ -8,3 +8,4 @@ pub mod Contents
 pub mod Filling
 pub mod Saying
 pub mod Again
+pub mod Agreeing

@@ -154,7 +154,7 @@ filled : (bytes room new : List ℕ) (end : ℕ) → Fills bytes 0 room end new 
 unfolding Fills
 filled bytes room new end p fits = (p room [] (refl, refl) (omega (arith, fits))).1
 
-split : (front items behind : List Item) → bytes_of (payload_items front items behind) ≡ bytes_of front ++ (bytes_of items ++ bytes_of behind)
+pub split : (front items behind : List Item) → bytes_of (payload_items front items behind) ≡ bytes_of front ++ (bytes_of items ++ bytes_of behind)
 split front items behind = bytes_both front (items ++ behind) ∙ ap (λ (z : List ℕ). bytes_of front ++ z) (bytes_both items behind)
 
 pub total : (front items behind : List Item) → length (bytes_of (payload_items front items behind)) ≡ length (bytes_of front) + length (bytes_of behind) + length (bytes_of items)

@@ -1,13 +1,14 @@
 -- What fields a type of value has: its values' items, each under its name.
-use Rattle.std.specs.Prelude.{◌≡◌, ℕ, ℤ, Bool, List, [], ◌∷◌, ◌++◌, length, Some, None, refl}
+use Rattle.std.specs.Prelude.{◌≡◌, ℕ, zero, suc, ℤ, Bool, List, [], ◌∷◌, ◌++◌, length, Option, Some, None, refl}
 use Rattle.std.proofs.Common.{ap, sym, ◌∙◌, append_assoc}
 use Rattle.std.specs.List.{flat_map}
 use Rattle.zk_jute.specs.Held.{Text, Blob, Vector}
 use Rattle.zk_jute.specs.declared.value.Nullable.TheVariants as nullable
-use Rattle.zk_jute.specs.Item.{Kind, Int, Long, Boolean, Ustring, Buffer, Item, ACount}
+use Rattle.zk_jute.specs.Item.{Kind, Int, Long, Boolean, Ustring, Buffer, Item, ACount, kind_of}
+use Rattle.zk_jute.specs.Layout.{One, End, Unfolds}
 use Rattle.zk_jute.specs.Values.{list_items}
 use Rattle.zk_jute.specs.Wired.{Wired, int, long, boolean, ustring, buffer}
-use Rattle.zk_fields.specs.Fields.{Entry, Under, Head, entry_items, items_of, named}
+use Rattle.zk_fields.specs.Fields.{Entry, Under, entry_items, items_of, named}
 
 -- the entries, under a name where the value is one item or a list
 abbrev pub Entries : Type 0 → Type 0
@@ -20,19 +21,29 @@ pub data Shape : Type 0 where
   Both : Shape → Shape → Shape
   Many : ℕ → Shape → Shape
 
--- none of them is a multi's header
-abbrev pub ArePlain : List Entry → Type 0
-ArePlain [] = Unit {0}
-ArePlain (Under name i ∷ es) = ArePlain es
-ArePlain (Head h ∷ es) = ⊥
+-- n of them, one after the other
+abbrev pub Times : (List Entry → Type 0) → ℕ → List Entry → Type 0
+Times P zero es = es ≡ []
+Times P (suc n) es = (x : List Entry) × (y : List Entry) × P x × Times P n y × (es ≡ x ++ y)
+
+abbrev pub Elements : (List Entry → Type 0) → Option ℕ → List Entry → Type 0
+Elements P None es = es ≡ []
+Elements P (Some n) es = Times P n es
+
+-- the entries are of the shape
+abbrev pub IsOf : Shape → List Entry → Type 0
+IsOf Nothing es = es ≡ []
+IsOf (An name kind) es = (i : Item) × (kind_of i ≡ kind) × (es ≡ Under name i ∷ [])
+IsOf (Both a b) es = (x : List Entry) × (y : List Entry) × IsOf a x × IsOf b y × (es ≡ x ++ y)
+IsOf (Many name s) es = (n : Option ℕ) × (inside : List Entry) × Elements (IsOf s) n inside × (es ≡ Under name (ACount n) ∷ inside)
 
 -- they are those of the value's items, in order
 pub record Named (X : Type 0) : Type 0 where
   pub items : X → List Item
   pub entries : Entries X
   pub is : (name : ℕ) (x : X) → items_of (entries name x) ≡ items x
-  pub plain : (name : ℕ) (x : X) → ArePlain (entries name x)
   pub shape : ℕ → Shape
+  pub formed : (name : ℕ) (x : X) → IsOf (shape name) (entries name x)
 
 pub named_same : (name : ℕ) (items : List Item) → items_of (named name items) ≡ items
 named_same name [] = refl
@@ -42,37 +53,33 @@ pub items_both : (x y : List Entry) → items_of (x ++ y) ≡ items_of x ++ item
 items_both [] y = refl
 items_both (e ∷ x) y = ap (λ (z : List Item). entry_items e ++ z) (items_both x y) ∙ sym (append_assoc (entry_items e) (items_of x) (items_of y))
 
-pub named_plain : (name : ℕ) (items : List Item) → ArePlain (named name items)
-named_plain name [] = tt
-named_plain name (i ∷ items) = named_plain name items
-
-pub plain_both : (x y : List Entry) → ArePlain x → ArePlain y → ArePlain (x ++ y)
-plain_both [] y p q = q
-plain_both (Under name i ∷ x) y p q = plain_both x y p q
-plain_both (Head h ∷ x) y p q = absurd p
-
-plain_each : {X : Type 0} (f : X → List Entry) → ((x : X) → ArePlain (f x)) → (xs : List X) → ArePlain (flat_map f xs)
-plain_each f are [] = tt
-plain_each f are (x ∷ xs) = plain_both (f x) (flat_map f xs) (are x) (plain_each f are xs)
-
 -- one item
-abbrev one : {X : Type 0} → Wired X → Kind → Named X
-one w kind = record { items = w.items; entries = λ name x. named name (w.items x); is = λ name x. named_same name (w.items x); plain = λ name x. named_plain name (w.items x); shape = λ name. An name kind }
+pub one_formed : (name : ℕ) (kind : Kind) (items : List Item) → Unfolds (One kind End) items → IsOf (An name kind) (named name items)
+one_formed name kind items u = (u.0, u.2, ap (named name) (u.4 ∙ ap (λ (others : List Item). u.0 ∷ others) u.3))
+
+abbrev one : {X : Type 0} (w : Wired X) (kind : Kind) → ((x : X) → Unfolds (One kind End) (w.items x)) → Named X
+one w kind unfolds = record {
+  items = w.items;
+  entries = λ name x. named name (w.items x);
+  is = λ name x. named_same name (w.items x);
+  shape = λ name. An name kind;
+  formed = λ name x. one_formed name kind (w.items x) (unfolds x);
+}
 
 abbrev pub an_int : Named ℤ
-an_int = one int Int
+an_int = one int Int int.unfolds
 
 abbrev pub a_long : Named ℤ
-a_long = one long Long
+a_long = one long Long long.unfolds
 
 abbrev pub a_boolean : Named Bool
-a_boolean = one boolean Boolean
+a_boolean = one boolean Boolean boolean.unfolds
 
 abbrev pub a_text : Named Text
-a_text = one ustring Ustring
+a_text = one ustring Ustring ustring.unfolds
 
 abbrev pub a_blob : Named Blob
-a_blob = one buffer Buffer
+a_blob = one buffer Buffer buffer.unfolds
 
 -- a list: its count, and then its elements' entries, all under the list's name
 abbrev pub list_entries : {X : Type 0} → Entries X → Entries (Vector X)
@@ -89,17 +96,21 @@ pub list_same : {X : Type 0} (k : Named X) (name : ℕ) (v : Vector X) → items
 list_same k name nullable.Null = refl
 list_same k name (nullable.Full xs) = ap (λ (items : List Item). ACount (Some (length xs)) ∷ items) (each_same k name xs)
 
-pub list_plain : {X : Type 0} (k : Named X) (name : ℕ) (v : Vector X) → ArePlain (list_entries k.entries name v)
-list_plain k name nullable.Null = tt
-list_plain k name (nullable.Full xs) = plain_each (k.entries name) (k.plain name) xs
+each_formed : {X : Type 0} (k : Named X) (name : ℕ) (xs : List X) → Times (IsOf (k.shape name)) (length xs) (flat_map (k.entries name) xs)
+each_formed k name [] = refl
+each_formed k name (x ∷ xs) = (k.entries name x, flat_map (k.entries name) xs, k.formed name x, each_formed k name xs, refl)
+
+pub list_formed : {X : Type 0} (k : Named X) (name : ℕ) (v : Vector X) → IsOf (Many name (k.shape name)) (list_entries k.entries name v)
+list_formed k name nullable.Null = (None, [], refl, refl)
+list_formed k name (nullable.Full xs) = (Some (length xs), flat_map (k.entries name) xs, each_formed k name xs, refl)
 
 abbrev pub many : {X : Type 0} → Named X → Named (Vector X)
 many k = record {
   items = list_items k.items;
   entries = list_entries k.entries;
   is = list_same k;
-  plain = list_plain k;
   shape = λ name. Many name (k.shape name);
+  formed = list_formed k;
 }
 
 -- a field of a record: what it is, its name, and which it is
@@ -109,8 +120,8 @@ k of f = record {
   items = λ x. k.items (f.1 x);
   entries = λ _ x. k.entries f.0 (f.1 x);
   is = λ _ x. k.is f.0 (f.1 x);
-  plain = λ _ x. k.plain f.0 (f.1 x);
   shape = λ _. k.shape f.0;
+  formed = λ _ x. k.formed f.0 (f.1 x);
 }
 
 pub both_same : {X : Type 0} (v w : Named X) (name : ℕ) (x : X) → items_of (v.entries name x ++ w.entries name x) ≡ v.items x ++ w.items x
@@ -123,6 +134,6 @@ v and w = record {
   items = λ x. v.items x ++ w.items x;
   entries = λ name x. v.entries name x ++ w.entries name x;
   is = both_same v w;
-  plain = λ name x. plain_both (v.entries name x) (w.entries name x) (v.plain name x) (w.plain name x);
   shape = λ name. Both (v.shape name) (w.shape name);
+  formed = λ name x. (v.entries name x, w.entries name x, v.formed name x, w.formed name x, refl);
 }

@@ -9,6 +9,12 @@ use Rattle.zk_records.specs.declared.op.Op.{Op}
 use Rattle.zk_records.specs.declared.op.Op.TheVariants as ops
 use Rattle.zk_records.specs.declared.op.PartOp.{PartOp}
 use Rattle.zk_records.specs.declared.op.PartOp.TheVariants as parts
+use Rattle.zk_asks.specs.declared.frame.ClientFrameOf.TheVariants as client
+use Rattle.zk_asks.specs.Held.{ClientFrame}
+use Rattle.zk_asks.specs.Rows.{op_of_ask}
+use Rattle.zk_answers.specs.declared.frame.ServerFrameOf.TheVariants as server
+use Rattle.zk_answers.specs.Held.{ServerFrame}
+use Rattle.zk_answers.specs.Frames.{op_of_reply}
 use Rattle.zk_fields.specs.declared.field.Field.{Field}
 use Rattle.zk_fields.specs.declared.field.At.{At}
 use Rattle.zk_fields.specs.declared.walk.Walked.{Walked}
@@ -176,6 +182,16 @@ opened_start (opened.Ask op) = 8
 opened_start opened.Connected = 0
 opened_start (opened.Reply op) = 16
 opened_start opened.Event = 16
+
+-- what a message is read as
+abbrev pub client_opened : ClientFrame → Opened
+client_opened (client.Connect hello flag) = opened.First
+client_opened (client.Ask xid a) = opened.Ask (op_of_ask a)
+
+abbrev pub server_opened : ServerFrame → Opened
+server_opened (server.Connected hello flag) = opened.Connected
+server_opened (server.Answered r) = opened.Reply (op_of_reply r)
+server_opened (server.Event zxid event) = opened.Event
 
 -- the fields of all items that end before the place, in order
 abbrev pub opened_fields : Opened → List ℕ → ℕ → List Field

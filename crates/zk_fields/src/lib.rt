@@ -28,9 +28,8 @@
 //! room is too small all are counted, as `snprintf` does.
 //!
 //! **What comes before a fault is found by a second walk** (`Walk`), up to the fault's place. So no reader that judges
-//! payloads has to write fields. No law says that the two walks agree on a message's payload: `tests/fields.py`
-//! compares each with a second reading of the formats. A record's names are in the same line of its definition for both
-//! walks.
+//! payloads has to write fields. Of a whole message both walks write the same fields (`field_laws`). A record's names
+//! are in the same line of its definition for both walks.
 //!
 //! **A header's numbers are in the answer and are no fields**, and a multi's end marker is none: fields are what a
 //! caller loops over. A part's or a result's header is one field, of which only the number is kept: the err of an

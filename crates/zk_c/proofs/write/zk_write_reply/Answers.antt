@@ -1,7 +1,7 @@
 use Rattle.std.proofs.Common.{rules}
 use Rattle.zk_answers.specs.declared.frame.ServerFrameOf.TheVariants as server
 use Rattle.zk_fields.specs.declared.value.Heads.TheVariants as head
-use Rattle.zk_fields.specs.Written.{answer_front, done_behind, IsHeaded, Writes, AnswersAgain}
+use Rattle.zk_fields.specs.Written.{answer_front, done_behind, Writes, AnswersAgain}
 use Rattle.zk_c.proofs.write.zk_write_reply.Goals as goal
 
 pub returns-clause-frame : goal.returns-clause-frame
