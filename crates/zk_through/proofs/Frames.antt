@@ -1,6 +1,6 @@
 -- The frames of a history with more bytes.
-use Rattle.std.proofs.Common.{◌≡◌, ℕ, ◌+◌, ◌<◌, ◌≤◌, ◌⊎◌, inl, inr, List, [], ◌∷◌, ◌++◌, length, refl, sym, ap, ◌∙◌, subst, arith, append_assoc}
-use Rattle.std.proofs.lemmas.List.{append-nil, length_push}
+use Rattle.std.proofs.Common.{◌≡◌, ℕ, ◌<◌, ◌≤◌, ◌⊎◌, inl, inr, List, [], ◌∷◌, ◌++◌, length, refl, sym, ap, ◌∙◌, subst, arith, append_assoc}
+use Rattle.std.proofs.lemmas.List.{append-nil}
 use Rattle.std.proofs.lemmas.List.Concat.{flat_map-append}
 use Rattle.zk_frames.specs.Framing.{frame, frames, IsBeginning, IsCut}
 use Rattle.zk_frames.proofs.Cuts.{AllByRecursion-push}
@@ -9,7 +9,7 @@ use Rattle.zk_talk.specs.declared.message.Side.TheVariants.{Client, Server}
 use Rattle.zk_talk.specs.declared.limits.Limits.{Limits}
 use Rattle.zk_talk.specs.History.{History, side_bytes, on}
 use Rattle.zk_talk.specs.Viewed.{other_side}
-use Rattle.zk_talk.proofs.Histories.{side_bytes-same, other-bytes, no_bytes}
+use Rattle.zk_talk.proofs.Histories.{side_bytes-same, other-bytes}
 use Rattle.zk_talk.proofs.Lists.{by_last, IsPushed, FrontOfPushed, front_of_pushed}
 use Rattle.zk_talk.proofs.Lists.FrontOfPushed.{all_of_it, front_of}
 use Rattle.zk_talk.proofs.Standing.{beginning_left, frame_front, on-push}

@@ -1,8 +1,6 @@
 -- What becomes of a whole frame: it is told, or left out.
-use Rattle.std.proofs.Common.{◌≡◌, ◌≢◌, ℕ, zero, suc, ◌+◌, ◌<◌, ◌≤◌, ◌⊎◌, inl, inr, List, [], ◌∷◌, ◌++◌, length, take, drop, map, refl, sym, ap, ◌∙◌, subst, arith, append_assoc, length-append, Bool, true, false, Option, Some, None}
-use Rattle.std.specs.Prelude.{slice_get}
-use Rattle.std.proofs.lemmas.List.{append-nil, length_push, nil_from_length, length-map}
-use Rattle.zk_frames.specs.Framing.{frame}
+use Rattle.std.proofs.Common.{◌≡◌, ◌≢◌, ℕ, suc, ◌+◌, ◌<◌, ◌≤◌, ◌⊎◌, inl, inr, List, [], ◌∷◌, ◌++◌, length, take, drop, map, refl, sym, ap, ◌∙◌, subst, arith, length-append, Bool, true, false, Option, Some, None}
+use Rattle.std.proofs.lemmas.List.{append-nil}
 use Rattle.zk_records.specs.Codes.{IsNoOp}
 use Rattle.zk_talk.specs.declared.message.Side.TheVariants.{Client, Server}
 use Rattle.zk_talk.specs.Held.{Message}
@@ -10,7 +8,7 @@ use Rattle.zk_talk.specs.History.{History, on}
 use Rattle.zk_talk.specs.Stands.{TalkState, Stands}
 use Rattle.zk_through.specs.declared.turn.Turn.{Turn}
 use Rattle.zk_through.specs.Came.{Came, payloads, told}
-use Rattle.zk_through.specs.LeftOut.{is_plain, asked, replied, IsForeign, IsLeftOut, number_of, xid_of}
+use Rattle.zk_through.specs.LeftOut.{is_plain, asked, replied, IsForeign, number_of, xid_of}
 use Rattle.zk_through.specs.Runs.{ThroughState, Runs, turn_of, GoesOn, GoesOnTold, IsTold}
 use Rattle.zk_through.proofs.Frames.{told-push}
 use Rattle.zk_through.proofs.Turns.{asked_by_server, replied_by_client, asked_first, asked_more, replied_first, replied_more, kept_out, kept_told, turns_more, NextTurn, next_turn}

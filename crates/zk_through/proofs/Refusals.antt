@@ -1,7 +1,7 @@
 -- Why a side's frame is refused.
-use Rattle.std.proofs.Common.{◌≡◌, ◌≢◌, ℕ, ◌+◌, ◌<◌, ◌≤◌, ◌^◌, List, [], ◌∷◌, ◌++◌, length, take, Option, Some, refl, sym, ap, ◌∙◌, subst, arith, true}
+use Rattle.std.proofs.Common.{◌≡◌, ◌≢◌, ℕ, ◌+◌, ◌≤◌, List, [], ◌∷◌, ◌++◌, length, take, Some, refl, sym, ap, ◌∙◌, subst, arith, true}
 use Rattle.zk_jute.specs.declared.fault.Reason.{Reason}
-use Rattle.zk_jute.specs.declared.fault.Reason.TheVariants.{StreamEnd, LengthRange, Unasked, XidOrder}
+use Rattle.zk_jute.specs.declared.fault.Reason.TheVariants.{Unasked, XidOrder}
 use Rattle.zk_frames.specs.Framing.{frame, IsBadLength}
 use Rattle.zk_records.specs.Codes.{IsNoOp}
 use Rattle.zk_talk.specs.declared.message.Side.{Side}
@@ -17,9 +17,9 @@ use Rattle.zk_talk.specs.Receiving.{IsStopped as WasStopped}
 use Rattle.zk_through.specs.declared.turn.Turn.{Turn}
 use Rattle.zk_through.specs.Came.{Came, payloads, told}
 use Rattle.zk_through.specs.LeftOut.{is_plain, xid_of, asked, replied, IsForeign}
-use Rattle.zk_through.specs.Runs.{ThroughState, Runs, IsWhy, IsRefused, IsNotTold, stream_on, turn_of}
+use Rattle.zk_through.specs.Runs.{ThroughState, Runs, IsWhy, IsRefused, IsNotTold, stream_on}
 use Rattle.zk_through.specs.Runs.IsWhy.{stream_end, length_range, unasked, other_turn, told_so}
-use Rattle.zk_through.proofs.Turns.{NextTurn, next_turn, no_turn}
+use Rattle.zk_through.proofs.Turns.{next_turn, no_turn}
 
 count_on : (side : Side) (t : ThroughState) (h : History) (c k : Came) (M : List Message) → Runs t h c k M → (stream_on side t).count ≡ length (payloads side c)
 count_on Client t h c k M r = r.client_count

@@ -1,5 +1,5 @@
 -- What a conversation comes to with one piece more.
-use Rattle.std.proofs.Common.{◌≡◌, ◌≢◌, ℕ, ◌+◌, ◌<◌, ◌≤◌, ◌^◌, ◌⊎◌, inl, inr, List, [], ◌∷◌, ◌++◌, length, take, drop, map, refl, sym, ap, ◌∙◌, subst, arith, append_assoc, length-append, None}
+use Rattle.std.proofs.Common.{◌≡◌, ℕ, ◌+◌, ◌<◌, ◌≤◌, inl, List, [], ◌∷◌, ◌++◌, length, take, drop, map, refl, sym, ap, ◌∙◌, subst, arith, length-append, None}
 use Rattle.std.proofs.Common.{filter}
 use Rattle.std.proofs.lemmas.List.{append-nil, length_push, length-take-le, nil_from_length}
 use Rattle.zk_frames.specs.Framing.{frame, IsBeginning, IsCut}
@@ -13,7 +13,6 @@ use Rattle.zk_talk.specs.Good.{client_bytes, server_bytes}
 use Rattle.zk_talk.proofs.Histories.{no_bytes}
 use Rattle.zk_talk.proofs.Lists.{both_empty}
 use Rattle.zk_talk.proofs.Standing.{bytes-on, other-on}
-use Rattle.zk_through.specs.declared.turn.Turn.{Turn}
 use Rattle.zk_through.specs.Came.{Came, payloads, AreCut, AreFrames, told}
 use Rattle.zk_through.specs.LeftOut.{is_plain, asked, replied, Kept}
 use Rattle.zk_through.specs.Runs.{ThroughState, Runs, turn_of, GoesOn}

@@ -1,8 +1,8 @@
 -- A talk that is at the end of a frame on both sides takes a whole frame to its end.
-use Rattle.std.proofs.Common.{◌≡◌, ℕ, ◌+◌, ◌-◌, ◌<◌, ◌≤◌, ◌^◌, ◌⊎◌, inl, inr, List, [], ◌∷◌, ◌++◌, length, take, drop, map, refl, sym, ap, ◌∙◌, subst, arith, append_assoc, length-append, Bool, true, false}
+use Rattle.std.proofs.Common.{◌≡◌, ℕ, ◌<◌, ◌≤◌, ◌^◌, List, [], ◌∷◌, ◌++◌, length, take, drop, refl, sym, ap, ◌∙◌, subst, arith, append_assoc, length-append, Bool, true, false}
 use Rattle.std.specs.List.{AllByRecursion}
-use Rattle.std.proofs.lemmas.List.{append-nil, take-append-drop, length-take-le, nil_from_length, length-drop, take_all}
-use Rattle.zk_frames.specs.Framing.{frame, frames, IsBeginning, IsCut}
+use Rattle.std.proofs.lemmas.List.{append-nil, take-append-drop, length-take-le, nil_from_length, take_all}
+use Rattle.zk_frames.specs.Framing.{frame, frames, IsCut}
 use Rattle.zk_frames.proofs.Cuts.{strip, same_frame, same_cut, whole_frame, length-frame, AllByRecursion-right}
 use Rattle.zk_talk.specs.declared.message.Side.{Side}
 use Rattle.zk_talk.specs.declared.message.Side.TheVariants.{Client, Server}
@@ -10,12 +10,11 @@ use Rattle.zk_talk.specs.declared.limits.Limits.{Limits}
 use Rattle.zk_talk.specs.History.{History, side_bytes, on}
 use Rattle.zk_talk.specs.Good.{client_payloads, server_payloads, clients, servers}
 use Rattle.zk_talk.specs.Held.{Message}
-use Rattle.zk_talk.specs.Stands.{TalkState, Stands, held_on}
+use Rattle.zk_talk.specs.Stands.{TalkState, Stands}
 use Rattle.zk_talk.specs.Taking.{StepsOn}
 use Rattle.zk_talk.specs.Fault.{side_limit}
-use Rattle.zk_talk.specs.Viewed.{other_side}
-use Rattle.zk_talk.proofs.Histories.{side_bytes-append, no_bytes, side_bytes-same}
-use Rattle.zk_talk.proofs.Standing.{other-on, on-push}
+use Rattle.zk_talk.proofs.Histories.{side_bytes-append}
+use Rattle.zk_talk.proofs.Standing.{other-on}
 use Rattle.zk_talk.proofs.Small.{AreSmall}
 use Rattle.zk_through.specs.Runs.{IsTold}
 

@@ -1,5 +1,5 @@
 -- Which frames are left out: requests of operations that the profile lacks, and the replies to them.
-use Rattle.std.specs.Prelude.{◌≡◌, ◌≢◌, ℕ, zero, suc, ◌⊎◌, ℤ, pos, negsuc, List, [], ◌∷◌, ◌++◌, length, drop, filter, Bool, true, false, if◌then◌else◌, nat_le, Some, slice_get}
+use Rattle.std.specs.Prelude.{◌≡◌, ◌≢◌, ℕ, ◌⊎◌, ℤ, negsuc, List, [], ◌∷◌, ◌++◌, length, drop, filter, Bool, true, false, if◌then◌else◌, nat_le, Some, slice_get}
 use Rattle.std.specs.Ordering.{int_eq}
 use Rattle.zk_jute.specs.Faults.{first_int}
 use Rattle.zk_records.specs.declared.profile.Profile.{Profile}

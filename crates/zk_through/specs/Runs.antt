@@ -1,5 +1,5 @@
 -- What a connection comes to: the conversation that the talk is told, and the requests and replies that are left out.
-use Rattle.std.specs.Prelude.{◌≡◌, ◌≢◌, ℕ, ◌+◌, ◌≤◌, ◌<◌, ◌^◌, ℤ, negsuc, List, [], ◌∷◌, ◌++◌, length, take, drop, map, Option, Some, None, Bool, true, slice_get}
+use Rattle.std.specs.Prelude.{◌≡◌, ◌≢◌, ℕ, ◌+◌, ◌≤◌, ◌^◌, List, [], ◌∷◌, ◌++◌, length, take, drop, map, Option, Some, None, true, slice_get}
 use Rattle.zk_jute.specs.declared.fault.Reason.{Reason}
 use Rattle.zk_jute.specs.declared.fault.Reason.TheVariants.{StreamEnd, LengthRange, Unasked, XidOrder}
 use Rattle.zk_frames.specs.Framing.{frame, IsBadLength}
@@ -12,7 +12,7 @@ use Rattle.zk_talk.specs.History.{History, side_bytes, on}
 use Rattle.zk_talk.specs.Fault.{IsFaultOf, side_limit, fault_of}
 use Rattle.zk_talk.specs.Stands.{TalkState, Stands}
 use Rattle.zk_talk.specs.Streams.{StreamState}
-use Rattle.zk_talk.specs.Viewed.{Shows, Leaves, other_side}
+use Rattle.zk_talk.specs.Viewed.{Shows, Leaves}
 use Rattle.zk_through.specs.declared.turn.Turn.{Turn}
 use Rattle.zk_through.specs.declared.through.Went.{Went}
 use Rattle.zk_through.specs.declared.through.Went.TheVariants as went

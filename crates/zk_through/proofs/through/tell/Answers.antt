@@ -1,5 +1,4 @@
 use Rattle.std.proofs.Common.{◌≡◌, ◌≤◌, ◌∙◌, ◌++◌, ℕ, List, length, false, ap, subst, arith}
-use Rattle.zk_frames.specs.Framing.{frame}
 use Rattle.zk_frames.proofs.Cuts.{length-frame}
 use Rattle.zk_talk.specs.declared.limits.Limits.{Limits}
 use Rattle.zk_talk.specs.declared.message.Fault.{Fault}

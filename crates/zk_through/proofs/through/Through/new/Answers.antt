@@ -1,5 +1,4 @@
-use Rattle.std.proofs.Common.{◌≡◌, ◌∙◌, ap, subst, [], None}
-use Rattle.zk_talk.specs.Stands.{TalkState, Stands}
+use Rattle.std.proofs.Common.{ap}
 use Rattle.zk_talk.specs.Streams.{StreamState}
 use Rattle.zk_through.proofs.Steps.{runs_start}
 use Rattle.zk_through.proofs.through.Through.new.Goals as goal

@@ -1,4 +1,4 @@
-use Rattle.std.proofs.Common.{◌≡◌, ap, [], None}
+use Rattle.std.proofs.Common.{ap}
 use Rattle.zk_talk.specs.Streams.{StreamState}
 use Rattle.zk_through.proofs.Steps.{runs_start}
 use Rattle.zk_through.proofs.through.Through.renew.Goals as goal

@@ -1,4 +1,4 @@
-use Rattle.std.proofs.Common.{rules, ◌≡◌, ◌∙◌, ℕ, ◌+◌, List, [], ◌∷◌, ◌++◌, drop, refl, sym, ap, subst, arith, w32, of_z, to_z, SFits}
+use Rattle.std.proofs.Common.{rules, ◌≡◌, ◌∙◌, ◌+◌, [], drop, refl, sym, ap, subst, w32, of_z, to_z, SFits}
 use Rattle.std.proofs.lemmas.Int.{to_z-of_z}
 use Rattle.circular_buffer.specs.Buffer.{Buffer}
 use Rattle.zk_records.specs.Codes.{IsNoOp}
