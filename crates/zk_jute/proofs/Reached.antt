@@ -24,7 +24,7 @@ use Rattle.zk_jute.specs.Told.{StandsAt}
 use Rattle.zk_jute.specs.Values.{text_items, list_items}
 use Rattle.zk_jute.specs.Wired.{Wired, int, long}
 use Rattle.zk_jute.specs.Shown.{Stretch}
-use Rattle.zk_jute.specs.Ends.{EndsAt, IsUtf8Between, AreTextsIfUtf8, IsRunOfLowSize}
+use Rattle.zk_jute.specs.Ends.{EndsAt, IsUtf8Between, TextsIfUtf8, IsRunOfLowSize}
 use Rattle.zk_jute.proofs.Steps.{IsBytes}
 use Rattle.zk_jute.proofs.Primitives.{ascii_text}
 use Rattle.zk_jute.proofs.Numbers.{len32}
@@ -130,7 +130,7 @@ module _ (src : List ℕ) (from at : ℕ) (fits : IsBytes src) (le : at ≤ leng
       omega (arith, s, length-append (int_bytes (pos (length bytes))) bytes, len32 (pos (length bytes)))
 
   -- its length is ASCII, and looked at with the others
-  pub low_more : (end : ℕ) → IsRunOfLowSize src at end → from ≤ at → (place count : ℕ) → AreTextsIfUtf8 src from place at count → AreTextsIfUtf8 src from place end (count + 1)
+  pub low_more : (end : ℕ) → IsRunOfLowSize src at end → from ≤ at → (place count : ℕ) → TextsIfUtf8 src from place at count → TextsIfUtf8 src from place end (count + 1)
   low_more end (bytes, less, low, run) before place count so_far text =
       let small : HasLow (length bytes) = (less, low) in
       let r = run_found src at (Some bytes, end) fits le run in
@@ -150,7 +150,7 @@ module _ (src : List ℕ) (from at : ℕ) (fits : IsBytes src) (le : at ≤ leng
       one_more text_items src place at end count (so_far parts.0) (nullable.Full bytes, f.have, (f.stands.parts, f.stands.at))
 
   -- the others were looked at; its length isn't to be
-  pub looked_more : (o : Option (List ℕ)) (end : ℕ) → run_at src at ≡ Ok (o, end) → (place count : ℕ) → Stretch text_items src place at count → AreTextsIfUtf8 src (at + 4) place end (count + 1)
+  pub looked_more : (o : Option (List ℕ)) (end : ℕ) → run_at src at ≡ Ok (o, end) → (place count : ℕ) → Stretch text_items src place at count → TextsIfUtf8 src (at + 4) place end (count + 1)
   looked_more None end run place count so_far text =
       let r = run_found src at (None, end) fits le run in
       let f = one_found (AUstring None) src at end tt r.stands in

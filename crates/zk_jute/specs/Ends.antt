@@ -15,8 +15,8 @@ abbrev pub IsUtf8Between : List ℕ → ℕ → ℕ → Type 0
 IsUtf8Between src place end = IsUtf8 (take (end - place) (drop place src))
 
 -- from `place` to `at` are `count` texts, if the bytes from `from` on are UTF-8
-abbrev pub AreTextsIfUtf8 : List ℕ → ℕ → ℕ → ℕ → ℕ → Type 0
-AreTextsIfUtf8 src from place at count = IsUtf8Between src from at → Stretch text_items src place at count
+abbrev pub TextsIfUtf8 : List ℕ → ℕ → ℕ → ℕ → ℕ → Type 0
+TextsIfUtf8 src from place at count = IsUtf8Between src from at → Stretch text_items src place at count
 
 -- a run whose length is four bytes of ASCII is at the place, and ends there
 abbrev pub IsRunOfLowSize : List ℕ → ℕ → ℕ → Type 0

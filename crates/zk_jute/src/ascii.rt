@@ -13,7 +13,6 @@ fn is_low(block: u8x16) -> bool
 }
 
 /// The same of sixty-four bytes.
-#[inline(always)]
 fn is_low_64(block: u8x64) -> bool
     ensures { IsTrue result → IsAscii block }
 {
@@ -21,7 +20,6 @@ fn is_low_64(block: u8x64) -> bool
 }
 
 /// The same of eight bytes.
-#[inline(always)]
 fn is_low_8(block: u8x8) -> bool
     ensures { IsTrue result → IsAscii block }
 {
@@ -29,7 +27,6 @@ fn is_low_8(block: u8x8) -> bool
 }
 
 /// The same of four bytes.
-#[inline(always)]
 fn is_low_4(block: u8x4) -> bool
     ensures { IsTrue result → IsAscii block }
 {
@@ -37,7 +34,6 @@ fn is_low_4(block: u8x4) -> bool
 }
 
 /// Whether each byte is ASCII, of less than sixteen. The second block overlaps the first.
-#[inline(always)]
 fn is_plain_few(bytes: &[u8]) -> bool
     requires { length bytes.now ≤ 16 }
     ensures { IsTrue result → IsAscii bytes.now }
@@ -73,7 +69,6 @@ pub(crate) fn is_plain(bytes: &[u8]) -> bool
 
 /// The length of a front of the bytes that is ASCII, found sixty-four bytes at a time: zero of fewer. The last block overlaps
 /// the one before it.
-#[inline(always)]
 pub(crate) fn plain_front(bytes: &[u8]) -> usize
     ensures { (result ≤ length bytes.now) × IsAscii (take result bytes.now) }
 {

@@ -3,7 +3,7 @@ ghost use Rattle.std.specs.Prelude.{◌≡◌, ℕ, ◌≤◌, ◌<◌, ◌%◌,
 ghost use Rattle.zk_jute.specs.Reading as reading;
 ghost use Rattle.zk_jute.specs.Shown.{Stretch};
 ghost use Rattle.zk_jute.specs.Values.{text_items, blob_items, list_items};
-ghost use Rattle.zk_jute.specs.Ends.{EndsAt, IsUtf8Between, AreTextsIfUtf8, IsRunOfLowSize};
+ghost use Rattle.zk_jute.specs.Ends.{EndsAt, IsUtf8Between, TextsIfUtf8, IsRunOfLowSize};
 
 use crate::number::int_at;
 use crate::run::{run_at, size_at};
@@ -12,13 +12,12 @@ use crate::stands::{Form, end_of};
 use crate::utf8::is_long_text;
 use crate::value::{BlobRef, TextRef};
 
-/// How many texts of a list get one look.
-const LOOK: usize = 64;
+/// How many bytes of a list's texts get one look: about as many, in whole texts.
+const LOOK: usize = 1024;
 
 /// A form of values whose ends are found without making the values.
 pub trait Ends: Form {
     /// The place after the value at `place` of `payload`; `None`: undecided. Stands for `end_of`.
-    #[inline(always)]
     fn end_at(payload: &[u8], place: usize) -> Option<usize>
         requires { place ≤ length payload.now }
         ensures some { IfSome result (λ end. EndsAt Self.wired.items payload.now place end) }
@@ -40,28 +39,24 @@ pub trait Ends: Form {
 }
 
 impl Ends for i32 {
-    #[inline(always)]
     fn end_at(payload: &[u8], place: usize) -> Option<usize> {
         end_of::<i32>(payload, place)
     }
 }
 
 impl Ends for i64 {
-    #[inline(always)]
     fn end_at(payload: &[u8], place: usize) -> Option<usize> {
         end_of::<i64>(payload, place)
     }
 }
 
 impl Ends for bool {
-    #[inline(always)]
     fn end_at(payload: &[u8], place: usize) -> Option<usize> {
         end_of::<bool>(payload, place)
     }
 }
 
 impl<'a> Ends for BlobRef<'a> {
-    #[inline(always)]
     fn end_at(payload: &[u8], place: usize) -> Option<usize>
         requires { place ≤ length payload.now }
         ensures some { IfSome result (λ end. EndsAt blob_items payload.now place end) }
@@ -72,7 +67,6 @@ impl<'a> Ends for BlobRef<'a> {
 }
 
 impl<A: Ends, B: Ends> Ends for (A, B) {
-    #[inline(always)]
     fn end_at(payload: &[u8], place: usize) -> Option<usize> {
         let middle = A::end_at(payload, place)?;
         let end = B::end_at(payload, middle)?;
@@ -81,7 +75,6 @@ impl<A: Ends, B: Ends> Ends for (A, B) {
 }
 
 /// Whether the four bytes of a length are ASCII.
-#[inline(always)]
 fn is_low_size(size: usize) -> bool
     ensures { IsTrue result → (size < 32768) × (size % 256 < 128) }
 {
@@ -89,7 +82,6 @@ fn is_low_size(size: usize) -> bool
 }
 
 /// The place after the run at `place` if its length is four bytes of ASCII; `None`: it isn't, as null's, or not whole.
-#[inline(always)]
 fn low_end(payload: &[u8], place: usize) -> Option<usize>
     requires { place ≤ length payload.now }
     ensures some { IfSome result (IsRunOfLowSize payload.now place) }
@@ -125,7 +117,6 @@ fn nulls_end(payload: &[u8], count: usize, place: usize) -> (usize, usize)
 }
 
 /// Whether the bytes from `place` to `end` are UTF-8; false: undecided.
-#[inline(always)]
 fn are_text(payload: &[u8], place: usize, end: usize) -> bool
     requires { (place ≤ end) × (end ≤ length payload.now) }
     ensures { IsTrue result → IsUtf8Between payload.now place end }
@@ -139,10 +130,9 @@ fn are_text(payload: &[u8], place: usize, end: usize) -> bool
 /// Passes over the text at `place`, where the bytes from `from` on aren't judged yet: the place from which on they aren't
 /// then, and the place after the text; `None`: undecided. A length of four bytes of ASCII is judged with the texts, since no
 /// character reaches over it; before any other length, what isn't judged yet is judged.
-#[inline(always)]
 fn next_text(payload: &[u8], from: usize, place: usize) -> Option<(usize, usize)>
     requires { (from ≤ place) × (place ≤ length payload.now) }
-    ensures one { IfSome result (λ x. (first count : ℕ) → AreTextsIfUtf8 payload.now from first place count → AreTextsIfUtf8 payload.now x.0 first x.1 (count + 1)) }
+    ensures one { IfSome result (λ x. (first count : ℕ) → TextsIfUtf8 payload.now from first place count → TextsIfUtf8 payload.now x.0 first x.1 (count + 1)) }
     ensures within { IfSome result (λ x. (x.0 ≤ x.1) × (x.1 ≤ length payload.now)) }
 {
     if let Some(end) = low_end(payload, place) {
@@ -179,6 +169,18 @@ fn texts_end(payload: &[u8], count: usize, place: usize) -> Option<usize>
     }
 }
 
+/// How many texts get one look, if all are as long as the one at `place`. Any number is right: it costs only time.
+fn texts_of_a_look(payload: &[u8], place: usize) -> usize
+    requires { place ≤ length payload.now }
+    ensures { 0 < result }
+{
+    match size_at(payload, place) {
+        Ok((Some(size), _)) if is_low_size(size) => (LOOK / (size + 4)).max(1),
+        // Any other text gets a look of its own.
+        _ => LOOK,
+    }
+}
+
 /// How many texts, of at most `count`, were judged from `place` on, and the place after them; `None`: undecided.
 fn some_texts_end(payload: &[u8], count: usize, place: usize) -> Option<(usize, usize)>
     requires place { place ≤ length payload.now }
@@ -191,13 +193,12 @@ fn some_texts_end(payload: &[u8], count: usize, place: usize) -> Option<(usize, 
     if nulls > 0 {
         return Some((nulls, end));
     }
-    let some = count.min(LOOK);
+    let some = count.min(texts_of_a_look(payload, place));
     let end = texts_end(payload, some, place)?;
     Some((some, end))
 }
 
 impl<'a> Ends for TextRef<'a> {
-    #[inline(always)]
     fn end_at(payload: &[u8], place: usize) -> Option<usize>
         requires { place ≤ length payload.now }
         ensures some { IfSome result (λ end. EndsAt text_items payload.now place end) }
@@ -226,7 +227,6 @@ impl<'a> Ends for TextRef<'a> {
 }
 
 impl<'a, R: Element + Ends> Ends for Series<'a, R> {
-    #[inline(always)]
     fn end_at(payload: &[u8], place: usize) -> Option<usize>
         requires { place ≤ length payload.now }
         ensures some { IfSome result (λ end. EndsAt (list_items R.wired.items) payload.now place end) }

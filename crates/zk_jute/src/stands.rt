@@ -70,7 +70,6 @@ pub fn read_ref<P: Origin, T: Stands<P>>(src: &P, place: usize) -> Result<(T, us
 }
 
 /// The place after the value at `place` of `payload`; `None`: undecided. No value is made.
-#[inline(always)]
 pub fn end_of<'a, T: Stands<Payload<'a>>>(payload: &'a [u8], place: usize) -> Option<usize>
     requires { place ≤ length payload.now }
     ensures some { IfSome result (λ end. (x : T) × HaveBytes (T.wired.items x) × StandsAt (T.wired.items x) payload.now place end) }

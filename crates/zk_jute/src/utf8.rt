@@ -23,21 +23,18 @@ const FIRST_LOW: [u8; 16] = [
 /// The same, by the upper half of the second.
 const SECOND_HIGH: [u8; 16] = [1, 1, 1, 1, 1, 1, 1, 1, 230, 174, 186, 186, 1, 1, 1, 1];
 
-#[inline(always)]
 fn by_first_high(first: u8x16) -> u8x16
     ensures { result ≡ map first_high first }
 {
     u8x16::from_array(FIRST_HIGH).swizzle_dyn(first >> u8x16::splat(4))
 }
 
-#[inline(always)]
 fn by_first_low(first: u8x16) -> u8x16
     ensures { result ≡ map first_low first }
 {
     u8x16::from_array(FIRST_LOW).swizzle_dyn(first & u8x16::splat(15))
 }
 
-#[inline(always)]
 fn by_second_high(second: u8x16) -> u8x16
     ensures { result ≡ map second_high second }
 {
@@ -45,7 +42,6 @@ fn by_second_high(second: u8x16) -> u8x16
 }
 
 /// The faults of each pair: those that all three tables have.
-#[inline(always)]
 fn classes(first: u8x16, second: u8x16) -> u8x16
     ensures len { length result ≡ 16 }
     ensures lanes { (i : ℕ) → i < 16 → IsClass (slice_index first i) (slice_index second i) (slice_index result i) }
@@ -54,7 +50,6 @@ fn classes(first: u8x16, second: u8x16) -> u8x16
 }
 
 /// By how much each byte is above the other one's; zero where it isn't.
-#[inline(always)]
 fn excess(a: u8x16, b: u8x16) -> u8x16
     ensures len { length result ≡ 16 }
     ensures lanes { (i : ℕ) → i < 16 → slice_index result i ≡ slice_index a i - slice_index b i }
@@ -63,7 +58,6 @@ fn excess(a: u8x16, b: u8x16) -> u8x16
 }
 
 /// Zero where each byte of the block may follow the three before it.
-#[inline(always)]
 fn faults(three_back: u8x16, two_back: u8x16, one_back: u8x16, block: u8x16) -> u8x16
     ensures { AreZero result → Follow three_back two_back one_back block }
 {
@@ -74,14 +68,12 @@ fn faults(three_back: u8x16, two_back: u8x16, one_back: u8x16, block: u8x16) -> 
 }
 
 /// Zero where both are.
-#[inline(always)]
 fn either(a: u8x16, b: u8x16) -> u8x16
     ensures { AreZero result → AreZero a × AreZero b }
 {
     a | b
 }
 
-#[inline(always)]
 fn is_zero(block: u8x16) -> bool
     ensures { IsTrue result → AreZero block }
 {
@@ -89,7 +81,6 @@ fn is_zero(block: u8x16) -> bool
 }
 
 /// The block's bytes, each moved on by one place, after a zero.
-#[inline(always)]
 fn one_back(block: u8x16) -> u8x16
     ensures { (i : ℕ) → i < 16 → slice_index result i ≡ slice_index (0 ∷ 0 ∷ 0 ∷ block) (suc (suc i)) }
 {
@@ -101,7 +92,6 @@ fn one_back(block: u8x16) -> u8x16
     )
 }
 
-#[inline(always)]
 fn two_back(block: u8x16) -> u8x16
     ensures { (i : ℕ) → i < 16 → slice_index result i ≡ slice_index (0 ∷ 0 ∷ 0 ∷ block) (suc i) }
 {
@@ -113,7 +103,6 @@ fn two_back(block: u8x16) -> u8x16
     )
 }
 
-#[inline(always)]
 fn three_back(block: u8x16) -> u8x16
     ensures { (i : ℕ) → i < 16 → slice_index result i ≡ slice_index (0 ∷ 0 ∷ 0 ∷ block) i }
 {
@@ -126,7 +115,6 @@ fn three_back(block: u8x16) -> u8x16
 }
 
 /// Zero where the first sixteen bytes may follow one another, from the beginning of a text.
-#[inline(always)]
 fn first_faults(bytes: &[u8]) -> u8x16
     requires { 16 ≤ length bytes.now }
     ensures { AreZero result → (i : ℕ) → i < 16 → FollowsAt (0 ∷ 0 ∷ 0 ∷ bytes.now) i }
@@ -137,7 +125,6 @@ fn first_faults(bytes: &[u8]) -> u8x16
 }
 
 /// Zero where each of the sixteen bytes after the first three may follow the three before it.
-#[inline(always)]
 fn next_faults(bytes: &[u8]) -> u8x16
     requires { 19 ≤ length bytes.now }
     ensures { AreZero result → (i : ℕ) → i < 16 → FollowsAt bytes.now i }
@@ -151,7 +138,6 @@ fn next_faults(bytes: &[u8]) -> u8x16
 }
 
 /// Whether no character is left open at the end.
-#[inline(always)]
 fn is_closed(bytes: &[u8]) -> bool
     requires { 3 ≤ length bytes.now }
     ensures { IsTrue result → EndsClosed bytes.now }
@@ -176,7 +162,6 @@ fn is_text_by_windows(bytes: &[u8]) -> bool
 }
 
 /// The bytes, three zeros before them, and zeros after them up to one window.
-#[inline(always)]
 fn one_window(bytes: &[u8]) -> [u8; 19]
     requires { length bytes.now ≤ 13 }
     ensures { result ≡ 0 ∷ 0 ∷ 0 ∷ (bytes.now ++ replicate (16 - length bytes.now) 0) }
@@ -187,7 +172,6 @@ fn one_window(bytes: &[u8]) -> [u8; 19]
 }
 
 /// The same up to two windows.
-#[inline(always)]
 fn two_windows(bytes: &[u8]) -> [u8; 35]
     requires { length bytes.now ≤ 29 }
     ensures { result ≡ 0 ∷ 0 ∷ 0 ∷ (bytes.now ++ replicate (32 - length bytes.now) 0) }
@@ -236,7 +220,8 @@ fn is_text_outside_ascii(bytes: &[u8]) -> bool
 
 /// Whether the bytes that `plain_front` leaves are UTF-8.
 #[tactic(auto, using(crate::proofs::Primitives::ascii_text))]
-#[inline(always)]
+// Not inlined: without it `is_long_text` saves no registers.
+#[inline(never)]
 fn is_text_after_front(bytes: &[u8]) -> bool
     ensures { IsTrue result → IsUtf8 bytes.now }
 {
@@ -244,30 +229,21 @@ fn is_text_after_front(bytes: &[u8]) -> bool
 }
 
 /// Whether the bytes are UTF-8; a front of ASCII is passed over.
-#[inline(always)]
 pub(crate) fn is_long_text(bytes: &[u8]) -> bool
     ensures { IsTrue result → IsUtf8 bytes.now }
 {
     let front = plain_front(bytes);
-    is_text_after_front(&bytes[front..])
-}
-
-/// `is_long_text` by a call: `is_text` stays small where it is inlined.
-fn is_long_text_by_call(bytes: &[u8]) -> bool
-    ensures { IsTrue result → IsUtf8 bytes.now }
-{
-    is_long_text(bytes)
+    front == bytes.len() || is_text_after_front(&bytes[front..])
 }
 
 /// Whether the bytes are UTF-8; false: undecided.
 #[tactic(auto, using(crate::proofs::Primitives::ascii_text))]
-#[inline(always)]
 pub(crate) fn is_text(bytes: &[u8]) -> bool
     ensures { IsTrue result → IsUtf8 bytes.now }
 {
     if bytes.len() < 128 {
         is_plain(bytes) || is_short_text(bytes)
     } else {
-        is_long_text_by_call(bytes)
+        is_long_text(bytes)
     }
 }
