@@ -214,22 +214,14 @@ impl Progress {
             listing,
             lines,
         )?;
-        match refused {
-            Some(fault) => {
-                *found = Some(Summary::Ended(Ending::Refused(fault)));
-                Ok(run.used)
-            }
+        *found = match refused {
+            Some(fault) => Some(Summary::Ended(Ending::Refused(fault))),
             None => match self.reader.damage() {
-                Some(damage) => {
-                    *found = Some(Summary::Broken(damage));
-                    Ok(run.used)
-                }
-                None => {
-                    *found = None;
-                    Ok(run.used)
-                }
+                Some(damage) => Some(Summary::Broken(damage)),
+                None => None,
             },
-        }
+        };
+        Ok(run.used)
     }
 
     /// `advance`; a piece that is whole at the front of the block is taken at once, head and content, if the conversation
