@@ -16,12 +16,11 @@ use Rattle.zk_asks.specs.Codes.{event_xid}
 use Rattle.zk_asks.specs.Frames.{IsFirst, IsLater, IsOfProfile, ops_of_ask}
 use Rattle.zk_asks.specs.Frames as asks
 use Rattle.zk_asks.specs.Rows.{op_of_ask}
-use Rattle.zk_asks.specs.Faults.{IsFirstFault, IsAskFault}
+use Rattle.zk_asks.specs.Faults.{IsAskFault}
 use Rattle.zk_asks.proofs.Choices.{int_decided}
 use Rattle.zk_asks.proofs.Deciding.{first_decided, ask_decided, FirstIs, LaterIs}
 use Rattle.zk_answers.specs.Held.{ServerFrame}
 use Rattle.zk_answers.specs.declared.frame.ServerFrameOf.TheVariants.{Connected, Answered, Event}
-use Rattle.zk_answers.specs.Frames.{IsConnected, IsEvent}
 use Rattle.zk_answers.specs.Frames as answers
 use Rattle.zk_answers.proofs.Deciding.{connected_decided, head_decided, Heads, event_decided, reply_decided}
 use Rattle.zk_frames.specs.Framing.{IsBeginning, IsFrame, IsBadLength}
@@ -45,7 +44,7 @@ use Rattle.zk_talk.specs.Good.{IsGood}
 use Rattle.zk_talk.specs.Fault.{IsFaultOf, fault_of, side_limit}
 use Rattle.zk_talk.specs.Answer.{AreMessages}
 use Rattle.zk_talk.specs.Stands.{TalkState, Stands, Refuses, held_on, frames_on, size_on}
-use Rattle.zk_talk.specs.Judged.{IsInTurn, IsNextClient, IsNextServer, IsRemembered, IsForgotten, HasRoomFor}
+use Rattle.zk_talk.specs.Judged.{IsNextClient, IsNextServer, IsRemembered, IsForgotten, HasRoomFor}
 use Rattle.zk_talk.specs.Advance.IsStop.{too_many, out_of_range}
 use Rattle.zk_talk.proofs.Small.{small_limits}
 use Rattle.zk_talk.proofs.Start.{start_state, start}

@@ -1,5 +1,5 @@
 -- How a payload's judgement is reported.
-use Rattle.std.specs.Prelude.{◌≡◌, ℕ, ◌<◌, ◌≤◌, ◌+◌, ◌⊎◌, List, [], ◌∷◌, ◌++◌, drop, Option, Some, slice_get}
+use Rattle.std.specs.Prelude.{◌≡◌, ℕ, ◌<◌, ◌≤◌, ◌+◌, ◌⊎◌, List, drop, Option, Some, slice_get}
 use Rattle.zk_jute.specs.declared.fault.ItemFault.{ItemFault}
 use Rattle.zk_jute.specs.declared.fault.Reason.{Reason}
 use Rattle.zk_jute.specs.declared.fault.Reason.TheVariants.{QueueFull}
@@ -23,7 +23,7 @@ use Rattle.zk_talk.specs.Fault.{IsClientFault, IsServerFault}
 use Rattle.zk_talk.specs.Streams.{StreamState}
 use Rattle.zk_talk.specs.Viewed.{ShowsClient, ShowsServer}
 use Rattle.zk_talk.specs.Describes.{Describes}
-use Rattle.zk_talk.specs.Conversation.{Conversation, ClientMay, ServerMay, load, weight}
+use Rattle.zk_talk.specs.Conversation.{Conversation, ServerMay, weight}
 
 -- the fault, with its place in 32 bits
 abbrev pub Tells : (ℕ → Reason → Type 0) → ItemFault → Type 0
