@@ -28,16 +28,20 @@ use Rattle.zk_c.specs.Passage.{PassageState, newest_on}
 abbrev pub no_passed : ℕ → PassedAnswer
 no_passed status = record { used = 0; status = status; went = 0; xid = pos 0; operation = pos 0; fault = no_fault }
 
+-- a step that used these many bytes, by the number of what became of them
+abbrev pub step_of : ℕ → ℕ → PassedAnswer
+step_of used number = record (no_passed 0) { used = used; went = number }
+
 abbrev pub went_answer : ℕ → Went → PassedAnswer
-went_answer used went.Within = record { used = used; status = 0; went = 0; xid = pos 0; operation = pos 0; fault = no_fault }
-went_answer used went.Message = record { used = used; status = 0; went = 1; xid = pos 0; operation = pos 0; fault = no_fault }
-went_answer used (went.Asked turn) = record { used = used; status = 0; went = 2; xid = turn.xid; operation = turn.number; fault = no_fault }
-went_answer used (went.Answered turn) = record { used = used; status = 0; went = 3; xid = turn.xid; operation = turn.number; fault = no_fault }
-went_answer used went.Full = record { used = used; status = 0; went = 4; xid = pos 0; operation = pos 0; fault = no_fault }
+went_answer used went.Within = step_of used 0
+went_answer used went.Message = step_of used 1
+went_answer used (went.Asked turn) = record (step_of used 2) { xid = turn.xid; operation = turn.number }
+went_answer used (went.Answered turn) = record (step_of used 3) { xid = turn.xid; operation = turn.number }
+went_answer used went.Full = step_of used 4
 
 abbrev pub passed_answer : Result Passed Fault → PassedAnswer
 passed_answer (Ok s) = went_answer s.used s.went
-passed_answer (Err f) = record { used = 0; status = reason_number f.reason; went = 0; xid = pos 0; operation = pos 0; fault = fault_numbers f }
+passed_answer (Err f) = record (no_passed (reason_number f.reason)) { fault = fault_numbers f }
 
 -- whether the side's newest whole frame is a message, after this
 abbrev pub newest : Went → Bool → Bool
@@ -62,7 +66,7 @@ pub record IsPassing (old : PassageState) (side : Side) (piece : List ℕ) (outc
   pub others : newest_on (other_side side) new ≡ newest_on (other_side side) old
 
 -- the answer is that of such a step of the passage, which goes on behind the handle
-pub record TellsPassing (old : PassageState) (side : Side) (piece : List ℕ) (answer : PassedAnswer) (after : Option PassageState) : Type 0 where
+pub record TellsStep (old : PassageState) (side : Side) (piece : List ℕ) (answer : PassedAnswer) (after : Option PassageState) : Type 0 where
   pub outcome : Result Passed Fault
   pub passage : PassageState
   pub held : after ≡ Some passage

@@ -38,11 +38,10 @@ fn went_answer(used: usize, went: Went) -> PassedAnswer
     };
     PassedAnswer {
         used,
-        status: WELL,
         went: number,
         xid,
         operation,
-        fault: no_fault(),
+        ..PassedAnswer::none(WELL)
     }
 }
 
@@ -69,12 +68,8 @@ impl PassedAnswer {
             Ok(passed) => went_answer(passed.used, passed.went),
             Err(fault) => {
                 PassedAnswer {
-                    used: 0,
-                    status: reason_number(fault.reason),
-                    went: 0,
-                    xid: 0,
-                    operation: 0,
                     fault: fault_numbers(fault),
+                    ..PassedAnswer::none(reason_number(fault.reason))
                 }
             }
         }

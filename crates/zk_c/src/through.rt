@@ -7,7 +7,7 @@ ghost use Rattle.zk_c.specs.Answer.{no_message, no_line};
 ghost use Rattle.zk_c.specs.Handle.{AreNoLimits};
 ghost use Rattle.zk_c.specs.Read.{no_read};
 ghost use Rattle.zk_c.specs.Passage.{PassageState};
-ghost use Rattle.zk_c.specs.Passing.{no_passed, IsNew, Renews, TellsPassing, IsView, IsFields, IsLeftOut};
+ghost use Rattle.zk_c.specs.Passing.{no_passed, IsNew, Renews, TellsStep, IsView, IsFields, IsLeftOut};
 
 use crate::answer::{LineAnswer, MessageAnswer};
 use crate::loose::Loose;
@@ -137,7 +137,7 @@ pub extern "C" fn zk_through_step(
     // With no passage there is no step.
     ensures empty { handle.old.held.value ≡ None → IsSome (side_of side) → (result ≡ no_passed 65) × (handle.new.held.value ≡ None) }
     // The passage makes the step, and the handle keeps it.
-    ensures step { (s : Side) (p : PassageState) → side_of side ≡ Some s → handle.old.held.value ≡ Some p → TellsPassing p s piece.now result handle.new.held.value }
+    ensures step { (s : Side) (p : PassageState) → side_of side ≡ Some s → handle.old.held.value ≡ Some p → TellsStep p s piece.now result handle.new.held.value }
 {
     let Some(side) = side_of(side) else {
         return PassedAnswer::none(RANGE);
