@@ -23,24 +23,27 @@ pub struct PassedAnswer {
     pub operation: i32,
     /// The fault of the conversation.
     pub fault: FaultNumbers,
+    /// The number of its frame among the client's, from 0; 0 if no frame is left out.
+    pub frame: u64,
 }
 
 /// The number of bytes that were used, and what became of them, in numbers.
 fn went_answer(used: usize, went: Went) -> PassedAnswer
     ensures { result ≡ went_answer used went }
 {
-    let (number, xid, operation) = match went {
-        Went::Within => (0, 0, 0),
-        Went::Message => (1, 0, 0),
-        Went::Asked(turn) => (2, turn.xid, turn.number),
-        Went::Answered(turn) => (3, turn.xid, turn.number),
-        Went::Full => (4, 0, 0),
+    let (number, xid, operation, frame) = match went {
+        Went::Within => (0, 0, 0, 0),
+        Went::Message => (1, 0, 0, 0),
+        Went::Asked(turn) => (2, turn.xid, turn.number, turn.frame),
+        Went::Answered(turn) => (3, turn.xid, turn.number, turn.frame),
+        Went::Full => (4, 0, 0, 0),
     };
     PassedAnswer {
         used,
         went: number,
         xid,
         operation,
+        frame,
         ..PassedAnswer::none(WELL)
     }
 }
@@ -57,6 +60,7 @@ impl PassedAnswer {
             xid: 0,
             operation: 0,
             fault: no_fault(),
+            frame: 0,
         }
     }
 
