@@ -116,11 +116,11 @@ enum {
     ZK_MESSAGE = 1,  /* a frame is whole: a message */
     ZK_ASKED = 2,    /* a request is whole whose operation the profile lacks: it is left out */
     ZK_ANSWERED = 3, /* the reply to such a request is whole: it is left out */
-    ZK_FULL = 4      /* as many requests wait as may: nothing of the client's piece was used */
+    ZK_FULL = 4      /* with the client's frame more would wait than may: nothing of its piece was used */
 };
 
-/* What a passage's step returns: the bytes used of the piece, and what became of them. xid and operation are those of the
- * request of ZK_ASKED and ZK_ANSWERED. */
+/* What a passage's step returns: the bytes used of the piece, and what became of them. xid, operation and frame are those
+ * of the request of ZK_ASKED and ZK_ANSWERED: frame is the number of the client's frame, from 0; else they are 0. */
 struct zk_passed {
     size_t used;
     uint32_t status;
@@ -128,6 +128,7 @@ struct zk_passed {
     int32_t xid;
     int32_t operation;
     struct zk_fault fault;
+    uint64_t frame;
 };
 
 /* Kinds of an ending. */
@@ -333,16 +334,16 @@ struct zk_line zk_talk_ending_line(struct zk_talk *talk, uint8_t *out, size_t ro
 void zk_talk_free(struct zk_talk *talk);
 
 /* Makes a passage: a talk that goes on where the profile ends. The numbers are those of zk_talk_new. What is judged is the
- * conversation without the requests under ordinary xids whose operations the profile lacks, such as getEphemerals, and
- * without the replies to them. It holds twice the memory of a talk, and the requests that wait. */
+ * conversation without the requests whose operations the profile lacks, such as getEphemerals and setWatches2, and
+ * without the replies to them. Requests under the xids of pings, auths and events are never left out. It holds twice the
+ * memory of a talk, and the requests that wait. */
 uint32_t zk_through_new(struct zk_through *through, uint32_t client, uint32_t server, uint32_t waiting, uint32_t profile);
 
 /* Begins anew with the same limits, as zk_talk_renew. */
 uint32_t zk_through_renew(struct zk_through *through);
 
 /* Takes a piece as zk_talk_step does. A fault's frame and offset are the side's own, those left out counted. After ZK_FULL
- * the server's bytes come first: give the client's piece again when a request has its reply. A multi, a ping, an auth and a
- * setWatches may be refused with ZK_QUEUE_FULL all the same. */
+ * the server's bytes come first: give the client's piece again when a request has its reply. */
 struct zk_passed zk_through_step(struct zk_through *through, uint32_t side, const uint8_t *piece, size_t length);
 
 /* The message of the side's newest whole frame; ZK_NO_MESSAGE if that was left out. */
@@ -353,6 +354,10 @@ struct zk_read zk_through_fields(struct zk_through *through, uint32_t side, stru
 
 /* Writes the payload of the frame that the side's last step left out; ZK_NO_MESSAGE if it left none out. */
 struct zk_line zk_through_payload(struct zk_through *through, uint32_t side, uint8_t *out, size_t room);
+
+/* How the conversation ends if nothing more comes. Frames that are left out count: as unanswered, a request without its
+ * reply; as cut, a frame that isn't whole. */
+struct zk_ending zk_through_finish(struct zk_through *through);
 
 /* Frees the passage; the handle is then empty. */
 void zk_through_free(struct zk_through *through);
@@ -730,6 +735,12 @@ static inline struct zk_line zk_safe_through_payload(struct zk_through *through,
     return answer.status != ZK_WELL ? answer : zk_through_payload(through, side, (uint8_t *)zk_into(out), room);
 }
 
+static inline struct zk_ending zk_safe_through_finish(struct zk_through *through) {
+    struct zk_ending answer = ZK_ZEROS;
+    answer.status = zk_fault_at(through, 1, sizeof *through);
+    return answer.status != ZK_WELL ? answer : zk_through_finish(through);
+}
+
 static inline void zk_safe_through_free(struct zk_through *through) {
     if (zk_fault_at(through, 1, sizeof *through) == ZK_WELL) {
         zk_through_free(through);
@@ -879,6 +890,7 @@ static inline struct zk_line zk_safe_listing(const struct zk_piece *pieces, size
 #define zk_through_view zk_safe_through_view
 #define zk_through_fields zk_safe_through_fields
 #define zk_through_payload zk_safe_through_payload
+#define zk_through_finish zk_safe_through_finish
 #define zk_through_free zk_safe_through_free
 #define zk_speaker_new zk_safe_speaker_new
 #define zk_speaker_renew zk_safe_speaker_renew

@@ -93,11 +93,14 @@ static void count_all(struct played *it, uint32_t side) {
     must(held.bytes <= 4 + (1 << 24), "more bytes are held than a frame has");
 }
 
-static void finish(struct played *it) {
-    struct zk_ending ending = zk_talk_finish(one_in(50) ? NULL : &it->talk);
+static void finish(struct played *it, enum kind kind) {
+    bool none = one_in(50);
+    struct zk_ending ending = kind == TALK ? zk_talk_finish(none ? NULL : &it->talk)
+                                           : zk_through_finish(none ? NULL : &it->through);
     answered(ending.status);
     if (ending.status != ZK_NULL) refused(ending.status, it->live, true);
     must((ending.status == ZK_WELL) == (ending.kind != 0), "an ending without a kind");
+    must((ending.kind == ZK_REFUSED) == (ending.fault.reason != 0), "a refusal without its fault");
 }
 
 /* Judges a text that a call has written: all of it, or nothing. */
@@ -164,7 +167,8 @@ static void pass_through(struct played *it) {
     if (step.went <= ZK_FULL) wents[step.went]++;
     bool asked = step.went == ZK_ASKED, answers = step.went == ZK_ANSWERED, left = asked || answers;
     must(step.went <= ZK_FULL && (step.status == ZK_WELL || step.went == ZK_WITHIN), "what became of the bytes");
-    must(left || (step.xid == 0 && step.operation == 0), "a request that wasn't left out");
+    must(left || (step.xid == 0 && step.operation == 0 && step.frame == 0), "a request that wasn't left out");
+    must(!left || step.frame > 0, "the number of the frame of what is left out");
     must(!asked || side == ZK_CLIENT, "a request of the server");
     must(!answers || side == ZK_SERVER, "a reply of the client");
     must(step.went != ZK_FULL || (side == ZK_CLIENT && step.used == 0), "bytes that are used where none may wait");
@@ -251,7 +255,7 @@ static void call_talk(struct played *it) {
     case 1: if (one_in(it->broken ? 8 : 40)) end(it, TALK);
             else if (one_in(it->broken ? 4 : 40)) renew(it, TALK);
             break;
-    case 2: finish(it); break;
+    case 2: finish(it, TALK); break;
     case 3: write_text(it, ending_line, ZK_CLIENT); break;
     case 4: case 5: write_text(it, line, side); break;
     case 6: case 7: write_text(it, payload, side); break;
@@ -263,13 +267,14 @@ static void call_talk(struct played *it) {
 
 static void call_passage(struct played *it) {
     uint32_t side = any_side();
-    switch (chance(12)) {
+    switch (chance(13)) {
     case 0: begin(it, PASSAGE); break;
     case 1: if (one_in(it->broken ? 8 : 40)) end(it, PASSAGE);
             else if (one_in(it->broken ? 3 : 40)) renew(it, PASSAGE);
             break;
     case 2: write_text(it, left_out, side); break;
     case 3: show_fields(it, PASSAGE, side); break;
+    case 4: finish(it, PASSAGE); break;
     default: pass_through(it);
     }
 }

@@ -52,6 +52,11 @@ static void is_new_speaker(struct played *it) {
     must(frame.status == ZK_WELL && frame.length == 0, "a frame of a speaker that has said nothing");
 }
 
+static void is_new_ending(struct zk_ending ending) {
+    answered(ending.status);
+    must(ending.kind == ZK_WHOLE && ending.unanswered == 0, "an ending of before the handle was begun anew");
+}
+
 static void is_new_passage(struct played *it) {
     for (uint32_t side = ZK_CLIENT; side <= ZK_SERVER; side++) {
         must(answered(zk_through_view(&it->through, side).status) == ZK_NO_MESSAGE, "a message of before");
@@ -59,6 +64,7 @@ static void is_new_passage(struct played *it) {
         struct zk_passed step = zk_through_step(&it->through, side, NULL, 0);
         must(answered(step.status) == ZK_WELL && step.went == ZK_WITHIN, "a fault of before");
     }
+    is_new_ending(zk_through_finish(&it->through));
 }
 
 static void is_new_talk(struct played *it) {
@@ -71,9 +77,7 @@ static void is_new_talk(struct played *it) {
         must(held.bytes == 0, "bytes of before the talk was begun anew");
         must(answered(zk_talk_view(&it->talk, side).status) == ZK_NO_MESSAGE, "a frame of before");
     }
-    struct zk_ending ending = zk_talk_finish(&it->talk);
-    answered(ending.status);
-    must(ending.kind == ZK_WHOLE && ending.unanswered == 0, "an ending of before the talk was begun anew");
+    is_new_ending(zk_talk_finish(&it->talk));
 }
 
 /* The handle is begun anew, whatever came before. */

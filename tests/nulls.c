@@ -44,6 +44,7 @@ static void handles_that_are_null(void) {
     expect("zk_through_view", zk_through_view(NULL, ZK_CLIENT).status, ZK_NULL);
     expect("zk_through_fields", zk_through_fields(NULL, ZK_CLIENT, &field, 1).status, ZK_NULL);
     expect("zk_through_payload", zk_through_payload(NULL, ZK_CLIENT, out, room).status, ZK_NULL);
+    expect("zk_through_finish", zk_through_finish(NULL).status, ZK_NULL);
     zk_through_free(NULL);
     expect("zk_speaker_new", zk_speaker_new(NULL, 64, 64, 1, 34), ZK_NULL);
     expect("zk_speaker_renew", zk_speaker_renew(NULL), ZK_NULL);
@@ -107,6 +108,8 @@ static void empty_passages(void) {
     expect("zk_through_view, no passage", zk_through_view(&through, ZK_CLIENT).status, ZK_EMPTY);
     expect("zk_through_fields, no passage", zk_through_fields(&through, ZK_CLIENT, &field, 1).status, ZK_EMPTY);
     expect("zk_through_payload, no passage", zk_through_payload(&through, ZK_CLIENT, out, room).status, ZK_EMPTY);
+    expect("zk_through_finish, no passage", zk_through_finish(&through).status, ZK_EMPTY);
+    expect("zk_through_finish, no passage, kind", zk_through_finish(&through).kind, 0);
     zk_through_free(&through);
 }
 
@@ -135,7 +138,11 @@ static void passages(void) {
     expect("zk_through_payload, no room", zk_through_payload(&through, ZK_CLIENT, NULL, 0).status, ZK_NO_MESSAGE);
     expect("zk_through_payload, no side", zk_through_payload(&through, 2, out, room).status, ZK_RANGE);
     expect("zk_through_payload, too long", zk_through_payload(&through, ZK_CLIENT, out, more).status, ZK_RANGE);
+    expect("zk_through_finish, nothing came", zk_through_finish(&through).kind, ZK_WHOLE);
+    expect("zk_through_step, well", zk_through_step(&through, ZK_CLIENT, &byte, 1).status, ZK_WELL);
+    expect("zk_through_finish, a byte came", zk_through_finish(&through).kind, ZK_CUT);
     expect("zk_through_renew", zk_through_renew(&through), ZK_WELL);
+    expect("zk_through_finish, begun anew", zk_through_finish(&through).kind, ZK_WHOLE);
     zk_through_free(&through);
     empty_passages();
 }

@@ -184,7 +184,11 @@ func (t Talk) Ending() (Ending, error) {
 	}
 	t.it.Lock()
 	defer t.it.Unlock()
-	found := C.zk_safe_talk_finish(&t.it.handle)
+	return ending(C.zk_safe_talk_finish(&t.it.handle))
+}
+
+// ending returns the ending that a call returned.
+func ending(found C.struct_zk_ending) (Ending, error) {
 	ending := Ending{EndingKind(found.kind), uint32(found.unanswered), Side(found.side), uint64(found.frame),
 		uint32(found.got), Fault{}}
 	if found.kind == C.ZK_REFUSED {

@@ -12,7 +12,7 @@ import (
 type Went uint32
 
 // WentWithin: no frame is whole. WentMessage: a frame is whole, a message. WentAsked: a request is whole whose operation
-// the profile lacks, and is left out. WentAnswered: so is the reply to one. WentFull: as many requests wait as may, and
+// the profile lacks, and is left out. WentAnswered: so is the reply to one. WentFull: more would wait than may, and
 // nothing was used.
 const (
 	WentWithin   Went = C.ZK_WITHIN
@@ -23,13 +23,14 @@ const (
 )
 
 // Passed is what became of the Used bytes of a step. With WentMessage it has the Message. With WentAsked and
-// WentAnswered it has the request's xid and operation, and the payload that is left out.
+// WentAnswered it has the request's xid and operation, the number of its frame, and the payload that is left out.
 type Passed struct {
 	Went      Went
 	Used      int
 	Message   *Message
 	Xid       int32
 	Operation int32
+	Frame     uint64
 	Payload   []byte
 }
 
@@ -101,7 +102,8 @@ func (p Through) Feed(side Side, piece []byte) (every []Passed, err error) {
 
 // passed returns what became of the bytes that a step used.
 func (it *through) passed(side Side, step C.struct_zk_passed, used []byte) (passed Passed, err error) {
-	passed = Passed{Went: Went(step.went), Used: len(used), Xid: int32(step.xid), Operation: int32(step.operation)}
+	passed = Passed{Went: Went(step.went), Used: len(used), Xid: int32(step.xid), Operation: int32(step.operation),
+		Frame: uint64(step.frame)}
 	it.came[side] = append(it.came[side], used...)
 	if passed.Went == WentWithin || passed.Went == WentFull {
 		return passed, nil
@@ -119,4 +121,14 @@ func (it *through) passed(side Side, step C.struct_zk_passed, used []byte) (pass
 		return C.zk_safe_through_payload(&it.handle, C.uint32_t(side), out, room)
 	})
 	return passed, err
+}
+
+// Ending returns how the conversation ends if nothing more comes, with all frames that came.
+func (p Through) Ending() (Ending, error) {
+	if p.it == nil {
+		return Ending{}, empty
+	}
+	p.it.Lock()
+	defer p.it.Unlock()
+	return ending(C.zk_safe_through_finish(&p.it.handle))
 }

@@ -23,9 +23,9 @@ var came = []struct {
 }{
 	{Client, hello, "message 0 0 of frame 0"},
 	{Server, welcome, "message 0 0 of frame 0"},
-	{Client, ephemerals, "asked 1 103"},
+	{Client, ephemerals, "asked 1 103 of frame 1"},
 	{Client, existsTwo, "message 2 3 of frame 2"},
-	{Server, none, "answered 1 103"},
+	{Server, none, "answered 1 103 of frame 1"},
 	{Server, noNodeTwo, "message 2 3 of frame 2"},
 }
 
@@ -46,7 +46,7 @@ func told(t *testing.T, p Through, side Side, piece []byte) (found []string, use
 		t.Fatal(err)
 	}
 	for _, step := range every {
-		of := fmt.Sprintf("%d %d", step.Xid, step.Operation)
+		of := fmt.Sprintf("%d %d of frame %d", step.Xid, step.Operation, step.Frame)
 		switch step.Went {
 		case WentWithin:
 			of = "within"
@@ -119,10 +119,10 @@ func TestFull(t *testing.T) {
 		told  []string
 		used  []int
 	}{
-		{Client, framed(ephemerals, existsTwo), []string{"asked 1 103", "full"}, []int{18, 0}},
+		{Client, framed(ephemerals, existsTwo), []string{"asked 1 103 of frame 1", "full"}, []int{18, 0}},
 		{Client, framed(existsTwo)[:9], []string{"within"}, []int{9}},
 		{Client, framed(existsTwo)[9:], []string{"full"}, []int{0}},
-		{Server, framed(none), []string{"answered 1 103"}, []int{24}},
+		{Server, framed(none), []string{"answered 1 103 of frame 1"}, []int{24}},
 		{Client, framed(existsTwo)[9:], []string{"message 2 3 of frame 2"}, []int{10}},
 	} {
 		found, used := told(t, p, row.side, row.piece)
@@ -144,6 +144,30 @@ func TestReplyBeforeItsTurn(t *testing.T) {
 	}
 }
 
+func TestEndingsOfPassages(t *testing.T) {
+	p := newThrough(t, 65536)
+	ends := func(wanted Ending) {
+		t.Helper()
+		if found, err := p.Ending(); err != nil || found != wanted {
+			t.Error(found, err, "not", wanted)
+		}
+	}
+	ends(Ending{Kind: Whole})
+	for _, row := range came[:4] {
+		told(t, p, row.side, framed(row.payload))
+	}
+	ends(Ending{Kind: Whole, Unanswered: 2})
+	told(t, p, Server, framed(none)[:9])
+	ends(Ending{Kind: Cut, Side: Server, Frame: 1, Got: 9})
+	told(t, p, Server, framed(none)[9:])
+	ends(Ending{Kind: Whole, Unanswered: 1})
+	wanted := Fault{Status: 14, Refused: true, At: At{Server, 2, 89, 2, 1}}
+	if _, err := p.Feed(Server, framed(none)); err != wanted {
+		t.Error(err)
+	}
+	ends(Ending{Kind: Refused, Fault: wanted})
+}
+
 func TestClosedPassages(t *testing.T) {
 	p := newThrough(t, 65536)
 	if _, err := p.Feed(2, nil); err != (Fault{Status: 67}) {
@@ -156,6 +180,9 @@ func TestClosedPassages(t *testing.T) {
 			t.Error(err)
 		}
 		if err := it.Renew(); err != empty {
+			t.Error(err)
+		}
+		if _, err := it.Ending(); err != empty {
 			t.Error(err)
 		}
 		it.Close()

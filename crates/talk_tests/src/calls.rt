@@ -1,5 +1,5 @@
 //! Tests of `Talk`, call by call: what each returns, and what the sides then hold.
-use crate::frames::hex;
+use crate::frames::piece;
 use std::alloc::Global;
 use std::process::Abort;
 use std::test::Fail;
@@ -19,13 +19,9 @@ fn called(talk: &mut Talk, call: &str, side: Side, piece: &[u8]) -> Result<(usiz
 /// What the call of a row returns, how much is then held of the client and of the server, what waits, and whether a
 /// message of either is shown.
 fn told(alloc: Global, talk: &mut Talk, asked: &str) -> Result<String, Fail> {
-    let (call, rest) = asked.split_once(' ').ok_or("no call")?;
-    let (letter, digits) = rest.split_once(' ').ok_or("no side")?;
-    let side = match letter {
-        "C" => Side::Client,
-        _ => Side::Server,
-    };
-    let answer = called(talk, call, side, &hex(alloc, digits)?);
+    let (call, row) = asked.split_once(' ').ok_or("no call")?;
+    let (side, bytes) = piece(alloc, row)?;
+    let answer = called(talk, call, side, &bytes);
     let shown = (
         talk.view(Side::Client).is_some(),
         talk.view(Side::Server).is_some(),

@@ -2,7 +2,7 @@
 use std::alloc::Global;
 use std::test::Fail;
 use zk_records::Profile;
-use zk_talk::Limits;
+use zk_talk::{Limits, Side};
 
 /// A connect request.
 pub(crate) const CONNECT: &[u8] =
@@ -27,4 +27,14 @@ pub(crate) fn newer() -> Result<Limits, Fail> {
 /// The bytes of hexadecimal digits.
 pub(crate) fn hex(alloc: Global, digits: &str) -> Result<Vec<u8>, Fail> {
     Ok(hex::decode(alloc, digits)?)
+}
+
+/// The side of a row, `C` or `S`, and the bytes of the hexadecimal digits after it.
+pub(crate) fn piece(alloc: Global, row: &str) -> Result<(Side, Vec<u8>), Fail> {
+    let (letter, digits) = row.split_once(' ').ok_or("no side")?;
+    let side = match letter {
+        "C" => Side::Client,
+        _ => Side::Server,
+    };
+    Ok((side, hex(alloc, digits)?))
 }

@@ -1,36 +1,40 @@
-//! Tests of `Through`, call by call: what each step returns, and what then waits, is left out and is shown.
-use crate::frames::hex;
+//! Tests of `Through`, call by call: what each step returns, what then waits and is left out, and how it ends.
+use crate::frames::piece;
 use std::alloc::Global;
 use std::process::Abort;
 use std::test::Fail;
 use zk_talk::{Limits, Side};
 use zk_through::Through;
 
-/// What the step of a row returns, what then waits, and of each side whether a frame is left out and a message is shown.
+/// What the step of a row returns, what then waits, whether each side's frame is left out, and how the bytes so far end.
 fn told(alloc: Global, through: &mut Through, asked: &str) -> Result<String, Fail> {
-    let (letter, digits) = asked.split_once(' ').ok_or("no side")?;
-    let side = match letter {
-        "C" => Side::Client,
-        _ => Side::Server,
-    };
-    let answer = through.step(side, &hex(alloc, digits)?);
+    let (side, bytes) = piece(alloc, asked)?;
+    let answer = through.step(side, &bytes);
     let waiting = through.waiting();
     let out = (
         through.payload(Side::Client).is_some(),
         through.payload(Side::Server).is_some(),
     );
-    Ok(format!(in alloc; "{answer:?} waiting {waiting} out {out:?}")?)
+    let ending = through.finish();
+    Ok(format!(in alloc; "{answer:?} waiting {waiting} out {out:?} ends {ending:?}")?)
 }
 
-/// Each step of the rows returns what its row says, with room for `waiting` requests; and so it does anew.
+/// The connect request, and the reply to it.
+const CONNECTED: &str = "\
+C 0000002d000000000000000000000000000075300000000000000000000000100000000000000000000000000000000000 = Ok(Passed { used: 49, went: Message }) waiting 0 out (false, false) ends Whole { unanswered: 1 }
+S 000000250000000000007530010000000000000100000010000102030405060708090a0b0c0d0e0f00 = Ok(Passed { used: 41, went: Message }) waiting 0 out (false, false) ends Whole { unanswered: 0 }";
+
+/// After these two, each step of the rows returns what its row says, with room for `waiting` requests; and so it does anew.
 fn goes(rt: &impl Abort, alloc: Global, waiting: u32, rows: &str) -> Result<(), Fail> {
     let limits = Limits::new(4_194_304, 4_194_304, waiting).ok_or("no limits")?;
     let mut through = Through::new(alloc, limits)?;
     for _ in 0..2 {
-        for row in rows.lines() {
-            let (asked, want) = row.split_once(" = ").ok_or("no row")?;
-            let told = told(alloc, &mut through, asked)?;
-            assert!(rt; told.starts_with(want), "{asked} = {told}");
+        for rows in [CONNECTED, rows] {
+            for row in rows.lines() {
+                let (asked, want) = row.split_once(" = ").ok_or("no row")?;
+                let told = told(alloc, &mut through, asked)?;
+                assert!(rt; told.starts_with(want), "{asked} = {told}");
+            }
         }
         through.renew();
         assert!(rt; through.view(Side::Client).is_none() && through.view(Side::Server).is_none());
@@ -40,12 +44,10 @@ fn goes(rt: &impl Abort, alloc: Global, waiting: u32, rows: &str) -> Result<(), 
 
 /// getEphemerals of ZooKeeper 3.6 (103) of `/a` under xid 1, its reply, and an exists request between them.
 const LEFT_OUT: &str = "\
-C 0000002d000000000000000000000000000075300000000000000000000000100000000000000000000000000000000000 = Ok(Passed { used: 49, went: Message }) waiting 0 out (false, false)
-S 000000250000000000007530010000000000000100000010000102030405060708090a0b0c0d0e0f00 = Ok(Passed { used: 41, went: Message }) waiting 0 out (false, false)
 C 0000000e00000001 = Ok(Passed { used: 8, went: Within }) waiting 0 out (false, false)
-C 00000067000000022f61ff = Ok(Passed { used: 10, went: Asked(Turn { xid: 1, number: 103 }) }) waiting 1 out (true, false)
+C 00000067000000022f61ff = Ok(Passed { used: 10, went: Asked(Turn { xid: 1, number: 103, frame: 1 }) }) waiting 1 out (true, false)
 C 0000000f0000000200000003000000022f6101 = Ok(Passed { used: 19, went: Message }) waiting 2 out (false, false)
-S 000000140000000100000000000000050000000000000000 = Ok(Passed { used: 24, went: Answered(Turn { xid: 1, number: 103 }) }) waiting 1 out (false, true)
+S 000000140000000100000000000000050000000000000000 = Ok(Passed { used: 24, went: Answered(Turn { xid: 1, number: 103, frame: 1 }) }) waiting 1 out (false, true)
 S 00000010000000020000000000000005ffffff9b = Ok(Passed { used: 20, went: Message }) waiting 0 out (false, false)";
 
 #[test]
@@ -55,25 +57,19 @@ fn pair_is_left_out(rt: HostRuntime) -> Result<(), Fail> {
 
 /// The reply to the exists request before that to getEphemerals, which was asked first.
 const BEFORE_ITS_TURN: &str = "\
-C 0000002d000000000000000000000000000075300000000000000000000000100000000000000000000000000000000000 = Ok(Passed { used: 49, went: Message })
-S 000000250000000000007530010000000000000100000010000102030405060708090a0b0c0d0e0f00 = Ok(Passed { used: 41, went: Message })
-C 0000000e0000000100000067000000022f61 = Ok(Passed { used: 18, went: Asked(Turn { xid: 1, number: 103 }) })
+C 0000000e0000000100000067000000022f61 = Ok(Passed { used: 18, went: Asked(Turn { xid: 1, number: 103, frame: 1 }) })
 C 0000000f0000000200000003000000022f6101 = Ok(Passed { used: 19, went: Message })
 S 00000010000000020000000000000005ffffff9b = Err(Fault { side: Server, frame: 1, offset: 61, place: 0, reason: XidOrder { expected: 1, got: 2 } })
 C 00 = Err(Fault { side: Server, frame: 1, offset: 61, place: 0, reason: XidOrder { expected: 1, got: 2 } })";
 
 /// The reply to getEphemerals before that to the exists request, which was asked first.
 const BEFORE_ANOTHERS: &str = "\
-C 0000002d000000000000000000000000000075300000000000000000000000100000000000000000000000000000000000 = Ok(Passed { used: 49, went: Message })
-S 000000250000000000007530010000000000000100000010000102030405060708090a0b0c0d0e0f00 = Ok(Passed { used: 41, went: Message })
 C 0000000f0000000100000003000000022f6101 = Ok(Passed { used: 19, went: Message })
-C 0000000e0000000200000067000000022f61 = Ok(Passed { used: 18, went: Asked(Turn { xid: 2, number: 103 }) })
+C 0000000e0000000200000067000000022f61 = Ok(Passed { used: 18, went: Asked(Turn { xid: 2, number: 103, frame: 2 }) })
 S 000000140000000200000000000000050000000000000000 = Err(Fault { side: Server, frame: 1, offset: 65, place: 0, reason: XidOrder { expected: 1, got: 2 } })";
 
 /// No request waits.
 const UNASKED: &str = "\
-C 0000002d000000000000000000000000000075300000000000000000000000100000000000000000000000000000000000 = Ok(Passed { used: 49, went: Message })
-S 000000250000000000007530010000000000000100000010000102030405060708090a0b0c0d0e0f00 = Ok(Passed { used: 41, went: Message })
 S 00000010000000020000000000000005ffffff9b = Err(Fault { side: Server, frame: 1, offset: 61, place: 0, reason: Unasked })";
 
 #[test]
@@ -86,8 +82,7 @@ fn replies_keep_their_turns(rt: HostRuntime) -> Result<(), Fail> {
 
 /// An exists request without its boolean, after a request that is left out: its frame and offset are the stream's.
 const SHORT: &str = "\
-C 0000002d000000000000000000000000000075300000000000000000000000100000000000000000000000000000000000 = Ok(Passed { used: 49, went: Message })
-C 0000000e0000000100000067000000022f61 = Ok(Passed { used: 18, went: Asked(Turn { xid: 1, number: 103 }) })
+C 0000000e0000000100000067000000022f61 = Ok(Passed { used: 18, went: Asked(Turn { xid: 1, number: 103, frame: 1 }) })
 C 0000000e0000000200000003000000022f61 = Err(Fault { side: Client, frame: 2, offset: 85, place: 14, reason: Short })";
 
 #[test]
@@ -97,14 +92,71 @@ fn fault_is_at_the_streams_frame(rt: HostRuntime) -> Result<(), Fail> {
 
 /// A request that is left out takes the room of one.
 const FULL: &str = "\
-C 0000002d000000000000000000000000000075300000000000000000000000100000000000000000000000000000000000 = Ok(Passed { used: 49, went: Message })
-S 000000250000000000007530010000000000000100000010000102030405060708090a0b0c0d0e0f00 = Ok(Passed { used: 41, went: Message })
-C 0000000e0000000100000067000000022f61 = Ok(Passed { used: 18, went: Asked(Turn { xid: 1, number: 103 }) }) waiting 1
+C 0000000e0000000100000067000000022f61 = Ok(Passed { used: 18, went: Asked(Turn { xid: 1, number: 103, frame: 1 }) }) waiting 1
 C 0000000f0000000200000003000000022f6101 = Ok(Passed { used: 0, went: Full }) waiting 1 out (false, false)
-S 000000140000000100000000000000050000000000000000 = Ok(Passed { used: 24, went: Answered(Turn { xid: 1, number: 103 }) }) waiting 0
+S 000000140000000100000000000000050000000000000000 = Ok(Passed { used: 24, went: Answered(Turn { xid: 1, number: 103, frame: 1 }) }) waiting 0
 C 0000000f0000000200000003000000022f6101 = Ok(Passed { used: 19, went: Message }) waiting 1";
 
 #[test]
-fn full_is_told_and_no_fault(rt: HostRuntime) -> Result<(), Fail> {
+fn full_is_no_fault(rt: HostRuntime) -> Result<(), Fail> {
     goes(&rt, rt.alloc(), 1, FULL)
+}
+
+/// As much as there is of a client's frame comes before what there is of the server's; requests that are left out are
+/// unanswered too.
+const ENDS: &str = "\
+C 0000000e00000001 = Ok(Passed { used: 8, went: Within }) waiting 0 out (false, false) ends Cut { side: Client, frame: 1, got: 8 }
+C 00000067000000022f61 = Ok(Passed { used: 10, went: Asked(Turn { xid: 1, number: 103, frame: 1 }) }) waiting 1 out (true, false) ends Whole { unanswered: 1 }
+C 0000000f0000000200000003000000022f6101 = Ok(Passed { used: 19, went: Message }) waiting 2 out (false, false) ends Whole { unanswered: 2 }
+S 00000014 = Ok(Passed { used: 4, went: Within }) waiting 2 out (false, false) ends Cut { side: Server, frame: 1, got: 4 }
+C 00 = Ok(Passed { used: 1, went: Within }) waiting 2 out (false, false) ends Cut { side: Client, frame: 3, got: 1 }
+C 000008fffffffe0000000b = Ok(Passed { used: 11, went: Message }) waiting 3 out (false, false) ends Cut { side: Server, frame: 1, got: 4 }
+S 0000000100000000000000050000000000000000 = Ok(Passed { used: 20, went: Answered(Turn { xid: 1, number: 103, frame: 1 }) }) waiting 2 out (false, true) ends Whole { unanswered: 2 }
+S 00000010000000070000000000000005ffffff9b = Err(Fault { side: Server, frame: 2, offset: 85, place: 0, reason: XidOrder { expected: 2, got: 7 } }) waiting 2 out (false, false) ends Refused(Fault { side: Server, frame: 2, offset: 85, place: 0, reason: XidOrder { expected: 2, got: 7 } })";
+
+#[test]
+fn ending_counts_what_is_left_out(rt: HostRuntime) -> Result<(), Fail> {
+    goes(&rt, rt.alloc(), 65_536, ENDS)
+}
+
+/// setWatches2 of ZooKeeper 3.6 (105) twice, with a setWatches between them, and an exists request: each lane has its own
+/// order.
+const WATCHES: &str = "\
+C 00000024fffffff80000006900000000000000050000000000000000000000000000000000000000 = Ok(Passed { used: 40, went: Asked(Turn { xid: -8, number: 105, frame: 1 }) }) waiting 1 out (true, false)
+C 0000000f0000000100000003000000022f6101 = Ok(Passed { used: 19, went: Message }) waiting 2 out (false, false)
+C 0000001cfffffff8000000650000000000000005000000000000000000000000 = Ok(Passed { used: 32, went: Message }) waiting 3 out (false, false)
+C 00000024fffffff80000006900000000000000050000000000000000000000000000000000000000 = Ok(Passed { used: 40, went: Asked(Turn { xid: -8, number: 105, frame: 4 }) }) waiting 4 out (true, false)
+S 00000010000000010000000000000005ffffff9b = Ok(Passed { used: 20, went: Message }) waiting 3 out (true, false)
+S 00000010fffffff8000000000000000500000000 = Ok(Passed { used: 20, went: Answered(Turn { xid: -8, number: 105, frame: 1 }) }) waiting 2 out (true, true)
+S 00000010fffffff8000000000000000500000000 = Ok(Passed { used: 20, went: Message }) waiting 1 out (true, false)
+S 00000010fffffff8000000000000000500000000 = Ok(Passed { used: 20, went: Answered(Turn { xid: -8, number: 105, frame: 4 }) }) waiting 0 out (true, true) ends Whole { unanswered: 0 }
+S 00000010fffffff8000000000000000500000000 = Err(Fault { side: Server, frame: 5, offset: 141, place: 0, reason: Unasked })";
+
+/// An operation that the profile lacks, under a ping's xid.
+const LACKING_PING: &str = "\
+C 00000008fffffffe00000069 = Err(Fault { side: Client, frame: 1, offset: 61, place: 4, reason: UnknownOp })";
+
+#[test]
+fn lanes_keep_their_own_turns(rt: HostRuntime) -> Result<(), Fail> {
+    for rows in [WATCHES, LACKING_PING] {
+        goes(&rt, rt.alloc(), 65_536, rows)?;
+    }
+    Ok(())
+}
+
+/// Room for a weight of 3: a multi of two checks weighs 3, all else 1. A frame that is malformed is refused for its own
+/// reason.
+const WEIGHED: &str = "\
+C 0000000e0000000100000067000000022f61 = Ok(Passed { used: 18, went: Asked(Turn { xid: 1, number: 103, frame: 1 }) }) waiting 1
+C 00000037000000020000000e0000000d00ffffffff000000022f61000000000000000d00ffffffff000000022f6100000000ffffffff01ffffffff = Ok(Passed { used: 0, went: Full }) waiting 1 out (false, false)
+S 000000140000000100000000000000050000000000000000 = Ok(Passed { used: 24, went: Answered(Turn { xid: 1, number: 103, frame: 1 }) }) waiting 0
+C 00000037000000020000000e0000000d00ffffffff000000022f61000000000000000d00ffffffff000000022f6100000000ffffffff01ffffffff = Ok(Passed { used: 59, went: Message }) waiting 3
+C 00000008fffffffe0000000b = Ok(Passed { used: 0, went: Full }) waiting 3
+C 0000001cfffffff8000000650000000000000005000000000000000000000000 = Ok(Passed { used: 0, went: Full }) waiting 3
+C 00000024fffffff80000006900000000000000050000000000000000000000000000000000000000 = Ok(Passed { used: 0, went: Full }) waiting 3
+C 0000000e0000000300000003000000022f61 = Err(Fault { side: Client, frame: 3, offset: 144, place: 14, reason: Short })";
+
+#[test]
+fn full_is_weighed_as_the_talk_weighs(rt: HostRuntime) -> Result<(), Fail> {
+    goes(&rt, rt.alloc(), 3, WEIGHED)
 }

@@ -104,11 +104,11 @@ pub record IsFinish (talk : TalkState) (ending : Ending) : Type 0 where
   pub stands : (h : History) (M : List Message) → Stands talk h M → IsEnding talk.limits h ending
   pub refuses : (h : History) (M : List Message) (f : Fault) → Refuses talk h M f → ending ≡ Refused f
 
--- the answer is how the talk's history ends
-pub record TellsEnding (talk : TalkState) (answer : EndingAnswer) : Type 0 where
+-- the answer is an ending of which this holds
+pub record TellsEnding (Is : Ending → Type 0) (answer : EndingAnswer) : Type 0 where
   pub ending : Ending
   pub told : answer ≡ ending_answer ending
-  pub is : IsFinish talk ending
+  pub is : Is ending
 
 -- the number of the side's bytes that are held
 abbrev pub size_held : Side → TalkState → ℕ

@@ -5,6 +5,9 @@ use Rattle.zk_asks.specs.Held.{ClientFrame}
 use Rattle.zk_answers.specs.Held.{ServerFrame}
 use Rattle.zk_talk.specs.declared.message.Side.{Side}
 use Rattle.zk_talk.specs.declared.message.Fault.{Fault}
+use Rattle.zk_talk.specs.declared.message.Ending.{Ending}
+use Rattle.zk_talk.specs.declared.message.Ending.TheVariants.{Refused}
+use Rattle.zk_talk.specs.History.{History}
 use Rattle.zk_talk.specs.declared.message.MessageOf.TheVariants.{Client as FromClient, Server as FromServer}
 use Rattle.zk_talk.specs.Held.{Message}
 use Rattle.zk_talk.specs.Stands.{kept_on}
@@ -12,7 +15,8 @@ use Rattle.zk_talk.specs.Viewed.{Shows, other_side}
 use Rattle.zk_through.specs.declared.through.Passed.{Passed}
 use Rattle.zk_through.specs.declared.through.Went.{Went}
 use Rattle.zk_through.specs.declared.through.Went.TheVariants as went
-use Rattle.zk_through.specs.Runs.{Runs, WentOn, IsRefused, LeavesSide, given_up, stream_on, left_on}
+use Rattle.zk_through.specs.Came.{Came}
+use Rattle.zk_through.specs.Runs.{Runs, WentOn, IsRefused, LeavesSide, IsEndOf, given_up, stream_on, left_on}
 use Rattle.zk_fields.specs.declared.field.Field.{Field}
 use Rattle.zk_c.specs.declared.answer.MessageAnswer.{MessageAnswer}
 use Rattle.zk_c.specs.declared.answer.LineAnswer.{LineAnswer}
@@ -26,18 +30,22 @@ use Rattle.zk_c.specs.Passage.{PassageState, newest_on}
 
 -- a step that wasn't made, with this status
 abbrev pub no_passed : ℕ → PassedAnswer
-no_passed status = record { used = 0; status = status; went = 0; xid = pos 0; operation = pos 0; fault = no_fault }
+no_passed status = record { used = 0; status = status; went = 0; xid = pos 0; operation = pos 0; fault = no_fault; frame = 0 }
+
+-- a step that used these many bytes, by the number of what became of them
+abbrev pub step_of : ℕ → ℕ → PassedAnswer
+step_of used number = record (no_passed 0) { used = used; went = number }
 
 abbrev pub went_answer : ℕ → Went → PassedAnswer
-went_answer used went.Within = record { used = used; status = 0; went = 0; xid = pos 0; operation = pos 0; fault = no_fault }
-went_answer used went.Message = record { used = used; status = 0; went = 1; xid = pos 0; operation = pos 0; fault = no_fault }
-went_answer used (went.Asked turn) = record { used = used; status = 0; went = 2; xid = turn.xid; operation = turn.number; fault = no_fault }
-went_answer used (went.Answered turn) = record { used = used; status = 0; went = 3; xid = turn.xid; operation = turn.number; fault = no_fault }
-went_answer used went.Full = record { used = used; status = 0; went = 4; xid = pos 0; operation = pos 0; fault = no_fault }
+went_answer used went.Within = step_of used 0
+went_answer used went.Message = step_of used 1
+went_answer used (went.Asked turn) = record (step_of used 2) { xid = turn.xid; operation = turn.number; frame = turn.frame }
+went_answer used (went.Answered turn) = record (step_of used 3) { xid = turn.xid; operation = turn.number; frame = turn.frame }
+went_answer used went.Full = step_of used 4
 
 abbrev pub passed_answer : Result Passed Fault → PassedAnswer
 passed_answer (Ok s) = went_answer s.used s.went
-passed_answer (Err f) = record { used = 0; status = reason_number f.reason; went = 0; xid = pos 0; operation = pos 0; fault = fault_numbers f }
+passed_answer (Err f) = record (no_passed (reason_number f.reason)) { fault = fault_numbers f }
 
 -- whether the side's newest whole frame is a message, after this
 abbrev pub newest : Went → Bool → Bool
@@ -62,7 +70,7 @@ pub record IsPassing (old : PassageState) (side : Side) (piece : List ℕ) (outc
   pub others : newest_on (other_side side) new ≡ newest_on (other_side side) old
 
 -- the answer is that of such a step of the passage, which goes on behind the handle
-pub record TellsPassing (old : PassageState) (side : Side) (piece : List ℕ) (answer : PassedAnswer) (after : Option PassageState) : Type 0 where
+pub record TellsStep (old : PassageState) (side : Side) (piece : List ℕ) (answer : PassedAnswer) (after : Option PassageState) : Type 0 where
   pub outcome : Result Passed Fault
   pub passage : PassageState
   pub held : after ≡ Some passage
@@ -112,3 +120,8 @@ pub record IsFields (p : PassageState) (side : Side) (before after : List Field)
 pub record IsLeftOut (p : PassageState) (side : Side) (before after : List ℕ) (answer : LineAnswer) : Type 0 where
   pub none : left_on side p.through ≡ [] → (answer ≡ no_line 69) × (after ≡ before)
   pub some : (left_on side p.through ≡ [] → ⊥) → (q : List ℕ) × (left_on side p.through ≡ frame q) × TellsText q before after answer
+
+-- what `Through::finish` promises
+pub record IsFinish (p : PassageState) (ending : Ending) : Type 0 where
+  pub runs : (h : History) (c k : Came) (M : List Message) → Runs p.through h c k M → IsEndOf p.through c k ending
+  pub refused : (f : Fault) → p.through.fault ≡ Some f → ending ≡ Refused f

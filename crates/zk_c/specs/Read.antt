@@ -3,8 +3,9 @@ use Rattle.std.specs.Prelude.{◌≡◌, ◌≢◌, ◌⊎◌, ◌<◌, ◌^◌,
 use Rattle.zk_jute.specs.declared.fault.Reason.{Reason}
 use Rattle.zk_jute.specs.declared.fault.Reason.TheVariants.{NoMemory, UnknownOp}
 use Rattle.zk_jute.specs.declared.fault.ItemFault.{ItemFault}
-use Rattle.zk_jute.specs.Reading.{Read, ◌>>=◌, int_at, long_at, told_fault}
+use Rattle.zk_jute.specs.Reading.{Fault, Read, int_at, long_at, told_fault}
 use Rattle.zk_jute.specs.Told.{IsTold}
+use Rattle.zk_records.specs.declared.header.ReplyHeader.{ReplyHeader}
 use Rattle.zk_records.specs.declared.op.Op.{Op}
 use Rattle.zk_records.specs.declared.profile.Profile.{Profile}
 use Rattle.zk_records.specs.Codes.{op_number, HasOp, IsNoOp}
@@ -23,7 +24,7 @@ use Rattle.zk_c.specs.declared.read_answer.ReadAnswer.{ReadAnswer}
 use Rattle.zk_c.specs.Numbers.{reason_number}
 use Rattle.zk_records.specs.declared.op.PartOp.{PartOp}
 use Rattle.zk_asks.specs.Faults.{IsFirstFault, IsAskFault}
-use Rattle.zk_answers.specs.Faults.{IsConnectedFault, IsReplyFault, IsEventFault}
+use Rattle.zk_answers.specs.Faults.{IsHead, IsHeadFault, IsConnectedFault, IsReplyFault, IsEventFault}
 use Rattle.zk_c.specs.Asked.{WhereAsked}
 use Rattle.zk_c.specs.Judged.{IsConnect, IsRequest, IsWelcome, IsReply, IsNotice, HasNoHead, IsOfEvent}
 
@@ -157,19 +158,19 @@ abbrev pub fields_before : Option Opened → List ℕ → ℕ → List Field
 fields_before None payload place = []
 fields_before (Some o) payload place = opened_fields o payload place
 
--- a reply to an operation that has no number here: its header ends where the body begins, which is read no further
-abbrev pub head_read : List ℕ → Read ℤ
-head_read payload = int_at payload 0 >>= λ xid. long_at payload xid.1 >>= λ zxid. int_at payload zxid.1
+-- a reply to an operation that has no number here: a fault of its header, or UnknownOp after it
+pub data IsUnknownFault (bytes : List ℕ) : Fault → Type 0 where
+  in_head : (fault : Fault) → IsHeadFault bytes fault.place fault.reason → IsUnknownFault bytes fault
+  no_body : (header : ReplyHeader) (rest : List ℕ) → IsHead bytes header rest → IsUnknownFault bytes (record { place = 16; reason = UnknownOp })
 
-abbrev pub unknown_fault : Read ℤ → ItemFault
-unknown_fault (Ok x) = record { place = 16; reason = UnknownOp }
-unknown_fault (Err f) = told_fault f
-
-abbrev pub unknown_read : List ℕ → ReadAnswer
-unknown_read payload = refused_read (answer_head payload) (unknown_fault (head_read payload)) 0
+-- the header's numbers, as far as they are there, and that fault
+pub record IsUnknown (payload : List ℕ) (answer : ReadAnswer) : Type 0 where
+  pub fault : Fault
+  pub is : IsUnknownFault payload fault
+  pub told : answer ≡ refused_read (answer_head payload) (told_fault fault) 0
 
 abbrev pub TellsUnknown : List ℕ → List Field → List Field → ReadAnswer → Type 0
-TellsUnknown payload before after answer = (answer ≡ unknown_read payload) × (after ≡ before)
+TellsUnknown payload before after answer = IsUnknown payload answer × (after ≡ before)
 
 -- an operation has the number
 abbrev pub IsOp : ℤ → Type 0

@@ -116,6 +116,7 @@ fn got_of(reason: Reason) -> i32
     }
 }
 
+/// The numbers of a conversation that isn't refused.
 pub fn no_fault() -> FaultNumbers
     ensures { result ≡ no_fault }
 {
@@ -130,6 +131,7 @@ pub fn no_fault() -> FaultNumbers
     }
 }
 
+/// Why a conversation is refused, and where, in numbers.
 pub fn fault_numbers(fault: Fault) -> FaultNumbers
     ensures { result ≡ fault_numbers fault }
 {

@@ -6,7 +6,7 @@
 //! like write a frame from its fields. `zk_listing` lists a conversation that is there whole.
 //!
 //! Each call returns numbers: a status, 0 if the call did what it is for, and a struct that include/zk.h declares too.
-//! The contracts repeat those of `Talk` and `Speaker` over these numbers. What a caller owes, the header says; its safe
+//! The contracts repeat those of `Talk`, `Through` and `Speaker` over these numbers. What a caller owes, the header says; its safe
 //! calls check the pointers first. docs/LIBRARY.md is the page for who links the library.
 //!
 //! The crate rests on `zk_lines`, `zk_talk` and the types and names of the crates below.
@@ -24,6 +24,10 @@
 //! nothing. A struct that crosses to C may not hold a `Vec` or a `Box`, so the pointer is one to bytes, and a ghost
 //! field has the value. Only three functions make or open it, with proofs by hand. Each call takes the box out, works
 //! on it as safe code does, and puts it back.
+//!
+//! **Each type has its own box and handle** (`TalkBox`, `PassageBox`, `VoiceBox`). A function that C calls takes no
+//! struct with type arguments, nor one that has such a field: the compiler refuses both (`unsupported-generic-in-c`,
+//! `cell-in-c`). The gate refuses an impl that a macro writes.
 //!
 //! **What C asks for is written into its memory.** A line is copied out. For a message's bytes, the caller learns how
 //! many of those that it passed are the frame's. A frame that is said is kept until the next one, so the room can't be
@@ -72,8 +76,8 @@ pub use talk::{
     zk_talk_waiting,
 };
 pub use through::{
-    zk_through_fields, zk_through_free, zk_through_new, zk_through_payload, zk_through_renew,
-    zk_through_step, zk_through_view,
+    zk_through_fields, zk_through_finish, zk_through_free, zk_through_new, zk_through_payload,
+    zk_through_renew, zk_through_step, zk_through_view,
 };
 pub use write::{
     zk_write_connected, zk_write_event, zk_write_first, zk_write_reply, zk_write_request,

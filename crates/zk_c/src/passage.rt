@@ -1,7 +1,7 @@
 //! `Passage`: a conversation that goes on where its profile ends, and whether each side's newest frame is a message.
 ghost use Rattle.std.specs.Prelude.{◌≡◌, IfOk};
 ghost use Rattle.zk_c.specs.Passage.{newest_on};
-ghost use Rattle.zk_c.specs.Passing.{HasBegun, IsRenewed, IsPassing, IsView, IsFields, IsLeftOut, newest};
+ghost use Rattle.zk_c.specs.Passing.{HasBegun, IsRenewed, IsPassing, IsView, IsFields, IsLeftOut, IsFinish, newest};
 
 use crate::answer::{LineAnswer, MessageAnswer};
 use crate::number::NO_MESSAGE;
@@ -9,7 +9,7 @@ use crate::read_answer::{ReadAnswer, read_client, read_server};
 use std::alloc::{AllocError, Global};
 use std::marker::Model;
 use zk_fields::Field;
-use zk_talk::{Fault, Limits, MessageOf, Side};
+use zk_talk::{Ending, Fault, Limits, MessageOf, Side};
 use zk_through::{Passed, Through, Went};
 
 /// A conversation, of which what its profile lacks is left out.
@@ -131,5 +131,12 @@ impl Passage {
             None => LineAnswer::none(NO_MESSAGE),
             Some(payload) => LineAnswer::put(payload, out),
         }
+    }
+
+    /// How the conversation so far ends.
+    pub fn finish(&self) -> Ending
+        ensures { IsFinish self.now result }
+    {
+        self.through.finish()
     }
 }

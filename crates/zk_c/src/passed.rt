@@ -23,26 +23,28 @@ pub struct PassedAnswer {
     pub operation: i32,
     /// The fault of the conversation.
     pub fault: FaultNumbers,
+    /// The number of its frame among the client's, from 0; 0 if no frame is left out.
+    pub frame: u64,
 }
 
 /// The number of bytes that were used, and what became of them, in numbers.
 fn went_answer(used: usize, went: Went) -> PassedAnswer
     ensures { result ≡ went_answer used went }
 {
-    let (number, xid, operation) = match went {
-        Went::Within => (0, 0, 0),
-        Went::Message => (1, 0, 0),
-        Went::Asked(turn) => (2, turn.xid, turn.number),
-        Went::Answered(turn) => (3, turn.xid, turn.number),
-        Went::Full => (4, 0, 0),
+    let (number, xid, operation, frame) = match went {
+        Went::Within => (0, 0, 0, 0),
+        Went::Message => (1, 0, 0, 0),
+        Went::Asked(turn) => (2, turn.xid, turn.number, turn.frame),
+        Went::Answered(turn) => (3, turn.xid, turn.number, turn.frame),
+        Went::Full => (4, 0, 0, 0),
     };
     PassedAnswer {
         used,
-        status: WELL,
         went: number,
         xid,
         operation,
-        fault: no_fault(),
+        frame,
+        ..PassedAnswer::none(WELL)
     }
 }
 
@@ -58,6 +60,7 @@ impl PassedAnswer {
             xid: 0,
             operation: 0,
             fault: no_fault(),
+            frame: 0,
         }
     }
 
@@ -69,12 +72,8 @@ impl PassedAnswer {
             Ok(passed) => went_answer(passed.used, passed.went),
             Err(fault) => {
                 PassedAnswer {
-                    used: 0,
-                    status: reason_number(fault.reason),
-                    went: 0,
-                    xid: 0,
-                    operation: 0,
                     fault: fault_numbers(fault),
+                    ..PassedAnswer::none(reason_number(fault.reason))
                 }
             }
         }

@@ -7,7 +7,7 @@ ghost use Rattle.zk_asks.specs.Held.{ClientFrame};
 ghost use Rattle.zk_answers.specs.Held.{ServerFrame};
 ghost use Rattle.zk_c.specs.Asked.{parts_of, AreNoneAsked, WhereAsked};
 ghost use Rattle.zk_c.specs.Judged.{IsConnect, IsWelcome, IsNotice, HasHead, HasNoHead, IsOfEvent, IsOfReply};
-ghost use Rattle.zk_c.specs.Read.{HasPlaces, IsOp, no_read, unknown_read, TellsNone, TellsUnknown, TellsClient, TellsServer, IsAskOf, ConnectOrFault, ReadsRequest, RequestOrFault, WelcomeOrFault, ReadsReply, ReplyOrFault, WhereReply, NoticeOrFault};
+ghost use Rattle.zk_c.specs.Read.{HasPlaces, IsOp, no_read, IsUnknown, TellsNone, TellsUnknown, TellsClient, TellsServer, IsAskOf, ConnectOrFault, ReadsRequest, RequestOrFault, WelcomeOrFault, ReadsReply, ReplyOrFault, WhereReply, NoticeOrFault};
 
 use crate::asked::Numbered;
 use crate::number::{MISFIT, RANGE};
@@ -114,7 +114,7 @@ fn unasked(operation: i32, payload: &[u8]) -> ReadAnswer
     ensures range { IsOp operation → result ≡ no_read 67 }
     ensures long { 2 ^ 32 ≤ length payload.now → result ≡ no_read 67 }
     ensures event { IsNoOp profiles.V35 operation → HasPlaces payload.now → HasHead IsOfEvent payload.now → result ≡ no_read 82 }
-    ensures unknown { IsNoOp profiles.V35 operation → HasPlaces payload.now → HasNoHead IsOfEvent payload.now → result ≡ unknown_read payload.now }
+    ensures unknown { IsNoOp profiles.V35 operation → HasPlaces payload.now → HasNoHead IsOfEvent payload.now → IsUnknown payload.now result }
 {
     if let Some(_op) = op_of(Profile::V35, operation) {
         return ReadAnswer::none(RANGE);

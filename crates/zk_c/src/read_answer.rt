@@ -1,14 +1,13 @@
 //! `ReadAnswer`: the message whose fields were written, in numbers.
 ghost use Rattle.std.specs.Prelude.{◌≡◌, ◌<◌, ◌^◌, pos, length};
-ghost use Rattle.zk_jute.specs.Reading.{Tells};
 ghost use Rattle.zk_asks.specs.Frames as asks;
 ghost use Rattle.zk_answers.specs.Frames as answers;
 ghost use Rattle.zk_answers.specs.Frames.{err_of};
 ghost use Rattle.zk_fields.specs.Frames.{AreWritten};
-ghost use Rattle.zk_c.specs.Read.{no_read, refused_read, unknown_read, head_read, room_status, client_read, server_read, ask_head, answer_head, int_there, long_there, fields_before, head_of, TellsRefused, TellsClient, TellsServer};
+ghost use Rattle.zk_c.specs.Read.{no_read, refused_read, IsUnknown, room_status, client_read, server_read, ask_head, answer_head, int_there, long_there, fields_before, head_of, TellsRefused, TellsClient, TellsServer};
 
 use crate::number::{ROOM, WELL, reason_number};
-use zk_answers::{OutcomeOf, OutcomeRef, ServerFrameOf, ServerRef};
+use zk_answers::{OutcomeOf, OutcomeRef, ServerFrameOf, ServerRef, reply_head};
 use zk_asks::{ClientFrameOf, ClientRef};
 use zk_fields::{Field, Opened, client_fields, opened_fields, server_fields};
 use zk_jute::{ItemFault, Reason, int_at, long_at};
@@ -61,15 +60,6 @@ fn long_there(payload: &[u8], place: usize) -> i64
         Ok((number, _)) => number,
         Err(_) => 0,
     }
-}
-
-/// The last number of the header of a reply, and the place after it.
-fn last_number(payload: &[u8]) -> Result<(i32, usize), ItemFault>
-    ensures { Tells (λ x. x) result (head_read payload.now) }
-{
-    let (_, place) = int_at(payload, 0)?;
-    let (_, place) = long_at(payload, place)?;
-    int_at(payload, place)
 }
 
 fn room_status(room: usize, count: u32) -> u32
@@ -142,16 +132,13 @@ impl ReadAnswer {
 
     /// The header of a reply to an operation that has no number here; its body isn't read.
     pub fn unknown(payload: &[u8]) -> ReadAnswer
-        ensures { result ≡ unknown_read payload.now }
+        ensures { IsUnknown payload.now result }
     {
-        let fault = match last_number(payload) {
-            Ok(_) => ItemFault {
-                place: 16,
-                reason: Reason::UnknownOp,
-            },
-            Err(fault) => fault,
-        };
-        ReadAnswer::answer_head(payload).refused(fault, 0)
+        let head = ReadAnswer::answer_head(payload);
+        match reply_head(payload) {
+            Ok(_whole) => head.refused(ItemFault::at(16, Reason::UnknownOp), 0),
+            Err(fault) => head.refused(fault, 0),
+        }
     }
 
     fn client(room: usize, count: u32, frame: &ClientRef<'_>) -> ReadAnswer

@@ -6,7 +6,7 @@ ghost use Rattle.zk_records.specs.declared.profile.Profile.{Profile};
 ghost use Rattle.zk_talk.specs.Stands.{TalkState};
 ghost use Rattle.zk_c.specs.Numbers.{side_of};
 ghost use Rattle.zk_c.specs.Answer.{no_step, no_ending, no_message, no_line, no_waiting, no_held};
-ghost use Rattle.zk_c.specs.Handle.{AreNumbers, IsNew, Renews, Tells, IsStep, IsPass, TellsEnding, IsView, IsLine, IsEndingLine, IsFields, IsPayload, IsWaiting, IsHeld, AreNoLimits};
+ghost use Rattle.zk_c.specs.Handle.{AreNumbers, IsNew, Renews, Tells, IsStep, IsPass, IsFinish, TellsEnding, IsView, IsLine, IsEndingLine, IsFields, IsPayload, IsWaiting, IsHeld, AreNoLimits};
 ghost use Rattle.zk_c.specs.Read.{no_read};
 
 use crate::answer::{EndingAnswer, LineAnswer, MessageAnswer, StepAnswer};
@@ -341,7 +341,7 @@ pub extern "C" fn zk_talk_finish(alloc: Global, handle: &mut TalkHandle) -> Endi
     // With no talk there is no ending.
     ensures empty { handle.old.held.value ≡ None → result ≡ no_ending 65 }
     // The ending is the talk's.
-    ensures ending { (t : TalkState) → handle.old.held.value ≡ Some t → TellsEnding t result }
+    ensures ending { (t : TalkState) → handle.old.held.value ≡ Some t → TellsEnding (IsFinish t) result }
     // The talk stays as it is.
     ensures same { handle.new.held.value ≡ handle.old.held.value }
 {

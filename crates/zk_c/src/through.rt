@@ -3,13 +3,13 @@ ghost use Rattle.std.specs.Prelude.{◌≡◌, ◌≢◌, ◌⊎◌, Some, None,
 ghost use Rattle.std.specs.Option.{is_some};
 ghost use Rattle.zk_talk.specs.declared.message.Side.{Side};
 ghost use Rattle.zk_c.specs.Numbers.{side_of};
-ghost use Rattle.zk_c.specs.Answer.{no_message, no_line};
-ghost use Rattle.zk_c.specs.Handle.{AreNoLimits};
+ghost use Rattle.zk_c.specs.Answer.{no_message, no_line, no_ending};
+ghost use Rattle.zk_c.specs.Handle.{AreNoLimits, TellsEnding};
 ghost use Rattle.zk_c.specs.Read.{no_read};
 ghost use Rattle.zk_c.specs.Passage.{PassageState};
-ghost use Rattle.zk_c.specs.Passing.{no_passed, IsNew, Renews, TellsPassing, IsView, IsFields, IsLeftOut};
+ghost use Rattle.zk_c.specs.Passing.{no_passed, IsNew, Renews, TellsStep, IsView, IsFields, IsLeftOut, IsFinish};
 
-use crate::answer::{LineAnswer, MessageAnswer};
+use crate::answer::{EndingAnswer, LineAnswer, MessageAnswer};
 use crate::loose::Loose;
 use crate::number::{EMPTY, IN_USE, NO_MEMORY, RANGE, WELL, side_of};
 use crate::passage::Passage;
@@ -137,7 +137,7 @@ pub extern "C" fn zk_through_step(
     // With no passage there is no step.
     ensures empty { handle.old.held.value ≡ None → IsSome (side_of side) → (result ≡ no_passed 65) × (handle.new.held.value ≡ None) }
     // The passage makes the step, and the handle keeps it.
-    ensures step { (s : Side) (p : PassageState) → side_of side ≡ Some s → handle.old.held.value ≡ Some p → TellsPassing p s piece.now result handle.new.held.value }
+    ensures step { (s : Side) (p : PassageState) → side_of side ≡ Some s → handle.old.held.value ≡ Some p → TellsStep p s piece.now result handle.new.held.value }
 {
     let Some(side) = side_of(side) else {
         return PassedAnswer::none(RANGE);
@@ -229,6 +229,24 @@ pub extern "C" fn zk_through_payload(
         return LineAnswer::none(EMPTY);
     };
     let answer = passage.payload(side, out);
+    handle.put(passage);
+    answer
+}
+
+/// How the history so far ends.
+#[unsafe(no_mangle)]
+pub extern "C" fn zk_through_finish(alloc: Global, handle: &mut ThroughHandle) -> EndingAnswer
+    // With no passage there is no ending.
+    ensures empty { handle.old.held.value ≡ None → result ≡ no_ending 65 }
+    // The ending is the passage's.
+    ensures ending { (p : PassageState) → handle.old.held.value ≡ Some p → TellsEnding (IsFinish p) result }
+    // The passage stays as it is.
+    ensures same { handle.new.held.value ≡ handle.old.held.value }
+{
+    let Some(passage) = handle.take(alloc) else {
+        return EndingAnswer::none(EMPTY);
+    };
+    let answer = EndingAnswer::of(passage.finish());
     handle.put(passage);
     answer
 }

@@ -41,7 +41,7 @@ use Rattle.zk_fields.specs.Records.{texts, rights, stat, connect_request, connec
 use Rattle.zk_fields.specs.Asks.{record_entries, part_entries}
 use Rattle.zk_fields.specs.Answers.{result_entries, done_entries, body_entries}
 use Rattle.zk_fields.specs.Frames.{Framed, flag_entries, body_behind, rest_entries, rest_behind, framed_items, framed_fields, client_framed, server_framed, client_fields, server_fields}
-use Rattle.zk_fields.specs.Walks.{Met, none_met, item_met, met_then, times_met, list_met, walk, header_at, part_mark, result_mark, mark_shape, head_met, Content, Fields, Heads, content_met, ask_content, body_content, opened_content, opened_start, opened_fields, client_opened, server_opened}
+use Rattle.zk_fields.specs.Walks.{Met, none_met, item_met, met_then, times_met, list_met, walk, header_at, part_mark, result_mark, mark_shape, head_met, Content, Fields, Heads, content_met, ask_content, body_content, opened_content, opened_start, whole_fields, client_opened, server_opened}
 use Rattle.zk_fields.proofs.Same.{client_is, server_is, entry_has}
 use Rattle.zk_fields.proofs.Saying.{some_is, longer, split}
 
@@ -338,16 +338,16 @@ server_agrees (server.Event zxid event) = shaped (server_framed (server.Event zx
 
 -- ---- so the fields are those
 
-opened : (o : Opened) (f : Framed) (items : List Item) → framed_items f ≡ items → HaveBytes items → opened_start o ≡ start_of f → Agrees f (opened_content o) → opened_fields o (bytes_of items) (length (bytes_of items)) ≡ framed_fields f
+opened : (o : Opened) (f : Framed) (items : List Item) → framed_items f ≡ items → HaveBytes items → opened_start o ≡ start_of f → Agrees f (opened_content o) → whole_fields o (bytes_of items) ≡ framed_fields f
 opened o f items same have start agrees =
     let src = bytes_in f in
     let all : take (length src) src ≡ src = take_all (length src) src (omega arith) in
     let have_all = subst HaveBytes (sym same) have in
     let test : nat_le (opened_start o) (length src) ≡ true = let w = within f have_all in grind (arith, nat_tests) in
     let met : (content_met (opened_content o) src (opened_start o)).entries ≡ f.entries = ap (λ (n : ℕ). (content_met (opened_content o) src n).entries) start ∙ agrees have_all in
-    let whole : opened_fields o src (length src) ≡ framed_fields f =
+    let whole : whole_fields o src ≡ framed_fields f =
     ap (λ (z : List ℕ). if nat_le (opened_start o) (length z) then fields_from (opened_start o) (content_met (opened_content o) z (opened_start o)).entries else []) all ∙ rw test (λ k. fields_from (start k) (met k)) in
-    subst (λ (z : List Item). opened_fields o (bytes_of z) (length (bytes_of z)) ≡ framed_fields f) same whole
+    subst (λ (z : List Item). whole_fields o (bytes_of z) ≡ framed_fields f) same whole
 
 client_start : (f : ClientFrame) → opened_start (client_opened f) ≡ start_of (client_framed f)
 client_start (client.Connect hello flag) = refl
@@ -358,8 +358,8 @@ server_start (server.Connected hello flag) = refl
 server_start (server.Answered r) = refl
 server_start (server.Event zxid event) = refl
 
-pub client_whole : (f : ClientFrame) → asks.IsSent f → opened_fields (client_opened f) (asks.payload f) (length (asks.payload f)) ≡ client_fields f
+pub client_whole : (f : ClientFrame) → asks.IsSent f → whole_fields (client_opened f) (asks.payload f) ≡ client_fields f
 client_whole f sent = opened (client_opened f) (client_framed f) (asks.frame_items f) (client_is f) sent.1 (client_start f) (client_agrees f)
 
-pub server_whole : (s : ServerFrame) → answers.IsSent s → opened_fields (server_opened s) (answers.payload s) (length (answers.payload s)) ≡ server_fields s
+pub server_whole : (s : ServerFrame) → answers.IsSent s → whole_fields (server_opened s) (answers.payload s) ≡ server_fields s
 server_whole s sent = opened (server_opened s) (server_framed s) (answers.frame_items s) (server_is s) sent.2 (server_start s) (server_agrees s)

@@ -199,6 +199,10 @@ opened_fields o payload place =
     if nat_le (opened_start o) (length (take place payload))
     then fields_from (opened_start o) (content_met (opened_content o) (take place payload) (opened_start o)).entries else []
 
+-- those of all items that are whole
+abbrev pub whole_fields : Opened → List ℕ → List Field
+whole_fields o payload = opened_fields o payload (length payload)
+
 -- ---- what a walk does
 
 -- the entries' fields are written, and the walk ends after them, or where the next item isn't whole

@@ -1,6 +1,6 @@
 -- The frame that is written of fields: for each field the bytes of the items that it says.
 use Rattle.std.specs.Prelude.{◌≡◌, ℕ, zero, suc, ◌+◌, ◌<◌, ◌≤◌, ◌^◌, ℤ, pos, negsuc, ◌==◌, if◌then◌else◌, nat_lt}
-use Rattle.std.specs.Prelude.{nat_le, Bool, true, false, List, [], ◌∷◌, ◌++◌, length, take, drop, Option, Some, None}
+use Rattle.std.specs.Prelude.{nat_le, Bool, true, false, List, [], ◌∷◌, ◌++◌, length, take, drop, get_or, Option, Some, None}
 use Rattle.std.specs.Prelude.{Result, Ok, Err}
 use Rattle.std.specs.Option.{option_map, option_and_then}
 use Rattle.std.specs.List.{slice_get}
@@ -94,6 +94,10 @@ said heads content (f, next) =
     else if f.kind == 6 then option_map (λ n. ACount n ∷ []) (list_said f)
     else if f.kind == 7 then option_map multi_header.items (option_and_then (head_said heads next) (int_said f.number))
     else None
+
+-- what the field of this index says, or `d` if there is none
+abbrev pub said_at : Heads → List ℕ → List Field → ℕ → Pair → Option (List Item)
+said_at heads content fields index d = said heads content (get_or (pairs fields) index d)
 
 -- a multi's end marker
 abbrev pub behind_with : ℕ → List Item

@@ -7,7 +7,7 @@ ghost use Rattle.zk_answers.specs.Held.{ServerFrame};
 ghost use Rattle.zk_answers.specs.Frames as answers;
 ghost use Rattle.zk_fields.specs.Frames.{Framed, framed_items, client_framed, server_framed, client_fields, server_fields};
 ghost use Rattle.zk_fields.specs.Contents.{AreAt};
-ghost use Rattle.zk_fields.specs.Walks.{client_opened, server_opened, opened_fields};
+ghost use Rattle.zk_fields.specs.Walks.{client_opened, server_opened, whole_fields};
 
 /// The fields of a message are its items, in order and in their places. The function does nothing.
 pub fn field_laws()
@@ -17,6 +17,6 @@ pub fn field_laws()
     // Each field's place and length are those of its content in the payload.
     ensures contents { (f : Framed) → AreAt (bytes_of (framed_items f)) (length (bytes_of f.front)) f.entries }
     // The fields that a walk meets in a sent message's payload are the message's.
-    ensures client_walk { (f : ClientFrame) → asks.IsSent f → opened_fields (client_opened f) (asks.payload f) (length (asks.payload f)) ≡ client_fields f }
-    ensures server_walk { (s : ServerFrame) → answers.IsSent s → opened_fields (server_opened s) (answers.payload s) (length (answers.payload s)) ≡ server_fields s }
+    ensures client_walk { (f : ClientFrame) → asks.IsSent f → whole_fields (client_opened f) (asks.payload f) ≡ client_fields f }
+    ensures server_walk { (s : ServerFrame) → answers.IsSent s → whole_fields (server_opened s) (answers.payload s) ≡ server_fields s }
 {}

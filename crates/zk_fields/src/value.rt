@@ -1,10 +1,10 @@
 //! `Value`: what a field says, as the bytes that are written of it.
-ghost use Rattle.std.specs.Prelude.{◌≡◌, ◌<◌, ◌^◌, ◌∷◌, ◌++◌, [], pos, Some, None, IfSome, option_copied, length, get_or};
+ghost use Rattle.std.specs.Prelude.{◌≡◌, ◌<◌, ◌^◌, ◌∷◌, ◌++◌, [], pos, Some, None, IfSome, option_copied, length};
 ghost use Rattle.std.specs.Option.{option_map, option_and_then};
 ghost use Rattle.zk_jute.specs.Item.{AnInt, ALong, ABoolean, AUstring, ABuffer, ACount, bytes_of, int_bytes};
 ghost use Rattle.zk_records.specs.Records.{multi_header};
 ghost use Rattle.zk_fields.specs.Values.{value_bytes, IsSaid, Fills};
-ghost use Rattle.zk_fields.specs.Written.{int_said, bool_said, count_said, stretch_said, run_said, utf8_said, list_said, Pair, pairs, error_said, head_err, plain_head, head_said, said};
+ghost use Rattle.zk_fields.specs.Written.{int_said, bool_said, count_said, stretch_said, run_said, utf8_said, list_said, Pair, error_said, head_err, plain_head, head_said, said, said_at};
 
 use crate::field::Field;
 use std::str::from_utf8;
@@ -197,7 +197,7 @@ pub(crate) fn value_at<'a>(
     content: &'a [u8],
 ) -> Option<Value<'a>>
     requires { index < length fields.now }
-    ensures { (d : Pair) → IsSaid (said heads content.now (get_or (pairs fields.now) index d)) result }
+    ensures { (d : Pair) → IsSaid (said_at heads content.now fields.now index d) result }
 {
     value_of(heads, &fields[index], fields.get(index + 1), content)
 }

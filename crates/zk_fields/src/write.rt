@@ -1,5 +1,5 @@
 //! Frames, written from their fields: `write_request`, `write_first`, `write_reply`, `write_event`, `write_connected`.
-ghost use Rattle.std.specs.Prelude.{◌≡◌, ◌+◌, ◌≤◌, ◌<◌, ◌^◌, pos, negsuc, Bool, Option, Some, List, [], length, get_or};
+ghost use Rattle.std.specs.Prelude.{◌≡◌, ◌+◌, ◌≤◌, ◌<◌, ◌^◌, pos, negsuc, Bool, Option, Some, List, [], length};
 ghost use Rattle.zk_jute.specs.Item.{Item, bytes_of, int_bytes};
 ghost use Rattle.zk_records.specs.Held.{ConnectRequest, ConnectResponse, WatcherEvent};
 ghost use Rattle.zk_records.specs.Codes.{op_number};
@@ -11,7 +11,7 @@ ghost use Rattle.zk_answers.specs.Held.{Reply};
 ghost use Rattle.zk_answers.specs.declared.frame.ServerFrameOf.TheVariants as server;
 ghost use Rattle.zk_fields.specs.declared.value.Heads.TheVariants as head;
 ghost use Rattle.zk_fields.specs.Values.{Measures, Fills};
-ghost use Rattle.zk_fields.specs.Written.{Pair, pairs, said, all_said, behind_of, done_behind, answer_front, IsHeaded, Writes, WritesAgain, AnswersAgain};
+ghost use Rattle.zk_fields.specs.Written.{Pair, pairs, said_at, all_said, behind_of, done_behind, answer_front, IsHeaded, Writes, WritesAgain, AnswersAgain};
 
 use crate::field::Field;
 use crate::value::{Heads, fill, fill_int, value_at};
@@ -57,7 +57,7 @@ fn fill_one(
     at: usize,
 ) -> usize
     requires { index < length fields.now }
-    ensures { (d : Pair) (items : List Item) → said heads content.now (get_or (pairs fields.now) index d) ≡ Some items → Fills (bytes_of items) at room.old result room.new }
+    ensures { (d : Pair) (items : List Item) → said_at heads content.now fields.now index d ≡ Some items → Fills (bytes_of items) at room.old result room.new }
 {
     match value_at(heads, fields, index, content) {
         Some(value) => value.fill(room, at),

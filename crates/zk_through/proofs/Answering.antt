@@ -1,8 +1,13 @@
 -- A side with a fault.
-use Rattle.std.proofs.Common.{◌≡◌, ℕ, Option, Some, None, sym, ap, ◌∙◌, arith}
+use Rattle.std.proofs.Common.{◌≡◌, ℕ, ℤ, inl, inr, Option, Some, None, sym, ap, ◌∙◌, ◌<◌, subst, arith}
+use Rattle.zk_jute.specs.declared.fault.Reason.{Reason}
+use Rattle.zk_jute.specs.declared.fault.Reason.TheVariants.{NoMemory, Unasked, XidOrder}
+use Rattle.zk_waiting.specs.Lane.{lane_of}
 use Rattle.zk_talk.specs.declared.message.Fault.{Fault}
 use Rattle.zk_talk.specs.Sound.{IsSide}
 use Rattle.zk_talk.specs.Streams.{StreamState}
+use Rattle.zk_through.specs.declared.turn.Turn.{Turn}
+use Rattle.zk_through.specs.Turns.{LaneState, TurnsState, IsBadTurn, IsDue, IsForTalk, lane_on}
 
 some_none : (f : Fault) → Some f ≡ None → ⊥
 some_none f e = cc
@@ -15,3 +20,18 @@ faulty_side limit k k' e s s' s'' kept same stays i = record {
   size = omega (arith, i.size, ap (λ (z : StreamState). z.size) same, ap (λ (z : StreamState). z.size) stays);
   count = omega (arith, i.count, ap (λ (z : StreamState). z.count) same, ap (λ (z : StreamState). z.size) same, ap (λ (z : StreamState). z.count) stays, ap (λ (z : StreamState). z.size) stays);
 }
+
+-- a turn's fault isn't that memory was refused
+order_known : (expected got : ℤ) → XidOrder expected got ≡ NoMemory → ⊥
+order_known expected got e = cc
+
+unasked_known : Unasked ≡ NoMemory → ⊥
+unasked_known e = cc
+
+pub bad_known : (t : TurnsState) (xid : ℤ) (reason : Reason) → IsBadTurn t xid reason → reason ≡ NoMemory → ⊥
+bad_known t xid reason (inl b) e = unasked_known (sym b.1 ∙ e)
+bad_known t xid reason (inr b) e = order_known b.0.xid xid (sym b.3 ∙ e)
+
+-- the talk gets a reply whose turn isn't that of a request that is left out
+pub for_talk : (t : TurnsState) (ahead : Option ℤ) (xid : ℤ) (s : LaneState) → ahead ≡ Some xid → s ≡ lane_on (lane_of xid) t → s.replies < s.requests → ((turn : Turn) → IsDue s turn → ⊥) → IsForTalk t ahead
+for_talk t ahead xid s e lane fits none = subst (IsForTalk t) (sym e) (subst (λ (z : LaneState). (z.replies < z.requests) × ((turn : Turn) → IsDue z turn → ⊥)) lane (fits, none))

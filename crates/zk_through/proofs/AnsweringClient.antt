@@ -1,18 +1,23 @@
 -- What a step of the client answers, by what its side became.
-use Rattle.std.proofs.Common.{◌≡◌, ℕ, ◌+◌, ◌<◌, ◌≤◌, List, [], ◌∷◌, ◌++◌, length, take, Option, Some, refl, sym, ap, ◌∙◌, subst, arith, true, false}
+use Rattle.std.proofs.Common.{◌≡◌, ℕ, ◌+◌, ◌<◌, ◌≤◌, inl, inr, List, [], ◌++◌, length, take, Option, Some, None, refl, sym, ap, ◌∙◌, subst, arith}
+use Rattle.std.specs.Option.{IfSome, IfNone}
+use Rattle.std.proofs.lemmas.List.{append-nil, length-take-le}
 use Rattle.zk_frames.specs.Framing.{frame, IsBeginning}
 use Rattle.zk_records.specs.Codes.{IsNoOp}
+use Rattle.zk_waiting.specs.Lane.{lane_of}
 use Rattle.zk_talk.specs.declared.message.Side.TheVariants.{Client}
 use Rattle.zk_talk.specs.declared.message.Fault.{Fault}
+use Rattle.zk_talk.specs.Conversation.{load}
 use Rattle.zk_talk.specs.Fault.{fault_of}
-use Rattle.zk_talk.specs.Stands.{TalkState}
-use Rattle.zk_talk.specs.Streams.{StreamState, passed, kept_now}
+use Rattle.zk_talk.specs.Stands.{TalkState, WhereItStands}
+use Rattle.zk_talk.specs.Streams.{StreamState, TakenBack, passed, kept_now}
 use Rattle.zk_talk.specs.Receiving.{CameWithin, CameWhole, IsStopped as WasStopped}
 use Rattle.zk_through.specs.declared.turn.Turn.{Turn}
 use Rattle.zk_through.specs.declared.through.Went.TheVariants as went
-use Rattle.zk_through.specs.LeftOut.{is_plain}
-use Rattle.zk_through.specs.Runs.{ThroughState, WentOn, IsRefused, IsTold, IsNotTold, turn_of}
-use Rattle.zk_through.proofs.Steps.{within_on_client, ClientCame}
+use Rattle.zk_through.specs.Came.{told}
+use Rattle.zk_through.specs.Turns.{TurnsState, turn_of, left_out, with_lane, with_request, with_left, after_request}
+use Rattle.zk_through.specs.Runs.{ThroughState, Runs, WentOn, IsRefused, IsTold, IsNotTold, IsAhead, IsNotAhead, IsKeptAt, IsRequestOf, Weighs}
+use Rattle.zk_through.proofs.Steps.{nothing_more, within_on_client, ClientCame}
 use Rattle.zk_through.proofs.Outcomes.{client_other, client_asks, client_lacks}
 use Rattle.zk_through.proofs.Refusals.{refused_early, refused_told}
 
@@ -28,7 +33,7 @@ module _ (old : ThroughState) (piece : List ℕ) (limit : old.client.limit ≡ o
   client_stopped e s k w kept = refused_early Client old (record old { client = s; fault = k }) piece e s limit w kept
 
   module _ (used : ℕ) (s : StreamState) (w : CameWhole old.client piece used s) where
-    whole : (p : List ℕ) × (s.held ≡ frame p) × (length p ≤ old.client.limit)
+    pub whole : (p : List ℕ) × (s.held ≡ frame p) × (length p ≤ old.client.limit)
     whole = w.advance.4
 
     is : old.client.held ++ take used piece ≡ frame whole.0
@@ -55,7 +60,7 @@ module _ (old : ThroughState) (piece : List ℕ) (limit : old.client.limit ≡ o
     later some = omega (arith, some, ap (λ (z : StreamState). z.count) w.stays)
 
     -- the talk took the frame
-    module _ (s' : StreamState) (talk : TalkState) (turns : List Turn) (pass : s' ≡ passed s used) (limits : talk.limits ≡ old.talk.limits) (tells : (p : List ℕ) → s.held ≡ frame p → IsTold old.talk Client p talk) where
+    module _ (s' : StreamState) (talk : TalkState) (turns : TurnsState) (pass : s' ≡ passed s used) (limits : talk.limits ≡ old.talk.limits) (tells : (p : List ℕ) → s.held ≡ frame p → IsTold old.talk Client p talk) where
       abbrev pub new : ThroughState
       new = record old { talk = talk; client = s'; turns = turns }
 
@@ -65,41 +70,79 @@ module _ (old : ThroughState) (piece : List ℕ) (limit : old.client.limit ≡ o
       left : s'.kept ≡ []
       left = ap (λ (z : StreamState). z.kept) pass ∙ still
 
-      pub client_first : turns ≡ old.turns → (0 < s.count → (p : List ℕ) → s.held ≡ frame p → is_plain 8 p ≡ false) → WentOn old Client piece used went.Message new
-      client_first same not = (
+      pub client_told : (ahead : Option Turn) → turns ≡ after_request ahead old.turns → IfSome ahead (λ turn. IsAhead 8 s (λ p. turn ≡ turn_of (s.count, p))) → IfNone ahead (IsNotAhead 8 s) →
+          ((turn : Turn) → ahead ≡ Some turn → IsNoOp old.talk.limits.profile turn.number → ⊥) → WentOn old Client piece used went.Message new
+      client_told None same some none known = (
         w.advance.1,
         left,
         whole.0,
-        client_other old new piece used whole.0 passed_on (tells whole.0 whole.1) same (λ some. not (omega (arith, some, ap (λ (z : StreamState). z.count) w.stays)) whole.0 whole.1),
+        client_other old new piece used whole.0 passed_on (tells whole.0 whole.1) same (λ later. none (omega (arith, later, ap (λ (z : StreamState). z.count) w.stays)) whole.0 whole.1),
       )
-
-      pub client_asked_of : (turn : Turn) → turns ≡ old.turns ++ turn ∷ [] → (0 < s.count) × ((p : List ℕ) → s.held ≡ frame p → (is_plain 8 p ≡ true) × (turn ≡ turn_of p)) → (IsNoOp old.talk.limits.profile turn.number → ⊥) → WentOn old Client piece used went.Message new
-      client_asked_of turn more a known =
+      client_told (Some turn) more a none known =
           let t = a.1 whole.0 whole.1 in (
             w.advance.1,
             left,
             whole.0,
-            client_asks old new piece used whole.0 passed_on t.0 (later a.0) (more ∙ ap (λ z. old.turns ++ z ∷ []) t.1) (tells whole.0 whole.1) (λ foreign. known (subst (IsNoOp old.talk.limits.profile) (sym (ap (λ (z : Turn). z.number) t.1)) foreign)),
+            client_asks old new piece used whole.0 passed_on t.0 (later a.0) (tells whole.0 whole.1) (more ∙ ap (λ (z : Turn). with_lane (lane_of z.xid) with_request old.turns) t.1)
+                (λ foreign. known turn refl (subst (IsNoOp old.talk.limits.profile) (sym (ap (λ (z : Turn). z.number) t.1)) foreign)),
           )
 
     -- it is left out
-    pub client_left : (s' : StreamState) (turns : List Turn) (turn : Turn) → s' ≡ kept_now s used → turns ≡ old.turns ++ turn ∷ [] → (0 < s.count) × ((p : List ℕ) → s.held ≡ frame p → (is_plain 8 p ≡ true) × (turn ≡ turn_of p)) → IsNoOp old.talk.limits.profile turn.number →
+    pub client_left : (s' : StreamState) (turns : TurnsState) (turn : Turn) → s' ≡ kept_now s used → turns ≡ with_lane (lane_of turn.xid) (with_left turn) old.turns → IsAhead 8 s (λ p. turn ≡ turn_of (s.count, p)) → IsNoOp old.talk.limits.profile turn.number →
         WentOn old Client piece used (went.Asked turn) (record old { client = s'; turns = turns })
     client_left s' turns turn keep more a foreign =
         let new : ThroughState = record old { client = s'; turns = turns } in
         let t = a.1 whole.0 whole.1 in
+        let is_turn : turn ≡ turn_of (old.client.count, whole.0) = t.1 ∙ ap (λ (z : StreamState). turn_of (z.count, whole.0)) w.stays in
         let c' = came new refl (ap (λ (z : StreamState). z.held) keep) (ap (λ (z : StreamState). z.count) keep) (ap (λ (z : StreamState). z.size) keep) refl refl in (
           w.advance.1,
           refl,
           whole.0,
           ap (λ (z : StreamState). z.kept) keep ∙ whole.1,
-          t.1,
-          client_lacks old new piece used whole.0 c' t.0 (later a.0) (more ∙ ap (λ z. old.turns ++ z ∷ []) t.1) refl (subst (IsNoOp old.talk.limits.profile) (ap (λ (z : Turn). z.number) t.1) foreign),
+          is_turn,
+          client_lacks old new piece used whole.0 c' t.0 (later a.0) refl turn is_turn (more ∙ ap (λ (z : Turn). with_lane (lane_of z.xid) (with_left turn) old.turns) t.1) (subst (IsNoOp old.talk.limits.profile) (ap (λ (z : Turn). z.number) t.1) foreign),
         )
 
+    -- there is no room for it
+    pub client_full : (s' : StreamState) (size : ℕ) → TakenBack s used s' → 0 < s.count → Weighs old.talk.limits.profile whole.0 size →
+        WhereItStands old.talk (λ v client_rest server_rest. old.talk.limits.waiting < load v.client v.server + left_out old.turns + size) → WentOn old Client piece 0 went.Full (record old { client = s' })
+    client_full s' size back some weighs full =
+        let same : s' ≡ old.client = back old.client.held (take used piece) w.advance.3 (length-take-le used piece w.advance.1) ∙ ap (λ (z : StreamState). record z { held = old.client.held }) w.stays in (
+          refl,
+          refl,
+          ap (λ (z : StreamState). z.kept) same ∙ none,
+          record {
+            part = used;
+            payload = whole.0;
+            size = size;
+            whole = is;
+            later = later some;
+            weighs = weighs;
+            full = λ h c k M r v g. full (told k) M v [] [] r.stands g;
+          },
+          λ h c k M r.
+              subst (λ z. Runs (record old { client = s' }) z (c ++ []) (k ++ []) (M ++ [])) (sym (append-nil h))
+              (subst (λ (z : StreamState). Runs (record old { client = z }) h (c ++ []) (k ++ []) (M ++ [])) (sym same) (nothing_more old h c k M r)),
+        )
+
+    -- where it is full, the frame weighs something
+    pub client_weighs : (out : Option Turn) (size : ℕ) → IfSome out (λ turn. IsAhead 8 s (λ p. turn ≡ turn_of (s.count, p)) × IsNoOp old.talk.limits.profile turn.number) → IfSome out (λ turn. size ≡ 1) →
+        IfNone out (0 < size → (0 < s.count) × ((p : List ℕ) → s.held ≡ frame p → IsRequestOf old.talk.limits.profile p size)) → 0 < size → (0 < s.count) × Weighs old.talk.limits.profile whole.0 size
+    client_weighs (Some turn) size a one none more =
+        let t = a.0.1 whole.0 whole.1 in
+        (a.0.0, inl (t.0, subst (IsNoOp old.talk.limits.profile) (ap (λ (z : Turn). z.number) t.1) a.1, one))
+    client_weighs None size a one asks more =
+        let y = asks more in
+        (y.0, inr (y.1 whole.0 whole.1))
+
+    pub out_ahead : (ahead out : Option Turn) → IfSome ahead (λ turn. IsAhead 8 s (λ p. turn ≡ turn_of (s.count, p))) → IfSome out (λ turn. (ahead ≡ Some turn) × IsNoOp old.talk.limits.profile turn.number) →
+        IfSome out (λ turn. IsAhead 8 s (λ p. turn ≡ turn_of (s.count, p)) × IsNoOp old.talk.limits.profile turn.number)
+    out_ahead ahead None a o = tt
+    out_ahead ahead (Some turn) a o = (subst (λ (z : Option Turn). IfSome z (λ t. IsAhead 8 s (λ p. t ≡ turn_of (s.count, p)))) o.0 a, o.1)
+
     -- the talk refused it
-    pub client_refused : (e : Fault) (k : Option Fault) (s' : StreamState) (talk : TalkState) → e ≡ fault_of Client s.count (s.size + used) e.place e.reason → k ≡ Some e → ((p : List ℕ) → s.held ≡ frame p → IsNotTold old.talk Client p e) →
+    pub client_refused : (e : Fault) (k : Option Fault) (s' : StreamState) (talk : TalkState) → IsKeptAt Client s used e k → ((p : List ℕ) → s.held ≡ frame p → IsNotTold old.talk Client p e) →
         IsRefused old Client piece e (record old { talk = talk; client = s'; fault = k })
-    client_refused e k s' talk at kept not =
-        refused_told Client old (record old { talk = talk; client = s'; fault = k }) piece used e w.advance.1 kept whole.0 is
-        (at ∙ (λ i. fault_of Client (w.stays i).count ((w.stays i).size + used) e.place e.reason)) (not whole.0 whole.1)
+    client_refused e k s' talk at not =
+        refused_told Client old (record old { talk = talk; client = s'; fault = k }) piece used e w.advance.1 at.1 whole.0 is
+        (at.0 ∙ (λ i. fault_of Client (w.stays i).count ((w.stays i).size + used) e.place e.reason)) (not whole.0 whole.1)

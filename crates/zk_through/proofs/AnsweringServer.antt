@@ -1,8 +1,11 @@
 -- What a step of the server answers, by what its side became.
-use Rattle.std.proofs.Common.{◌≡◌, ◌≢◌, ℕ, ◌+◌, ◌<◌, ◌≤◌, ℤ, List, [], ◌∷◌, ◌++◌, length, take, Option, Some, refl, sym, ap, ◌∙◌, subst, arith, true, false}
-use Rattle.zk_jute.specs.declared.fault.Reason.TheVariants.{Unasked, XidOrder}
+use Rattle.std.proofs.Common.{◌≡◌, ℕ, ◌+◌, ◌<◌, ◌≤◌, ℤ, inl, inr, List, [], ◌++◌, length, take, Option, Some, None, refl, sym, ap, ◌∙◌, subst, arith, true}
+use Rattle.std.specs.Option.{IfSome, IfNone}
+use Rattle.zk_jute.specs.declared.fault.Reason.{Reason}
+use Rattle.zk_jute.specs.declared.fault.Reason.TheVariants.{XidOrder}
 use Rattle.zk_frames.specs.Framing.{frame, IsBeginning}
-use Rattle.zk_records.specs.Codes.{IsNoOp}
+use Rattle.zk_waiting.specs.declared.lane.Lane.{Lane}
+use Rattle.zk_waiting.specs.Lane.{lane_of}
 use Rattle.zk_talk.specs.declared.message.Side.TheVariants.{Server}
 use Rattle.zk_talk.specs.declared.message.Fault.{Fault}
 use Rattle.zk_talk.specs.Fault.{fault_of}
@@ -11,8 +14,9 @@ use Rattle.zk_talk.specs.Streams.{StreamState, passed, kept_now}
 use Rattle.zk_talk.specs.Receiving.{CameWithin, CameWhole, IsStopped as WasStopped}
 use Rattle.zk_through.specs.declared.turn.Turn.{Turn}
 use Rattle.zk_through.specs.declared.through.Went.TheVariants as went
-use Rattle.zk_through.specs.LeftOut.{is_plain, xid_of}
-use Rattle.zk_through.specs.Runs.{ThroughState, WentOn, IsRefused, IsTold, IsNotTold}
+use Rattle.zk_through.specs.LeftOut.{has_turn, xid_of, lane_in}
+use Rattle.zk_through.specs.Turns.{TurnsState, lane_on, with_lane, with_reply, without_oldest, after_reply, IsDue, IsForTalk, IsBadTurn}
+use Rattle.zk_through.specs.Runs.{ThroughState, WentOn, IsRefused, IsTold, IsNotTold, IsAhead, IsNotAhead, IsKeptAt}
 use Rattle.zk_through.proofs.Steps.{within_on_server, ServerCame}
 use Rattle.zk_through.proofs.Outcomes.{server_other, server_answers, server_lacks}
 use Rattle.zk_through.proofs.Refusals.{refused_early, refused_told, refused_unasked, refused_turn}
@@ -56,7 +60,7 @@ module _ (old : ThroughState) (piece : List ℕ) (limit : old.server.limit ≡ o
     later some = omega (arith, some, ap (λ (z : StreamState). z.count) w.stays)
 
     -- the talk took the frame
-    module _ (s' : StreamState) (talk : TalkState) (turns : List Turn) (pass : s' ≡ passed s used) (limits : talk.limits ≡ old.talk.limits) (tells : (p : List ℕ) → s.held ≡ frame p → IsTold old.talk Server p talk) where
+    module _ (s' : StreamState) (talk : TalkState) (turns : TurnsState) (pass : s' ≡ passed s used) (limits : talk.limits ≡ old.talk.limits) (tells : (p : List ℕ) → s.held ≡ frame p → IsTold old.talk Server p talk) where
       abbrev pub new : ThroughState
       new = record old { talk = talk; server = s'; turns = turns }
 
@@ -66,60 +70,62 @@ module _ (old : ThroughState) (piece : List ℕ) (limit : old.server.limit ≡ o
       left : s'.kept ≡ []
       left = ap (λ (z : StreamState). z.kept) pass ∙ still
 
-      pub server_first : turns ≡ old.turns → (0 < s.count → (p : List ℕ) → s.held ≡ frame p → is_plain 16 p ≡ false) → WentOn old Server piece used went.Message new
-      server_first same not = (
+      pub server_told : (ahead : Option ℤ) → turns ≡ after_reply ahead old.turns → IfSome ahead (λ xid. IsAhead 16 s (λ q. xid ≡ xid_of q)) → IfNone ahead (IsNotAhead 16 s) → IsForTalk old.turns ahead →
+          WentOn old Server piece used went.Message new
+      server_told None same some none talks = (
         w.advance.1,
         left,
         whole.0,
-        server_other old new piece used whole.0 passed_on (tells whole.0 whole.1) same (λ some. not (omega (arith, some, ap (λ (z : StreamState). z.count) w.stays)) whole.0 whole.1),
+        server_other old new piece used whole.0 passed_on (tells whole.0 whole.1) same (λ later. none (omega (arith, later, ap (λ (z : StreamState). z.count) w.stays)) whole.0 whole.1),
       )
+      server_told (Some xid) more a none talks =
+          let t = a.1 whole.0 whole.1 in
+          let lane : lane_of xid ≡ lane_in whole.0 = ap lane_of t.1 in (
+            w.advance.1,
+            left,
+            whole.0,
+            server_answers old new piece used whole.0 passed_on t.0 (later a.0) (tells whole.0 whole.1) (more ∙ ap (λ (z : Lane). with_lane z with_reply old.turns) lane)
+                (subst (λ (z : Lane). (lane_on z old.turns).replies < (lane_on z old.turns).requests) lane talks.0)
+                (subst (λ (z : Lane). (due : Turn) → IsDue (lane_on z old.turns) due → ⊥) lane talks.1),
+          )
 
-      pub server_answers_of : (turn : Turn) → old.turns ≡ turn ∷ turns → (0 < s.count) × ((p : List ℕ) → s.held ≡ frame p → is_plain 16 p ≡ true) → (IsNoOp old.talk.limits.profile turn.number → ⊥) → WentOn old Server piece used went.Message new
-      server_answers_of turn oldest a known = (
-        w.advance.1,
-        left,
-        whole.0,
-        server_answers old new piece used whole.0 passed_on (a.1 whole.0 whole.1) (later a.0) turn oldest (tells whole.0 whole.1) known,
-      )
-
-    module _ (xid : ℤ) (a : (0 < s.count) × ((p : List ℕ) → s.held ≡ frame p → (is_plain 16 p ≡ true) × (xid ≡ xid_of p))) where
-      plain : is_plain 16 whole.0 ≡ true
-      plain = (a.1 whole.0 whole.1).0
+    module _ (xid : ℤ) (a : IsAhead 16 s (λ q. xid ≡ xid_of q)) where
+      turn : has_turn 16 whole.0 ≡ true
+      turn = (a.1 whole.0 whole.1).0
 
       xid_is : xid ≡ xid_of whole.0
       xid_is = (a.1 whole.0 whole.1).1
 
       -- it is left out
-      pub server_left : (s' : StreamState) (turns : List Turn) (turn : Turn) → s' ≡ kept_now s used → old.turns ≡ turn ∷ turns → xid ≡ turn.xid → IsNoOp old.talk.limits.profile turn.number →
-          WentOn old Server piece used (went.Answered turn) (record old { server = s'; turns = turns })
-      server_left s' turns turn keep oldest same foreign =
+      pub server_left : (s' : StreamState) (turns : TurnsState) (due : Turn) → s' ≡ kept_now s used → turns ≡ with_lane (lane_of due.xid) without_oldest old.turns → xid ≡ due.xid → IsDue (lane_on (lane_of due.xid) old.turns) due →
+          WentOn old Server piece used (went.Answered due) (record old { server = s'; turns = turns })
+      server_left s' turns due keep less same is_due =
           let new : ThroughState = record old { server = s'; turns = turns } in
+          let lane : lane_of due.xid ≡ lane_in whole.0 = ap lane_of (sym same ∙ xid_is) in
           let c' = came new refl (ap (λ (z : StreamState). z.held) keep) (ap (λ (z : StreamState). z.count) keep) (ap (λ (z : StreamState). z.size) keep) refl refl in (
             w.advance.1,
             refl,
             whole.0,
             ap (λ (z : StreamState). z.kept) keep ∙ whole.1,
             sym xid_is ∙ same,
-            oldest,
-            server_lacks old new piece used whole.0 c' plain (later a.0) turn oldest refl foreign (sym xid_is ∙ same),
+            is_due,
+            server_lacks old new piece used whole.0 c' turn (later a.0) refl due (subst (λ (z : Lane). IsDue (lane_on z old.turns) due) lane is_due) (less ∙ ap (λ (z : Lane). with_lane z without_oldest old.turns) lane) (sym xid_is ∙ same),
           )
 
-      -- none waits for it
-      pub server_unasked : (e : Fault) (k : Option Fault) → old.turns ≡ [] → e ≡ fault_of Server s.count (s.size + used) 0 Unasked → k ≡ Some e → IsRefused old Server piece e (record old { server = s; fault = k })
-      server_unasked e k empty at kept =
-          refused_unasked old (record old { server = s; fault = k }) piece used e w.advance.1 kept whole.0 is plain empty
-          (at ∙ (λ i. fault_of Server (w.stays i).count ((w.stays i).size + used) 0 Unasked))
-
-      -- or another's turn it is
-      pub server_turn : (e : Fault) (k : Option Fault) (turn : Turn) (rest : List Turn) → old.turns ≡ turn ∷ rest → IsNoOp old.talk.limits.profile turn.number → turn.xid ≢ xid →
-          e ≡ fault_of Server s.count (s.size + used) 0 (XidOrder turn.xid xid) → k ≡ Some e → IsRefused old Server piece e (record old { server = s; fault = k })
-      server_turn e k turn rest oldest foreign other at kept =
-          refused_turn old (record old { server = s; fault = k }) piece used e w.advance.1 kept whole.0 is plain turn rest oldest foreign (λ same. other (same ∙ sym xid_is))
-          (at ∙ (λ i. fault_of Server (w.stays i).count ((w.stays i).size + used) 0 (XidOrder turn.xid (xid_is i))))
+      -- none waits for it, or another's turn it is
+      pub server_bad : (e : Fault) (k : Option Fault) (reason : Reason) → IsBadTurn old.turns xid reason → e ≡ fault_of Server s.count (s.size + used) 0 reason → k ≡ Some e → IsRefused old Server piece e (record old { server = s; fault = k })
+      server_bad e k reason (inl over) at kept =
+          refused_unasked old (record old { server = s; fault = k }) piece used e w.advance.1 kept whole.0 is turn
+          (subst (λ (z : Lane). (lane_on z old.turns).requests ≤ (lane_on z old.turns).replies) (ap lane_of xid_is) over.0)
+          (at ∙ (λ i. fault_of Server (w.stays i).count ((w.stays i).size + used) 0 (over.1 i)))
+      server_bad e k reason (inr b) at kept =
+          refused_turn old (record old { server = s; fault = k }) piece used e w.advance.1 kept whole.0 is turn b.0
+          (subst (λ (z : Lane). IsDue (lane_on z old.turns) b.0) (ap lane_of xid_is) b.1) (λ same. b.2 (same ∙ sym xid_is))
+          (at ∙ (λ i. fault_of Server (w.stays i).count ((w.stays i).size + used) 0 ((b.3 ∙ ap (λ z. XidOrder b.0.xid z) xid_is) i)))
 
     -- the talk refused it
-    pub server_refused : (e : Fault) (k : Option Fault) (s' : StreamState) (talk : TalkState) → e ≡ fault_of Server s.count (s.size + used) e.place e.reason → k ≡ Some e → ((p : List ℕ) → s.held ≡ frame p → IsNotTold old.talk Server p e) →
+    pub server_refused : (e : Fault) (k : Option Fault) (s' : StreamState) (talk : TalkState) → IsKeptAt Server s used e k → ((p : List ℕ) → s.held ≡ frame p → IsNotTold old.talk Server p e) →
         IsRefused old Server piece e (record old { talk = talk; server = s'; fault = k })
-    server_refused e k s' talk at kept not =
-        refused_told Server old (record old { talk = talk; server = s'; fault = k }) piece used e w.advance.1 kept whole.0 is
-        (at ∙ (λ i. fault_of Server (w.stays i).count ((w.stays i).size + used) e.place e.reason)) (not whole.0 whole.1)
+    server_refused e k s' talk at not =
+        refused_told Server old (record old { talk = talk; server = s'; fault = k }) piece used e w.advance.1 at.1 whole.0 is
+        (at.0 ∙ (λ i. fault_of Server (w.stays i).count ((w.stays i).size + used) e.place e.reason)) (not whole.0 whole.1)

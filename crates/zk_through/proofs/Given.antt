@@ -17,8 +17,7 @@ runs_given Client t h c k M r = record {
   kept = r.kept;
   stands = r.stands;
   alone = r.alone;
-  turns = r.turns;
-  paired = r.paired;
+  lanes = r.lanes;
   client_count = r.client_count;
   server_count = r.server_count;
   client_size = r.client_size;
@@ -30,8 +29,7 @@ runs_given Server t h c k M r = record {
   kept = r.kept;
   stands = r.stands;
   alone = r.alone;
-  turns = r.turns;
-  paired = r.paired;
+  lanes = r.lanes;
   client_count = r.client_count;
   server_count = r.server_count;
   client_size = r.client_size;
@@ -48,8 +46,36 @@ given_went Client old piece used (went.Asked turn) new x = (x.0, x.1, x.2, x.3, 
 given_went Server old piece used (went.Asked turn) new x = (x.0, x.1, x.2, x.3, x.4, λ h c k M r. x.5 h c k M (runs_given Server old h c k M r))
 given_went Client old piece used (went.Answered turn) new x = (x.0, x.1, x.2, x.3, x.4, x.5, λ h c k M r. x.6 h c k M (runs_given Client old h c k M r))
 given_went Server old piece used (went.Answered turn) new x = (x.0, x.1, x.2, x.3, x.4, x.5, λ h c k M r. x.6 h c k M (runs_given Server old h c k M r))
-given_went Client old piece used went.Full new x = (x.0, x.1, x.2, x.3, λ h c k M r. x.4 h c k M (runs_given Client old h c k M r))
-given_went Server old piece used went.Full new x = (x.0, x.1, x.2, x.3, λ h c k M r. x.4 h c k M (runs_given Server old h c k M r))
+given_went Client old piece used went.Full new x = (
+  x.0,
+  x.1,
+  x.2,
+  record {
+    part = x.3.part;
+    payload = x.3.payload;
+    size = x.3.size;
+    whole = x.3.whole;
+    later = x.3.later;
+    weighs = x.3.weighs;
+    full = λ h c k M r. x.3.full h c k M (runs_given Client old h c k M r);
+  },
+  λ h c k M r. x.4 h c k M (runs_given Client old h c k M r),
+)
+given_went Server old piece used went.Full new x = (
+  x.0,
+  x.1,
+  x.2,
+  record {
+    part = x.3.part;
+    payload = x.3.payload;
+    size = x.3.size;
+    whole = x.3.whole;
+    later = x.3.later;
+    weighs = x.3.weighs;
+    full = λ h c k M r. x.3.full h c k M (runs_given Server old h c k M r);
+  },
+  λ h c k M r. x.4 h c k M (runs_given Server old h c k M r),
+)
 
 pub given_refused : (side : Side) (old : ThroughState) (piece : List ℕ) (e : Fault) (new : ThroughState) → IsRefused (given_up side old) side piece e new → IsRefused old side piece e new
 given_refused Client old piece e new x = (

@@ -1,9 +1,10 @@
 -- Lemmas.
 mod Alone
 mod Carried
+mod Weights
 mod Frames
 mod Telling
-mod Turns
+mod Lanes
 mod Steps
 mod Outcomes
 mod Refusals
@@ -11,3 +12,4 @@ mod Answering
 mod AnsweringClient
 mod AnsweringServer
 mod Given
+mod Endings

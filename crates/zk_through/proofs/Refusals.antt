@@ -1,9 +1,8 @@
 -- Why a side's frame is refused.
-use Rattle.std.proofs.Common.{◌≡◌, ◌≢◌, ℕ, ◌+◌, ◌≤◌, List, [], ◌∷◌, ◌++◌, length, take, Some, refl, sym, ap, ◌∙◌, subst, arith, true}
+use Rattle.std.proofs.Common.{◌≡◌, ◌≢◌, ℕ, ◌+◌, ◌≤◌, List, ◌++◌, length, take, Some, refl, sym, ap, ◌∙◌, subst, arith, true}
 use Rattle.zk_jute.specs.declared.fault.Reason.{Reason}
 use Rattle.zk_jute.specs.declared.fault.Reason.TheVariants.{Unasked, XidOrder}
 use Rattle.zk_frames.specs.Framing.{frame, IsBadLength}
-use Rattle.zk_records.specs.Codes.{IsNoOp}
 use Rattle.zk_talk.specs.declared.message.Side.{Side}
 use Rattle.zk_talk.specs.declared.message.Side.TheVariants.{Client, Server}
 use Rattle.zk_talk.specs.declared.message.Fault.{Fault}
@@ -16,10 +15,11 @@ use Rattle.zk_talk.specs.Advance.IsStop.{too_many, out_of_range}
 use Rattle.zk_talk.specs.Receiving.{IsStopped as WasStopped}
 use Rattle.zk_through.specs.declared.turn.Turn.{Turn}
 use Rattle.zk_through.specs.Came.{Came, payloads, told}
-use Rattle.zk_through.specs.LeftOut.{is_plain, xid_of, asked, replied, IsForeign}
+use Rattle.zk_through.specs.LeftOut.{has_turn, lane_in, xid_of}
+use Rattle.zk_through.specs.Turns.{IsDue, lane_on}
 use Rattle.zk_through.specs.Runs.{ThroughState, Runs, IsWhy, IsRefused, IsNotTold, stream_on}
 use Rattle.zk_through.specs.Runs.IsWhy.{stream_end, length_range, unasked, other_turn, told_so}
-use Rattle.zk_through.proofs.Turns.{next_turn, no_turn}
+use Rattle.zk_through.proofs.Lanes.{turn_is, over_is}
 
 count_on : (side : Side) (t : ThroughState) (h : History) (c k : Came) (M : List Message) → Runs t h c k M → (stream_on side t).count ≡ length (payloads side c)
 count_on Client t h c k M r = r.client_count
@@ -64,18 +64,16 @@ refused_early side old new piece e s same w kept =
     (stopped_why side old new piece w.used e w.advance.1 kept (stream_on side old).limit same (ap (λ (z : Fault). z.place) w.told) w.reason (ap (λ (z : Fault). z.reason) w.told) w.advance.0)
 
 -- ---- A reply that none waits for
-module _ (old new : ThroughState) (piece : List ℕ) (used : ℕ) (e : Fault) (part : used ≤ length piece) (kept : new.fault ≡ Some e) (q : List ℕ) (is : old.server.held ++ take used piece ≡ frame q) (plain : is_plain 16 q ≡ true) where
-  pub refused_unasked : old.turns ≡ [] → e ≡ fault_of Server old.server.count (old.server.size + used) 0 Unasked → IsRefused old Server piece e new
-  refused_unasked none at =
+module _ (old new : ThroughState) (piece : List ℕ) (used : ℕ) (e : Fault) (part : used ≤ length piece) (kept : new.fault ≡ Some e) (q : List ℕ) (is : old.server.held ++ take used piece ≡ frame q) (turn : has_turn 16 q ≡ true) where
+  pub refused_unasked : (lane_on (lane_in q) old.turns).requests ≤ (lane_on (lane_in q) old.turns).replies → e ≡ fault_of Server old.server.count (old.server.size + used) 0 Unasked → IsRefused old Server piece e new
+  refused_unasked over at =
       refused_at Server old new piece used e part kept (exactly Server old.server.count (old.server.size + used) 0 Unasked e at)
-      (λ h c k M r. unasked refl q is plain (no_turn (replied c) (asked c) (sym none ∙ r.turns)) (ap (λ (z : Fault). z.place) at) (ap (λ (z : Fault). z.reason) at))
+      (λ h c k M r. unasked refl q is turn (over_is old.talk.limits.profile c old.turns q r.lanes turn over) (ap (λ (z : Fault). z.place) at) (ap (λ (z : Fault). z.reason) at))
 
-  pub refused_turn : (turn : Turn) (rest : List Turn) → old.turns ≡ turn ∷ rest → IsNoOp old.talk.limits.profile turn.number → turn.xid ≢ xid_of q →
-      e ≡ fault_of Server old.server.count (old.server.size + used) 0 (XidOrder turn.xid (xid_of q)) → IsRefused old Server piece e new
-  refused_turn turn rest oldest foreign other at =
-      refused_at Server old new piece used e part kept (exactly Server old.server.count (old.server.size + used) 0 (XidOrder turn.xid (xid_of q)) e at)
+  pub refused_turn : (due : Turn) → IsDue (lane_on (lane_in q) old.turns) due → due.xid ≢ xid_of q → e ≡ fault_of Server old.server.count (old.server.size + used) 0 (XidOrder due.xid (xid_of q)) → IsRefused old Server piece e new
+  refused_turn due is_due other at =
+      refused_at Server old new piece used e part kept (exactly Server old.server.count (old.server.size + used) 0 (XidOrder due.xid (xid_of q)) e at)
       (λ h c k M r.
-      let n = next_turn (replied c) (asked c) turn rest (sym oldest ∙ r.turns) in
-      let xid = ap (λ (z : Turn). z.xid) n.turn_is in
-      let lacks : IsForeign old.talk.limits.profile n.p = subst (IsNoOp old.talk.limits.profile) (sym (ap (λ (z : Turn). z.number) n.turn_is)) foreign in
-      other_turn refl q is plain n.p n.is lacks (λ same. other (sym xid ∙ same)) (ap (λ (z : Fault). z.place) at) (ap (λ (z : Fault). z.reason) at ∙ ap (λ z. XidOrder z (xid_of q)) (sym xid)))
+      let y = turn_is old.talk.limits.profile c old.turns q r.lanes turn due is_due in
+      let xid : due.xid ≡ xid_of y.0.1 = ap (λ (z : Turn). z.xid) y.3 in
+      other_turn refl q is turn y.0 y.1 y.2 (λ same. other (xid ∙ same)) (ap (λ (z : Fault). z.place) at) (ap (λ (z : Fault). z.reason) at ∙ ap (λ z. XidOrder z (xid_of q)) xid))

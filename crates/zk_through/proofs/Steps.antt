@@ -1,8 +1,11 @@
 -- What a conversation comes to with one piece more.
-use Rattle.std.proofs.Common.{◌≡◌, ℕ, ◌+◌, ◌<◌, ◌≤◌, inl, List, [], ◌∷◌, ◌++◌, length, take, drop, map, refl, sym, ap, ◌∙◌, subst, arith, length-append, None}
+use Rattle.std.proofs.Common.{◌≡◌, ℕ, ◌+◌, ◌<◌, ◌≤◌, inl, List, [], ◌∷◌, ◌++◌, length, take, drop, refl, sym, ap, ◌∙◌, subst, arith, length-append, None}
 use Rattle.std.proofs.Common.{filter}
 use Rattle.std.proofs.lemmas.List.{append-nil, length_push, length-take-le, nil_from_length}
+use Rattle.std.specs.List.{enumerate_from}
 use Rattle.zk_frames.specs.Framing.{frame, IsBeginning, IsCut}
+use Rattle.zk_waiting.specs.declared.lane.Lane.{Lane}
+use Rattle.zk_waiting.specs.declared.lane.Lane.TheVariants.{Watches, Plain}
 use Rattle.zk_talk.specs.declared.message.Side.TheVariants.{Client, Server}
 use Rattle.zk_talk.specs.declared.limits.Limits.{Limits}
 use Rattle.zk_talk.specs.Held.{Message}
@@ -14,11 +17,12 @@ use Rattle.zk_talk.proofs.Histories.{no_bytes}
 use Rattle.zk_talk.proofs.Lists.{both_empty}
 use Rattle.zk_talk.proofs.Standing.{bytes-on, other-on}
 use Rattle.zk_through.specs.Came.{Came, payloads, AreCut, AreFrames, told}
-use Rattle.zk_through.specs.LeftOut.{is_plain, asked, replied, Kept}
-use Rattle.zk_through.specs.Runs.{ThroughState, Runs, turn_of, GoesOn}
+use Rattle.zk_through.specs.LeftOut.{is_on, asked, replied, Kept}
+use Rattle.zk_through.specs.Turns.{AreLeft, IsLane, AreLanes, no_turns}
+use Rattle.zk_through.specs.Runs.{ThroughState, Runs, GoesOn}
 use Rattle.zk_through.proofs.Frames.{no_payloads, payloads-same, payloads-other, within_client, within_server, whole_client, whole_server}
 
-nothing_more : (t : ThroughState) (h : History) (c k : Came) (M : List Message) → Runs t h c k M → Runs t h (c ++ []) (k ++ []) (M ++ [])
+pub nothing_more : (t : ThroughState) (h : History) (c k : Came) (M : List Message) → Runs t h c k M → Runs t h (c ++ []) (k ++ []) (M ++ [])
 nothing_more t h c k M r =
     subst (λ z. Runs t h z (k ++ []) (M ++ [])) (sym (append-nil c)) (subst (λ z. Runs t h c z (M ++ [])) (sym (append-nil k)) (subst (λ z. Runs t h c k z) (sym (append-nil M)) r))
 
@@ -34,8 +38,7 @@ module _ (old : ThroughState) (piece : List ℕ) where
         kept = r.kept;
         stands = r.stands;
         alone = r.alone;
-        turns = r.turns;
-        paired = r.paired;
+        lanes = r.lanes;
         client_count = ap (λ (z : StreamState). z.count) e ∙ r.client_count;
         server_count = r.server_count;
         client_size = ap (λ (z : StreamState). z.size) e ∙ omega (arith, r.client_size, bytes-on Client piece h);
@@ -54,8 +57,7 @@ module _ (old : ThroughState) (piece : List ℕ) where
         kept = r.kept;
         stands = r.stands;
         alone = r.alone;
-        turns = r.turns;
-        paired = r.paired;
+        lanes = r.lanes;
         client_count = r.client_count;
         server_count = ap (λ (z : StreamState). z.count) e ∙ r.server_count;
         client_size = r.client_size ∙ ap length (sym (other-on Server piece h));
@@ -81,9 +83,9 @@ pub record ClientCame (old new : ThroughState) (piece : List ℕ) (used : ℕ) (
 module _ (old new : ThroughState) (piece : List ℕ) (used : ℕ) (p : List ℕ) (x : ClientCame old new piece used p) where
   pub client_came : (h : History) (c k : Came) (M : List Message) → Runs old h c k M → (k' : Came) (M' : List Message) →
       Kept old.talk.limits.profile (c ++ (Client, p) ∷ []) k' → Stands new.talk (told k') M' → (new.talk.client_held ≡ []) × (new.talk.server_held ≡ []) →
-      new.turns ≡ drop (replied (c ++ (Client, p) ∷ [])) (map turn_of (asked (c ++ (Client, p) ∷ []))) → replied (c ++ (Client, p) ∷ []) ≤ length (asked (c ++ (Client, p) ∷ [])) →
+      AreLanes old.talk.limits.profile (c ++ (Client, p) ∷ []) new.turns →
       Runs new (h ++ on Client (take used piece)) (c ++ (Client, p) ∷ []) k' M'
-  client_came h c k M r k' M' kept stands alone turns paired =
+  client_came h c k M r k' M' kept stands alone lanes =
       let t = take used piece in
       let n = length-take-le used piece x.part in
       let frames' = whole_client old.talk.limits c t h old.client.held old.server.held p r.frames (omega (arith, n, x.some)) x.fits x.is in
@@ -94,8 +96,7 @@ module _ (old new : ThroughState) (piece : List ℕ) (used : ℕ) (p : List ℕ)
         kept = subst (λ (l : Limits). Kept l.profile (c ++ (Client, p) ∷ []) k') (sym x.limits) kept;
         stands = stands;
         alone = alone;
-        turns = turns;
-        paired = paired;
+        lanes = subst (λ (l : Limits). AreLanes l.profile (c ++ (Client, p) ∷ []) new.turns) (sym x.limits) lanes;
         client_count = omega (arith, x.count, r.client_count, ap length (payloads-same Client c p), length_push (payloads Client c) p);
         server_count = ap (λ (z : StreamState). z.count) x.other ∙ r.server_count ∙ ap length (sym (payloads-other Client c p));
         client_size = omega (arith, x.size, r.client_size, bytes-on Client t h, n);
@@ -119,9 +120,9 @@ pub record ServerCame (old new : ThroughState) (piece : List ℕ) (used : ℕ) (
 module _ (old new : ThroughState) (piece : List ℕ) (used : ℕ) (p : List ℕ) (x : ServerCame old new piece used p) where
   pub server_came : (h : History) (c k : Came) (M : List Message) → Runs old h c k M → (k' : Came) (M' : List Message) →
       Kept old.talk.limits.profile (c ++ (Server, p) ∷ []) k' → Stands new.talk (told k') M' → (new.talk.client_held ≡ []) × (new.talk.server_held ≡ []) →
-      new.turns ≡ drop (replied (c ++ (Server, p) ∷ [])) (map turn_of (asked (c ++ (Server, p) ∷ []))) → replied (c ++ (Server, p) ∷ []) ≤ length (asked (c ++ (Server, p) ∷ [])) →
+      AreLanes old.talk.limits.profile (c ++ (Server, p) ∷ []) new.turns →
       Runs new (h ++ on Server (take used piece)) (c ++ (Server, p) ∷ []) k' M'
-  server_came h c k M r k' M' kept stands alone turns paired =
+  server_came h c k M r k' M' kept stands alone lanes =
       let t = take used piece in
       let n = length-take-le used piece x.part in
       let frames' = whole_server old.talk.limits c t h old.client.held old.server.held p r.frames (omega (arith, n, x.some)) x.fits x.is in
@@ -132,8 +133,7 @@ module _ (old new : ThroughState) (piece : List ℕ) (used : ℕ) (p : List ℕ)
         kept = subst (λ (l : Limits). Kept l.profile (c ++ (Server, p) ∷ []) k') (sym x.limits) kept;
         stands = stands;
         alone = alone;
-        turns = turns;
-        paired = paired;
+        lanes = subst (λ (l : Limits). AreLanes l.profile (c ++ (Server, p) ∷ []) new.turns) (sym x.limits) lanes;
         client_count = ap (λ (z : StreamState). z.count) x.other ∙ r.client_count ∙ ap length (sym (payloads-other Server c p));
         server_count = omega (arith, x.count, r.server_count, ap length (payloads-same Server c p), length_push (payloads Server c) p);
         client_size = ap (λ (z : StreamState). z.size) x.other ∙ r.client_size ∙ ap length (sym (other-on Server t h));
@@ -155,9 +155,20 @@ module _ (talk : TalkState) (client server : StreamState) (stands : Stands talk 
     server = subst (λ z. IsCut talk.limits.server (side_bytes Server []) z []) (sym (no_payloads Server)) (record { whole = no_bytes Server; within = tt; beginning = inl (omega arith) });
   }
 
-  pub runs_start : client.held ≡ [] → server.held ≡ [] → client.count ≡ 0 → server.count ≡ 0 → client.size ≡ 0 → server.size ≡ 0 →
-      Runs (record { talk = talk; client = client; server = server; turns = []; fault = None }) [] [] [] []
-  runs_start ch sh cc' sc cs ss = record {
+  no_lane : (lane : Lane) (room : ℕ) → IsLane talk.limits.profile lane [] (no_turns room)
+  no_lane lane room =
+      let asks : asked lane [] ≡ [] = ap (λ z. filter (λ (x : ℕ × List ℕ). is_on lane 8 x.1) (drop 1 (enumerate_from 0 z))) (no_payloads Client) in
+      let rs : replied lane [] ≡ 0 = ap (λ z. length (filter (is_on lane 16) (drop 1 z))) (no_payloads Server) in
+      record {
+        requests = sym (ap length asks);
+        replies = sym rs;
+        paired = omega (arith, rs);
+        left = subst (λ n. AreLeft talk.limits.profile n (drop n (asked lane [])) []) (sym rs) (subst (λ z. AreLeft talk.limits.profile 0 z []) (sym asks) refl);
+      }
+
+  pub runs_start : (plain watches : ℕ) → client.held ≡ [] → server.held ≡ [] → client.count ≡ 0 → server.count ≡ 0 → client.size ≡ 0 → server.size ≡ 0 →
+      Runs (record { talk = talk; client = client; server = server; turns = record { plain = no_turns plain; watches = no_turns watches }; fault = None }) [] [] [] []
+  runs_start plain watches ch sh cc' sc cs ss = record {
     frames = subst (λ z. AreFrames talk.limits [] [] z server.held) (sym ch) (subst (λ z. AreFrames talk.limits [] [] [] z) (sym sh) (record {
       cut = start_cut;
       fronts = λ front rest e. ([], [], refl, [], [], subst (λ z. AreCut talk.limits z [] [] []) (sym (both_empty front rest (sym e)).0) start_cut);
@@ -165,8 +176,7 @@ module _ (talk : TalkState) (client server : StreamState) (stands : Stands talk 
     kept = refl;
     stands = stands;
     alone = (no_client, no_server);
-    turns = sym (ap (λ z. drop (length (filter (is_plain 16) (drop 1 z))) (map turn_of (asked []))) (no_payloads Server) ∙ ap (λ z. map turn_of (filter (is_plain 8) (drop 1 z))) (no_payloads Client));
-    paired = omega (arith, ap (λ z. length (filter (is_plain 16) (drop 1 z))) (no_payloads Server));
+    lanes = (no_lane Plain plain, no_lane Watches watches);
     client_count = cc' ∙ sym (ap length (no_payloads Client));
     server_count = sc ∙ sym (ap length (no_payloads Server));
     client_size = cs ∙ sym (ap length (no_bytes Client));

@@ -1,10 +1,12 @@
 -- Which frames are left out: requests of operations that the profile lacks, and the replies to them.
 use Rattle.std.specs.Prelude.{◌≡◌, ◌≢◌, ℕ, ◌⊎◌, ℤ, negsuc, List, [], ◌∷◌, ◌++◌, length, drop, filter, Bool, true, false, if◌then◌else◌, nat_le, Some, slice_get}
+use Rattle.std.specs.List.{enumerate_from}
 use Rattle.std.specs.Ordering.{int_eq}
 use Rattle.zk_jute.specs.Faults.{first_int}
 use Rattle.zk_records.specs.declared.profile.Profile.{Profile}
 use Rattle.zk_records.specs.Codes.{IsNoOp}
-use Rattle.zk_waiting.specs.declared.lane.Lane.TheVariants.{Plain}
+use Rattle.zk_waiting.specs.declared.lane.Lane.{Lane}
+use Rattle.zk_waiting.specs.declared.lane.Lane.TheVariants.{Ping, Auth, Watches, Plain}
 use Rattle.zk_waiting.specs.Lane.{lane_of, same_lane}
 use Rattle.zk_talk.specs.declared.message.Side.{Side}
 use Rattle.zk_talk.specs.declared.message.Side.TheVariants.{Client, Server}
@@ -17,31 +19,50 @@ xid_of p = first_int p
 abbrev pub number_of : List ℕ → ℤ
 number_of p = first_int (drop 4 p)
 
--- neither an event's xid nor one of a special lane
-unfoldable pub is_plain_xid : ℤ → Bool
-is_plain_xid xid = if int_eq xid (negsuc 0) then false else same_lane Plain (lane_of xid)
+-- the lanes of which requests may be left out
+abbrev pub has_turns : Lane → Bool
+has_turns Ping = false
+has_turns Auth = false
+has_turns Watches = true
+has_turns Plain = true
 
--- a header of this many bytes is whole, and its xid is a plain one
-unfoldable pub is_plain : ℕ → List ℕ → Bool
-is_plain size p = if nat_le size (length p) then is_plain_xid (xid_of p) else false
+-- the xid is of such a lane, and isn't an event's
+unfoldable pub is_turn_xid : ℤ → Bool
+is_turn_xid xid = if int_eq xid (negsuc 0) then false else has_turns (lane_of xid)
 
--- the requests under plain xids, in order
-abbrev pub asked : Came → List (List ℕ)
-asked came = filter (is_plain 8) (drop 1 (payloads Client came))
+-- a header of this many bytes is whole, and its xid is such a one
+unfoldable pub has_turn : ℕ → List ℕ → Bool
+has_turn size p = if nat_le size (length p) then is_turn_xid (xid_of p) else false
 
--- how many replies under plain xids came
-abbrev pub replied : Came → ℕ
-replied came = length (filter (is_plain 16) (drop 1 (payloads Server came)))
+-- the lane of a header's xid
+abbrev pub lane_in : List ℕ → Lane
+lane_in p = lane_of (xid_of p)
+
+-- a header of this many bytes is whole, and its xid is such a one of this lane
+unfoldable pub is_on : Lane → ℕ → List ℕ → Bool
+is_on lane size p = if has_turn size p then same_lane lane (lane_in p) else false
+
+-- the lane's requests, in order, each with the number of its frame
+abbrev pub asked : Lane → Came → List (ℕ × List ℕ)
+asked lane came = filter (λ (x : ℕ × List ℕ). is_on lane 8 x.1) (drop 1 (enumerate_from 0 (payloads Client came)))
+
+-- how many replies of the lane came
+abbrev pub replied : Lane → Came → ℕ
+replied lane came = length (filter (is_on lane 16) (drop 1 (payloads Server came)))
 
 -- the request's operation is none of the profile's
 abbrev pub IsForeign : Profile → List ℕ → Type 0
 IsForeign profile p = IsNoOp profile (number_of p)
 
--- the frame, after these, is left out: such a request, or the reply whose turn it is to answer one
+-- the reply is to answer this request, if it has the request's xid
+abbrev pub IsTurnOf : Came → List ℕ → ℕ × List ℕ → Type 0
+IsTurnOf before q x = slice_get (asked (lane_in q) before) (replied (lane_in q) before) ≡ Some x
+
+-- the frame, after these, is left out: such a request, or the reply whose turn in its lane it is to answer one
 abbrev pub IsLeftOut : Profile → Came → Side × List ℕ → Type 0
-IsLeftOut profile before (Client, p) = (payloads Client before ≢ []) × (is_plain 8 p ≡ true) × IsForeign profile p
-IsLeftOut profile before (Server, q) = (payloads Server before ≢ []) × (is_plain 16 q ≡ true) ×
-    (p : List ℕ) × (slice_get (asked before) (replied before) ≡ Some p) × IsForeign profile p × (xid_of q ≡ xid_of p)
+IsLeftOut profile before (Client, p) = (payloads Client before ≢ []) × (has_turn 8 p ≡ true) × IsForeign profile p
+IsLeftOut profile before (Server, q) = (payloads Server before ≢ []) × (has_turn 16 q ≡ true) ×
+    (x : ℕ × List ℕ) × IsTurnOf before q x × IsForeign profile x.1 × (xid_of q ≡ xid_of x.1)
 
 -- `kept` are those of `came`, after `before`, that aren't left out
 abbrev pub KeptAfter : Profile → Came → Came → Came → Type 0

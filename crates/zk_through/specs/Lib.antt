@@ -1,4 +1,5 @@
 -- Definitions that the contracts cite.
 pub mod Came
 pub mod LeftOut
+pub mod Turns
 pub mod Runs

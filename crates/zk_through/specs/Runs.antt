@@ -1,34 +1,41 @@
 -- What a connection comes to: the conversation that the talk is told, and the requests and replies that are left out.
-use Rattle.std.specs.Prelude.{◌≡◌, ◌≢◌, ℕ, ◌+◌, ◌≤◌, ◌^◌, List, [], ◌∷◌, ◌++◌, length, take, drop, map, Option, Some, None, true, slice_get}
+use Rattle.std.specs.Prelude.{◌≡◌, ◌≢◌, ℕ, ◌+◌, ◌≤◌, ◌<◌, ◌^◌, ◌⊎◌, List, [], ◌∷◌, ◌++◌, length, take, Option, Some, None, true, false}
 use Rattle.zk_jute.specs.declared.fault.Reason.{Reason}
 use Rattle.zk_jute.specs.declared.fault.Reason.TheVariants.{StreamEnd, LengthRange, Unasked, XidOrder}
+use Rattle.zk_records.specs.declared.profile.Profile.{Profile}
+use Rattle.zk_asks.specs.Held.{ClientFrame}
+use Rattle.zk_asks.specs.Frames.{IsLater, IsSent, IsOfProfile}
 use Rattle.zk_frames.specs.Framing.{frame, IsBadLength}
+use Rattle.zk_waiting.specs.Lane.{lane_of}
 use Rattle.zk_talk.specs.declared.message.Side.{Side}
 use Rattle.zk_talk.specs.declared.message.Side.TheVariants.{Client, Server}
 use Rattle.zk_talk.specs.declared.message.Fault.{Fault}
+use Rattle.zk_talk.specs.declared.message.Ending.{Ending}
+use Rattle.zk_talk.specs.declared.message.Ending.TheVariants.{Whole, Cut, Refused}
 use Rattle.zk_talk.specs.declared.limits.Limits.{Limits}
 use Rattle.zk_talk.specs.Held.{Message}
+use Rattle.zk_talk.specs.Payloads.{client_payload}
 use Rattle.zk_talk.specs.History.{History, side_bytes, on}
+use Rattle.zk_talk.specs.Conversation.{Conversation, load, weight}
+use Rattle.zk_talk.specs.Good.{Good}
 use Rattle.zk_talk.specs.Fault.{IsFaultOf, side_limit, fault_of}
+use Rattle.zk_talk.specs.Ending.{IsEnding}
 use Rattle.zk_talk.specs.Stands.{TalkState, Stands}
 use Rattle.zk_talk.specs.Streams.{StreamState}
 use Rattle.zk_talk.specs.Viewed.{Shows, Leaves}
-use Rattle.zk_through.specs.declared.turn.Turn.{Turn}
 use Rattle.zk_through.specs.declared.through.Went.{Went}
 use Rattle.zk_through.specs.declared.through.Went.TheVariants as went
 use Rattle.zk_through.specs.Came.{Came, payloads, AreFrames, told}
-use Rattle.zk_through.specs.LeftOut.{xid_of, number_of, is_plain, asked, replied, IsForeign, Kept}
+use Rattle.zk_through.specs.LeftOut.{xid_of, has_turn, lane_in, asked, replied, IsForeign, IsTurnOf, Kept}
+use Rattle.zk_through.specs.Turns.{TurnsState, AreLanes, IsDue, turn_of, lane_on, left_out}
 
--- the talk; each side's frame, with how many came; and the requests under plain xids that wait, the oldest first
+-- the talk; each side's frame, with how many came; and the requests that are left out and wait
 pub record ThroughState : Type 0 where
   pub talk : TalkState
   pub client : StreamState
   pub server : StreamState
-  pub turns : List Turn
+  pub turns : TurnsState
   pub fault : Option Fault
-
-abbrev pub turn_of : List ℕ → Turn
-turn_of p = record { xid = xid_of p; number = number_of p }
 
 -- The history's frames are `came`, and the talk was given `given`, of which the messages are.
 pub record Runs (t : ThroughState) (h : History) (came given : Came) (messages : List Message) : Type 0 where
@@ -36,13 +43,17 @@ pub record Runs (t : ThroughState) (h : History) (came given : Came) (messages :
   pub kept : Kept t.talk.limits.profile came given
   pub stands : Stands t.talk (told given) messages
   pub alone : (t.talk.client_held ≡ []) × (t.talk.server_held ≡ [])
-  pub turns : t.turns ≡ drop (replied came) (map turn_of (asked came))
-  pub paired : replied came ≤ length (asked came)
+  pub lanes : AreLanes t.talk.limits.profile came t.turns
   pub client_count : t.client.count ≡ length (payloads Client came)
   pub server_count : t.server.count ≡ length (payloads Server came)
   pub client_size : t.client.size ≡ length (side_bytes Client h)
   pub server_size : t.server.size ≡ length (side_bytes Server h)
   pub no_fault : t.fault ≡ None
+
+-- this holds of the conversation that the talk was given
+abbrev pub WhereItRuns : ThroughState → (Conversation → Type 0) → Type 0
+WhereItRuns t Says = (h : History) (c k : Came) (M : List Message) → Runs t h c k M →
+    (v : Conversation) → Good t.talk.limits (told k) v [] [] → Says v
 
 -- the bytes went on with the history, and made these frames whole, of which the talk was told some, and of which these
 -- messages are
@@ -66,29 +77,48 @@ stream_on Server t = t.server
 abbrev pub left_on : Side → ThroughState → List ℕ
 left_on side t = (stream_on side t).kept
 
+-- the payload is a request's of the profile, of this weight
+abbrev pub IsRequestOf : Profile → List ℕ → ℕ → Type 0
+IsRequestOf profile p w = (f : ClientFrame) × IsLater f × IsSent f × IsOfProfile profile f × (client_payload f ≡ p) × (w ≡ weight f)
+
+-- a request that is left out weighs 1, and one that the talk gets as there
+abbrev pub Weighs : Profile → List ℕ → ℕ → Type 0
+Weighs profile p w = ((has_turn 8 p ≡ true) × IsForeign profile p × (w ≡ 1)) ⊎ IsRequestOf profile p w
+
+-- with the client's frame, which some of the piece makes whole, more would wait than may
+pub record IsFull (old : ThroughState) (piece : List ℕ) : Type 0 where
+  pub part : ℕ
+  pub payload : List ℕ
+  pub size : ℕ
+  pub whole : old.client.held ++ take part piece ≡ frame payload
+  pub later : 0 < old.client.count
+  pub weighs : Weighs old.talk.limits.profile payload size
+  pub full : WhereItRuns old (λ v. old.talk.limits.waiting < load v.client v.server + left_out old.turns + size)
+
 -- what became of the bytes that were used
 abbrev pub WentOn : ThroughState → Side → List ℕ → ℕ → Went → ThroughState → Type 0
 WentOn old side piece used went.Within new = (used ≡ length piece) × (left_on side new ≡ []) × GoesOn old side piece [] [] [] new
 WentOn old side piece used went.Message new =
     (used ≤ length piece) × (left_on side new ≡ []) × (p : List ℕ) × GoesOnTold old side (take used piece) p new
 WentOn old side piece used (went.Asked turn) new =
-    (used ≤ length piece) × (side ≡ Client) × (p : List ℕ) × (left_on side new ≡ frame p) × (turn ≡ turn_of p) ×
+    (used ≤ length piece) × (side ≡ Client) × (p : List ℕ) × (left_on side new ≡ frame p) × (turn ≡ turn_of (old.client.count, p)) ×
     GoesOn old side (take used piece) ((side, p) ∷ []) [] [] new
 WentOn old side piece used (went.Answered turn) new =
     (used ≤ length piece) × (side ≡ Server) × (q : List ℕ) × (left_on side new ≡ frame q) × (xid_of q ≡ turn.xid) ×
-    (old.turns ≡ turn ∷ new.turns) × GoesOn old side (take used piece) ((side, q) ∷ []) [] [] new
+    IsDue (lane_on (lane_of turn.xid) old.turns) turn × GoesOn old side (take used piece) ((side, q) ∷ []) [] [] new
 WentOn old side piece used went.Full new =
-    (used ≡ 0) × (side ≡ Client) × (left_on side new ≡ []) × (old.talk.limits.waiting ≤ length old.turns) × GoesOn old side [] [] [] [] new
+    (used ≡ 0) × (side ≡ Client) × (left_on side new ≡ []) × IsFull old piece × GoesOn old side [] [] [] [] new
 
 -- why the side's frame is refused, after these frames of which the talk was told `kept`
 pub data IsWhy (limits : Limits) (came kept : Came) (side : Side) (size : ℕ) (bytes : List ℕ) (place : ℕ) (reason : Reason) : Type 0 where
   stream_end : size ≡ 2 ^ 62 → place ≡ 0 → reason ≡ StreamEnd → IsWhy limits came kept side size bytes place reason
   length_range : IsBadLength (side_limit limits side) bytes → place ≡ 0 → reason ≡ LengthRange → IsWhy limits came kept side size bytes place reason
-  unasked : side ≡ Server → (q : List ℕ) → bytes ≡ frame q → is_plain 16 q ≡ true → length (asked came) ≤ replied came →
+  unasked : side ≡ Server → (q : List ℕ) → bytes ≡ frame q → has_turn 16 q ≡ true →
+      length (asked (lane_in q) came) ≤ replied (lane_in q) came →
       place ≡ 0 → reason ≡ Unasked → IsWhy limits came kept side size bytes place reason
-  other_turn : side ≡ Server → (q : List ℕ) → bytes ≡ frame q → is_plain 16 q ≡ true →
-      (p : List ℕ) → slice_get (asked came) (replied came) ≡ Some p → IsForeign limits.profile p → xid_of p ≢ xid_of q →
-      place ≡ 0 → reason ≡ XidOrder (xid_of p) (xid_of q) → IsWhy limits came kept side size bytes place reason
+  other_turn : side ≡ Server → (q : List ℕ) → bytes ≡ frame q → has_turn 16 q ≡ true →
+      (x : ℕ × List ℕ) → IsTurnOf came q x → IsForeign limits.profile x.1 → xid_of x.1 ≢ xid_of q →
+      place ≡ 0 → reason ≡ XidOrder (xid_of x.1) (xid_of q) → IsWhy limits came kept side size bytes place reason
   told_so : (q : List ℕ) → bytes ≡ frame q → (f : Fault) → IsFaultOf limits (told kept ++ on side (frame q)) f →
       place ≡ f.place → reason ≡ f.reason → IsWhy limits came kept side size bytes place reason
 
@@ -121,3 +151,25 @@ given_up Server t = record t { server = record t.server { kept = [] } }
 -- what the side shows, and what was left out on it, stays
 abbrev pub LeavesSide : Side → ThroughState → ThroughState → Type 0
 LeavesSide side old new = Leaves side old.talk new.talk × (stream_on side new ≡ stream_on side old)
+
+-- the side's whole frame is a later one, with a header of this many bytes under such an xid
+abbrev pub IsAhead : ℕ → StreamState → (List ℕ → Type 0) → Type 0
+IsAhead size s Is = (0 < s.count) × ((p : List ℕ) → s.held ≡ frame p → (has_turn size p ≡ true) × Is p)
+
+-- it is no such frame
+abbrev pub IsNotAhead : ℕ → StreamState → Type 0
+IsNotAhead size s = (0 < s.count) → (p : List ℕ) → s.held ≡ frame p → has_turn size p ≡ false
+
+-- the fault is kept, at the side's own frame and offset, and the side is as it was
+abbrev pub IsKeptAt : Side → StreamState → ℕ → Fault → Option Fault → Type 0
+IsKeptAt side s used e kept = (e ≡ fault_of side s.count (s.size + used) e.place e.reason) × (kept ≡ Some e)
+
+-- How such a connection ends, after frames of which the talk was given `given`: where both sides end with a whole frame
+-- the requests that are left out and wait are unanswered too.
+abbrev pub IsEndOf : ThroughState → Came → Came → Ending → Type 0
+IsEndOf t came given (Whole n) = (t.client.held ≡ []) × (t.server.held ≡ []) ×
+    (m : ℕ) × IsEnding t.talk.limits (told given) (Whole m) × (n ≡ m + left_out t.turns)
+IsEndOf t came given (Cut Client frame got) = (t.client.held ≢ []) × (frame ≡ length (payloads Client came)) × (got ≡ length t.client.held)
+IsEndOf t came given (Cut Server frame got) =
+    (t.client.held ≡ []) × (t.server.held ≢ []) × (frame ≡ length (payloads Server came)) × (got ≡ length t.server.held)
+IsEndOf t came given (Refused f) = ⊥

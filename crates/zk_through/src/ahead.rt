@@ -1,31 +1,34 @@
 //! What is known of a frame by its header alone.
-ghost use Rattle.std.specs.Prelude.{◌≡◌, ◌<◌, ℕ, List, true, false, IfSome, IfNone, MatchBool};
+ghost use Rattle.std.specs.Prelude.{◌≡◌, ◌≤◌, ◌<◌, ◌^◌, ℕ, List, true, false, Some, IfSome, IfNone};
 ghost use Rattle.zk_frames.specs.Framing.{frame, IsFrame};
 ghost use Rattle.zk_records.specs.Codes.{IsNoOp};
-ghost use Rattle.zk_through.specs.LeftOut.{is_plain, is_plain_xid, xid_of};
-ghost use Rattle.zk_through.specs.Runs.{turn_of};
+ghost use Rattle.zk_through.specs.declared.turn.Turn.{Turn};
+ghost use Rattle.zk_through.specs.LeftOut.{is_turn_xid, has_turn, xid_of};
+ghost use Rattle.zk_through.specs.Turns.{turn_of};
+ghost use Rattle.zk_through.specs.Runs.{IsAhead, IsNotAhead, IsRequestOf};
 
 use crate::turn::Turn;
+use zk_asks::{Asked, ClientFrameOf, RequestRef, borrow_ask};
 use zk_jute::int_at;
 use zk_records::{Profile, op_of};
 use zk_talk::Stream;
 
-/// Whether `xid` is neither an event's nor one of a special lane.
-#[tactic(auto, unfolding(crate::specs::LeftOut::is_plain_xid, zk_waiting::specs::Lane::lane_of))]
-fn is_plain_xid(xid: i32) -> bool
-    ensures { result ≡ is_plain_xid xid }
+/// Whether requests under `xid` may be left out: it is not an event's, a ping's or an auth's.
+#[tactic(auto, unfolding(crate::specs::LeftOut::is_turn_xid, zk_waiting::specs::Lane::lane_of))]
+fn is_turn_xid(xid: i32) -> bool
+    ensures { result ≡ is_turn_xid xid }
 {
     match xid {
-        -1 | -2 | -4 | -8 => false,
+        -1 | -2 | -4 => false,
         _ => true,
     }
 }
 
-/// The request of a client's later frame, if it is under a plain xid and its header is whole.
-#[tactic(auto, unfolding(crate::specs::LeftOut::is_plain))]
-fn request_ahead(payload: &[u8]) -> Option<Turn>
-    ensures some { IfSome result (λ turn. (is_plain 8 payload.now ≡ true) × (turn ≡ turn_of payload.now)) }
-    ensures none { IfNone result (is_plain 8 payload.now ≡ false) }
+/// The request of a client's later frame of this number, if its header is whole and it is under such an xid.
+#[tactic(auto, unfolding(crate::specs::LeftOut::has_turn))]
+fn request_ahead(frame: u64, payload: &[u8]) -> Option<Turn>
+    ensures some { IfSome result (λ turn. (has_turn 8 payload.now ≡ true) × (turn ≡ turn_of (frame, payload.now))) }
+    ensures none { IfNone result (has_turn 8 payload.now ≡ false) }
 {
     if payload.len() < 8 {
         return None;
@@ -33,18 +36,18 @@ fn request_ahead(payload: &[u8]) -> Option<Turn>
     let (Ok((xid, _)), Ok((number, _))) = (int_at(payload, 0), int_at(payload, 4)) else {
         return None;
     };
-    if is_plain_xid(xid) {
-        Some(Turn { xid, number })
+    if is_turn_xid(xid) {
+        Some(Turn { xid, number, frame })
     } else {
         None
     }
 }
 
-/// The xid of a server's later frame, if it is a plain one and the frame's header is whole.
-#[tactic(auto, unfolding(crate::specs::LeftOut::is_plain))]
+/// The xid of a server's later frame, if its header is whole and the xid is such a one.
+#[tactic(auto, unfolding(crate::specs::LeftOut::has_turn))]
 fn reply_ahead(payload: &[u8]) -> Option<i32>
-    ensures some { IfSome result (λ xid. (is_plain 16 payload.now ≡ true) × (xid ≡ xid_of payload.now)) }
-    ensures none { IfNone result (is_plain 16 payload.now ≡ false) }
+    ensures some { IfSome result (λ xid. (has_turn 16 payload.now ≡ true) × (xid ≡ xid_of payload.now)) }
+    ensures none { IfNone result (has_turn 16 payload.now ≡ false) }
 {
     if payload.len() < 16 {
         return None;
@@ -52,42 +55,66 @@ fn reply_ahead(payload: &[u8]) -> Option<i32>
     let Ok((xid, _)) = int_at(payload, 0) else {
         return None;
     };
-    if is_plain_xid(xid) { Some(xid) } else { None }
+    if is_turn_xid(xid) { Some(xid) } else { None }
 }
 
-/// The request of the client's whole frame, if it is a later one under a plain xid.
+/// The request of the client's whole frame, if that is a later one, its header is whole and its xid is such a one.
 pub fn asked(client: &Stream) -> Option<Turn>
     requires { IsFrame client.now.limit client.now.held }
-    ensures some { IfSome result (λ turn. (0 < client.now.count) × ((p : List ℕ) → client.now.held ≡ frame p → (is_plain 8 p ≡ true) × (turn ≡ turn_of p))) }
-    ensures none { IfNone result ((0 < client.now.count) → (p : List ℕ) → client.now.held ≡ frame p → is_plain 8 p ≡ false) }
+    ensures some { IfSome result (λ turn. IsAhead 8 client.now (λ p. turn ≡ turn_of (client.now.count, p))) }
+    ensures none { IfNone result (IsNotAhead 8 client.now) }
 {
-    if client.count() == 0 {
+    let frame = client.count();
+    if frame == 0 {
         return None;
     }
-    match request_ahead(client.payload()) {
-        Some(turn) => Some(turn),
-        None => None,
-    }
+    request_ahead(frame, client.payload())
 }
 
-/// The xid of the server's whole frame, if it is a later one under a plain xid.
+/// The xid of the server's whole frame, if that is a later one, its header is whole and the xid is such a one.
 pub fn replied(server: &Stream) -> Option<i32>
     requires { IsFrame server.now.limit server.now.held }
-    ensures some { IfSome result (λ xid. (0 < server.now.count) × ((p : List ℕ) → server.now.held ≡ frame p → (is_plain 16 p ≡ true) × (xid ≡ xid_of p))) }
-    ensures none { IfNone result ((0 < server.now.count) → (p : List ℕ) → server.now.held ≡ frame p → is_plain 16 p ≡ false) }
+    ensures some { IfSome result (λ xid. IsAhead 16 server.now (λ p. xid ≡ xid_of p)) }
+    ensures none { IfNone result (IsNotAhead 16 server.now) }
 {
     if server.count() == 0 {
         return None;
     }
-    match reply_ahead(server.payload()) {
-        Some(xid) => Some(xid),
-        None => None,
+    reply_ahead(server.payload())
+}
+
+/// The request, if no operation of `profile` has its number.
+pub fn lacking(profile: Profile, turn: Option<Turn>) -> Option<Turn>
+    ensures some { IfSome result (λ t. (turn ≡ Some t) × IsNoOp profile t.number) }
+    ensures none { IfNone result ((t : Turn) → turn ≡ Some t → IsNoOp profile t.number → ⊥) }
+{
+    let Some(turn) = turn else {
+        return None;
+    };
+    match op_of(profile, turn.number) {
+        Some(_) => None,
+        None => Some(turn),
     }
 }
 
-/// Whether no operation of `profile` has the number `number`.
-pub fn is_foreign(profile: Profile, number: i32) -> bool
-    ensures { MatchBool result (IsNoOp profile number) (IsNoOp profile number → ⊥) }
+/// The weight of the client's whole frame as a request that waits: 1 if it is `out`, which is left out; else what it weighs
+/// in the talk. 0 if it is the first frame, or malformed.
+pub fn weight(profile: Profile, out: Option<Turn>, client: &Stream) -> u64
+    requires whole { IsFrame client.now.limit client.now.held }
+    requires small { client.now.limit ≤ 16777216 }
+    ensures fits { result ≤ 2 ^ 32 }
+    ensures out { IfSome out (λ turn. result ≡ 1) }
+    ensures ask { IfNone out (0 < result → (0 < client.now.count) × ((p : List ℕ) → client.now.held ≡ frame p → IsRequestOf profile p result)) }
 {
-    op_of(profile, number).is_none()
+    if out.is_some() {
+        return 1;
+    }
+    if client.count() == 0 {
+        return 0;
+    }
+    match borrow_ask(profile, client.payload()) {
+        Ok(ClientFrameOf::Ask { ask, .. }) => 1 + u64::from(RequestRef::of(&ask).parts()),
+        Ok(ClientFrameOf::Connect { .. }) => 0,
+        Err(_) => 0,
+    }
 }

@@ -1,24 +1,31 @@
 //! `Through`: a conversation, with what its profile lacks left out.
-ghost use Rattle.std.specs.Prelude.{◌≡◌, ◌≢◌, ◌≤◌, ◌<◌, ◌+◌, ◌^◌, ℕ, List, [], ◌∷◌, ◌++◌, length, None, Some, Err, OnOk, IfOk, IfErr, MatchOption, slice_get};
-ghost use Rattle.circular_buffer.specs.Buffer.{buffer};
+ghost use Rattle.std.specs.Prelude.{◌≡◌, ◌≢◌, ◌≤◌, ◌<◌, ◌+◌, ◌^◌, ◌↔◌, ℕ, List, [], length, IsTrue, false, None, Some, Err, OnOk, OnErr, IfOk, IfErr, MatchOption};
 ghost use Rattle.zk_frames.specs.Framing.{frame};
 ghost use Rattle.zk_talk.specs.declared.message.Fault.{Fault};
+ghost use Rattle.zk_talk.specs.declared.message.Ending.TheVariants.{Refused};
 ghost use Rattle.zk_talk.specs.declared.message.Side.TheVariants.{Client, Server};
-ghost use Rattle.zk_talk.specs.Fault.{fault_of, side_limit};
+ghost use Rattle.zk_talk.specs.Fault.{side_limit};
+ghost use Rattle.zk_talk.specs.Conversation.{load};
+ghost use Rattle.zk_talk.specs.History.{History};
 ghost use Rattle.zk_talk.specs.Sound.{IsKnown};
 ghost use Rattle.zk_talk.specs.Streams.{IsAtFrame, passed};
 ghost use Rattle.zk_talk.specs.Held.{Message};
-ghost use Rattle.zk_talk.specs.Stands.{held_on, kept_on};
+ghost use Rattle.zk_talk.specs.Stands.{Stands, WhereItStands, held_on, kept_on};
+ghost use Rattle.zk_talk.specs.Ending.{unwelcomed};
 ghost use Rattle.zk_talk.specs.Viewed.{Leaves, Shows, other_side};
-ghost use Rattle.zk_through.specs.Runs.{WentOn, IsRefused, IsTold, IsNotTold, Runs, given_up, stream_on, left_on, LeavesSide};
+ghost use Rattle.zk_through.specs.Came.{Came};
+ghost use Rattle.zk_through.specs.declared.through.Passed.{Passed};
+ghost use Rattle.zk_through.specs.declared.through.Went.{Went};
+ghost use Rattle.zk_through.specs.Turns.{HaveRoom, left_out};
+ghost use Rattle.zk_through.specs.Runs.{WentOn, IsRefused, IsTold, IsNotTold, IsKeptAt, IsEndOf, Runs, WhereItRuns, given_up, stream_on, left_on, LeavesSide};
 
-use crate::ahead::{asked, is_foreign, replied};
+use crate::ahead::{asked, lacking, replied, weight};
 use crate::turn::Turn;
-use circular_buffer::HeapCircularBuffer;
+use crate::turns::Turns;
 use std::alloc::{AllocError, Global};
 use std::marker::Model;
-use zk_jute::{ItemFault, Reason};
-use zk_talk::{Fault, Limits, MessageRef, Side, Stream, Talk, receive, refuse};
+use zk_jute::ItemFault;
+use zk_talk::{Ending, Fault, Limits, MessageRef, Side, Stream, Talk, receive, refuse};
 
 /// What became of the bytes that a step used.
 #[derive(Clone, Copy, Debug, PartialEq, Eq)]
@@ -31,7 +38,7 @@ pub enum Went {
     Asked(Turn),
     /// The reply to such a request, the oldest that waits, is whole.
     Answered(Turn),
-    /// As many requests wait as may: the client's frame is not taken, and nothing of the piece was used.
+    /// With the client's frame more would wait than may: it is not taken, and nothing of the piece was used.
     Full,
 }
 
@@ -44,13 +51,21 @@ pub struct Passed {
     pub went: Went,
 }
 
+impl Passed {
+    fn of(used: usize, went: Went) -> Passed
+        ensures { result ≡ record { used = used; went = went } }
+    {
+        Passed { used, went }
+    }
+}
+
 /// A conversation of which a talk gets what its profile has.
 #[derive(Drop)]
 pub struct Through {
     talk: Talk,
     client: Stream,
     server: Stream,
-    turns: HeapCircularBuffer<Turn>,
+    turns: Turns,
     limits: Limits,
     fault: Option<Fault>,
 }
@@ -58,68 +73,77 @@ pub struct Through {
 impl Model for Through {
     ghost use Rattle.std.specs.Prelude.{◌≡◌};
     ghost use Rattle.zk_talk.specs.Sound.{IsSide, IsKnown};
+    ghost use Rattle.std.specs.Prelude.{◌+◌};
+    ghost use Rattle.zk_through.specs.Turns.{AreFewer, HaveRoom};
     ghost use Rattle.zk_through.specs.Runs.{ThroughState};
 
     ghost Value = { ThroughState };
 
-    ghost view = { λ t. record { talk = t.talk; client = t.client; server = t.server; turns = t.turns.items; fault = t.fault } };
+    ghost view = { λ t. record { talk = t.talk; client = t.client; server = t.server; turns = t.turns; fault = t.fault } };
 
-    ghost invariant = { λ t. (t.talk.limits ≡ t.limits) × IsSide t.limits.client t.fault t.client × IsSide t.limits.server t.fault t.server × IsKnown t.fault × (t.turns.capacity ≡ t.limits.waiting) };
+    ghost invariant = { λ t. (t.talk.limits ≡ t.limits) × IsSide t.limits.client t.fault t.client × IsSide t.limits.server t.fault t.server × IsKnown t.fault × HaveRoom t.limits.waiting t.turns × AreFewer (t.client.count + 1) (t.server.count + 1) t.turns };
 }
 
-/// Gives the talk the side's whole frame, whose last `used` bytes are new. A refusal is kept, at the side's own frame and
+/// Gives the talk the side's whole frame, whose last `new` bytes are new. A refusal is kept, at the side's own frame and
 /// offset.
 fn tell(
     talk: &mut Talk,
     kept: &mut Option<Fault>,
     side: Side,
     stream: &mut Stream,
-    used: usize,
+    new: usize,
 ) -> Result<(), Fault>
-    requires at { IsAtFrame stream.old used }
+    requires at { IsAtFrame stream.old new }
     requires limit { stream.old.limit ≡ side_limit talk.old.limits side }
     ensures limits { talk.new.limits ≡ talk.old.limits }
     ensures ok { OnOk result ((p : List ℕ) → stream.old.held ≡ frame p → IsTold talk.old side p talk.new) }
-    ensures passed { OnOk result ((stream.new ≡ passed stream.old used) × (kept.new ≡ kept.old)) }
+    ensures passed { OnOk result ((stream.new ≡ passed stream.old new) × (kept.new ≡ kept.old)) }
     ensures err { IfErr result (λ e. (p : List ℕ) → stream.old.held ≡ frame p → IsNotTold talk.old side p e) }
     ensures other { Leaves (other_side side) talk.old talk.new }
     ensures known { IsKnown kept.old → IsKnown kept.new }
-    ensures told { IfErr result (λ e. (e ≡ fault_of side stream.old.count (stream.old.size + used) e.place e.reason) × (kept.new ≡ Some e) × (stream.new ≡ stream.old)) }
+    ensures told { IfErr result (λ e. IsKeptAt side stream.old new e kept.new) }
+    ensures same { OnErr result (stream.new ≡ stream.old) }
 {
     match talk.step(side, stream.frame()) {
         Ok(_stepped) => {
-            stream.pass(used);
+            stream.pass(new);
             Ok(())
         }
         Err(fault) => {
-            let item = ItemFault {
-                place: fault.place,
-                reason: fault.reason,
-            };
-            Err(refuse(kept, side, stream, used, item))
+            let (place, reason) = (fault.place, fault.reason);
+            Err(refuse(kept, side, stream, new, ItemFault { place, reason }))
         }
     }
 }
 
-/// Appends `turn` to a ring that has room.
-fn push(turns: &mut HeapCircularBuffer<Turn>, turn: Turn)
-    requires { length turns.old.items < turns.old.capacity }
-    ensures { turns.new ≡ buffer (turns.old.items ++ turn ∷ []) turns.old.capacity }
+/// The weight of the requests that wait, those that are left out too.
+fn weight_of(talk: &Talk, turns: &Turns) -> u32
+    requires { HaveRoom talk.now.limits.waiting turns.now }
+    ensures stands { WhereItStands talk.now (λ v client_rest server_rest. result ≡ load v.client v.server + left_out turns.now) }
+    ensures left { left_out turns.now ≤ result }
 {
-    match turns.try_push_back(turn) {
-        Ok(()) => {}
-        Err(_full) => unreachable!(),
-    }
+    talk.waiting() + turns.left() as u32
 }
 
-/// The oldest request that waits.
-fn oldest(turns: &HeapCircularBuffer<Turn>) -> Option<Turn>
-    ensures { result ≡ slice_get turns.now.items 0 }
+/// Whether a request of this weight would take what waits above `most`; none weighs 0.
+fn is_full(talk: &Talk, turns: &Turns, weight: u64, most: u32) -> bool
+    requires small { weight ≤ 2 ^ 32 }
+    requires room { HaveRoom talk.now.limits.waiting turns.now }
+    ensures full { IsTrue result → (0 < weight) × WhereItStands talk.now (λ v client_rest server_rest. most < load v.client v.server + left_out turns.now + weight) }
+    ensures room { result ≡ false → 0 < weight → left_out turns.now + weight ≤ most }
 {
-    match turns.front() {
-        Some(turn) => Some(*turn),
-        None => None,
+    weight > 0 && u64::from(weight_of(talk, turns)) + weight > u64::from(most)
+}
+
+/// 1 if a connect request has no reply, else 0.
+fn unwelcomed(talk: &Talk) -> u32
+    ensures value { (h : History) (M : List Message) (st : Stands talk.now h M) → result ≡ unwelcomed st.conversation.client st.conversation.server }
+    ensures most { result ≤ 1 }
+{
+    if talk.frames(Side::Client) == 0 {
+        return 0;
     }
+    if talk.frames(Side::Server) == 0 { 1 } else { 0 }
 }
 
 impl Through {
@@ -136,7 +160,7 @@ impl Through {
         let talk = Talk::new(alloc, limits)?;
         let client = Stream::new(alloc, limits.client())?;
         let server = Stream::new(alloc, limits.server())?;
-        let turns = HeapCircularBuffer::with_capacity(alloc, limits.waiting() as usize)?;
+        let turns = Turns::new(alloc, limits.waiting())?;
         Ok(Through {
             talk,
             client,
@@ -161,58 +185,28 @@ impl Through {
             Ok(received) => received,
             Err(fault) => return Err(fault),
         };
-        let Some(used) = received else {
-            return Ok(Passed {
-                used: piece.len(),
-                went: Went::Within,
-            });
+        let Some(new) = received else {
+            return Ok(Passed::of(piece.len(), Went::Within));
         };
-        let Some(turn) = asked(&self.client) else {
-            match tell(
-                &mut self.talk,
-                &mut self.fault,
-                side,
-                &mut self.client,
-                used,
-            ) {
-                Ok(()) => {}
-                Err(fault) => return Err(fault),
-            }
-            return Ok(Passed {
-                used,
-                went: Went::Message,
-            });
-        };
-        if self.turns.len() >= self.limits.waiting() as usize {
-            self.client.take_back(used);
-            return Ok(Passed {
-                used: 0,
-                went: Went::Full,
-            });
+        let ahead = asked(&self.client);
+        let profile = self.limits.profile();
+        let out = lacking(profile, ahead);
+        let weight = weight(profile, out, &self.client);
+        if is_full(&self.talk, &self.turns, weight, self.limits.waiting()) {
+            self.client.take_back(new);
+            return Ok(Passed::of(0, Went::Full));
         }
-        if is_foreign(self.limits.profile(), turn.number) {
-            push(&mut self.turns, turn);
-            self.client.keep(used);
-            return Ok(Passed {
-                used,
-                went: Went::Asked(turn),
-            });
+        if let Some(turn) = out {
+            self.turns.leave(turn);
+            self.client.keep(new);
+            return Ok(Passed::of(new, Went::Asked(turn)));
         }
-        match tell(
-            &mut self.talk,
-            &mut self.fault,
-            side,
-            &mut self.client,
-            used,
-        ) {
+        match tell(&mut self.talk, &mut self.fault, side, &mut self.client, new) {
             Ok(()) => {}
             Err(fault) => return Err(fault),
         }
-        push(&mut self.turns, turn);
-        Ok(Passed {
-            used,
-            went: Went::Message,
-        })
+        self.turns.ask(ahead);
+        Ok(Passed::of(new, Went::Message))
     }
 
     /// Takes the server's piece up to the end of the first frame that becomes whole, or all of it.
@@ -229,68 +223,28 @@ impl Through {
             Ok(received) => received,
             Err(fault) => return Err(fault),
         };
-        let Some(used) = received else {
-            return Ok(Passed {
-                used: piece.len(),
-                went: Went::Within,
-            });
+        let Some(new) = received else {
+            return Ok(Passed::of(piece.len(), Went::Within));
         };
-        let Some(xid) = replied(&self.server) else {
-            match tell(
-                &mut self.talk,
-                &mut self.fault,
-                side,
-                &mut self.server,
-                used,
-            ) {
-                Ok(()) => {}
-                Err(fault) => return Err(fault),
+        let ahead = replied(&self.server);
+        let due = match self.turns.due(ahead) {
+            Ok(due) => due,
+            Err(reason) => {
+                let item = ItemFault::at(0, reason);
+                return Err(refuse(&mut self.fault, side, &self.server, new, item));
             }
-            return Ok(Passed {
-                used,
-                went: Went::Message,
-            });
         };
-        let Some(turn) = oldest(&self.turns) else {
-            let item = ItemFault {
-                place: 0,
-                reason: Reason::Unasked,
-            };
-            return Err(refuse(&mut self.fault, side, &self.server, used, item));
-        };
-        if is_foreign(self.limits.profile(), turn.number) {
-            if turn.xid != xid {
-                let item = ItemFault {
-                    place: 0,
-                    reason: Reason::XidOrder {
-                        expected: turn.xid,
-                        got: xid,
-                    },
-                };
-                return Err(refuse(&mut self.fault, side, &self.server, used, item));
-            }
-            self.turns.pop_front();
-            self.server.keep(used);
-            return Ok(Passed {
-                used,
-                went: Went::Answered(turn),
-            });
+        if let Some(turn) = due {
+            self.turns.answer(turn.xid);
+            self.server.keep(new);
+            return Ok(Passed::of(new, Went::Answered(turn)));
         }
-        match tell(
-            &mut self.talk,
-            &mut self.fault,
-            side,
-            &mut self.server,
-            used,
-        ) {
+        match tell(&mut self.talk, &mut self.fault, side, &mut self.server, new) {
             Ok(()) => {}
             Err(fault) => return Err(fault),
         }
-        self.turns.pop_front();
-        Ok(Passed {
-            used,
-            went: Went::Message,
-        })
+        self.turns.reply(ahead);
+        Ok(Passed::of(new, Went::Message))
     }
 
     /// Drops the side's frame that was left out last.
@@ -367,12 +321,36 @@ impl Through {
         self.talk.held(side)
     }
 
-    /// The number of requests under plain xids that wait for their replies, those left out too.
+    /// The weight of the requests that wait for their replies: 1 each, those left out too, and 1 more for each part of a
+    /// multi.
     pub fn waiting(&self) -> u32
-        ensures value { result ≡ length self.now.turns }
-        ensures most { result ≤ self.now.talk.limits.waiting }
+        ensures value { WhereItRuns self.now (λ v. result ≡ load v.client v.server + left_out self.now.turns) }
+        ensures left { left_out self.now.turns ≤ result }
     {
-        self.turns.len() as u32
+        weight_of(&self.talk, &self.turns)
+    }
+
+    /// How the bytes so far end, those left out too.
+    pub fn finish(&self) -> Ending
+        ensures runs { (h : History) (c k : Came) (M : List Message) → Runs self.now h c k M → IsEndOf self.now c k result }
+        ensures refused { (f : Fault) → self.now.fault ≡ Some f → result ≡ Refused f }
+    {
+        if let Some(fault) = self.fault {
+            return Ending::Refused(fault);
+        }
+        let (frame, got) = (self.client.count(), self.client.held());
+        if got > 0 {
+            let side = Side::Client;
+            return Ending::Cut { side, frame, got };
+        }
+        let (frame, got) = (self.server.count(), self.server.held());
+        if got > 0 {
+            let side = Side::Server;
+            return Ending::Cut { side, frame, got };
+        }
+        let waiting = self.talk.requests() + self.turns.left() as u32;
+        let unanswered = waiting + unwelcomed(&self.talk);
+        Ending::Whole { unanswered }
     }
 
     /// Begins anew with the same limits: a conversation of which nothing has come. Allocates nothing.
@@ -383,7 +361,7 @@ impl Through {
         self.talk.renew();
         self.client.renew();
         self.server.renew();
-        self.turns.clear();
+        self.turns.renew();
         self.fault = None;
     }
 }

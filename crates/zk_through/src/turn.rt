@@ -1,10 +1,12 @@
-//! `Turn`: a request under a plain xid that waits for its reply.
+//! `Turn`: a request that is left out.
 
-/// A request that waits for its reply, by its header.
+/// A request whose operation the profile lacks, by its header.
 #[derive(Clone, Copy, Debug, PartialEq, Eq)]
 pub struct Turn {
     /// The request's xid.
     pub xid: i32,
-    /// The number of its operation, of the profile or of none.
+    /// The number of its operation.
     pub number: i32,
+    /// The number of its frame among the client's, from 0, those left out counted.
+    pub frame: u64,
 }

@@ -26,7 +26,8 @@ class Step(ctypes.Structure):
 
 
 class Passed(ctypes.Structure):
-    _fields_ = [("used", SIZE), ("status", U32), ("went", U32), ("xid", I32), ("operation", I32), ("fault", Fault)]
+    _fields_ = [("used", SIZE), ("status", U32), ("went", U32), ("xid", I32), ("operation", I32), ("fault", Fault),
+                ("frame", U64)]
 
 
 class Message(ctypes.Structure):
@@ -98,6 +99,7 @@ CALLS = {
     "zk_through_view": (Message, HANDLE, U32),
     "zk_through_fields": (Read, HANDLE, U32, FIELDS, SIZE),
     "zk_through_payload": (Line, HANDLE, U32, BYTES, SIZE),
+    "zk_through_finish": (Ending, HANDLE),
     "zk_through_free": (None, HANDLE),
     "zk_speaker_new": (U32, HANDLE, U32, U32, U32, U32),
     "zk_speaker_renew": (U32, HANDLE),

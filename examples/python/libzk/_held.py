@@ -27,9 +27,10 @@ class Cut(NamedTuple):
 
 
 class Ending(NamedTuple):
-    """How a conversation would end: its line (docs/FORMATS.md, section 11), and what that has. `unanswered` is how many
-    requests have no reply, where it is whole; else it is None, and either `cut` or `fault` isn't."""
-    line: str
+    """How a conversation would end: its line (docs/FORMATS.md, section 11; None of a passage), and what that has.
+    `unanswered` is how many requests have no reply, where it is whole; else it is None, and either `cut` or `fault`
+    isn't."""
+    line: Optional[str]
     unanswered: Optional[int]
     cut: Optional[Cut]
     fault: Optional[Fault]
@@ -66,6 +67,14 @@ class _Held:
             yield step
             if at == length:
                 return
+
+    def _ending(self, finish: Callable[..., _calls.Ending], line: Optional[str] = None) -> Ending:
+        ending = finish(self._handle)
+        if ending.status:
+            raise Refused(ending.status)
+        return Ending(line, ending.unanswered if ending.kind == _WHOLE else None,
+                      Cut(Side(ending.side), ending.frame, ending.got) if ending.kind == _CUT else None,
+                      fault_of(ending.fault))
 
     def close(self) -> None:
         self._free(self._handle)
@@ -136,13 +145,8 @@ class Talk(_Held):
 
     def ending(self) -> Ending:
         """How the conversation ends if nothing more comes."""
-        ending = library.zk_talk_finish(self._handle)
-        if ending.status:
-            raise Refused(ending.status)
         line = written(lambda *out: library.zk_talk_ending_line(self._handle, *out)).decode()
-        return Ending(line, ending.unanswered if ending.kind == _WHOLE else None,
-                      Cut(Side(ending.side), ending.frame, ending.got) if ending.kind == _CUT else None,
-                      fault_of(ending.fault))
+        return self._ending(library.zk_talk_finish, line)
 
 
 class Went(enum.IntEnum):
@@ -157,14 +161,15 @@ class Went(enum.IntEnum):
 class Passed(NamedTuple):
     """What became of the `used` bytes of a step. WITHIN: no frame is whole. MESSAGE: a frame is, and `message` is its
     message. ASKED: a request is whole whose operation the profile lacks, and is left out; ANSWERED: so is the reply to
-    one. Both have the request's xid and the number of its operation, and the payload that is left out. FULL: as many
-    requests wait as may, and nothing was used."""
+    one. Both have the request's xid, the number of its operation, the payload that is left out, and the number of the
+    request's frame. FULL: with this frame more would wait than may, and nothing was used."""
     went: Went
     used: int
     message: Optional[Message] = None
     xid: Optional[int] = None
     operation: Optional[int] = None
     payload: Optional[bytes] = None
+    frame: Optional[int] = None
 
 
 class Through(_Held):
@@ -208,7 +213,11 @@ class Through(_Held):
             read = message_of(view, lambda *out: library.zk_through_fields(self._handle, side, *out), frame[4:])
             return Passed(went, step.used, read)
         payload = written(lambda *out: library.zk_through_payload(self._handle, side, *out), len(frame))
-        return Passed(went, step.used, None, step.xid, step.operation, payload)
+        return Passed(went, step.used, None, step.xid, step.operation, payload, step.frame)
+
+    def ending(self) -> Ending:
+        """How the conversation ends if nothing more comes, with all frames that came; it has no line."""
+        return self._ending(library.zk_through_finish)
 
 
 class Speaker(_Held):

@@ -288,7 +288,7 @@ class Talks(unittest.TestCase):
             held.close()
         for call in (lambda: talk.feed(Side.CLIENT, b"1"), talk.ending, lambda: speaker.say(LINES[0]), talk.renew,
                      speaker.renew, talk.waiting, lambda: talk.held(Side.SERVER), lambda: talk.skip(Side.CLIENT, b""),
-                     lambda: through.feed(Side.CLIENT, b"1"), through.renew):
+                     lambda: through.feed(Side.CLIENT, b"1"), through.renew, through.ending):
             with self.assertRaises(Refused) as caught:
                 call()
             self.assertEqual(caught.exception.name, "EMPTY")
@@ -306,14 +306,14 @@ class Passages(unittest.TestCase):
         """What is read of a step that ends with a frame."""
         message = passed.message
         if message is None:
-            return passed.went, passed.xid, passed.operation, passed.payload
-        self.assertEqual((passed.went, passed.xid, passed.operation, passed.payload), (Went.MESSAGE, None, None, None))
+            return passed.went, passed.xid, passed.operation, passed.payload, passed.frame
+        self.assertEqual((passed.went, *passed[3:]), (Went.MESSAGE, None, None, None, None))
         return message.kind, message.xid, message.operation, message.payload, message.frame
 
     def test_pairs_are_left_out(self):
         wanted = [(Kind.CONNECT, 0, "", HELLO, 0), (Kind.CONNECTED, 0, "", WELCOME, 0),
-                  (Went.ASKED, 1, 103, EPHEMERALS), (Kind.REQUEST, 2, "exists", self.SECOND, 2),
-                  (Went.ANSWERED, 1, 103, NONE), (Kind.REPLY, 2, "exists", self.SECOND_NO_NODE, 2)]
+                  (Went.ASKED, 1, 103, EPHEMERALS, 1), (Kind.REQUEST, 2, "exists", self.SECOND, 2),
+                  (Went.ANSWERED, 1, 103, NONE, 1), (Kind.REPLY, 2, "exists", self.SECOND_NO_NODE, 2)]
         with Through() as through:
             for cut in (1, 7, 1000):
                 found = []
@@ -361,6 +361,21 @@ class Passages(unittest.TestCase):
                 through.feed(Side.CLIENT, frame(HELLO) + frame(EPHEMERALS) + frame(self.SECOND[:-1]))
             self.assertEqual(caught.exception.fault, Fault(Side.CLIENT, 2, 85, 14, "SHORT", None, None))
             self.assertEqual([message.kind for message in caught.exception.messages], [Kind.CONNECT])
+
+    def test_endings(self):
+        with Through() as through:
+            self.assertEqual(through.ending(), (None, 0, None, None))
+            for side, payload in self.CAME[:4]:
+                through.feed(side, frame(payload))
+            self.assertEqual(through.ending(), (None, 2, None, None))
+            through.feed(Side.SERVER, frame(NONE)[:9])
+            self.assertEqual(through.ending(), (None, None, Cut(Side.SERVER, 1, 9), None))
+            through.feed(Side.SERVER, frame(NONE)[9:])
+            self.assertEqual(through.ending(), (None, 1, None, None))
+            with self.assertRaises(Refused):
+                through.feed(Side.SERVER, frame(NONE))
+            wanted = Fault(Side.SERVER, 2, 89, 0, "XID_ORDER", 2, 1)
+            self.assertEqual(through.ending(), (None, None, None, wanted))
 
 
 class Speakers(unittest.TestCase):

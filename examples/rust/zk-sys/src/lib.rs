@@ -56,6 +56,7 @@ pub struct zk_passed {
     pub xid: i32,
     pub operation: i32,
     pub fault: zk_fault,
+    pub frame: u64,
 }
 
 #[repr(C)]
@@ -211,6 +212,7 @@ extern "C" {
         out: *mut u8,
         room: usize,
     ) -> zk_line;
+    pub fn zk_through_finish(through: *mut zk_through) -> zk_ending;
     pub fn zk_through_free(through: *mut zk_through);
     pub fn zk_speaker_new(
         speaker: *mut zk_speaker,

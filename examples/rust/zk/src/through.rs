@@ -2,7 +2,7 @@
 
 use crate::held::{take, written, Limits};
 use crate::message::{Message, Reader};
-use crate::{Fault, Side};
+use crate::{Ending, Fault, Side};
 use std::mem::swap;
 use std::ptr::null_mut;
 use zk_sys::{zk_passed, zk_through};
@@ -23,15 +23,17 @@ pub enum Went<'t> {
     Asked(LeftOut<'t>),
     /// The reply to such a request is whole: it is left out.
     Answered(LeftOut<'t>),
-    /// As many requests wait as may: nothing was taken. The server's bytes come first; then the client's piece again.
+    /// More would wait than may: nothing was taken. The server's bytes come first; then the client's piece again.
     Full,
 }
 
-/// A frame that is left out. The xid and the operation are those of the request, also where it is the reply.
+/// A frame that is left out. The xid, the operation and the frame's number are the request's, also where it is the reply.
 #[derive(Clone, Copy, Debug, PartialEq, Eq)]
 pub struct LeftOut<'t> {
     pub xid: i32,
     pub operation: i32,
+    /// The number of the request's frame among the client's, from 0.
+    pub frame: u64,
     pub payload: &'t [u8],
 }
 
@@ -40,6 +42,7 @@ impl<'t> LeftOut<'t> {
         let left = LeftOut {
             xid: step.xid,
             operation: step.operation,
+            frame: step.frame,
             payload,
         };
         match step.went {
@@ -124,6 +127,11 @@ impl Through {
             FULL => Ok(Went::Full),
             _ => Ok(Went::Within),
         }
+    }
+
+    /// How the conversation ends if nothing more comes, with all frames that came.
+    pub fn ending(&mut self) -> Ending {
+        Ending::of(&unsafe { zk_sys::zk_through_finish(&mut self.handle) })
     }
 }
 

@@ -1,7 +1,7 @@
 //! getEphemerals of ZooKeeper 3.6 (103), which no profile has, and an exists request before its reply. The payloads are
 //! those of docs/EXAMPLES.md and docs/FORMATS.md.
 
-use zk::{At, Fault, LeftOut, Limits, Message, Order, Side, Through, Value, Went};
+use zk::{At, Ending, Fault, LeftOut, Limits, Message, Order, Side, Through, Value, Went};
 
 const HELLO: [u8; 45] = [
     0, 0, 0, 0, 0, 0, 0, 0, 0, 0, 0, 0, 0, 0, 117, 48, 0, 0, 0, 0, 0, 0, 0, 0, 0, 0, 0, 16, 0, 0,
@@ -36,9 +36,13 @@ fn passage(waiting: u32) -> Through {
     Through::new(limits).expect("a passage")
 }
 
-/// What became of a step's bytes: the xid, the operation, the payload's length, and the number of a message's frame.
+/// What became of a step's bytes: the xid, the operation, the payload's length, and the number of the frame, which is the
+/// request's of what is left out.
 fn told(went: Went) -> String {
-    let of = |left: LeftOut| format!("{} {} {}", left.xid, left.operation, left.payload.len());
+    let of = |left: LeftOut| {
+        let (xid, operation, frame) = (left.xid, left.operation, left.frame);
+        format!("{xid} {operation} {} frame {frame}", left.payload.len())
+    };
     match went {
         Went::Within => "within".into(),
         Went::Full => "full".into(),
@@ -67,9 +71,9 @@ fn pairs_are_left_out() {
     let wanted = [
         "message 0 0 45 frame 0",
         "message 0 0 37 frame 0",
-        "asked 1 103 14",
+        "asked 1 103 14 frame 1",
         "message 2 3 15 frame 2",
-        "answered 1 103 20",
+        "answered 1 103 20 frame 1",
         "message 2 3 16 frame 2",
     ];
     let mut through = passage(65_536);
@@ -115,19 +119,44 @@ fn full() {
     let asked = [frame(&EPHEMERALS), exists.clone()].concat();
     assert_eq!(
         step(&mut through, Side::Client, &asked, 18),
-        "asked 1 103 14"
+        "asked 1 103 14 frame 1"
     );
     assert_eq!(step(&mut through, Side::Client, &exists, 0), "full");
     assert_eq!(step(&mut through, Side::Client, &exists[..9], 9), "within");
     assert_eq!(step(&mut through, Side::Client, &exists[9..], 0), "full");
     assert_eq!(
         step(&mut through, Side::Server, &none, 24),
-        "answered 1 103 20"
+        "answered 1 103 20 frame 1"
     );
     assert_eq!(
         step(&mut through, Side::Client, &exists[9..], 10),
         "message 2 3 15 frame 2"
     );
+}
+
+#[test]
+fn endings() {
+    let mut through = passage(65_536);
+    assert_eq!(through.ending(), Ending::Whole { unanswered: 0 });
+    for (side, payload) in &CAME[..4] {
+        step(&mut through, *side, &frame(payload), payload.len() + 4);
+    }
+    assert_eq!(through.ending(), Ending::Whole { unanswered: 2 });
+    let none = frame(&NONE);
+    step(&mut through, Side::Server, &none[..9], 9);
+    let cut = Ending::Cut {
+        side: Side::Server,
+        frame: 1,
+        got: 9,
+    };
+    assert_eq!(through.ending(), cut);
+    step(&mut through, Side::Server, &none[9..], 15);
+    assert_eq!(through.ending(), Ending::Whole { unanswered: 1 });
+    let fault = through
+        .step(Side::Server, &mut &none[..])
+        .map(told)
+        .expect_err("a reply of another turn");
+    assert_eq!(through.ending(), Ending::Refused(fault));
 }
 
 #[test]

@@ -1,17 +1,18 @@
-use Rattle.std.proofs.Common.{rules, ◌≡◌, ◌∙◌, ℕ, List, true, false, sym, ap, subst, arith, w32, SFits}
-use Rattle.std.proofs.lemmas.Int.{to_z-of_z}
-use Rattle.zk_through.specs.LeftOut.{is_plain, xid_of}
-use Rattle.zk_through.proofs.Carried.{carried}
+use Rattle.std.proofs.Common.{◌≡◌, ◌∙◌, ℕ, List, true, false, sym, ap, subst, arith}
+use Rattle.std.proofs.lemmas.Option.{IfSome_then}
+use Rattle.zk_through.specs.LeftOut.{has_turn, xid_of}
+use Rattle.zk_through.proofs.Carried.{carried, none_then}
 use Rattle.zk_through.proofs.ahead.replied.Goals as goal
 
-pub returns-in-Some-clause-some : goal.returns-in-Some-clause-some
-returns-in-Some-clause-some c =
-    let fits : SFits w32 c.in-Some.xid = search rules in (
+pub returns-clause-some : goal.returns-clause-some
+returns-clause-some c =
+    IfSome_then c.reply_ahead.result c.reply_ahead.ensures.some (λ xid x. (
       omega (arith, c.count.ensures, c.if-count-eq0.false),
       λ p is.
           let same = carried c.payload.result.now p (sym c.payload.ensures ∙ is) in
-          (subst (λ (z : List ℕ). is_plain 16 z ≡ true) same c.in-Some.ensures.some.0, to_z-of_z w32 c.in-Some.xid fits ∙ c.in-Some.ensures.some.1 ∙ ap xid_of same),
-    )
+          (subst (λ (z : List ℕ). has_turn 16 z ≡ true) same x.0, x.1 ∙ ap xid_of same),
+    ))
 
-pub returns-in-None-clause-none : goal.returns-in-None-clause-none
-returns-in-None-clause-none c = λ some p is. subst (λ (z : List ℕ). is_plain 16 z ≡ false) (carried c.payload.result.now p (sym c.payload.ensures ∙ is)) c.in-None.ensures.none
+pub returns-clause-none : goal.returns-clause-none
+returns-clause-none c =
+    none_then c.reply_ahead.result (λ e some p is. subst (λ (z : List ℕ). has_turn 16 z ≡ false) (carried c.payload.result.now p (sym c.payload.ensures ∙ is)) e) c.reply_ahead.ensures.none
