@@ -12,4 +12,5 @@ mod Answering
 mod AnsweringClient
 mod AnsweringServer
 mod Given
+mod Fitting
 mod Endings

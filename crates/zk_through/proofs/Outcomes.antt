@@ -18,7 +18,7 @@ not_both : (b : Bool) → b ≡ true → b ≡ false → ⊥
 not_both true t f = cc
 not_both false t f = cc
 
-counted : (n : ℕ) (P : List (List ℕ)) → n ≡ length P → P ≢ [] → 0 < n
+pub counted : (n : ℕ) (P : List (List ℕ)) → n ≡ length P → P ≢ [] → 0 < n
 counted n [] e some = absurd (some refl)
 counted n (p ∷ P) e some = omega (arith, e)
 

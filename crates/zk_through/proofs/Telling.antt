@@ -19,7 +19,7 @@ use Rattle.zk_talk.proofs.Small.{AreSmall}
 use Rattle.zk_through.specs.Runs.{IsTold}
 
 -- ---- Bytes that are told
-side_bytes-on : (side : Side) (bs : List ℕ) → side_bytes side (on side bs) ≡ bs
+pub side_bytes-on : (side : Side) (bs : List ℕ) → side_bytes side (on side bs) ≡ bs
 unfolding side_bytes
 side_bytes-on side [] = refl
 side_bytes-on Client (b ∷ bs) = ap (λ z. b ∷ z) (side_bytes-on Client bs)

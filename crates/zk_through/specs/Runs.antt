@@ -81,6 +81,11 @@ left_on side t = (stream_on side t).kept
 abbrev pub IsRequestOf : Profile → List ℕ → ℕ → Type 0
 IsRequestOf profile p w = (f : ClientFrame) × IsLater f × IsSent f × IsOfProfile profile f × (client_payload f ≡ p) × (w ≡ weight f)
 
+-- what the client's whole frame weighs: none if it is the first, or no request of the profile
+pub record IsSizeOf (profile : Profile) (s : StreamState) (size : ℕ) : Type 0 where
+  pub found : 0 < size → (0 < s.count) × ((p : List ℕ) → s.held ≡ frame p → IsRequestOf profile p size)
+  pub only : 0 < s.count → (p : List ℕ) (w : ℕ) → s.held ≡ frame p → IsRequestOf profile p w → w ≡ size
+
 -- a request that is left out weighs 1, and one that the talk gets as there
 abbrev pub Weighs : Profile → List ℕ → ℕ → Type 0
 Weighs profile p w = ((has_turn 8 p ≡ true) × IsForeign profile p × (w ≡ 1)) ⊎ IsRequestOf profile p w
@@ -109,6 +114,12 @@ WentOn old side piece used (went.Answered turn) new =
 WentOn old side piece used went.Full new =
     (used ≡ 0) × (side ≡ Client) × (left_on side new ≡ []) × IsFull old piece × GoesOn old side [] [] [] [] new
 
+-- The frame, after these, is no later frame of the client's that is a request of the profile. So no frame is refused because
+-- too much waits.
+abbrev pub IsNoRequest : Profile → Came → Side → List ℕ → Type 0
+IsNoRequest profile came Client p = (payloads Client came ≢ []) → (w : ℕ) → IsRequestOf profile p w → ⊥
+IsNoRequest profile came Server p = Unit {0}
+
 -- why the side's frame is refused, after these frames of which the talk was told `kept`
 pub data IsWhy (limits : Limits) (came kept : Came) (side : Side) (size : ℕ) (bytes : List ℕ) (place : ℕ) (reason : Reason) : Type 0 where
   stream_end : size ≡ 2 ^ 62 → place ≡ 0 → reason ≡ StreamEnd → IsWhy limits came kept side size bytes place reason
@@ -120,7 +131,7 @@ pub data IsWhy (limits : Limits) (came kept : Came) (side : Side) (size : ℕ) (
       (x : ℕ × List ℕ) → IsTurnOf came q x → IsForeign limits.profile x.1 → xid_of x.1 ≢ xid_of q →
       place ≡ 0 → reason ≡ XidOrder (xid_of x.1) (xid_of q) → IsWhy limits came kept side size bytes place reason
   told_so : (q : List ℕ) → bytes ≡ frame q → (f : Fault) → IsFaultOf limits (told kept ++ on side (frame q)) f →
-      place ≡ f.place → reason ≡ f.reason → IsWhy limits came kept side size bytes place reason
+      IsNoRequest limits.profile came side q → place ≡ f.place → reason ≡ f.reason → IsWhy limits came kept side size bytes place reason
 
 -- The last of these bytes of the piece is refused, at the side's own frame and offset.
 pub record IsStopped (old : ThroughState) (side : Side) (piece : List ℕ) (fault : Fault) (h : History) (came kept : Came) : Type 0 where

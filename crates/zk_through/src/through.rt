@@ -130,6 +130,7 @@ fn is_full(talk: &Talk, turns: &Turns, weight: u64, most: u32) -> bool
     requires small { weight ≤ 2 ^ 32 }
     requires room { HaveRoom talk.now.limits.waiting turns.now }
     ensures full { IsTrue result → (0 < weight) × WhereItStands talk.now (λ v client_rest server_rest. most < load v.client v.server + left_out turns.now + weight) }
+    ensures fits { result ≡ false → 0 < weight → WhereItStands talk.now (λ v client_rest server_rest. load v.client v.server + left_out turns.now + weight ≤ most) }
     ensures room { result ≡ false → 0 < weight → left_out turns.now + weight ≤ most }
 {
     weight > 0 && u64::from(weight_of(talk, turns)) + weight > u64::from(most)
