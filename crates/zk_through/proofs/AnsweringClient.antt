@@ -18,7 +18,7 @@ use Rattle.zk_talk.specs.History.{on}
 use Rattle.zk_talk.proofs.Headline.{fault_is_bad}
 use Rattle.zk_through.specs.Came.{payloads, told}
 use Rattle.zk_through.specs.Turns.{TurnsState, turn_of, left_out, with_lane, with_request, with_left, after_request}
-use Rattle.zk_through.specs.Runs.{ThroughState, Runs, WentOn, IsRefused, IsTold, IsNotTold, IsAhead, IsNotAhead, IsKeptAt, IsSizeOf, Weighs}
+use Rattle.zk_through.specs.Runs.{ThroughState, Runs, WentOn, IsRefused, IsTold, IsNotTold, IsAhead, IsNotAhead, IsKeptAt, IsRequestOf, IsSizeOf, Weighs}
 use Rattle.zk_through.proofs.Steps.{nothing_more, within_on_client, ClientCame}
 use Rattle.zk_through.proofs.Outcomes.{counted, client_other, client_asks, client_lacks}
 use Rattle.zk_through.proofs.Refusals.{refused_early, refused_told}
@@ -73,27 +73,32 @@ module _ (old : ThroughState) (piece : List ℕ) (limit : old.client.limit ≡ o
       left : s'.kept ≡ []
       left = ap (λ (z : StreamState). z.kept) pass ∙ still
 
-      pub client_told : (ahead : Option Turn) → turns ≡ after_request ahead old.turns → IfSome ahead (λ turn. IsAhead 8 s (λ p. turn ≡ turn_of (s.count, p))) → IfNone ahead (IsNotAhead 8 s) →
-          ((turn : Turn) → ahead ≡ Some turn → IsNoOp old.talk.limits.profile turn.number → ⊥) → WentOn old Client piece used went.Message new
-      client_told None same some none known = (
-        w.advance.1,
-        left,
-        whole.0,
-        client_other old new piece used whole.0 passed_on (tells whole.0 whole.1) same (λ later. none (omega (arith, later, ap (λ (z : StreamState). z.count) w.stays)) whole.0 whole.1),
-      )
-      client_told (Some turn) more a none known =
-          let t = a.1 whole.0 whole.1 in (
-            w.advance.1,
-            left,
-            whole.0,
-            client_asks old new piece used whole.0 passed_on t.0 (later a.0) (tells whole.0 whole.1) (more ∙ ap (λ (z : Turn). with_lane (lane_of z.xid) with_request old.turns) t.1)
-                (λ foreign. known turn refl (subst (IsNoOp old.talk.limits.profile) (sym (ap (λ (z : Turn). z.number) t.1)) foreign)),
-          )
+      module _ (size : ℕ) (weighs : IsSizeOf old.talk.limits.profile s size)
+          (fits : 0 < size → WhereItStands old.talk (λ v client_rest server_rest. load v.client v.server + left_out old.turns + size ≤ old.talk.limits.waiting)) where
+        only : 0 < old.client.count → (n : ℕ) → IsRequestOf old.talk.limits.profile whole.0 n → n ≡ size
+        only begun n q = weighs.only (omega (arith, begun, ap (λ (z : StreamState). z.count) w.stays)) whole.0 n whole.1 q
+
+        pub client_told : (ahead : Option Turn) → turns ≡ after_request ahead old.turns → IfSome ahead (λ turn. IsAhead 8 s (λ p. turn ≡ turn_of (s.count, p))) → IfNone ahead (IsNotAhead 8 s) →
+            ((turn : Turn) → ahead ≡ Some turn → IsNoOp old.talk.limits.profile turn.number → ⊥) → WentOn old Client piece used went.Message new
+        client_told None same some none known = (
+          w.advance.1,
+          left,
+          whole.0,
+          client_other old new piece used whole.0 passed_on size only fits (tells whole.0 whole.1) same (λ later. none (omega (arith, later, ap (λ (z : StreamState). z.count) w.stays)) whole.0 whole.1),
+        )
+        client_told (Some turn) more a none known =
+            let t = a.1 whole.0 whole.1 in (
+              w.advance.1,
+              left,
+              whole.0,
+              client_asks old new piece used whole.0 passed_on size only fits t.0 (later a.0) (tells whole.0 whole.1) (more ∙ ap (λ (z : Turn). with_lane (lane_of z.xid) with_request old.turns) t.1)
+                  (λ foreign. known turn refl (subst (IsNoOp old.talk.limits.profile) (sym (ap (λ (z : Turn). z.number) t.1)) foreign)),
+            )
 
     -- it is left out
     pub client_left : (s' : StreamState) (turns : TurnsState) (turn : Turn) → s' ≡ kept_now s used → turns ≡ with_lane (lane_of turn.xid) (with_left turn) old.turns → IsAhead 8 s (λ p. turn ≡ turn_of (s.count, p)) → IsNoOp old.talk.limits.profile turn.number →
-        WentOn old Client piece used (went.Asked turn) (record old { client = s'; turns = turns })
-    client_left s' turns turn keep more a foreign =
+        WhereItStands old.talk (λ v client_rest server_rest. load v.client v.server + left_out old.turns + 1 ≤ old.talk.limits.waiting) → WentOn old Client piece used (went.Asked turn) (record old { client = s'; turns = turns })
+    client_left s' turns turn keep more a foreign fits =
         let new : ThroughState = record old { client = s'; turns = turns } in
         let t = a.1 whole.0 whole.1 in
         let is_turn : turn ≡ turn_of (old.client.count, whole.0) = t.1 ∙ ap (λ (z : StreamState). turn_of (z.count, whole.0)) w.stays in
@@ -103,7 +108,7 @@ module _ (old : ThroughState) (piece : List ℕ) (limit : old.client.limit ≡ o
           whole.0,
           ap (λ (z : StreamState). z.kept) keep ∙ whole.1,
           is_turn,
-          client_lacks old new piece used whole.0 c' t.0 (later a.0) refl turn is_turn (more ∙ ap (λ (z : Turn). with_lane (lane_of z.xid) (with_left turn) old.turns) t.1) (subst (IsNoOp old.talk.limits.profile) (ap (λ (z : Turn). z.number) t.1) foreign),
+          client_lacks old new piece used whole.0 c' t.0 (later a.0) refl turn is_turn (more ∙ ap (λ (z : Turn). with_lane (lane_of z.xid) (with_left turn) old.turns) t.1) (subst (IsNoOp old.talk.limits.profile) (ap (λ (z : Turn). z.number) t.1) foreign) fits,
         )
 
     -- there is no room for it

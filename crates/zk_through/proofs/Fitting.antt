@@ -1,6 +1,6 @@
 -- The talk takes a request of the profile that there is room for.
-use Rattle.std.proofs.Common.{◌≡◌, ◌≢◌, ℕ, ◌+◌, ◌<◌, ◌≤◌, ◌^◌, ◌⊎◌, inl, inr, List, [], ◌∷◌, ◌++◌, length, take, refl, sym, ap, ◌∙◌, subst, arith, length-append}
-use Rattle.std.proofs.lemmas.List.{length_push, length-take-le}
+use Rattle.std.proofs.Common.{◌≡◌, ◌≢◌, ℕ, zero, suc, ◌+◌, ◌<◌, ◌≤◌, ◌^◌, ◌⊎◌, inl, inr, List, [], ◌∷◌, ◌++◌, length, take, refl, sym, ap, ◌∙◌, subst, arith, length-append}
+use Rattle.std.proofs.lemmas.List.{length_push, length-take-le, append-nil, nil_from_length, length-map}
 use Rattle.zk_records.specs.declared.profile.Profile.{Profile}
 use Rattle.zk_asks.specs.Held.{ClientFrame}
 use Rattle.zk_asks.specs.declared.frame.ClientFrameOf.TheVariants.{Connect, Ask}
@@ -104,6 +104,16 @@ module _ (t : ThroughState) (h : History) (c k : Came) (M : List Message) (r : R
       let given = no_frames (payloads Client k) (ap length (sym (bytes_are k)) ∙ empty) in
       let came = first_kept t.talk.limits.profile [] c k r.kept (no_payloads Client) given in
       omega (arith, some, r.client_count, ap length came)
+
+  pub begins : r.stands.conversation.client ≢ [] → 0 < t.client.count
+  begins some = go t.client.count refl
+    where
+      go : (n : ℕ) → n ≡ t.client.count → 0 < t.client.count
+      go zero e =
+          let came : payloads Client c ≡ [] = nil_from_length (payloads Client c) (omega (arith, e, r.client_count)) in
+          let none : length (frames (client_payloads r.stands.conversation.client)) ≡ 0 = omega (arith, ap length (its_good.whole.client_cut.whole ∙ append-nil (frames (client_payloads r.stands.conversation.client))), ap length (bytes_are k), no_more t.talk.limits.profile [] c k r.kept, ap (λ z. length (frames z)) came) in
+          absurd (some (nil_from_length r.stands.conversation.client (omega (arith, ap length (no_frames (client_payloads r.stands.conversation.client) none), length-map r.stands.conversation.client client_payload))))
+      go (suc n) e = omega (arith, e)
 
   module _ (piece : List ℕ) (used : ℕ) (p : List ℕ) (part : used ≤ length piece) (small : t.client.size + used < 2 ^ 62) (is : t.client.held ++ take used piece ≡ frame p) (fits : length p ≤ t.talk.limits.client) (some : 0 < t.client.count) where
     bounded : length (side_bytes Client (told k)) + length (frame p) < 2 ^ 62

@@ -13,4 +13,5 @@ mod AnsweringClient
 mod AnsweringServer
 mod Given
 mod Fitting
+mod Rooms
 mod Endings

@@ -25,7 +25,7 @@ side_bytes-on side [] = refl
 side_bytes-on Client (b ∷ bs) = ap (λ z. b ∷ z) (side_bytes-on Client bs)
 side_bytes-on Server (b ∷ bs) = ap (λ z. b ∷ z) (side_bytes-on Server bs)
 
-bytes_more : (side : Side) (h : History) (bs : List ℕ) → side_bytes side (h ++ on side bs) ≡ side_bytes side h ++ bs
+pub bytes_more : (side : Side) (h : History) (bs : List ℕ) → side_bytes side (h ++ on side bs) ≡ side_bytes side h ++ bs
 bytes_more side h bs = side_bytes-append side h (on side bs) ∙ ap (λ z. side_bytes side h ++ z) (side_bytes-on side bs)
 
 -- ---- One frame

@@ -44,6 +44,7 @@ pub record Runs (t : ThroughState) (h : History) (came given : Came) (messages :
   pub stands : Stands t.talk (told given) messages
   pub alone : (t.talk.client_held ≡ []) × (t.talk.server_held ≡ [])
   pub lanes : AreLanes t.talk.limits.profile came t.turns
+  pub room : (v : Conversation) → Good t.talk.limits (told given) v [] [] → load v.client v.server + left_out t.turns ≤ t.talk.limits.waiting
   pub client_count : t.client.count ≡ length (payloads Client came)
   pub server_count : t.server.count ≡ length (payloads Server came)
   pub client_size : t.client.size ≡ length (side_bytes Client h)

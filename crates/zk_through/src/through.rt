@@ -119,7 +119,7 @@ fn tell(
 /// The weight of the requests that wait, those that are left out too.
 fn weight_of(talk: &Talk, turns: &Turns) -> u32
     requires { HaveRoom talk.now.limits.waiting turns.now }
-    ensures stands { WhereItStands talk.now (λ v client_rest server_rest. result ≡ load v.client v.server + left_out turns.now) }
+    ensures stands { WhereItStands talk.now (λ v c s. result ≡ load v.client v.server + left_out turns.now) }
     ensures left { left_out turns.now ≤ result }
 {
     talk.waiting() + turns.left() as u32
@@ -129,8 +129,8 @@ fn weight_of(talk: &Talk, turns: &Turns) -> u32
 fn is_full(talk: &Talk, turns: &Turns, weight: u64, most: u32) -> bool
     requires small { weight ≤ 2 ^ 32 }
     requires room { HaveRoom talk.now.limits.waiting turns.now }
-    ensures full { IsTrue result → (0 < weight) × WhereItStands talk.now (λ v client_rest server_rest. most < load v.client v.server + left_out turns.now + weight) }
-    ensures fits { result ≡ false → 0 < weight → WhereItStands talk.now (λ v client_rest server_rest. load v.client v.server + left_out turns.now + weight ≤ most) }
+    ensures full { IsTrue result → (0 < weight) × WhereItStands talk.now (λ v c s. most < load v.client v.server + left_out turns.now + weight) }
+    ensures fits { result ≡ false → 0 < weight → WhereItStands talk.now (λ v c s. load v.client v.server + left_out turns.now + weight ≤ most) }
     ensures room { result ≡ false → 0 < weight → left_out turns.now + weight ≤ most }
 {
     weight > 0 && u64::from(weight_of(talk, turns)) + weight > u64::from(most)
@@ -327,6 +327,7 @@ impl Through {
     pub fn waiting(&self) -> u32
         ensures value { WhereItRuns self.now (λ v. result ≡ load v.client v.server + left_out self.now.turns) }
         ensures left { left_out self.now.turns ≤ result }
+        ensures most { WhereItRuns self.now (λ v. result ≤ self.now.talk.limits.waiting) }
     {
         weight_of(&self.talk, &self.turns)
     }

@@ -57,7 +57,10 @@ returns-in-Some-out-clause-ok c =
     let outs = out_ahead T c.args.piece.now limit none c.in-Some.new c.receive.new.stream w.0 c.asked-ahead.result c.lacking-out.result c.asked-ahead.ensures.some lacks in
     let turn = c.in-Some-out.turn in
     let a = subst (λ (z : Option Turn). IfSome z (λ t. IsAhead 8 c.receive.new.stream (λ p. t ≡ turn_of (c.receive.new.stream.count, p)) × IsNoOp T.talk.limits.profile t.number)) c.in-Some-out.is outs in
-    rw (← c.self.view_is, c.of-in-Some-out.ensures, w.1) (client_left T c.args.piece.now limit none c.in-Some.new c.receive.new.stream w.0 c.keep.new.self c.leave.new.self turn c.keep.ensures c.leave.ensures a.0 a.1)
+    let most : c.waiting.result ≡ T.talk.limits.waiting = c.waiting.ensures ∙ ap (λ (l : Limits). l.waiting) (sym c.self.invariant.0) in
+    let one : c.weight-weight.result ≡ 1 = subst (λ (z : Option Turn). IfSome z (λ t. c.weight-weight.result ≡ 1)) c.in-Some-out.is c.weight-weight.ensures.out in
+    rw (← c.self.view_is, c.of-in-Some-out.ensures, w.1) (client_left T c.args.piece.now limit none c.in-Some.new c.receive.new.stream w.0 c.keep.new.self c.leave.new.self turn c.keep.ensures c.leave.ensures a.0 a.1
+    (λ h M v cr sr st g. omega (arith, c.if-is_full.ensures.fits refl (omega (arith, one)) h M v cr sr st g, most, one)))
 
 pub returns-in-Err-tell-clause-err : goal.returns-in-Err-tell-clause-err
 returns-in-Err-tell-clause-err c =
@@ -81,5 +84,8 @@ returns-clause-ok c =
     let w = received Client _ _ _ _ _ c.in-Some.is c.in-Ok.ensures.received in
     let t = c.in-Ok-tell.ensures in
     let profile : c.profile-profile.result ≡ T.talk.limits.profile = c.profile-profile.ensures ∙ ap (λ (l : Limits). l.profile) (sym c.self.invariant.0) in
-    rw (← c.self.view_is, c.of-2.ensures, t.passed.1, w.1) (client_told T c.args.piece.now limit none c.in-Some.new c.receive.new.stream w.0 c.tell.new.stream c.tell.new.talk c.ask.new.self t.passed.0 t.limits t.ok c.asked-ahead.result c.ask.ensures c.asked-ahead.ensures.some c.asked-ahead.ensures.none
+    let asks = subst (λ (z : Option Turn). IfNone z (IsSizeOf c.profile-profile.result c.receive.new.stream c.weight-weight.result)) c.in_default-out.is c.weight-weight.ensures.ask in
+    let size = subst (λ (z : Profile). IsSizeOf z c.receive.new.stream c.weight-weight.result) profile asks in
+    let most : c.waiting.result ≡ T.talk.limits.waiting = c.waiting.ensures ∙ ap (λ (l : Limits). l.waiting) (sym c.self.invariant.0) in
+    rw (← c.self.view_is, c.of-2.ensures, t.passed.1, w.1) (client_told T c.args.piece.now limit none c.in-Some.new c.receive.new.stream w.0 c.tell.new.stream c.tell.new.talk c.ask.new.self t.passed.0 t.limits t.ok c.weight-weight.result size (λ more h M v cr sr st g. omega (arith, c.if-is_full.ensures.fits refl more h M v cr sr st g, most)) c.asked-ahead.result c.ask.ensures c.asked-ahead.ensures.some c.asked-ahead.ensures.none
     (λ turn e foreign. c.in_default-out.ensures.none turn e (subst (λ (z : Profile). IsNoOp z turn.number) (sym profile) foreign)))
