@@ -154,7 +154,7 @@ module _ (old : ThroughState) (piece : List ℕ) (limit : old.client.limit ≡ o
         IsKeptAt Client s used e k → ((p : List ℕ) → s.held ≡ frame p → IsNotTold old.talk Client p e) →
         IsRefused old Client piece e (record old { talk = talk; client = s'; fault = k })
     client_refused size e kept s' talk weighs fits at not =
-        refused_told Client old (record old { talk = talk; client = s'; fault = kept }) piece used e w.advance.1 at.1 whole.0 is
+        refused_told Client old (record old { talk = talk; client = s'; fault = kept }) piece used e w.advance.1 at.1 whole.0 (omega (arith, whole.2, limit)) is
         (at.0 ∙ (λ i. fault_of Client (w.stays i).count ((w.stays i).size + used) e.place e.reason)) (not whole.0 whole.1)
         (λ h c k M r f is_fault some n q.
         let begun : 0 < old.client.count = counted old.client.count (payloads Client c) r.client_count some in

@@ -47,13 +47,13 @@ module _ (side : Side) (old new : ThroughState) (piece : List ℕ) (used : ℕ) 
   )
 
   -- the talk refuses it
-  pub refused_told : (p : List ℕ) → (stream_on side old).held ++ take used piece ≡ frame p → e ≡ fault_of side (stream_on side old).count ((stream_on side old).size + used) e.place e.reason →
+  pub refused_told : (p : List ℕ) → length p ≤ side_limit old.talk.limits side → (stream_on side old).held ++ take used piece ≡ frame p → e ≡ fault_of side (stream_on side old).count ((stream_on side old).size + used) e.place e.reason →
       IsNotTold old.talk side p e →
       ((h : History) (c k : Came) (M : List Message) (r : Runs old h c k M) (f : Fault) → IsFaultOf old.talk.limits (told k ++ on side (frame p)) f → IsNoRequest old.talk.limits.profile c side p) → IsRefused old side piece e new
-  refused_told p is at t none =
+  refused_told p fits is at t none =
       refused_at at (λ h c k M r.
       let f = t.3 (told k) M r.stands in
-      told_so p is t.0 f (none h c k M r t.0 f) t.1 t.2)
+      told_so p is fits t.0 f (none h c k M r t.0 f) t.1 t.2)
 
   -- before a frame is whole
   stopped_why : (limit : ℕ) → limit ≡ side_limit old.talk.limits side → e.place ≡ 0 → (reason : Reason) → e.reason ≡ reason → IsStop limit (stream_on side old).size (stream_on side old).held piece used reason →

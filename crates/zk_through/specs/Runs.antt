@@ -1,7 +1,7 @@
 -- What a connection comes to: the conversation that the talk is told, and the requests and replies that are left out.
 use Rattle.std.specs.Prelude.{◌≡◌, ◌≢◌, ℕ, ◌+◌, ◌≤◌, ◌<◌, ◌^◌, ◌⊎◌, List, [], ◌∷◌, ◌++◌, length, take, Option, Some, None, true, false}
 use Rattle.zk_jute.specs.declared.fault.Reason.{Reason}
-use Rattle.zk_jute.specs.declared.fault.Reason.TheVariants.{StreamEnd, LengthRange, Unasked, XidOrder}
+use Rattle.zk_jute.specs.declared.fault.Reason.TheVariants.{StreamEnd, LengthRange, QueueFull, Unasked, XidOrder}
 use Rattle.zk_records.specs.declared.profile.Profile.{Profile}
 use Rattle.zk_asks.specs.Held.{ClientFrame}
 use Rattle.zk_asks.specs.Frames.{IsLater, IsSent, IsOfProfile}
@@ -131,7 +131,7 @@ pub data IsWhy (limits : Limits) (came kept : Came) (side : Side) (size : ℕ) (
   other_turn : side ≡ Server → (q : List ℕ) → bytes ≡ frame q → has_turn 16 q ≡ true →
       (x : ℕ × List ℕ) → IsTurnOf came q x → IsForeign limits.profile x.1 → xid_of x.1 ≢ xid_of q →
       place ≡ 0 → reason ≡ XidOrder (xid_of x.1) (xid_of q) → IsWhy limits came kept side size bytes place reason
-  told_so : (q : List ℕ) → bytes ≡ frame q → (f : Fault) → IsFaultOf limits (told kept ++ on side (frame q)) f →
+  told_so : (q : List ℕ) → bytes ≡ frame q → length q ≤ side_limit limits side → (f : Fault) → IsFaultOf limits (told kept ++ on side (frame q)) f →
       IsNoRequest limits.profile came side q → place ≡ f.place → reason ≡ f.reason → IsWhy limits came kept side size bytes place reason
 
 -- The last of these bytes of the piece is refused, at the side's own frame and offset.
@@ -144,6 +144,10 @@ pub record IsStopped (old : ThroughState) (side : Side) (piece : List ℕ) (faul
 abbrev pub IsRefused : ThroughState → Side → List ℕ → Fault → ThroughState → Type 0
 IsRefused old side piece fault new = (new.fault ≡ Some fault) ×
     ((h : History) (c k : Came) (M : List Message) → Runs old h c k M → IsStopped old side piece fault h c k)
+
+-- the refusal isn't that too much waits
+abbrev pub IsNeverFull : ThroughState → Fault → Type 0
+IsNeverFull old fault = (h : History) (c k : Came) (M : List Message) → Runs old h c k M → fault.reason ≢ QueueFull
 
 -- the talk was told this frame, whatever it had been told, and it is a message's
 abbrev pub IsTold : TalkState → Side → List ℕ → TalkState → Type 0

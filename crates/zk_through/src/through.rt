@@ -17,7 +17,7 @@ ghost use Rattle.zk_through.specs.Came.{Came};
 ghost use Rattle.zk_through.specs.declared.through.Passed.{Passed};
 ghost use Rattle.zk_through.specs.declared.through.Went.{Went};
 ghost use Rattle.zk_through.specs.Turns.{HaveRoom, left_out};
-ghost use Rattle.zk_through.specs.Runs.{WentOn, IsRefused, IsTold, IsNotTold, IsKeptAt, IsEndOf, Runs, WhereItRuns, given_up, stream_on, left_on, LeavesSide};
+ghost use Rattle.zk_through.specs.Runs.{WentOn, IsRefused, IsTold, IsNotTold, IsKeptAt, IsNeverFull, IsEndOf, Runs, WhereItRuns, given_up, stream_on, left_on, LeavesSide};
 
 use crate::ahead::{asked, lacking, replied, weight};
 use crate::turn::Turn;
@@ -38,7 +38,8 @@ pub enum Went {
     Asked(Turn),
     /// The reply to such a request, the oldest that waits, is whole.
     Answered(Turn),
-    /// With the client's frame more would wait than may: it is not taken, and nothing of the piece was used.
+    /// With the client's frame more would wait than may: it is not taken, and nothing of the piece was used. Where nothing
+    /// waits, the frame alone is too heavy.
     Full,
 }
 
@@ -263,14 +264,16 @@ impl Through {
     ///
     /// # Errors
     ///
-    /// Why the frame is refused, at the side's own frame and offset, those left out counted. It is kept, and each later
-    /// call returns it and uses nothing.
+    /// Why the frame is refused, at the side's own frame and offset, those left out counted; never `QueueFull`. It is kept,
+    /// and each later call returns it and uses nothing.
     pub fn step(&mut self, side: Side, piece: &[u8]) -> Result<Passed, Fault>
         ensures limits { self.new.talk.limits ≡ self.old.talk.limits }
         // What is used goes on with the history: by a message, by a frame that is left out, or by no frame.
         ensures ok { IfOk result (λ s. WentOn self.old side piece.now s.used s.went self.new) }
         // A refusal is that of the frame: the talk's own, or of its length, its turn or the stream.
         ensures err { IfErr result (λ e. IsRefused self.old side piece.now e self.new) }
+        // It is never that too much waits.
+        ensures room { IfErr result (λ e. IsNeverFull self.old e) }
         // The other side's frames stay as they are, and show what they show.
         ensures other { LeavesSide (other_side side) self.old self.new }
         // A fault is kept.
