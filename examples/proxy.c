@@ -2,18 +2,21 @@
  *
  *     proxy PORT SERVER SERVERPORT
  *
- * It listens at 127.0.0.1:PORT, or at a free port if PORT is 0; its first line names the port. Then it prints a line for
- * each message: the number of the connection, the microseconds from a request to its reply (else -), and the message's
- * line (docs/FORMATS.md, section 9). A connection's last line is that of its ending. What was refused is passed on all
- * the same, unseen. It ends with SIGINT or SIGTERM.
+ * It listens at 127.0.0.1:PORT, or at a free port if PORT is 0; its first line names the port. Then it prints a line
+ * for each message: the number of the connection, the microseconds from a request to its reply (else -), and the
+ * message's line (docs/FORMATS.md, section 9). A request whose operation the profile lacks is left out, as is its
+ * reply: their lines have the xid and the operation's number. A connection's last line is that of its ending (section
+ * 11). What was refused is passed on all the same, unseen. It ends with SIGINT or SIGTERM.
  *
  * One thread serves all connections, and no call blocks. Of each direction at most PIECE bytes are kept; while the
- * receiver takes none of them, nothing more is read from the sender, whose own sending then waits. If one end has sent
- * all, the other end learns so, and its own direction goes on. */
+ * receiver takes none of them, nothing more is read from the sender, whose own sending then waits. A client of which
+ * WAITING requests wait is held up likewise, until the server replies. If one end has sent all, the other end learns
+ * so, and its own direction goes on. */
 #define _POSIX_C_SOURCE 200809L
 #include "zk.h"
 
 #include <arpa/inet.h>
+#include <ctype.h>
 #include <errno.h>
 #include <fcntl.h>
 #include <inttypes.h>
@@ -31,9 +34,9 @@
 
 enum { MOST = 1000, PIECE = 65536, WAITING = 1024, LIMIT = 1 << 22, LANES = 4, SPARES = 16 };
 
-/* What came from one end, and isn't yet passed on to the other. */
+/* What came from one end, and isn't yet passed on to the other; of that, what was seen. */
 struct way {
-    size_t from, to;
+    size_t from, seen, to;
     bool ended; /* nothing more comes */
     bool shut;  /* and the other end knows it */
     uint8_t bytes[PIECE];
@@ -45,26 +48,39 @@ struct lane {
     int64_t times[WAITING + 1]; /* the connect request, too */
 };
 
+/* Bytes, and the room that there is for them. */
+struct bytes {
+    uint8_t *at;
+    size_t length, room;
+};
+
+/* What reads a conversation: the passage finds the messages, and the talk, which gets their frames alone, has their
+ * lines. */
+struct reader {
+    struct zk_through through;
+    struct zk_talk talk;
+    struct bytes begun[2]; /* what came of each side after its last whole frame */
+    size_t whole[2];       /* how many frames of each are whole */
+    struct lane lanes[LANES];
+};
+
 /* A connection; ends and ways are numbered by the side that speaks there. */
 struct connection {
     unsigned long number;
     int ends[2];
-    bool connected; /* to the server */
-    bool seen;      /* the talk has refused nothing */
-    struct zk_talk talk;
-    struct lane lanes[LANES];
+    bool connected;        /* to the server */
+    struct reader *reader; /* NULL: what comes is passed on unseen */
     struct way ways[2];
 };
 
 static struct connection *all[MOST];
 static size_t count;
-/* Talks that are over: the next connections begin them anew, which is sooner done than to make a talk. What was touched of
- * their memory stays with them, so more aren't kept. */
-static struct zk_talk spares[SPARES];
+/* Readers that are over: the next connections begin them anew, which is sooner done than to make one. What was touched
+ * of their memory stays with them, so more aren't kept. */
+static struct reader *spares[SPARES];
 static size_t spare_count;
 static struct addrinfo *server;
-static uint8_t *text;
-static size_t room;
+static struct bytes text;
 static volatile sig_atomic_t over;
 
 static void stop(int number) {
@@ -83,24 +99,66 @@ static int64_t now(void) {
     return (int64_t)time.tv_sec * 1000000 + time.tv_nsec / 1000;
 }
 
-/* ---- What is printed */
+/* Makes room for this number of bytes. */
+static void make_room(struct bytes *bytes, size_t room) {
+    if (room <= bytes->room) return;
+    uint8_t *at = realloc(bytes->at, room);
+    if (at == NULL) fail("no memory");
+    bytes->at = at;
+    bytes->room = room;
+}
+
+/* ---- Readers */
+
+static void free_reader(struct reader *reader) {
+    zk_through_free(&reader->through);
+    zk_talk_free(&reader->talk);
+    for (uint32_t side = ZK_CLIENT; side <= ZK_SERVER; side++) free(reader->begun[side].at);
+    free(reader);
+}
+
+/* A reader of which nothing has come; NULL if there is no memory for one. */
+static struct reader *new_reader(void) {
+    if (spare_count > 0) return spares[--spare_count];
+    struct reader *reader = calloc(1, sizeof *reader);
+    if (reader == NULL) return NULL;
+    if (zk_through_new(&reader->through, LIMIT, LIMIT, WAITING, ZK_PROFILE_35) == ZK_WELL
+        && zk_talk_new(&reader->talk, LIMIT, LIMIT, WAITING, ZK_PROFILE_35) == ZK_WELL) return reader;
+    free_reader(reader);
+    return NULL;
+}
+
+/* Takes a connection's reader away. */
+static void end_reader(struct connection *it) {
+    struct reader *reader = it->reader;
+    it->reader = NULL;
+    if (spare_count == SPARES) {
+        free_reader(reader);
+        return;
+    }
+    zk_through_renew(&reader->through);
+    zk_talk_renew(&reader->talk);
+    memset(reader->lanes, 0, sizeof reader->lanes);
+    for (uint32_t side = ZK_CLIENT; side <= ZK_SERVER; side++) reader->begun[side].length = reader->whole[side] = 0;
+    spares[spare_count++] = reader;
+}
 
 /* The replies of a lane come in the order of its requests. */
-static struct lane *lane_of(struct connection *it, int32_t xid) {
+static struct lane *lane_of(struct reader *reader, int32_t xid) {
     switch (xid) {
-    case -2: return &it->lanes[1]; /* pings */
-    case -4: return &it->lanes[2]; /* auths */
-    case -8: return &it->lanes[3]; /* setWatches */
-    default: return &it->lanes[0];
+    case -2: return &reader->lanes[1]; /* pings */
+    case -4: return &reader->lanes[2]; /* auths */
+    case -8: return &reader->lanes[3]; /* setWatches */
+    default: return &reader->lanes[0];
     }
 }
 
 /* Notes a request's time, or returns how long ago the request of a reply came; else -1. */
-static int64_t latency(struct connection *it, const struct zk_message *message) {
-    struct lane *lane = lane_of(it, message->xid);
-    if (message->kind == ZK_CONNECT || message->kind == ZK_REQUEST) {
+static int64_t latency(struct reader *reader, uint32_t kind, int32_t xid) {
+    struct lane *lane = lane_of(reader, xid);
+    if (kind == ZK_CONNECT || kind == ZK_REQUEST) {
         if (lane->count <= WAITING) lane->times[(lane->first + lane->count++) % (WAITING + 1)] = now();
-    } else if (message->kind != ZK_EVENT && lane->count > 0) {
+    } else if (kind != ZK_EVENT && lane->count > 0) {
         int64_t asked = lane->times[lane->first];
         lane->first = (lane->first + 1) % (WAITING + 1);
         lane->count--;
@@ -109,68 +167,97 @@ static int64_t latency(struct connection *it, const struct zk_message *message) 
     return -1;
 }
 
-/* Makes room for a text that was too long. */
-static bool longer(struct zk_line line) {
-    if (line.status != ZK_ROOM) return false;
-    uint8_t *bytes = realloc(text, line.length);
-    if (bytes == NULL) fail("no memory");
-    text = bytes;
-    room = line.length;
-    return true;
+/* How many requests have no reply yet. */
+static size_t unanswered(const struct reader *reader) {
+    size_t found = 0;
+    for (size_t i = 0; i < LANES; i++) found += reader->lanes[i].count;
+    return found;
 }
 
-static void put_line(const struct connection *it, int64_t waited, struct zk_line line) {
-    if (line.status != ZK_WELL) return;
+/* ---- What is printed */
+
+static void begin_line(const struct connection *it, int64_t waited) {
     if (waited < 0) printf("%lu - ", it->number);
     else printf("%lu %" PRId64 " ", it->number, waited);
-    fwrite(text, 1, line.length, stdout);
+}
+
+/* Prints the message whose frame a side has completed. */
+static void put_message(struct connection *it, uint32_t side) {
+    struct reader *reader = it->reader;
+    struct zk_message message = zk_through_view(&reader->through, side);
+    begin_line(it, latency(reader, message.kind, message.xid));
+    zk_talk_step(&reader->talk, side, reader->begun[side].at, reader->begun[side].length);
+    struct zk_line line = zk_talk_line(&reader->talk, side, text.at, text.room);
+    make_room(&text, line.length);
+    if (line.status == ZK_ROOM) line = zk_talk_line(&reader->talk, side, text.at, text.room);
+    if (line.status == ZK_WELL) fwrite(text.at, 1, line.length, stdout);
     putchar('\n');
 }
 
-static void put_message(struct connection *it, uint32_t side) {
-    struct zk_message message = zk_talk_view(&it->talk, side);
-    int64_t waited = latency(it, &message);
-    struct zk_line line = zk_talk_line(&it->talk, side, text, room);
-    if (longer(line)) line = zk_talk_line(&it->talk, side, text, room);
-    put_line(it, waited, line);
+/* Prints that such a frame is left out. */
+static void put_left_out(struct connection *it, uint32_t side, const struct zk_passed *passed) {
+    begin_line(it, latency(it->reader, side == ZK_CLIENT ? ZK_REQUEST : ZK_REPLY, passed->xid));
+    printf("%c %" PRId32 " operation %" PRId32 ", left out\n", "CS"[side], passed->xid, passed->operation);
 }
 
-/* Gives a connection a talk. */
-static void begin_talk(struct connection *it) {
-    if (spare_count > 0) it->talk = spares[--spare_count];
-    uint32_t status = zk_talk_renew(&it->talk);
-    if (status == ZK_EMPTY) status = zk_talk_new(&it->talk, LIMIT, LIMIT, WAITING, ZK_PROFILE_35);
-    it->seen = status == ZK_WELL;
+/* Prints the name of a reason, as lines have it: BadText for BAD_TEXT. */
+static void put_reason(uint32_t reason) {
+    const char *name = zk_status_name(reason);
+    for (const char *at = name; *at != 0; at++)
+        if (*at != '_') putchar(at == name || at[-1] == '_' ? *at : tolower((unsigned char)*at));
 }
 
-/* Takes a connection's talk away. */
-static void end_talk(struct connection *it) {
-    static const struct zk_talk none = ZK_ZEROS;
-    it->seen = false;
-    if (spare_count == SPARES) {
-        zk_talk_free(&it->talk);
-        return;
+/* Prints how the conversation ended, by a fault if there was one, and reads it no more. */
+static void put_ending(struct connection *it, const struct zk_fault *fault) {
+    const struct reader *reader = it->reader;
+    uint32_t side = reader->begun[ZK_CLIENT].length > 0 ? ZK_CLIENT : ZK_SERVER;
+    begin_line(it, -1);
+    if (fault != NULL) {
+        printf(". refused side=%c frame=%" PRIu64 " offset=%" PRIu64 " place=%" PRIu32 " reason=", "CS"[fault->side],
+               fault->frame, fault->offset, fault->place);
+        put_reason(fault->reason);
+        if (fault->reason == ZK_XID_ORDER) printf(" expected=%" PRId32 " got=%" PRId32, fault->expected, fault->got);
+    } else if (reader->begun[side].length > 0) {
+        printf(". cut side=%c frame=%zu got=%zu", "CS"[side], reader->whole[side], reader->begun[side].length);
+    } else {
+        printf(". whole unanswered=%zu", unanswered(reader));
     }
-    spares[spare_count++] = it->talk;
-    it->talk = none; /* a handle isn't used twice */
+    putchar('\n');
+    end_reader(it);
 }
 
-static void put_ending(struct connection *it) {
-    struct zk_line line = zk_talk_ending_line(&it->talk, text, room);
-    if (longer(line)) line = zk_talk_ending_line(&it->talk, text, room);
-    put_line(it, -1, line);
-    end_talk(it);
+/* Keeps these bytes of a side, and prints what they complete. */
+static void put(struct connection *it, uint32_t side, const struct zk_passed *passed, const uint8_t *bytes) {
+    struct bytes *begun = &it->reader->begun[side];
+    make_room(begun, begun->length + passed->used);
+    memcpy(begun->at + begun->length, bytes, passed->used);
+    begun->length += passed->used;
+    if (passed->went == ZK_WITHIN) return;
+    if (passed->went == ZK_MESSAGE) put_message(it, side);
+    else put_left_out(it, side, passed);
+    begun->length = 0;
+    it->reader->whole[side]++;
 }
 
-/* Prints the messages that these bytes complete. */
-static void see(struct connection *it, uint32_t side, const uint8_t *bytes, size_t length) {
-    while (it->seen && length > 0) {
-        struct zk_step step = zk_talk_step(&it->talk, side, bytes, length);
-        bytes += step.used;
-        length -= step.used;
-        if (step.status != ZK_WELL) put_ending(it);
-        else if (step.whole) put_message(it, side);
+/* Prints what came from a side and wasn't seen. While as many requests wait as may, the client's next one stays unseen.
+ */
+static void see(struct connection *it, uint32_t side) {
+    struct way *way = &it->ways[side];
+    while (it->reader != NULL && way->seen < way->to) {
+        const uint8_t *bytes = way->bytes + way->seen;
+        struct zk_passed passed = zk_through_step(&it->reader->through, side, bytes, way->to - way->seen);
+        if (passed.status != ZK_WELL) {
+            put_ending(it, &passed.fault);
+        } else if (passed.went != ZK_FULL) {
+            put(it, side, &passed, bytes);
+            way->seen += passed.used;
+        } else if (!it->ways[ZK_SERVER].ended && unanswered(it->reader) > 0) {
+            return;
+        } else { /* no reply comes */
+            put_ending(it, NULL);
+        }
     }
+    way->seen = way->to;
 }
 
 /* ---- What is passed on; each function returns false if the connection has to be given up */
@@ -179,13 +266,13 @@ static bool later(void) {
     return errno == EAGAIN || errno == EWOULDBLOCK || errno == EINTR;
 }
 
-/* Writes what came from a side to the other end, as far as that takes it. */
+/* Writes what was seen of a side to the other end, as far as that takes it. */
 static bool pass(struct connection *it, uint32_t side) {
     struct way *way = &it->ways[side];
     int to = it->ends[side == ZK_CLIENT ? ZK_SERVER : ZK_CLIENT];
     if (!it->connected) return true;
-    while (way->from < way->to) {
-        ssize_t wrote = send(to, way->bytes + way->from, way->to - way->from, MSG_NOSIGNAL);
+    while (way->from < way->seen) {
+        ssize_t wrote = send(to, way->bytes + way->from, way->seen - way->from, MSG_NOSIGNAL);
         if (wrote < 0) return later();
         way->from += (size_t)wrote;
     }
@@ -202,9 +289,10 @@ static bool take(struct connection *it, uint32_t side) {
     ssize_t got = recv(it->ends[side], way->bytes, PIECE, 0);
     if (got < 0) return later();
     way->ended = got == 0;
-    way->from = 0;
+    way->from = way->seen = 0;
     way->to = (size_t)got;
-    see(it, side, way->bytes, way->to);
+    see(it, side);
+    if (side == ZK_SERVER) see(it, ZK_CLIENT); /* which may have waited for a reply */
     return pass(it, side);
 }
 
@@ -221,7 +309,7 @@ static bool connected(struct connection *it) {
 static short awaited(const struct connection *it, uint32_t side) {
     const struct way *own = &it->ways[side], *other = &it->ways[side == ZK_CLIENT ? ZK_SERVER : ZK_CLIENT];
     bool connecting = side == ZK_SERVER && !it->connected;
-    int events = other->from < other->to || connecting ? POLLOUT : 0;
+    int events = other->from < other->seen || connecting ? POLLOUT : 0;
     if (!own->ended && own->from == own->to && !connecting) events |= POLLIN;
     return (short)events;
 }
@@ -250,7 +338,7 @@ static bool ready(int socket) {
 
 static void give_up(size_t at) {
     struct connection *it = all[at];
-    if (it->seen) put_ending(it);
+    if (it->reader != NULL) put_ending(it, NULL);
     for (uint32_t side = ZK_CLIENT; side <= ZK_SERVER; side++)
         if (it->ends[side] >= 0) close(it->ends[side]);
     free(it);
@@ -268,7 +356,7 @@ static void begin(int client) {
     it->number = ++number;
     it->ends[ZK_CLIENT] = client;
     it->ends[ZK_SERVER] = socket(server->ai_family, server->ai_socktype, server->ai_protocol);
-    begin_talk(it);
+    it->reader = new_reader();
     all[count++] = it;
     int to = it->ends[ZK_SERVER];
     if (!ready(client) || !ready(to)) give_up(count - 1);
@@ -327,15 +415,12 @@ int main(int given, char **words) {
     ending.sa_handler = stop;
     if (sigaction(SIGINT, &ending, NULL) != 0 || sigaction(SIGTERM, &ending, NULL) != 0) fail("a signal");
     setvbuf(stdout, NULL, _IOLBF, BUFSIZ);
-    room = 4096;
-    text = malloc(room);
-    if (text == NULL) fail("no memory");
     int listener = listening(words[1]);
     while (!over) turn(listener);
     while (count > 0) give_up(count - 1);
-    while (spare_count > 0) zk_talk_free(&spares[--spare_count]);
+    while (spare_count > 0) free_reader(spares[--spare_count]);
     close(listener);
     freeaddrinfo(server);
-    free(text);
+    free(text.at);
     return 0;
 }

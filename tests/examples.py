@@ -2,8 +2,8 @@
 
 tests/library.py calls it. Each program in C is compiled as C11 without a warning, and with the address sanitizer where
 the compiler has it. The examples print the listing of every recording of captures/. The proxy passes on each of them,
-and many connections at once; what it prints is compared with the listings. The client speaks to answering.py, and the
-fake server to the client (served.py).
+and many connections at once (passing.py). The client speaks to answering.py, and the fake server to the client
+(served.py).
 """
 
 import os
@@ -11,24 +11,21 @@ import pathlib
 import platform
 import re
 import shutil
-import signal
 import socket
 import subprocess
 import sys
 import threading
-import time
 
 import answering
+import passing
 import served
+from passing import came, pieces, undelayed
 
 TOP = pathlib.Path(__file__).resolve().parent.parent
 CAPTURES, EXAMPLES = TOP / "captures", TOP / "examples"
 PROGRAMS = {path.stem: path for path in (*sorted(EXAMPLES.glob("*.c")),
                                          *(TOP / "tests" / f"{name}.c" for name in ("calls", "nulls", "threads")))}
 STRICT = ("-std=c11", "-Wall", "-Wextra", "-Wpedantic", "-Werror")
-HELLO = answering.framed(bytes.fromhex("00000000 0000000000000000 00007530 0000000000000000 00000010") + bytes(16))
-EXISTS = answering.framed(bytes.fromhex("00000001 00000003 00000002 2f61 01"))
-PATIENCE = 20  # seconds
 SAID = """connected: time_out=10000
 create: OK path=/a
 getData: OK data=hello version=6
@@ -62,161 +59,6 @@ def ends_well(name, *words, **options):
     """Whether a program ends with the status 0; and its output."""
     found = subprocess.run(words, capture_output=True, text=True, **options)
     return name, found.returncode == 0, f"{name}: status {found.returncode}, {(found.stdout + found.stderr)[-500:]}"
-
-
-# ---- The proxy
-
-
-class Proxy:
-    """The proxy between here and a server's port; `lines` are what it has printed when it has ended."""
-
-    def __init__(self, program, port):
-        self.process = subprocess.Popen([program, "0", "127.0.0.1", str(port)], stdout=subprocess.PIPE,
-                                        stderr=subprocess.PIPE, text=True)
-        self.port = int(self.process.stdout.readline().rpartition(":")[2])
-        self.lines, self.reader = [], threading.Thread(target=self.read)
-        self.reader.start()
-
-    def read(self):
-        self.lines += (line.rstrip("\n").split(" ", 2) for line in self.process.stdout)
-
-    def connect(self):
-        return undelayed(socket.create_connection(("127.0.0.1", self.port), PATIENCE))
-
-    def end(self):
-        """Ends it, and returns what was wrong."""
-        self.process.send_signal(signal.SIGTERM)
-        self.reader.join(PATIENCE)
-        return self.process.wait(PATIENCE), self.process.stderr.read()[-500:]
-
-    def of(self, number):
-        """The lines of a connection."""
-        return [line for of, _, line in self.lines if int(of) == number]
-
-
-def undelayed(end):
-    """The socket, whose small pieces are sent at once, and which doesn't wait forever."""
-    end.setsockopt(socket.IPPROTO_TCP, socket.TCP_NODELAY, 1)
-    end.settimeout(PATIENCE)
-    return end
-
-
-def came(end, count):
-    """That many bytes of a socket, or fewer at its end."""
-    found = b""
-    while len(found) < count:
-        piece = end.recv(count - len(found))
-        if not piece:
-            break
-        found += piece
-    return found
-
-
-def pieces(recording):
-    at = 4
-    while at < len(recording):
-        length = int.from_bytes(recording[at + 1:at + 5], "big")
-        yield recording[at:at + 1], recording[at + 5:at + 5 + length]
-        at += 5 + length
-
-
-def passes(end, other, piece):
-    """Whether a piece that is sent at one end comes at the other."""
-    if len(piece) <= 4096:
-        end.sendall(piece)
-        return came(other, len(piece)) == piece
-    sender = threading.Thread(target=end.sendall, args=(piece,))
-    sender.start()
-    good = came(other, len(piece)) == piece
-    sender.join()
-    return good
-
-
-def pass_recordings(program):
-    """Whether each recording comes through as it is, and its listing is printed."""
-    paths = sorted(CAPTURES.glob("*.zkr"))
-    with socket.create_server(("127.0.0.1", 0)) as listener:
-        proxy, whole = Proxy(program, listener.getsockname()[1]), {}
-        for path in paths:
-            with proxy.connect() as client, undelayed(listener.accept()[0]) as server:
-                ends, good = {b"C": (client, server), b"S": (server, client)}, True
-                for side, piece in pieces(path.read_bytes()):
-                    good &= passes(*ends[side], piece)
-                whole[path] = good
-        status = proxy.end()
-    for number, path in enumerate(paths, 1):
-        listing = next(path.with_suffix(suffix) for suffix in (".show35", ".show") if path.with_suffix(suffix).exists())
-        good = whole[path] and proxy.of(number) == listing.read_text().splitlines()
-        yield path.stem, good, f"proxy {path.stem}: {whole[path]}, {proxy.of(number)[-1:]}"
-    waited = [(waited, line) for _, waited, line in proxy.lines]
-    good = all(waited.isdigit() == bool(re.match(r"S (connect|-?\d+) ", line)) for waited, line in waited)
-    yield "latency", good, "proxy: a reply without its time, or a time of another message"
-    yield "proxy", status == (0, ""), f"proxy: status {status}"
-
-
-def many_connections(program):
-    """Whether connections that are open at once are served, and a server that is not there harms none of them."""
-    with answering.Server() as server:
-        threading.Thread(target=server.serve_forever, daemon=True).start()
-        proxy = Proxy(program, server.port)
-        clients = [proxy.connect() for _ in range(200)]
-        for client in clients:
-            client.sendall(HELLO + EXISTS * 3)
-        found = [len(came(client, 41 + 3 * 88)) for client in clients]
-        yield "200 connections", set(found) == {41 + 3 * 88}, f"proxy: {set(found)} bytes came"
-        for client in clients:
-            client.close()
-        status = proxy.end()
-        server.shutdown()
-    yield "200 connections, ended", status == (0, ""), f"proxy: status {status}"
-    proxy = Proxy(program, server.port)
-    with proxy.connect() as client:
-        yield "no server", came(client, 1) == b"", "proxy: something came of no server"
-    yield "no server, ended", proxy.end() == (0, ""), "proxy: it has failed for lack of a server"
-
-
-def half_closed(program):
-    """Whether a client that has sent all still gets its reply, and how long that took is printed."""
-    with socket.create_server(("127.0.0.1", 0)) as listener:
-        proxy = Proxy(program, listener.getsockname()[1])
-        with proxy.connect() as client, undelayed(listener.accept()[0]) as server:
-            client.sendall(HELLO + EXISTS)
-            client.shutdown(socket.SHUT_WR)
-            asked = came(server, 1000)
-            time.sleep(0.1)
-            reply = answering.framed(answering.CONNECTED) + answering.framed(answering.reply(EXISTS[4:], 5))
-            server.sendall(reply)
-            server.close()
-            answered = came(client, 1000)
-        status = proxy.end()
-    good = (asked, answered, status) == (HELLO + EXISTS, reply, (0, ""))
-    yield "half-close", good, f"proxy: {asked}, {answered}, {status}"
-    waited = [int(waited) for _, waited, _ in proxy.lines if waited != "-"]
-    yield "100 ms", len(waited) == 2 and all(100_000 <= each < 10_000_000 for each in waited), f"proxy: {proxy.lines}"
-
-
-def backpressure(program):
-    """Whether a client is held up while the server reads nothing, and all comes once it reads."""
-    with socket.create_server(("127.0.0.1", 0)) as listener:
-        listener.setsockopt(socket.SOL_SOCKET, socket.SO_RCVBUF, 65536)
-        proxy = Proxy(program, listener.getsockname()[1])
-        with proxy.connect() as client, undelayed(listener.accept()[0]) as server:
-            client.setblocking(False)
-            said, sent, idle = HELLO + EXISTS * 3_000_000, 0, 0
-            while idle < 5 and sent < len(said):
-                try:
-                    sent += client.send(said[sent:sent + 65536])
-                    idle = 0
-                except BlockingIOError:
-                    idle += 1
-                    time.sleep(0.1)
-            held = sent < len(said)
-            client.setblocking(True)
-            client.shutdown(socket.SHUT_WR)
-            got = came(server, len(said))
-        status = proxy.end()
-    good = held and got == said[:sent] and status == (0, "")
-    yield "backpressure", good, f"proxy: {sent} of {len(said)} bytes were taken, {len(got)} came, {status}"
 
 
 # ---- The client
@@ -345,10 +187,7 @@ def check(folder, archive, shared, cc):
     found = subprocess.run([programs["first"]], capture_output=True, text=True)
     good = (found.returncode, found.stdout) == (0, "WELL: exists, 2 fields\npath at 12+2\nwatch at 14+1\n")
     yield "first", good, f"first: status {found.returncode}, {found.stdout}{found.stderr}"
-    yield from pass_recordings(programs["proxy"])
-    yield from many_connections(programs["proxy"])
-    yield from half_closed(programs["proxy"])
-    yield from backpressure(programs["proxy"])
+    yield from passing.check(programs["proxy"])
     yield from run_client(programs["client"])
     yield ends_well("client frames", programs["client_frames"])
     yield from served.check(programs["server"], programs["client"])

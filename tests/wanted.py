@@ -42,6 +42,22 @@ LISTS = {"names": ("children", "child"), "dataWatches": ("data_watches", "watche
 STAT = {"czxid": hexadecimal, "mzxid": hexadecimal, "version": str, "cversion": str, "aversion": str,
         "numChildren": str, "dataLength": str, "pzxid": hexadecimal, "ephemeralOwner": hexadecimal}
 PARTS = {"create": "1", "delete": "2", "setData": "5", "check": "13", "fail": "-1"}
+CONNECTS = (("C", "00000000 0000000000000000 00007530 0000000000000000 00000010" + "00" * 17),
+            ("S", "00000000 00007530 0100000000000001 00000010" + "00" * 17))
+# Payloads after those of the connect messages: getEphemerals (103), exists, an operation that no release has (999), and
+# an exists with a wrong byte. Of each the fields that are shown; and what is said of the refusal, which counts the
+# client's frames of 49, 18, 19, 12 and 19 bytes.
+LEFT_OUT = {"verdict": "3", "newer": ""}
+NEWER = (
+    ("C", "00000001 00000067 00000002 2f61", {**LEFT_OUT, "xid": "1", "op": "103"}),
+    ("C", "00000002 00000003 00000002 2f61 01", {"verdict": "0", "line": 'C 2 exists path="/a" watch=1'}),
+    ("C", "00000003 000003e7", {**LEFT_OUT, "xid": "3", "op": "999"}),
+    ("S", "00000001 0000000000000005 00000000 00000000", {**LEFT_OUT, "xid": "1", "op": "103", "err": "0"}),
+    ("S", "00000002 0000000000000005 ffffff9b", {"verdict": "0", "line": "S 2 exists zxid=5 err=-101/NONODE"}),
+    ("S", "00000003 0000000000000005 fffffffa", {**LEFT_OUT, "xid": "3", "op": "999", "err": "-6"}),
+    ("C", "00000004 00000003 00000002 2f61 02", {"verdict": "1", "refused": ""}),
+)
+REFUSED = "side=C frame=4 offset=117 place=14 reason=BadBool"
 
 
 def add_record(found, side, record):
@@ -84,8 +100,8 @@ def differences(wanted, found):
 
 def cases():
     """The stored cases whose recordings are whole, by what is set: the greatest payload and the profile. Of each its
-    name, its pieces, and what is said of its refusal, if it is refused. Words of four letters, and operations of later
-    releases, are not refused by the plugin; it takes no --waiting, and no limits of a ZKR2 head."""
+    name, its pieces, and what is said of its refusal, if it is refused. Words of four letters, and operations that the
+    profile lacks, are not refused by the plugin; it takes no --waiting, and no limits of a ZKR2 head."""
     found = collections.defaultdict(list)
     stored = runpy.run_path(str(TOP / "tests" / "program.py"))["stored"]  # the tools have a module of this name, too
     for name, words, recording, ending in stored():
@@ -97,19 +113,11 @@ def cases():
             pieces.extend(zkr.Reader(io.BytesIO(recording)))
         client = b"".join(piece.data for piece in pieces if piece.side == zkr.CLIENT)
         refused = re.search(r" refused (.*)", ending.decode())
-        if re.match(rb"[A-Za-z]{4}", client) or refused and "UnknownOp" in refused[1] and later(pieces, refused[1]):
+        if re.match(rb"[A-Za-z]{4}", client) or refused and "UnknownOp" in refused[1]:
             refused = None
         settings = int(options.get("--limit", zkr.USUAL_LIMIT)), options.get("--profile", "3.4")
         found[settings].append((name, pieces, {refused[1]} if refused else set()))
     return found.items()
-
-
-def later(pieces, ending):
-    """Whether the operation of the refused request is one of a later release."""
-    number, cutter = int(re.search(r"frame=(\d+)", ending)[1]), zkr.Cutter()
-    frames = [frame for piece in pieces for frame in cutter.take(piece) if frame.side == zkr.CLIENT]
-    op = int.from_bytes(frames[number].payload[4:8], "big", signed=True)
-    return 15 <= op <= 22 or 102 <= op <= 107
 
 
 def names_of_the_header():

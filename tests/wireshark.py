@@ -104,7 +104,7 @@ class Tests(Connections):
             yield len(secrets) > 1, f"{name} has {len(secrets)} secrets"
 
     def test_refusals(self):
-        """A refusal is that of the listing's last line. Operations of later releases are left out, and not
+        """A refusal is that of the listing's last line. Operations that the profile lacks are left out, and not
         refused."""
         for path, profile, listing in listings():
             if not listing[-1].startswith(". refused"):
@@ -119,6 +119,23 @@ class Tests(Connections):
             else:
                 good = told == [listing[-1].partition(" refused ")[2]]
             yield good, f"{path.stem} under {profile}: {told}, and the listing {listing[-1]}"
+
+    def test_what_the_profile_lacks(self):
+        """It is left out with its reply: their headers are shown, and the rest is judged, by the streams' numbers."""
+        pieces = [zkr.Piece(side.encode(), 0, len(data := bytes.fromhex(digits)).to_bytes(4, "big") + data)
+                  for side, digits, *_ in (*wanted.CONNECTS, *wanted.NEWER)]
+        found = self.plugin.frames(capture_of(pieces), "-2")
+        for (*_, fields), each in zip(wanted.NEWER, found[2:]):
+            shown = {name: each[name] for name in fields}
+            yield shown == {name: [value] for name, value in fields.items()}, f"{shown}, not {fields}"
+        yield len(found) == len(pieces), f"{len(found)} messages of {len(pieces)}"
+        told = self.plugin.read(capture_of(pieces), "-2", "-O", "zookeeper", "-V")
+        yield set(re.findall(r"Refused: (side=.*?)\]", told)) == {wanted.REFUSED}, f"{re.findall('Refused.*', told)}"
+        yield "getEphemerals is not of the profile: its reply is not read" in told, "no note on getEphemerals"
+        java = self.plugin.frames_of(TOP / "captures" / "refused_java_ttl_node.zkr", "3.5")
+        yield [each["verdict"] for each in java] == [[verdict] for verdict in "00333300"], "verdicts of Java's client"
+        told = [each["line"] for each in java[2:]]
+        yield told == [[], [], [], [], ["C 3 closeSession"], ["S 3 closeSession zxid=1949"]], f"{told}"
 
     def test_stored_cases(self):
         """Every stored case of the program, whose recording is whole, is refused where its last line says so."""

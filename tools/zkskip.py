@@ -70,39 +70,55 @@ def lacking(payload, operations):
 
 
 class Skipping:
-    """Decides which frames stay. A reply answers the oldest request of its xid."""
+    """Decides which frames stay, of sides with the limits of this head. A reply answers the oldest request of its xid.
+    `left_out` is called with the side, the bytes and the line of each frame that doesn't stay; `stayed` is how many of
+    both sides have stayed by then. Bytes that can't be cut into frames count as frames that stay."""
 
-    def __init__(self, operations):
-        self.operations = operations
+    def __init__(self, operations, head, left_out):
+        self.operations, self.cutter, self.left_out = operations, zkr.Cutter(head), left_out
         self.waiting = collections.defaultdict(collections.deque)
-        self.requests = self.replies = 0
+        self.stayed = self.requests = self.replies = 0
 
-    def stays(self, frame):
+    def take(self, piece):
+        """The frames that are whole with this piece and stay, as bytes; of a side that can't be cut, all its bytes."""
+        for frame in self.cutter.take(piece):
+            whole = len(frame.payload).to_bytes(4, "big") + frame.payload
+            if lacks := self.lacks(frame):
+                xid = int_at(frame.payload, 0)
+                self.left_out(frame.side, whole, f"left out: {frame.side.decode()} frame={frame.number} xid={xid} "
+                                                 f"{lacks}, {len(frame.payload)} bytes")
+            else:
+                self.stayed += 1
+                yield whole
+        if piece.side in self.cutter.broken:
+            self.stayed += 1
+            yield self.rest(piece.side)
+
+    def rest(self, side):
+        """What is held of a side: a frame's beginning, or what can't be cut into frames."""
+        held = bytes(self.cutter.held[side])
+        self.cutter.held[side].clear()
+        return held
+
+    def lacks(self, frame):
+        """Why a frame is left out; None if it stays."""
         if frame.number == 0 or len(frame.payload) < 8:
-            return True
+            return None
         xid = int_at(frame.payload, 0)
         if frame.side == zkr.SERVER:
-            return xid == EVENT_XID or self.stays_reply(frame, xid)
+            return None if xid == EVENT_XID else self.reply_lacks(xid)
         lacks = lacking(frame.payload, self.operations)
         self.waiting[xid].append(lacks)
-        if lacks:
-            self.requests += 1
-            report(frame, xid, lacks)
-        return not lacks
+        self.requests += bool(lacks)
+        return lacks
 
-    def stays_reply(self, frame, xid):
+    def reply_lacks(self, xid):
         requests = self.waiting.get(xid)
-        lacks = requests and requests.popleft()
+        lacks = requests.popleft() if requests else None
         if not requests:
             self.waiting.pop(xid, None)
-        if lacks:
-            self.replies += 1
-            report(frame, xid, lacks)
-        return not lacks
-
-
-def report(frame, xid, lacks):
-    zkr.report(f"left out: {frame.side.decode()} frame={frame.number} xid={xid} {lacks}, {len(frame.payload)} bytes")
+        self.replies += bool(lacks)
+        return lacks
 
 
 class StandardOutput:
@@ -122,32 +138,23 @@ class StandardOutput:
 
 def skip(pieces, times, out, skipping):
     """Writes the recording again, without the frames that don't stay. `times` are those of its pieces, or None."""
-    cutter, milliseconds, damage = zkr.Cutter(zkr.LARGEST_FRAMES), 0, None
+    milliseconds, damage = 0, None
     progress, done = zkr.Progress("zkskip"), 0
     try:
         for piece in pieces:
             milliseconds = float(next(times)) if times else piece.milliseconds or 0
-            for frame in cutter.take(piece):
-                if skipping.stays(frame):
-                    out.piece(frame.side, milliseconds, len(frame.payload).to_bytes(4, "big") + frame.payload)
-            if piece.side in cutter.broken:
-                rest(cutter, piece.side, milliseconds, out)
+            for data in skipping.take(piece):
+                out.piece(piece.side, milliseconds, data)
             done += len(piece.data)
             progress.show(lambda: f"{done:,} bytes")
     except zkr.Damaged as found:
         damage = found
     finally:
         progress.end()
-    for side in cutter.held:
-        rest(cutter, side, milliseconds, out)
+    for side in (zkr.CLIENT, zkr.SERVER):
+        out.piece(side, milliseconds, skipping.rest(side))
     if damage:
         raise damage
-
-
-def rest(cutter, side, milliseconds, out):
-    """Writes what is held of a side: a frame's beginning, or what can't be cut into frames."""
-    out.piece(side, milliseconds, bytes(cutter.held[side]))
-    cutter.held[side].clear()
 
 
 def main():
@@ -173,7 +180,7 @@ def skip_all(words):
     times = contents.times_beside(words.source) if has_times else None
     known = facts.facts_of(words.source) if words.source else None
     profile = words.profile or known and known.profile or zkr.RELEASES[recording.head.profile]
-    skipping = Skipping(OF_PROFILE[profile])
+    skipping = Skipping(OF_PROFILE[profile], zkr.LARGEST_FRAMES, lambda side, whole, line: zkr.report(line))
     if words.target:
         out = zkr.Writer(words.target, recording.head, times is not None, GATHERED)
     else:

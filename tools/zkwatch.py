@@ -4,18 +4,21 @@
     zkwatch.py [--zkdump PATH] [--profile 3.4|3.5] [--limit N] [--once] [HOST:]PORT SERVER:PORT
 
 It listens on PORT (0 is any free one; the first line of standard output has it) and passes every connection on to the
-server. Each has a `zkdump show` of its own, which gets every piece before it is passed on; so a request is read before
-its reply can come. The lines of all are printed with the time and the connection's number. If a conversation is
-refused, or can't be read any longer, a line reports that, and its bytes are still passed on. Ctrl-C or SIGTERM ends the
-proxy.
+server. Each has a `zkdump show` of its own, which gets every frame before it is passed on; so a request is read before
+its reply can come. The lines of all are printed with the time and the connection's number. Requests that the release
+lacks are left out with their replies, as zkskip leaves them out: each has a line `left out`, in its place, and the
+numbers of the last line are those of the bytes as they came. If a conversation is refused, or can't be read any longer,
+a line reports that, and its bytes are still passed on. Ctrl-C or SIGTERM ends the proxy.
 
 No connection waits for `show`, or for the reader of the lines, and none ends with that reader: a connection of which
 64 MB wait to be read is no longer watched. For authors of proxies: `show` writes a message's line as soon as its last
 byte has come, before the next read, and it waits if the reader of its lines does.
 """
 
+import collections
 import errno
 import os
+import re
 import subprocess
 import sys
 import time
@@ -24,19 +27,48 @@ import addresses
 import program
 import proxy
 import zkr
+import zkskip
 from proxy import READ, WRITE
 
 BLOCK = 65536
 MOST_WAITING = 1 << 26
+LINE = 256                  # what a line that waits for its place counts, in bytes
 HEAD = zkr.Head()
 
 
+class LeftOut:
+    """What is left out of a connection: the lines of which the place hasn't come yet, each after a number of messages;
+    and of each side the frames and bytes whose lines were taken."""
+
+    def __init__(self):
+        self.lines = collections.deque()
+        self.frames, self.bytes = dict.fromkeys(zkr.OTHER, 0), dict.fromkeys(zkr.OTHER, 0)
+
+    def take(self, shown):
+        """The lines whose place has come, after this number of messages."""
+        while self.lines and self.lines[0][0] <= shown:
+            _, side, size, line = self.lines.popleft()
+            self.frames[side] += 1
+            self.bytes[side] += size
+            yield line
+
+    def as_it_came(self, ending):
+        """An ending line, with the numbers that it has if nothing is left out."""
+        side = zkr.SERVER if " side=S " in ending else zkr.CLIENT
+        more = {"frame": self.frames[side], "offset": self.bytes[side],
+                "unanswered": self.frames[zkr.CLIENT] - self.frames[zkr.SERVER]}
+        return re.sub(r"(?<= )(frame|offset|unanswered)=(\d+)",
+                      lambda found: f"{found[1]}={int(found[2]) + more[found[1]]}", ending)
+
+
 class Show:
-    """The process `zkdump show` of a connection: what waits to be written to it, and the beginning of a line of it."""
+    """The process `zkdump show` of a connection: what waits to be written to it, and the beginning of a line of it;
+    `shown` is how many messages it has shown."""
 
     def __init__(self, watch, number):
         self.watch, self.number, self.waiting, self.line = watch, number, bytearray(HEAD.to_bytes()), bytearray()
-        self.last, self.unread, self.is_over = b"", "", False
+        self.last, self.unread, self.is_over, self.shown, self.left = b"", "", False, 0, LeftOut()
+        self.skipping = zkskip.Skipping(zkskip.OF_PROFILE[watch.profile], watch.head, self.left_out)
         try:
             self.process = subprocess.Popen(watch.command, stdin=subprocess.PIPE, stdout=subprocess.PIPE, bufsize=0,
                                             start_new_session=True)
@@ -50,18 +82,35 @@ class Show:
         self.write()
 
     def piece(self, side, data):
-        """Writes a piece to `show`, as far as it is taken; the rest waits."""
+        """Writes to `show` what stays of a piece, as far as it is taken; the rest waits."""
         if self.process and not self.unread:
-            self.waiting += HEAD.piece(side, 0, data)
-            if len(self.waiting) > MOST_WAITING:
+            self.give(side, b"".join(self.skipping.take(zkr.Piece(side, None, data))))
+            self.say_left_out()
+            if len(self.waiting) + LINE * len(self.left.lines) > MOST_WAITING:
                 self.unread = f"{MOST_WAITING} bytes of it wait to be read"
                 self.kill()
             self.write()
+
+    def give(self, side, data):
+        """Adds bytes of a side to what waits."""
+        for at in range(0, len(data), zkr.LARGEST_PIECE):
+            self.waiting += HEAD.piece(side, 0, data[at:at + zkr.LARGEST_PIECE])
+
+    def left_out(self, side, whole, line):
+        """Notes a frame that is left out, after the messages that were given."""
+        self.left.lines.append((self.skipping.stayed, side, len(whole), line))
+
+    def say_left_out(self):
+        """Prints the lines of such frames whose place has come."""
+        for line in self.left.take(self.shown):
+            self.watch.say_of(self.number, line)
 
     def over(self):
         """Ends with the connection: once all is read, and all lines are printed."""
         self.is_over = True
         if self.process:
+            for side in zkr.OTHER if not self.unread else ():
+                self.give(side, self.skipping.rest(side))
             self.write()
         else:
             self.watch.seen(self)
@@ -109,7 +158,13 @@ class Show:
             lines = [b""]
         for line in lines:
             self.last, self.line = bytes(self.line + line), bytearray()
-            self.watch.say_of(self.number, self.last.decode(errors="backslashreplace"))
+            text = self.last.decode(errors="backslashreplace")
+            if text.startswith("."):
+                self.watch.say_of(self.number, self.left.as_it_came(text))
+                continue
+            self.watch.say_of(self.number, text)
+            self.shown += 1
+            self.say_left_out()
         self.line += rest
         if not data:
             for file in (stdout, self.process.stdin):
@@ -147,9 +202,11 @@ class Watch(proxy.Proxy):
 
     descriptors = 8         # the pipes of a `show`, with those that are open only while it begins
 
-    def __init__(self, server, command, once):
+    def __init__(self, server, words):
         super().__init__("zkwatch.py", server)
-        self.command, self.once, self.shows = command, once, set()
+        self.command = [words.zkdump, "show", "--profile", words.profile, "--limit", str(words.limit)]
+        self.head = zkr.Head(client_limit=words.limit, server_limit=words.limit)
+        self.profile, self.once, self.shows = words.profile, words.once, set()
 
     def say_of(self, number, text):
         self.say(f"{zkr.clock(time.time() * 1000)} #{number} {text}")
@@ -196,8 +253,7 @@ def main():
         raise OSError(errno.EBADF, "standard output is closed")
     program.prove_runs(parser, words.zkdump)
     zkr.allow_many_files()
-    watch = Watch(addresses.found(server), [words.zkdump, "show", "--profile", words.profile, "--limit",
-                                            str(words.limit)], words.once)
+    watch = Watch(addresses.found(server), words)
     listeners = addresses.listen(listen)
     watch.say(f"listening on {addresses.address_text(listeners[0].getsockname())}")
     watch.run(listeners)

@@ -5,8 +5,6 @@
  */
 #include "zookeeper.h"
 
-#include "names.h"
-
 /* Longer lines are not kept. */
 enum { LONGEST_LINE = 1 << 16 };
 
@@ -33,18 +31,11 @@ static gboolean may_know_more(const struct way *other, const struct tcpinfo *tcp
 
 /* Gives the frame to the judge, and keeps its line. */
 static void judge(struct connection *connection, packet_info *pinfo, const struct piece *piece, struct frame *frame,
-                  guint32 size, gboolean newer) {
+                  guint32 size) {
     const struct way *other = connection->way + (piece->side == ZK_CLIENT ? ZK_SERVER : ZK_CLIENT);
     struct judge *judge = &connection->judge;
     frame->verdict = VERDICT_NONE;
     if (!judge->judges) {
-        return;
-    }
-    if (newer && frame->call) {
-        frame->call->left_out = TRUE;
-    }
-    if (frame->call && frame->call->left_out) {
-        frame->verdict = VERDICT_LEFT_OUT;
         return;
     }
     /* The server's first bytes, which may answer four letters that were lost. */
@@ -66,7 +57,7 @@ static void judge(struct connection *connection, packet_info *pinfo, const struc
                 frame->line = line;
             }
         }
-    } else {
+    } else if (frame->verdict == VERDICT_NONE) {
         judge_no_more(connection, pinfo, "has more requests that wait than are judged");
     }
 }
@@ -92,14 +83,11 @@ struct frame *frame_new(struct connection *connection, packet_info *pinfo, const
     struct frame *frame = wmem_new0(wmem_file_scope(), struct frame);
     const guint8 *payload = piece->bytes + FRAME_HEAD;
     guint32 there = MIN(piece->there, size) - FRAME_HEAD;
-    gboolean newer = FALSE;
     frame->packet = pinfo->num;
     frame->count = connection->frames++;
     frame->kind = kind_of(way, piece);
     if (frame->kind == ZK_REQUEST && there >= REQUEST_HEAD) {
         call_new(connection, pinfo, frame, payload, there);
-        newer = op_is_newer(frame->call->op) &&
-                zk_judge_request((guint32)pref_profile, payload, there).status == ZK_UNKNOWN_OP;
     } else if (frame->kind == ZK_REPLY && there >= 4) {
         frame->xid = int_at(payload);
         call_answer(connection, pinfo, frame);
@@ -117,7 +105,7 @@ struct frame *frame_new(struct connection *connection, packet_info *pinfo, const
     if (piece->there < size) {
         be_late(connection, pinfo, "has a frame that was not captured whole");
     }
-    judge(connection, pinfo, piece, frame, size, newer);
+    judge(connection, pinfo, piece, frame, size);
     return frame;
 }
 
@@ -125,6 +113,6 @@ struct frame *frame_without_payload(struct connection *connection, packet_info *
     struct frame *frame = wmem_new0(wmem_file_scope(), struct frame);
     frame->packet = pinfo->num;
     frame->session = connection->session;
-    judge(connection, pinfo, piece, frame, FRAME_HEAD, FALSE);
+    judge(connection, pinfo, piece, frame, FRAME_HEAD);
     return frame;
 }

@@ -111,7 +111,7 @@ static hf_register_info fields[] = {
 static ei_register_info experts[] = {
     EI(ei_refused, "refused", PI_MALFORMED, PI_ERROR, "Refused"),
     EI(ei_unread, "malformed", PI_MALFORMED, PI_WARN, "Not all of it can be read; the connection isn't judged here"),
-    EI(ei_newer, "newer", PI_UNDECODED, PI_NOTE, "An operation of a later release"),
+    EI(ei_newer, "newer", PI_UNDECODED, PI_NOTE, "An operation not of the profile"),
     EI(ei_order, "order", PI_SEQUENCE, PI_NOTE, "Requests before this one have no reply yet"),
     EI(ei_unasked, "unasked", PI_SEQUENCE, PI_NOTE, "Its request isn't in the capture before it"),
     EI(ei_error, "error", PI_RESPONSE_CODE, PI_NOTE, "The server answers with an error"),

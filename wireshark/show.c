@@ -150,8 +150,8 @@ static void show_verdict(const struct shown *shown) {
                                    connection->why);
         }
     }
-    if (status == ZK_UNKNOWN_OP && op_is_newer(shown->op)) {
-        expert_add_info_format(pinfo, verdict, &ei_newer, "%s is of a later release: its request is not read",
+    if (status == ZK_UNKNOWN_OP && (said == VERDICT_LEFT_OUT || op_is_newer(shown->op))) {
+        expert_add_info_format(pinfo, verdict, &ei_newer, "%s is not of the profile: its request is not read",
                                op_text(pinfo, shown->op));
     } else if (said == VERDICT_NONE && status != ZK_WELL && (status != ZK_SHORT || shown->there == shown->size)) {
         expert_add_info(pinfo, show_fault(shown, status, shown->message.read.place), &ei_unread);
@@ -174,7 +174,7 @@ static void show_request(const struct shown *shown, const struct call *call) {
         generated(proto_tree_add_time(tree, hf_response_time, tvb, 0, 0, &took));
     }
     if (!message_knows_reply(call->op)) {
-        expert_add_info_format(pinfo, shown->item, &ei_newer, "%s is of a later release: its reply is not read",
+        expert_add_info_format(pinfo, shown->item, &ei_newer, "%s is not of the profile: its reply is not read",
                                op_text(pinfo, call->op));
     }
 }

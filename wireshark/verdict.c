@@ -1,32 +1,41 @@
 /* verdict.c
- * The strict verdict over a connection, by a talk of the proved library. It knows nothing of Wireshark.
+ * The strict verdict over a connection, by a passage of the proved library. It knows nothing of Wireshark.
  *
  * SPDX-License-Identifier: GPL-2.0-or-later
  */
 #include "verdict.h"
 
-/* Talks that are over, all of these limits: the next connections begin them anew. A capture that begins late, or is
- * read again, ends as many talks as it has connections, so more aren't kept. */
+/* Judges that are over, all of these limits: the next connections begin them anew. A capture that begins late, or is
+ * read again, ends as many judges as it has connections, so more aren't kept. */
 enum { SPARES = 16 };
 static struct judge spares[SPARES];
 static unsigned spare_count;
 
+static void give_back(struct judge *judge) {
+    zk_through_free(&judge->through);
+    zk_talk_free(&judge->talk);
+}
+
 void judge_begin(struct judge *judge, uint32_t limit, uint32_t profile) {
     while (spare_count > 0 && (spares[0].limit != limit || spares[0].profile != profile)) {
-        zk_talk_free(&spares[--spare_count].talk);
+        give_back(&spares[--spare_count]);
     }
     if (spare_count > 0) {
         *judge = spares[--spare_count];
-        judge->judges = zk_talk_renew(&judge->talk) == ZK_WELL;
+        judge->judges = zk_through_renew(&judge->through) == ZK_WELL && zk_talk_renew(&judge->talk) == ZK_WELL;
         return;
     }
     judge->limit = limit;
     judge->profile = profile;
-    judge->judges = zk_talk_new(&judge->talk, limit, limit, VERDICT_WAITING, profile) == ZK_WELL;
+    judge->judges = zk_through_new(&judge->through, limit, limit, VERDICT_WAITING, profile) == ZK_WELL &&
+                    zk_talk_new(&judge->talk, limit, limit, VERDICT_WAITING, profile) == ZK_WELL;
+    if (!judge->judges) {
+        give_back(judge);
+    }
 }
 
 void judge_end(struct judge *judge) {
-    static const struct judge none = {ZK_ZEROS, false, 0, 0};
+    static const struct judge none = {ZK_ZEROS, ZK_ZEROS, false, 0, 0};
     if (!judge->judges) {
         return;
     }
@@ -34,7 +43,7 @@ void judge_end(struct judge *judge) {
     if (alike && spare_count < SPARES) {
         spares[spare_count++] = *judge;
     } else {
-        zk_talk_free(&judge->talk);
+        give_back(judge);
     }
     *judge = none; /* a handle isn't used twice */
 }
@@ -44,15 +53,20 @@ enum verdict judge_take(struct judge *judge, uint32_t side, const uint8_t *frame
     if (!judge->judges) {
         return VERDICT_NONE;
     }
-    struct zk_step step = zk_talk_step(&judge->talk, side, frame, length);
-    if (step.status == ZK_WELL) {
+    struct zk_passed passed = zk_through_step(&judge->through, side, frame, length);
+    if (passed.status == ZK_WELL && passed.went == ZK_MESSAGE) {
+        zk_talk_step(&judge->talk, side, frame, length);
         return VERDICT_WELL;
     }
+    if (passed.status == ZK_WELL && (passed.went == ZK_ASKED || passed.went == ZK_ANSWERED)) {
+        return VERDICT_LEFT_OUT;
+    }
     judge_end(judge);
-    if (step.status == ZK_NO_MEMORY || step.status == ZK_QUEUE_FULL || step.status > ZK_STREAM_END) {
+    if (passed.status == ZK_WELL || passed.status == ZK_NO_MEMORY || passed.status == ZK_QUEUE_FULL ||
+        passed.status > ZK_STREAM_END) {
         return VERDICT_NONE;
     }
-    *fault = step.fault;
+    *fault = passed.fault;
     return VERDICT_REFUSED;
 }
 

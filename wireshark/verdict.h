@@ -8,13 +8,15 @@
 
 #include "zk.h"
 
-/* How many requests may wait. More are rare, and a talk takes 13 bytes for each, at once. */
+/* How many requests may wait. More are rare, and a judge takes 34 bytes for each, at once. */
 enum { VERDICT_WAITING = 1024 };
 
 enum verdict { VERDICT_WELL, VERDICT_REFUSED, VERDICT_NONE, VERDICT_LEFT_OUT };
 
-/* Reads the conversation of a connection; all zeros at first. */
+/* Reads the conversation of a connection; all zeros at first. The passage judges all of it, and the talk, which gets
+ * what that doesn't leave out, has the lines. */
 struct judge {
+    struct zk_through through;
     struct zk_talk talk;
     bool judges;
     uint32_t limit, profile;
@@ -23,9 +25,10 @@ struct judge {
 /* Begins, if there is memory, and `limit` is one that a talk may have. */
 void judge_begin(struct judge *judge, uint32_t limit, uint32_t profile);
 
-/* Takes a frame, which is the next of its side, in the order of the conversation. VERDICT_WELL, VERDICT_REFUSED with
- * the fault, or VERDICT_NONE where it doesn't judge, or can't since memory, or room for what waits, is missing. Then it
- * judges no more, but for the first. */
+/* Takes a frame, which is the next of its side, in the order of the conversation. VERDICT_WELL; VERDICT_LEFT_OUT where
+ * it is a request whose operation the profile lacks, or the reply to one; VERDICT_REFUSED with the fault; VERDICT_NONE
+ * where it doesn't judge, or can't since memory, or room for what waits, is missing. After the last two it judges no
+ * more. */
 enum verdict judge_take(struct judge *judge, uint32_t side, const uint8_t *frame, size_t length,
                         struct zk_fault *fault);
 
@@ -33,7 +36,7 @@ enum verdict judge_take(struct judge *judge, uint32_t side, const uint8_t *frame
 size_t judge_line_length(struct judge *judge, uint32_t side);
 bool judge_line(struct judge *judge, uint32_t side, char *out, size_t length);
 
-/* Judges no more; its talk is begun anew by a later one, or its memory given back. */
+/* Judges no more; what it has is begun anew by a later one, or its memory given back. */
 void judge_end(struct judge *judge);
 
 #endif

@@ -32,7 +32,7 @@ struct call {
     guint32 count;           /* of parts */
     gint32 *parts;
     gboolean is_known;       /* all of it was read */
-    gboolean left_out, passed;
+    gboolean passed;
     struct call *same;       /* the next that waits with this xid */
     struct call *before, *behind;
 };

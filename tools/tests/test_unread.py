@@ -110,7 +110,7 @@ class Programs(TroubleCase):
         port = self.begin("zkwatch.py", program=program)
         client, other = self.client(port), self.client(port)
         for _ in range(40):
-            self.ask(client, bytes(1 << 20))
+            self.ask(client, (1 << 20).to_bytes(4, "big") + bytes(1 << 20))
             self.assert_pace(other, rounds=3)
         self.assertRegex(self.watched(5)[-1],
                          "^#1 .* bytes of it wait to be read: what follows is passed on, and not read$")

@@ -10,7 +10,7 @@ import threading
 import time
 
 from proxied import STAND_IN
-from support import PROGRAM, TOOLS, TOP, ToolCase, receive, sides
+from support import PROGRAM, TOOLS, TOP, ToolCase, pieces, receive, sides, zkr
 
 RUN = TOP / "crates" / "zkdump" / "stdin"
 LISTING = """C connect version=0 zxid=0 timeout=30000 session=0 passwd=#00000000000000000000000000000000 ro=0
@@ -19,8 +19,52 @@ C 1 exists path="/a" watch=1
 S 1 exists zxid=5 err=-101/NONODE
 . whole unanswered=0
 """
+# What 3.4 lacks in a recording: its lines from the third on; the others have the listing's lines, but for create2.
+NEWER = {
+    "refused_java_ttl_node": """left out: C frame=1 xid=1 createTTL, 68 bytes
+left out: S frame=1 xid=1 createTTL, 101 bytes
+left out: C frame=2 xid=2 createTTL, 69 bytes
+left out: S frame=2 xid=2 createTTL, 112 bytes
+C 3 closeSession
+S 3 closeSession zxid=1949
+. whole unanswered=0
+""",
+    "refused_go_auth_under_an_ordinary_xid": """left out: C frame=1 xid=1 auth under an ordinary xid, 36 bytes
+left out: S frame=1 xid=1 auth under an ordinary xid, 16 bytes
+C 2 create path="/go-auth" blob=#78 acl=[31:"auth":""] flags=0
+S 2 create zxid=2213 path="/go-auth"
+C 3 getData path="/go-auth" watch=0
+S 3 getData zxid=2213 blob=#78 stat=(2213,2213,1795332738916,1795332738916,0,0,0,0,1,0,2213)
+. whole unanswered=0
+""",
+}
+HELLO = "0000002d 00000000 0000000000000000 00007530 0000000000000000 00000010" + "00" * 17
+WELCOME = "00000025 00000000 00007530 0100000000000001 00000010" + "00" * 17
+# Hexadecimal bytes of each side, and the lines from the third on: the numbers of the last count what is left out.
+ENDINGS = (
+    # getEphemerals of "/a" and its reply of no paths; then an exists whose last byte, the client's 86th, is no boolean
+    ("C 0000000e 00000001 00000067 00000002 2f61  S 00000014 00000001 0000000000000005 00000000 00000000"
+     "C 0000000f 00000002 00000003 00000002 2f61 02",
+     ["left out: C frame=1 xid=1 getEphemerals, 14 bytes", "left out: S frame=1 xid=1 getEphemerals, 20 bytes",
+      ". refused side=C frame=2 offset=86 place=14 reason=BadBool"]),
+    # an exists whose last byte is no boolean, and whoAmI after it
+    ("C 0000000f 00000001 00000003 00000002 2f61 02 00000008 00000002 0000006b",
+     [". refused side=C frame=1 offset=68 place=14 reason=BadBool"]),
+    # getEphemerals, and a length that no frame has, before the reply
+    ("C 0000000e 00000001 00000067 00000002 2f61 ffffffff  S 00000014 00000001 0000000000000005 00000000 00000000",
+     ["left out: C frame=1 xid=1 getEphemerals, 14 bytes",
+      ". refused side=C frame=2 offset=71 place=0 reason=LengthRange"]),
+    # whoAmI, and a reply to it that is cut; addWatch without a reply, between two exists in one piece
+    ("C 00000008 00000001 0000006b  S 00000014 00000001 0000",
+     ["left out: C frame=1 xid=1 whoAmI, 8 bytes", ". cut side=S frame=1 got=10"]),
+    ("C 0000000f 00000001 00000003 00000002 2f61 00 00000012 00000002 0000006a 00000002 2f61 00000000"
+     "  0000000f 00000003 00000003 00000002 2f61 00",
+     ['C 1 exists path="/a" watch=0', "left out: C frame=2 xid=2 addWatch, 18 bytes",
+      'C 3 exists path="/a" watch=0', ". whole unanswered=3"]),
+)
 WHOLE = ". whole show --profile 3.4 --limit 4194304"       # the last line of STAND_IN
 LINE = re.compile(r"\d{4}-\d\d-\d\dT\d\d:\d\d:\d\d\.\d{3}Z (#\d+) (.*)")
+UNREAD = "what follows is passed on, and not read"         # unless the connection is over first
 SECONDS = 20
 
 
@@ -198,6 +242,48 @@ class Zkwatch(ToolCase):
             client.sendall(client_bytes[49:])
             self.assertEqual(welcome + receive(client, 20), server_bytes)
         self.assertEqual([line for _, line in self.lines(watcher)[1:]], LISTING.splitlines())
+
+    def watched(self, said):
+        """The lines of a connection in which these pieces come."""
+        with socket.create_server(("127.0.0.1", 0)) as listener:
+            watcher, address = self.watch(f"127.0.0.1:{listener.getsockname()[1]}", "--once", program=PROGRAM)
+            with socket.create_connection(address, SECONDS) as client, listener.accept()[0] as server:
+                for side, data in said:
+                    end, other = (client, server) if side == zkr.CLIENT else (server, client)
+                    end.sendall(data)
+                    self.assertEqual(receive(other, len(data)), data)
+        return [line for _, line in self.lines(watcher)[1:] if line != UNREAD]
+
+    def test_what_the_release_lacks_is_left_out(self):
+        """Each recording that 3.4 refuses is listed to its end, or to a fault that no release has."""
+        if not PROGRAM.exists():
+            self.skipTest("the program zkdump is not built")
+        for path in sorted((TOP / "captures").glob("refused_*.zkr")):
+            listing = path.with_suffix(".show").read_text().splitlines()
+            if path.stem in NEWER:
+                listing[2:] = NEWER[path.stem].splitlines()
+            elif path.stem == "refused_kazoo_create2":
+                sizes, listing = self.sizes(path), path.with_suffix(".show35").read_text().splitlines()
+                listing = [re.sub(r"^(.) (\d+) create2 .*", lambda found: f"left out: {found[1]} frame={found[2]} "
+                                  f"xid={found[2]} create2, {sizes[found[1], int(found[2])]} bytes", line)
+                           for line in listing]
+            with self.subTest(path.stem):
+                self.assertEqual(self.watched((piece.side, piece.data) for piece in pieces(path.read_bytes())), listing)
+
+    def sizes(self, path):
+        """The sizes of the payloads of a recording, by side and number."""
+        cutter = zkr.Cutter()
+        return {(frame.side.decode(), frame.number): len(frame.payload) for piece in pieces(path.read_bytes())
+                for frame in cutter.take(piece)}
+
+    def test_the_last_line_has_the_numbers_of_the_bytes_as_they_came(self):
+        if not PROGRAM.exists():
+            self.skipTest("the program zkdump is not built")
+        for digits, told in ENDINGS:
+            said = [(side.encode(), bytes.fromhex(data))
+                    for side, data in re.findall(r"([CS]) ([^CS]*)", f"C {HELLO} S {WELCOME} {digits}")]
+            with self.subTest(told[-1]):
+                self.assertEqual(self.watched(said)[2:], told)
 
     def test_words(self):
         program = ["--zkdump", str(self.stand_in)]
