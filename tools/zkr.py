@@ -177,6 +177,14 @@ def begins_with(path, marks):
         return False
 
 
+def real_path(path):
+    """The path of a file without links: the same for all paths of the file."""
+    try:
+        return os.path.realpath(path)
+    except ValueError:      # no file can have this path
+        return path
+
+
 def times_path(path):
     """The file of the times of the recording at this path."""
     return f"{path}.times"
