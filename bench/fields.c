@@ -3,8 +3,8 @@
  *     fields step|fields|hand [sum] < RECORDING
  *
  * `step` judges the recording (format ZKR1) by zk_talk_step, `fields` also writes each message's fields by
- * zk_talk_fields, and `hand` does the same by hand.h. It prints the messages, the fields, with `sum` a sum of all in them,
- * the CPU seconds, the number of allocations between the first message and the last, and the bytes of a talk. */
+ * zk_talk_fields, and `hand` does the same by hand.h. It prints the messages, the fields, with `sum` a sum of all in
+ * them, the CPU seconds, the number of allocations between the first message and the last, and the bytes of a talk. */
 #define _POSIX_C_SOURCE 200809L
 #include "hand.h"
 

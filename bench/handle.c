@@ -108,6 +108,7 @@ int main(int count, char **words) {
     run(&results[0]);
     for (int i = 1; i < threads; i++) pthread_join(ids[i], NULL);
     for (int i = 0; i < threads; i++)
-        printf("%ld messages, %s, %.3f s, %ld growths, sum %ld\n", results[i].messages, results[i].ending, results[i].seconds, results[i].growths, results[i].kinds);
+        printf("%ld messages, %s, %.3f s, %ld growths, sum %ld\n", results[i].messages, results[i].ending,
+               results[i].seconds, results[i].growths, results[i].kinds);
     return 0;
 }

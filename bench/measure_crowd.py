@@ -8,7 +8,8 @@ asks too. It prints, in milliseconds, how long their first answers took from the
 long those to the busy clients took before and meanwhile: by the clock, and in the processor time that the proxy used
 until then, which others on the machine disturb less. On an idle machine the two are nearly the same, as the proxy then
 never rests. TOOLS are folders of tools, as those of two checkouts; they are measured by turns, `--times` each, and each
-row has the medians of its runs.
+row has the medians of its runs. The recordings are below TMPDIR, and removed at the end: on ext4 without a journal a
+new file takes longer, up to 0.5 ms, for minutes after many were removed. TMPDIR=/dev/shm leaves the disk out.
 """
 
 import argparse
@@ -61,13 +62,14 @@ def be_busy(port, process, clients, pause, told):
 
 
 def come(port, process, clients):
-    """Connects these clients all at once; how long the answer to each took."""
-    ready, took, begun = selectors.DefaultSelector(), [], clocks(process)
+    """Connects these clients all at once; how long the answer to each took. They end once all have one."""
+    ready, took, held, begun = selectors.DefaultSelector(), [], [], clocks(process)
     for _ in range(clients):
         client = socket.socket()
         client.setblocking(False)
         client.connect_ex(("127.0.0.1", port))
         ready.register(client, selectors.EVENT_WRITE)
+        held.append(client)
     while ready.get_map():
         found = ready.select(60)
         if not found:
@@ -83,22 +85,21 @@ def come(port, process, clients):
     return took
 
 
-def measured(tools, server, words):
-    """A run: by the clock and by the processor, the figures of a row."""
-    with tempfile.TemporaryDirectory() as folder:
-        recorder, port = begin(tools / "record.py", server, folder)
-        told, end = Pipe()
-        busy = Process(target=be_busy, args=(port, recorder.pid, words.busy, words.pause / 1000, end), daemon=True)
-        busy.start()
-        time.sleep(ALONE)
-        begun = time.perf_counter()
-        first = come(port, recorder.pid, words.new)
-        over = time.perf_counter()
-        told.send(None)
-        rounds = told.recv()
-        busy.join()
-        recorder.terminate()
-        recorder.wait()
+def measured(tools, server, words, folder):
+    """A run: by the clock and by the processor, the figures of a row. The recordings stay in the folder."""
+    recorder, port = begin(tools / "record.py", server, tempfile.mkdtemp(dir=folder))
+    told, end = Pipe()
+    busy = Process(target=be_busy, args=(port, recorder.pid, words.busy, words.pause / 1000, end), daemon=True)
+    busy.start()
+    time.sleep(ALONE)
+    begun = time.perf_counter()
+    first = come(port, recorder.pid, words.new)
+    over = time.perf_counter()
+    told.send(None)
+    rounds = told.recv()
+    busy.join()
+    recorder.terminate()
+    recorder.wait()
     before = [took for at, took in rounds if begun - ALONE / 2 < at < begun]
     meanwhile = [took for at, took in rounds if begun < at < over]
     return [[1000 * value for value in (*spread(first, unit, 1, 2), *spread(before, unit, 1, 2),
@@ -123,9 +124,10 @@ def main():
     server = Process(target=serve, args=(listener,), daemon=True)
     server.start()
     runs = [[] for _ in words.tools]
-    for _ in range(words.times):
-        for row, tools in zip(runs, words.tools):
-            row.append(measured(tools, listener.getsockname()[1], words))
+    with tempfile.TemporaryDirectory() as folder:
+        for _ in range(words.times):
+            for row, tools in zip(runs, words.tools):
+                row.append(measured(tools, listener.getsockname()[1], words, folder))
     print("| | by | " + " | ".join(COLUMNS) + " |\n|" + "---|" * (2 + len(COLUMNS)))
     for tools, row in zip(words.tools, runs):
         for by, found in zip(("clock", "processor"), zip(*row)):

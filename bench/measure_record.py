@@ -19,7 +19,7 @@ import time
 from multiprocessing import Process
 
 RECORD = pathlib.Path(__file__).resolve().parent.parent / "tools" / "record.py"
-ASK = bytes(100)
+ASK = b"\0\0\0\x60" + bytes(96)        # a frame
 
 
 def serve(listener):

@@ -154,7 +154,8 @@ static void show_fields(struct played *it, enum kind kind, uint32_t side) {
     struct zk_read read = kind == TALK ? zk_talk_fields(&it->talk, side, out, room)
                                        : zk_through_fields(&it->through, side, out, room);
     fitting(read, room, message.size);
-    must(read.kind == message.kind && read.xid == message.xid && read.operation == message.operation, "another message");
+    must(read.kind == message.kind && read.xid == message.xid && read.operation == message.operation,
+         "another message");
     must(read.err == message.err && read.zxid == message.zxid, "other numbers of the header");
 }
 
@@ -241,7 +242,8 @@ static void list(void) {
 
 static void name(void) {
     int32_t number = one_in(2) ? any_operation() : (int32_t)chance(300) - 150;
-    must(zk_operation_name(number) != NULL && zk_error_name(number) != NULL && zk_event_name(number) != NULL, "no name");
+    must(zk_operation_name(number) != NULL && zk_error_name(number) != NULL, "no name");
+    must(zk_event_name(number) != NULL, "no name");
     must(zk_field_name((uint16_t)number) != NULL && zk_status_name((uint32_t)number) != NULL, "no name");
     counted += 5;
 }

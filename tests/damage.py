@@ -252,7 +252,8 @@ class Tests:
 
     def try_ping(self):
         """After the connect messages a ping and its reply, each cut in two, the first parts first."""
-        ask, reply = bytes.fromhex("00000008fffffffe0000000b"), bytes.fromhex("00000010fffffffe000000000000000500000000")
+        ask = bytes.fromhex("00000008fffffffe0000000b")
+        reply = bytes.fromhex("00000010fffffffe000000000000000500000000")
         early = b". refused side=S frame=1 offset=61 place=0 reason=Unasked"
         for asked in range(len(ask) + 1):
             for answered in range(len(reply) + 1):

@@ -39,7 +39,8 @@ ssize_t write(int file, const void *bytes, size_t count) {
     if (file != STDOUT_FILENO) {
         return syscall(SYS_write, file, bytes, count);
     }
-    ssize_t most = passing(count, number("WRITE_ROOM", -1) - before, number("WRITE_MOST", -1), number("WRITE_ERROR", 0));
+    unsigned long room = number("WRITE_ROOM", -1) - before;
+    ssize_t most = passing(count, room, number("WRITE_MOST", -1), number("WRITE_ERROR", 0));
     ssize_t taken = most <= 0 ? most : syscall(SYS_write, file, bytes, (size_t)most);
     before += taken > 0 ? (unsigned long)taken : 0;
     return taken;

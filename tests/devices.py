@@ -104,7 +104,8 @@ class Devices:
         for size in prefixes(len(ample[0])):
             for error in (0, *ERRORS):
                 found = self.run(words, data, WRITE_ROOM=size, WRITE_ERROR=error)
-                self.hold(f"{name}, a failed write after {size} bytes", found, found == (ample[0][:size], WRITE_FAILED, 3))
+                self.hold(f"{name}, a failed write after {size} bytes", found,
+                          found == (ample[0][:size], WRITE_FAILED, 3))
 
 
 def main():
@@ -121,7 +122,8 @@ def main():
             return 0
         devices = Devices(options.program, library)
         for args in sorted(CASES.glob("*/*.args")):
-            name, words, data = f"{args.parent.name}/{args.stem}", args.read_text().splitlines(), content(args.with_suffix(".in"))
+            name, words = f"{args.parent.name}/{args.stem}", args.read_text().splitlines()
+            data = content(args.with_suffix(".in"))
             if options.only in name:
                 ample = devices.run(words, data)
                 if ample[2] != 2:

@@ -122,7 +122,8 @@ def list_recordings(name, *words):
         if name == "talk.py" and b"\n. whole " in listing.read_bytes():
             found = subprocess.run([*words, "--say", listing], capture_output=True)
             good = found.returncode == 0 and sides(found.stdout) == sides(path.read_bytes())
-            yield path.stem, good, f"{name} --say {path.stem}: status {found.returncode}, {found.stderr.decode()[-200:]}"
+            told = found.stderr.decode()[-200:]
+            yield path.stem, good, f"{name} --say {path.stem}: status {found.returncode}, {told}"
 
 
 def show_fields(program):

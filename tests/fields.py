@@ -35,8 +35,8 @@ TABLE = (
     ("request 34", "00000001 00000003 00000002 2f61 01", "REQUEST xid 1 operation 3", """
         12+2 path text
         14+1 watch bool 1"""),
-    ("request 34", "00000001 00000001 00000002 2f61 ffffffff 00000001 0000001f 00000005 776f726c64 00000006 616e796f6e65"
-     "00000003",
+    ("request 34", "00000001 00000001 00000002 2f61 ffffffff 00000001 0000001f 00000005 776f726c64 00000006"
+     "616e796f6e65 00000003",
      "REQUEST xid 1 operation 1", """
         12+2 path text
         18+0 data blob null
@@ -140,8 +140,8 @@ TABLE = (
     ("request 34", "ffffffff 00000003 00000002 2f61 01", "XID_OP 4 xid -1 operation 3", ""),
     ("request 34", "00000009 0000", "SHORT 4 xid 9", ""),
     ("request 34", "0000", "SHORT 0", ""),
-    ("request 34", "00000001 00000001 00000002 2f61 ffffffff 00000002 0000001f 00000005 776f726c64 00000006 616e796f6e65"
-     "0000", "SHORT 45 xid 1 operation 1", """
+    ("request 34", "00000001 00000001 00000002 2f61 ffffffff 00000002 0000001f 00000005 776f726c64 00000006"
+     "616e796f6e65 0000", "SHORT 45 xid 1 operation 1", """
         12+2 path text
         18+0 data blob null
         18+4 acl list 2

@@ -14,7 +14,8 @@ HELLO = "00000000 0000000000000000 00007530 0000000000000000 00000010 0000000000
 WELCOME = "00000000 00007530 0100000000000001 00000010 000102030405060708090a0b0c0d0e0f"
 SIXTEEN = "00000001 0000000000000005 00000000 0000000000000004 0000000000000004 00000000000003e8 00000000000003e8"
 STAT = SIXTEEN + "00000000 00000000 00000000 0000000000000000 00000003 00000000 0000000000000004"
-RESULTS = "00000001 0000000000000006 00000000 00000001 00 00000000 00000002 2f61 00000002 00 00000000 ffffffff 01 ffffffff"
+RESULTS = "00000001 0000000000000006 00000000 00000001 00 00000000 00000002 2f61 00000002 00 00000000 ffffffff 01" \
+          "ffffffff"
 JUDGED = (
     ("request", "fffffff8 00000065 0000000000000005 00000001 00000002 2f61 00000000 ffffffff", "WELL", 0),
     ("request", "fffffffc 00000064 00000000 00000006 646967657374 00000003 613a62", "WELL", 0),
@@ -42,7 +43,8 @@ JUDGED = (
     ("reply 14 2 1", RESULTS, "BAD_PART", 16),
     ("reply 14 1", RESULTS, "BAD_PART", 31),
     ("reply 14 1 2 13", RESULTS, "BAD_PART", 40),
-    ("reply 14 13", "00000001 0000000000000006 00000000 ffffffff 00 ffffff99 ffffff9b ffffffff 01 ffffffff", "BAD_PART", 16),
+    ("reply 14 13", "00000001 0000000000000006 00000000 ffffffff 00 ffffff99 ffffff9b ffffffff 01 ffffffff",
+     "BAD_PART", 16),
     ("reply 3", "ffffffff ffffffffffffffff 00000000", "MISFIT", 0),
     ("reply 10", STAT, "RANGE", 0),
     ("reply 3 1", STAT, "RANGE", 0),
@@ -122,11 +124,13 @@ def list_whole(talk, library, numbers):
         pieces, listing = list(talk.pieces(path.read_bytes())), path.with_suffix(".show").read_bytes()
         cut = (talk.Piece * (len(pieces) + 1))(*((side, len(piece)) for side, piece in pieces))
         content = b"".join(piece for _, piece in pieces)
-        for room, count, status in ((len(listing), 0, "WELL"), (len(listing) - 1, 0, "ROOM"), (len(listing), 1, "RANGE")):
-            out = ctypes.create_string_buffer(len(listing))
-            found = library.zk_listing(cut, len(pieces), content, len(content) - count, 4194304, 4194304, 65536, 34, out, room)
-            wanted = (numbers[status], 0 if status == "RANGE" else len(listing))
-            good = (found.status, found.length) == wanted and out.raw == (listing if status == "WELL" else bytes(len(listing)))
+        size, nothing = len(listing), bytes(len(listing))
+        for room, count, status in ((size, 0, "WELL"), (size - 1, 0, "ROOM"), (size, 1, "RANGE")):
+            out = ctypes.create_string_buffer(size)
+            found = library.zk_listing(cut, len(pieces), content, len(content) - count, 4194304, 4194304, 65536, 34,
+                                       out, room)
+            wanted = (numbers[status], 0 if status == "RANGE" else size)
+            good = (found.status, found.length) == wanted and out.raw == (listing if status == "WELL" else nothing)
             yield path.stem, good, f"zk_listing {path.stem}, a room of {room}: {found.status}, {found.length}"
 
 

@@ -2,10 +2,10 @@
  *
  *     memory talk|speaker CLIENT SERVER WAITING ROUNDS [renew]
  *
- * Each round makes a talk, whose sides send a payload of their limits and then as many requests as may wait, and asks it
- * for a line and the ending's; or it makes a speaker, to which as many lines are said. Then it closes it. With `renew` one
- * handle is begun anew for each round. It prints how many kilobytes are resident after the last close, on top of those at
- * the start: after one round, and after all. */
+ * Each round makes a talk, whose sides send a payload of their limits and then as many requests as may wait, and asks
+ * it for a line and the ending's; or it makes a speaker, to which as many lines are said. Then it closes it. With
+ * `renew` one handle is begun anew for each round. It prints how many kilobytes are resident after the last close, on
+ * top of those at the start: after one round, and after all. */
 #define _POSIX_C_SOURCE 200809L
 #include "zk.h"
 
@@ -16,7 +16,8 @@
 
 enum { HEAD = 4, MOST = 1 << 24 };
 
-static const char hello[] = "C connect version=0 zxid=0 timeout=1 session=0 passwd=#00000000000000000000000000000000 ro=0";
+static const char hello[] = "C connect version=0 zxid=0 timeout=1 session=0 "
+                            "passwd=#00000000000000000000000000000000 ro=0";
 static const char welcome[] = "S connect version=0 timeout=1 session=1 passwd=#00000000000000000000000000000000 ro=0";
 static uint32_t client, server, waiting;
 static struct zk_talk talk = ZK_ZEROS;
@@ -88,7 +89,7 @@ static void hold_a_speaker(void) {
     must(zk_speaker_say(&speaker, (const uint8_t *)hello, sizeof hello - 1).status == ZK_WELL, "no hello");
     must(zk_speaker_say(&speaker, (const uint8_t *)welcome, sizeof welcome - 1).status == ZK_WELL, "no welcome");
     for (uint32_t i = 0; i < waiting; i++)
-        must(zk_speaker_say(&speaker, (const uint8_t *)exists, sizeof exists - 1).status == ZK_WELL, "a line is refused");
+        must(zk_speaker_say(&speaker, (const uint8_t *)exists, sizeof exists - 1).status == ZK_WELL, "no request");
 }
 
 int main(int count, char **words) {

@@ -60,12 +60,15 @@ static void read_payload(void) {
     unchanged(&bytes);
     unchanged(&numbers);
     must(expected == ZK_WELL || read.status == expected, "a pointer or a length astray");
-    if (kind == ZK_REPLY && judged.status == ZK_RANGE && read.status != ZK_RANGE) { /* of no operation: the header is read */
-        must(read.status == ZK_UNKNOWN_OP ? read.place == 16 : read.status == ZK_SHORT || read.status == ZK_MISFIT, "no header");
+    if (kind == ZK_REPLY && judged.status == ZK_RANGE && read.status != ZK_RANGE) {
+        /* Of no operation: the header is read. */
+        must(read.status == ZK_UNKNOWN_OP ? read.place == 16 : read.status == ZK_SHORT || read.status == ZK_MISFIT,
+             "no header");
         must(read.count == 0 && read.kind == 0 && read.operation == 0, "more than a header");
         return;
     }
-    must(read.status == ZK_ROOM ? judged.status == ZK_WELL : judged.status == read.status, "judged otherwise than read");
+    must(read.status == ZK_ROOM ? judged.status == ZK_WELL : judged.status == read.status,
+         "judged otherwise than read");
     must(judged.place == read.place && (read.kind == 0 || read.kind == kind), "another place or kind");
 }
 

@@ -139,7 +139,8 @@ def commands(top):
     named = {name if "zk" in name else f"zk{name}"
              for name in re.findall(r"^\| \[(\w+)\.py\]", (TOP / "tools" / "README.md").read_text(), re.M)}
     found = {path.name for path in (top / "bin").iterdir()} - {"zkdump"}
-    yield "commands", found == named, f"commands that tools/README.md lacks, or that are not installed: {sorted(found ^ named)}"
+    yield ("commands", found == named,
+           f"commands that tools/README.md lacks, or that are not installed: {sorted(found ^ named)}")
     page = top / "share" / "man" / "man1" / "zkdump.1"
     if page.exists():
         said = re.findall(r"^\\fB(\w+)\\fR\n\.RS 4\n(.*\.)(?:\\&)?$", page.read_text(), re.M)
@@ -149,7 +150,8 @@ def commands(top):
     (none / "zkdump").write_text("#!/bin/sh\nexit 9\n")
     (none / "zkdump").chmod(0o755)
     found = run(top / "bin" / "zkstat", RECORDING, env={**os.environ, "PATH": f"{none}:{os.environ['PATH']}"})
-    yield "zkstat", found.returncode == 0 and b"whole" in found.stdout, f"zkstat: {found.returncode}, {found.stderr[-300:]}"
+    yield ("zkstat", found.returncode == 0 and b"whole" in found.stdout,
+           f"zkstat: {found.returncode}, {found.stderr[-300:]}")
 
 
 def completion():

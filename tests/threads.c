@@ -1,5 +1,5 @@
-/* Handles that go from thread to thread, used by one call at a time: each of THREADS threads takes the next piece of any
- * conversation that is free, and no conversation notices. The status is 0 if all end as on one thread. */
+/* Handles that go from thread to thread, used by one call at a time: each of THREADS threads takes the next piece of
+ * any conversation that is free, and no conversation notices. The status is 0 if all end as on one thread. */
 #define _POSIX_C_SOURCE 200809L
 #include "zk.h"
 

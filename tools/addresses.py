@@ -45,7 +45,7 @@ def listen(address):
     for family, _, _, _, where in found(address, socket.AI_PASSIVE):
         port = listeners[0].getsockname()[1] if listeners else where[1]
         try:
-            listeners.append(socket.create_server((where[0], port, *where[2:]), family=family, backlog=1024))
+            listeners.append(socket.create_server((where[0], port, *where[2:]), family=family, backlog=4096))
         except OSError as error:
             failure = error
     if failure and not listeners:

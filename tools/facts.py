@@ -26,12 +26,13 @@ class Facts(NamedTuple):
     """What is known of a recording, or of a connection that has none. Times are milliseconds since 1970.
 
     A connection that was not captured whole has several recordings: `part` counts them, from 1, and the `client`, the
-    `server`, when the connection began, `connected`, and its `session`, in hexadecimal, are the same in all. Of the last part, `closed` is the side that ended the connection first, `reset` that which reset it,
-    `broken` the side and the error that broke it; or it is still `open`. `late` says that it began before the capture,
-    and `snapped` that packets were not captured whole. `lost` counts the bytes of each side that are missing before the
-    recording, and `hole` names the sides of which bytes are missing after it. `skipped` counts captured bytes that are
-    left out, and `unasked` replies that are, where it begins with connect messages that were made up; `overlooked` says
-    that no request of it has a reply, and that replies may be among the bytes that are left out.
+    `server`, when the connection began, `connected`, and its `session`, in hexadecimal, are the same in all. Of the
+    last part, `closed` is the side that ended the connection first, `reset` that which reset it, `broken` the side and
+    the error that broke it; or it is still `open`. `late` says that it began before the capture, and `snapped` that
+    packets were not captured whole. `lost` counts the bytes of each side that are missing before the recording, and
+    `hole` names the sides of which bytes are missing after it. `skipped` counts captured bytes that are left out, and
+    `unasked` replies that are, where it begins with connect messages that were made up; `overlooked` says that no
+    request of it has a reply, and that replies may be among the bytes that are left out.
     """
     tool: Optional[str] = None
     client: Optional[str] = None

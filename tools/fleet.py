@@ -49,12 +49,11 @@ def is_asked(words):
 
 
 def expanded(inputs):
-    """The files that these inputs name, each once, however its path is written. A ValueError where an input has
-    none."""
+    """The files that these inputs name, each once, whatever links lead to it. A ValueError where an input has none."""
     found = {}
     for each in inputs:
         for path in files_of(each):
-            found.setdefault(os.path.abspath(path), path)
+            found.setdefault(zkr.real_path(path), path)
     return list(found.values())
 
 

@@ -26,12 +26,12 @@ def add_words(parser):
 
 
 def refuse_repetition(parser, paths):
-    """Refuses arguments that name a file twice, however its path is written."""
+    """Refuses arguments that name a file twice, whatever links lead to it."""
     seen = set()
     for path in paths:
-        if os.path.abspath(path) in seen:
+        if zkr.real_path(path) in seen:
             parser.error(f"{path} is named twice: its messages would count twice")
-        seen.add(os.path.abspath(path))
+        seen.add(zkr.real_path(path))
 
 
 def conversations(parser, words, objects, progress, before_read=lambda: None, fast=None):

@@ -256,24 +256,14 @@ class Listing(Conversations):
                     self.times.refuse(n, of_side, lines)
                 if at is not None:
                     made.at = at
-                    made.moment = connection.ended = moment = float(at)
+                    made.moment = connection.ended = float(at)
                     if connection.begun is None:
-                        connection.begun = moment
+                        connection.begun = made.moment
             lane, asked = plain if xid not in lanes else lanes[xid], None
             if side == "C":
                 lane.append(made)
             elif op != EVENT:
-                if not lane or lane[0].xid != xid or lane[0].op != op:
-                    raise NoListing(f"line {n}: the request of this reply is missing before it: name the whole listing")
-                asked = lane.popleft()
-                if made.moment is not None and asked.moment is not None:
-                    made.microseconds = microseconds = round((moment - asked.moment) * 1000)
-                    if microseconds < 0:
-                        made.microseconds = None
-                        connection.backwards += 1
-                if op == "multi" and made.error is None:
-                    made.error = error_of_parts([name or number for number, name in
-                                                 FAILED_PART.findall(QUOTED.sub("", line))])
+                asked = self.take_reply(line, made, lane)
             if op == CONNECT:
                 session = SESSION.search(line, made.end)
                 made.made_up = line[made.end:] == MADE_UP[side]
@@ -284,6 +274,21 @@ class Listing(Conversations):
         if frames:
             self.times.compare(connection.ending)
         self.progress.end()
+
+    def take_reply(self, line, made, lane):
+        """Takes from its lane the request that a reply answers, and how long that took."""
+        if not lane or lane[0].xid != made.xid or lane[0].op != made.op:
+            raise NoListing(f"line {made.n}: the request of this reply is missing before it: name the whole listing")
+        asked = lane.popleft()
+        if made.moment is not None and asked.moment is not None:
+            microseconds = round((made.moment - asked.moment) * 1000)
+            if microseconds < 0:
+                self.connection.backwards += 1
+            else:
+                made.microseconds = microseconds
+        if made.op == "multi" and made.error is None:
+            made.error = error_of_parts([name or number for number, name in FAILED_PART.findall(QUOTED.sub("", line))])
+        return asked
 
     def end(self, line, n):
         """Takes an ending line, as the last one."""

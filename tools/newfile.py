@@ -1,6 +1,11 @@
 """Files that a tool makes."""
 
+import io
 import os
+
+
+def for_the_owner(path, flags):
+    return os.open(path, flags, 0o600)
 
 
 class NewFile:
@@ -8,7 +13,20 @@ class NewFile:
 
     def __init__(self, path):
         self.path, self.waiting, self.size = path, bytearray(), 0
-        self.file = open(path, "xb", buffering=0, opener=lambda name, flags: os.open(name, flags, 0o600))
+        self.file = io.FileIO(path, "xb", opener=for_the_owner)
+
+    def put(self, data):
+        """Writes these bytes, or after an OSError none of them."""
+        if not self.waiting:
+            try:
+                if self.file.write(data) == len(data):
+                    self.size += len(data)
+                    return
+            except OSError:
+                pass            # it comes again where they wait
+            self.take_back()
+        self.waiting += data
+        self.flush()
 
     def write(self):
         """Writes what waits. After an OSError, which names the file, the file may have a part of it."""
@@ -25,8 +43,12 @@ class NewFile:
         if written:
             self.size += size
         else:
-            self.file.truncate(self.size)
-            self.file.seek(self.size)
+            self.take_back()
+
+    def take_back(self):
+        """Takes back the bytes of a write that was not whole."""
+        self.file.truncate(self.size)
+        self.file.seek(self.size)
 
     def flush(self):
         """Writes what waits, or after an OSError none of it."""

@@ -4,11 +4,13 @@ One loop serves all connections, and nothing in it waits: not for an end that do
 and not for the reader of its lines. An end of one direction is passed on, and so is a reset.
 
 Descriptors are set aside before a client is taken, since a client that can't be passed on is worse than one that waits.
-Where many clients come at once, some are taken at a time, and the connections served between.
+Where many clients come or end at once, some are taken or ended at a time, and the connections served between.
 Lines are written by a thread. What `show` has not read is held up to a bound; then that connection is passed on unread.
 """
 
+import collections
 import errno
+import gc
 import itertools
 import os
 import selectors
@@ -23,25 +25,80 @@ from printer import Printer
 
 BLOCK = 65536
 READ, WRITE = selectors.EVENT_READ, selectors.EVENT_WRITE
-AT_ONCE = 12                # the most clients that are accepted before the connections come again
+AT_ONCE = 16                # the most clients that are accepted, and that end, before the connections come again
 REST = 0.1                  # the seconds without new clients, once the system has no room for one
 LAST_WORDS = 30             # the seconds that observers have to end, unless a second signal comes
 
 
-class Way:
-    """One direction of a connection: what one end has sent and was not passed on to the other yet."""
+def set_options(end):
+    """Sets what a socket has to have: small messages go at once, and an end that is gone is noticed."""
+    end.setsockopt(socket.IPPROTO_TCP, socket.TCP_NODELAY, 1)
+    end.setsockopt(socket.SOL_SOCKET, socket.SO_KEEPALIVE, 1)
 
-    def __init__(self, side, source, target):
-        self.side, self.source, self.target, self.unsent, self.ended = side, source, target, b"", False
+
+class Way:
+    """One direction of a connection: from `source`, the end of this side, to `target`. `unsent` is what the source has
+    sent and was not passed on yet; `back` is the other direction."""
+
+    __slots__ = ("connection", "side", "source", "target", "piece", "unsent", "ended", "back")
+
+    def __init__(self, connection, side, source, target):
+        self.connection, self.side, self.source, self.target = connection, side, source, target
+        self.piece, self.unsent, self.ended, self.back = connection.observer.piece, b"", False, None
+
+    def step(self, _source, events):
+        """Serves the source, which is ready."""
+        if events & WRITE:
+            self.back.send()
+        if events & READ:
+            self.receive()
+        if events & WRITE or self.unsent or self.ended:
+            self.connection.watch()
+
+    def receive(self):
+        """Reads what the source has sent, gives it to the observer, and passes it on."""
+        try:
+            data = self.source.recv(BLOCK)
+        except BlockingIOError:
+            return
+        except OSError as error:
+            self.connection.broke(self.side, error)
+            for each in (self, self.back):
+                each.unsent, each.ended = b"", True
+            return
+        if data:
+            self.piece(self.side, data)
+            self.unsent = data
+            self.send()
+        else:
+            self.connection.ends.append((self.side, "FIN"))
+            self.ended = True
+            try:
+                self.target.shutdown(socket.SHUT_WR)
+            except OSError:
+                pass
+
+    def send(self):
+        """Passes on what the target takes."""
+        try:
+            self.unsent = self.unsent[self.target.send(self.unsent):]
+        except BlockingIOError:
+            pass
+        except OSError as error:
+            # Nothing more can be sent to this end; what it sent before is still passed on.
+            self.connection.broke(zkr.OTHER[self.side], error)
+            self.unsent, self.ended = b"", True
 
 
 class Connection:
     """A client's connection and the one to the server that it is passed on to. `ends` lists how its sides have ended,
-    in order: FIN, RST, or the system's name of an error. `room` holds descriptors for its observer."""
+    in order: FIN, RST, or the system's name of an error; `ended` is when both had, in seconds since 1970. `room` holds
+    descriptors for its observer."""
 
     def __init__(self, proxy, number, client, peer, room):
         self.proxy, self.number, self.client, self.peer, self.room = proxy, number, client, address_text(peer), room
-        self.addresses, self.server, self.ways, self.observer, self.ends = iter(proxy.server), None, (), None, []
+        self.addresses, self.server, self.ways, self.observer = iter(proxy.server), None, (), None
+        self.ends, self.ended = [], None
         client.setblocking(False)
 
     def connect(self, reason):
@@ -54,7 +111,12 @@ class Connection:
                 continue
             self.server.setblocking(False)
             failure = self.server.connect_ex(address)
-            if failure in (0, errno.EINPROGRESS):
+            if failure == errno.EINPROGRESS:
+                failure = self.server.connect_ex(address)       # one on the same machine has answered by now
+            if failure in (0, errno.EISCONN):
+                self.proxy.connected.append(self)
+                return
+            if failure in (errno.EINPROGRESS, errno.EALREADY):
                 self.proxy.wait_for(self.server, WRITE, self)
                 return
             reason = os.strerror(failure)
@@ -64,36 +126,24 @@ class Connection:
         self.proxy.unreached(self, reason)
         self.proxy.left(self)
 
-    def step(self, end, events):
-        """Serves one end of the connection that is ready."""
-        if not self.ways:
-            self.connected()
-            return
-        changed = False
-        for way in self.ways:
-            if way.target is end and events & WRITE and way.unsent:
-                self.send(way)
-                changed = True
-            if way.source is end and events & READ and not way.ended and not way.unsent:
-                self.receive(way)
-                changed |= way.ended or bool(way.unsent)
-        if changed:
-            self.watch()
-
-    def connected(self):
-        """Begins to pass on, or tries the next address."""
-        failure = self.server.getsockopt(socket.SOL_SOCKET, socket.SO_ERROR)
+    def step(self, server, _events):
+        """Begins to pass on, since the server has answered, or tries the next address."""
+        failure = server.getsockopt(socket.SOL_SOCKET, socket.SO_ERROR)
         if failure:
-            self.proxy.wait_for(self.server, 0)
-            self.server.close()
+            self.proxy.wait_for(server, 0)
+            server.close()
             self.connect(os.strerror(failure))
-            return
-        for end in (self.client, self.server):
-            end.setsockopt(socket.IPPROTO_TCP, socket.TCP_NODELAY, 1)
-            end.setsockopt(socket.SOL_SOCKET, socket.SO_KEEPALIVE, 1)
+        else:
+            self.begin()
+
+    def begin(self):
+        """Begins to pass on."""
+        set_options(self.server)
         self.room.close()
         self.observer = self.proxy.observer_of(self)
-        self.ways = (Way(zkr.CLIENT, self.client, self.server), Way(zkr.SERVER, self.server, self.client))
+        there, back = self.ways = (Way(self, zkr.CLIENT, self.client, self.server),
+                                   Way(self, zkr.SERVER, self.server, self.client))
+        there.back, back.back = back, there
         self.watch()
 
     def watch(self):
@@ -101,43 +151,9 @@ class Connection:
         if all(way.ended for way in self.ways):
             self.close()
             return
-        for way, back in (self.ways, self.ways[::-1]):
-            self.proxy.wait_for(way.source, (0 if way.ended or way.unsent else READ) | (WRITE if back.unsent else 0),
-                                self)
-
-    def receive(self, way):
-        """Reads what an end has sent, gives it to the observer, and passes it on."""
-        try:
-            data = way.source.recv(BLOCK)
-        except BlockingIOError:
-            return
-        except OSError as error:
-            self.broke(way.side, error)
-            for each in self.ways:
-                each.unsent, each.ended = b"", True
-            return
-        if data:
-            self.observer.piece(way.side, data)
-            way.unsent = data
-            self.send(way)
-        else:
-            self.ends.append((way.side, "FIN"))
-            way.ended = True
-            try:
-                way.target.shutdown(socket.SHUT_WR)
-            except OSError:
-                pass
-
-    def send(self, way):
-        """Passes on what the other end takes now."""
-        try:
-            way.unsent = way.unsent[way.target.send(way.unsent):]
-        except BlockingIOError:
-            pass
-        except OSError as error:
-            # Nothing more can be sent to this end; what it sent before is still passed on.
-            self.broke(zkr.OTHER[way.side], error)
-            way.unsent, way.ended = b"", True
+        for way in self.ways:
+            self.proxy.wait_for(way.source, (0 if way.ended or way.unsent else READ) |
+                                (WRITE if way.back.unsent else 0), way)
 
     def broke(self, side, error):
         """Notes that a side's connection broke, and did not end."""
@@ -155,6 +171,11 @@ class Connection:
                 end.setsockopt(socket.SOL_SOCKET, socket.SO_LINGER, struct.pack("ii", 1, 0))
             end.close()
         self.room.close()
+        self.ended = time.time()
+        self.proxy.ended.append(self)
+
+    def over(self):
+        """What is left to do once both connections have ended."""
         if self.observer:
             self.observer.over()
         self.proxy.left(self)
@@ -189,14 +210,18 @@ class Room:
 
 class Proxy:
     """Accepts clients' connections and passes them on, until a signal comes. In a derived class `observer_of` returns
-    a connection's observer: its `piece(side, data)` is called before the bytes are passed on, and its `over()` at the
-    end."""
+    a connection's observer: its `piece(side, data)` is called before the bytes are passed on, and its `over()` once the
+    connection has ended.
+
+    `connected` has those whose server has answered at once, and which begin together: many steps of one kind take less
+    time than as many by turns. `ended` has those that are not over yet."""
 
     descriptors = 0         # the most descriptors of an observer
 
     def __init__(self, name, server):
         self.server, self.ready = server, selectors.DefaultSelector()
         self.connections, self.listeners, self.waits, self.due = set(), [], set(), {}
+        self.connected, self.ended = [], collections.deque()
         self.signals, self.over = 0, False
         self.numbers = itertools.count(1)
         self.heard, self.bell = socket.socketpair()
@@ -248,38 +273,52 @@ class Proxy:
         for number in (signal.SIGINT, signal.SIGTERM, signal.SIGHUP):
             signal.signal(number, lambda *_: None)
         self.wait_for(self.heard, READ, self)
-        self.listeners = listeners
-        for listener in listeners:
-            listener.setblocking(False)
-        self.take_clients()
+        self.listen(listeners)
+        gc.freeze()         # what was loaded so far is no garbage, and takes milliseconds to look through
         while not self.signals and not self.over:
             self.turn()
         self.stop()
         self.lines.end()
         self.complaints.end()
 
+    def listen(self, listeners):
+        """Begins to accept clients on these."""
+        self.listeners = listeners
+        for listener in listeners:
+            listener.setblocking(False)
+            set_options(listener)       # which its clients' sockets have from it
+        self.take_clients()
+
     def turn(self, seconds=None):
         """Does what is ready or due; it waits for that, for `seconds` at most."""
         if self.due:
             left = max(0, min(self.due.values()) - time.monotonic())
             seconds = left if seconds is None else min(seconds, left)
-        for key, events in self.ready.select(seconds):
-            if key.fileobj is self.heard:
-                self.signals += len(self.heard.recv(BLOCK))
-            elif key.fileobj in self.waits:
+        for key, events in self.ready.select(0 if self.ended else seconds):
+            if key.fileobj in self.waits:
                 key.data.step(key.fileobj, events)
+        connected, self.connected = self.connected, []
+        for connection in connected:
+            connection.begin()
+        self.end_some(AT_ONCE)
         now = time.monotonic()
         for call in [call for call, moment in self.due.items() if moment <= now]:
             del self.due[call]
             call()
+
+    def end_some(self, most):
+        """Does what is left to do of connections that have ended, in their order."""
+        for _ in range(min(most, len(self.ended))):
+            self.ended.popleft().over()
 
     def stop(self):
         """Ends every connection, and gives the observers time for their last lines."""
         for listener in self.listeners:
             self.wait_for(listener, 0)
         self.listeners = []
-        for connection in list(self.connections):
+        for connection in self.connections.difference(self.ended):
             connection.close()
+        self.end_some(len(self.ended))
         until, self.signals = time.monotonic() + LAST_WORDS, 0
         while self.busy() and time.monotonic() < until and not self.signals:
             self.turn(0.05)
@@ -296,7 +335,14 @@ class Proxy:
             self.wait_for(listener, 0)
         self.after(REST, self.take_clients)
 
-    def step(self, listener, _events):
+    def step(self, file, _events):
+        """Counts signals, or accepts clients."""
+        if file is self.heard:
+            self.signals += len(self.heard.recv(BLOCK))
+        else:
+            self.accept(file)
+
+    def accept(self, listener):
         """Accepts clients that wait, if there are descriptors for all that belongs to them; not too many, since each
         takes as long as several messages do."""
         for number in range(AT_ONCE):

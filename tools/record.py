@@ -65,7 +65,7 @@ class Recording:
         incomplete = ["incomplete"] if self.words else []
         if self.writer:
             self.close()
-        ended, how = now(), self.connection.ended_words()
+        ended, how = self.connection.ended * 1000, self.connection.ended_words()
         self.recorder.say(" ".join([self.path, self.connection.peer, "ended", zkr.clock(ended), *self.words, *how,
                                     *incomplete]))
         if self.recorded:

@@ -39,8 +39,8 @@ class Message(NamedTuple):
 
 
 class Stretch:
-    """Calls `put(stretch, message)` with what is kept. `whole` says that it begins with the connection, and `part` which
-    of the connection's recordings it has.
+    """Calls `put(stretch, message)` with what is kept. `whole` says that it begins with the connection, and `part`
+    which of the connection's recordings it has.
 
     `ordinary` has the requests that wait for their replies, the oldest first, and `waiting` those of pings, auth and
     setWatches by themselves: of each its xid, where its frame begins among the client's bytes in the recording, its

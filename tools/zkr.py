@@ -12,6 +12,7 @@ milliseconds since 1970 in decimal, with a fraction. All times in this module ar
 import argparse
 import datetime
 import errno
+import functools
 import os
 import pathlib
 import re
@@ -176,6 +177,14 @@ def begins_with(path, marks):
         return False
 
 
+def real_path(path):
+    """The path of a file without links: the same for all paths of the file."""
+    try:
+        return os.path.realpath(path)
+    except ValueError:      # no file can have this path
+        return path
+
+
 def times_path(path):
     """The file of the times of the recording at this path."""
     return f"{path}.times"
@@ -218,8 +227,9 @@ class Writer:
     def __init__(self, path, head, times, gather=0):
         self.path, self.head, self.gather, self.timed = path, head, gather, times or head.form == "zkr2"
         self.usual = PIECE_HEADS["zkr1"].pack if head.form == "zkr1" else None
+        self.is_straight = not times and not gather     # a piece is written at once, to one file
         self.count = {CLIENT: 0, SERVER: 0}
-        if os.path.exists(facts.facts_path(path)):
+        if os.access(facts.facts_path(path), os.F_OK):
             raise FileExistsError(errno.EEXIST, "File exists", facts.facts_path(path))
         self.recording, self.times = NewFile(path), None
         self.files = [self.recording]
@@ -238,6 +248,10 @@ class Writer:
         """Writes any number of bytes of a side as pieces. Their time is the same in both files, to a microsecond."""
         size, waiting = len(data), self.recording.waiting
         if self.usual and 0 < size <= LARGEST_PIECE:    # the loop below in a shorter form
+            if self.is_straight:
+                self.recording.put(self.usual(side, size) + data)
+                self.count[side] += size
+                return
             waiting += self.usual(side, size)
             waiting += data
             if self.times:
@@ -304,10 +318,15 @@ def clock(milliseconds):
     """A time as it is printed: date and time of day in UTC; after the year 9999 its milliseconds since 1970."""
     whole, part = divmod(int(milliseconds), 1000)
     try:
-        moment = datetime.datetime(1970, 1, 1) + datetime.timedelta(seconds=whole)
+        return f"{second(whole)}.{part:03}Z"
     except OverflowError:
         return f"{int(milliseconds)} ms"
-    return f"{moment:%Y-%m-%dT%H:%M:%S}.{part:03}Z"
+
+
+@functools.lru_cache(maxsize=16)
+def second(seconds):
+    """The date and the time of day of a whole second; the times that are printed come in order."""
+    return f"{datetime.datetime(1970, 1, 1) + datetime.timedelta(seconds=seconds):%Y-%m-%dT%H:%M:%S}"
 
 
 class Words(argparse.ArgumentParser):

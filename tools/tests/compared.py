@@ -156,8 +156,9 @@ def main():
     columns.said, runs, different = True, 0, 0
     paths = [pathlib.Path(path) for path in paths]
     for path in recordings(zkdump, pathlib.Path(folder), paths):
+        is_small = path.stat().st_size < 20_000 and path in paths
         for tool, words in (("zkjson.py", ()), ("zkstat.py", ("--json",)), ("zkreport.py", ("--text",))):
-            for choice in CHOICES if path.stat().st_size < 20_000 and path in paths or path.name == "values.zkr" else FEW:
+            for choice in CHOICES if is_small or path.name == "values.zkr" else FEW:
                 fast, plain = (run(tool, which, (*words, *choice, path)) for which in (zkcolumns, ""))
                 runs += 1
                 if fast != plain:

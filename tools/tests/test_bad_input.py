@@ -109,8 +109,8 @@ class BadInput(ToolCase):
         for data in (b"\xd4\xc3\xb2\xa1" + bytes(20), b"\x0a\x0d\x0d\x0a" + bytes(8), b"\x1f\x8b\x08\0"):
             (self.folder / "c.pcap").write_bytes(data)
             for tool in ("zkstat.py", "zkjson.py"):
-                told = "is a capture, or packed with gzip: pcap2zkr.py makes recordings of a capture, and gunzip unpacks " \
-                       "other files\n"
+                told = "is a capture, or packed with gzip: pcap2zkr.py makes recordings of a capture, and gunzip " \
+                       "unpacks other files\n"
                 self.assertEqual(self.run_inside(tool, self.folder / "c.pcap"),
                                  (1, "", f"{tool}: {self.folder}/c.pcap {told}"))
 

@@ -325,7 +325,8 @@ class Others(FactsCase):
 
     def test_every_capture_has_its_session(self):
         for path in CAPTURES:
-            listing = path.with_suffix(".show").read_text("ascii").partition("\nS connect ")[2].partition(" session=")[2]
+            connected = path.with_suffix(".show").read_text("ascii").partition("\nS connect ")[2]
+            listing = connected.partition(" session=")[2]
             capture, name = self.folder / f"{path.stem}.pcap", self.folder / path.stem
             with self.subTest(path.stem):
                 self.assertEqual(self.run_inside("zkr2pcap.py", path, capture)[0], 0)

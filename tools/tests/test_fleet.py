@@ -139,7 +139,12 @@ class FleetCase(ToolCase):
 
     def test_each_recording_counts_once(self):
         wanted = self.output("zkfleet.py", "check", self.fleet)
-        self.assertEqual(self.output("zkfleet.py", "check", self.fleet, f"{self.folder}/./fleet", *self.names), wanted)
+        again = self.folder / "latest"
+        again.symlink_to(self.fleet)
+        self.assertEqual(self.output("zkfleet.py", "check", self.fleet, f"{self.folder}/./fleet", again, *self.names),
+                         wanted)
+        (self.fleet / "latest.zkr").symlink_to(self.names[-1])
+        self.assertEqual(self.output("zkfleet.py", "check", self.fleet), wanted)
 
     def test_a_folder_that_cannot_be_read_is_a_row(self):
         locked, scandir = str(self.fleet / "1"), os.scandir

@@ -65,27 +65,62 @@ class Passing(proxy.Proxy):
 
 
 class Crowd(TroubleCase):
-    def test_clients_that_come_at_once(self):
-        """Each turn of the loop serves every busy connection, so it is the number of turns that they wait for."""
-        passing = Passing("test", addresses.found(("127.0.0.1", self.echo.port)))
-        passing.listeners = addresses.listen(("127.0.0.1", 0))
-        self.addCleanup(passing.lines.end)
-        self.addCleanup(passing.complaints.end)
-        self.addCleanup(passing.stop)
-        for listener in passing.listeners:
+    """Each turn of the loop serves every busy connection, so it is the number of turns that they wait for."""
+
+    def setUp(self):
+        super().setUp()
+        self.passing = Passing("test", addresses.found(("127.0.0.1", self.echo.port)))
+        self.passing.listen(addresses.listen(("127.0.0.1", 0)))
+        for listener in self.passing.listeners:
             self.addCleanup(listener.close)
-            listener.setblocking(False)
-        passing.take_clients()
-        clients = [self.client(passing.listeners[0].getsockname()[1]) for _ in range(100)]
-        for turn in range(1, 11):
-            passing.turn(1)
-            self.assertLessEqual(len(passing.connections), proxy.AT_ONCE * turn)
-        self.assertEqual(len(passing.connections), 100)
+        for call in (self.passing.lines.end, self.passing.complaints.end, self.passing.stop):
+            self.addCleanup(call)
+
+    def come(self, count):
+        """As many clients, which all are passed on."""
+        clients = [self.client(self.passing.listeners[0].getsockname()[1]) for _ in range(count)]
+        for turn in range(1, count // proxy.AT_ONCE + 3):
+            self.passing.turn(1)
+            self.assertLessEqual(len(self.passing.connections), proxy.AT_ONCE * turn)
+            if len(self.passing.connections) == count:
+                return clients
+        self.fail(f"{len(self.passing.connections)} of {count} clients are passed on")
+
+    def pass_on(self):
+        while self.passing.ready.select(0.5):
+            self.passing.turn(0)
+
+    def test_clients_that_come_at_once(self):
+        clients = self.come(100)
         for client in clients:
             client.sendall(b"hello")
-        while passing.ready.select(0.5):
-            passing.turn(0)
+        self.pass_on()
         self.assertEqual([receive(client, 5) for client in clients], [b"hello"] * 100)
+
+    def test_small_messages_go_at_once_and_an_end_that_is_gone_is_noticed(self):
+        self.come(1)
+        self.passing.turn(0)
+        connection, = self.passing.connections
+        for end in (connection.client, connection.server):
+            self.assertTrue(end.getsockopt(socket.IPPROTO_TCP, socket.TCP_NODELAY))
+            self.assertTrue(end.getsockopt(socket.SOL_SOCKET, socket.SO_KEEPALIVE))
+
+    def test_clients_that_end_at_once(self):
+        """What is left to do of them is done between the turns of the others."""
+        steady, *others = self.come(100)
+        for client in others:
+            client.close()
+        self.passing.turn(1)
+        time.sleep(0.5)         # the server ends each connection, too
+        steady.sendall(b"hello")
+        over = []
+        while len(self.passing.connections) > 1:
+            before = len(self.passing.connections)
+            self.passing.turn(1)
+            over.append(before - len(self.passing.connections))
+        self.assertLessEqual(max(over), proxy.AT_ONCE)
+        self.pass_on()
+        self.assertEqual(receive(steady, 5), b"hello")
 
 
 class Ends(TroubleCase):

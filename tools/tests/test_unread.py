@@ -43,8 +43,8 @@ class Output(TroubleCase):
                     self.assert_pace(client)
                     client.shutdown(socket.SHUT_WR)
                     self.assertEqual(client.recv(1), b"")
-                self.assertEqual([line.partition(": ")[2] for line in self.complaints(1)],
-                                 ["standard output: No space left on device; lines are lost, and the connections go on"])
+                told = "standard output: No space left on device; lines are lost, and the connections go on"
+                self.assertEqual([line.partition(": ")[2] for line in self.complaints(1)], [told])
 
     def test_closed_standard_streams(self):
         tool = TOOLS / "record.py"

@@ -293,9 +293,8 @@ class Times(ToolCase):
         for count in (0, 1, 7, 9):
             (self.folder / "two.zkr.times").write_text("1000\n" * count, "ascii")
             self.assertEqual(self.run_tool("zkjson.py", "--recording", path, stdin=self.LISTING.encode()),
-                             (1, "",
-                              f"zkjson.py: {path}.times has {count} times, and {path} 8 pieces: these are not the times of "
-                                    "this recording\n"))
+                             (1, "", f"zkjson.py: {path}.times has {count} times, and {path} 8 pieces: these are not "
+                              "the times of this recording\n"))
 
     def test_another_recording(self):
         path = self.recording(zkr.Head("zkr2"), range(8))

@@ -238,8 +238,10 @@ class Zkreport(ToolCase):
         self.assertIn("the first difference is a connection of connection #2", found)
 
     def test_words(self):
+        link = self.folder / "link"
+        link.symlink_to(self.one)
         for words in ([], [self.one], ["--text"], ["--text", self.one, "--nonsense"],
-                      ["--port", "0", "--text", self.one], ["--text", self.one, self.one],
+                      ["--port", "0", "--text", self.one], ["--text", self.one, self.one], ["--text", self.one, link],
                       ["--text", self.one, f"{self.folder}/./{self.one.name}"],
                       ["--text", self.one, "--against", self.other, "--against", self.other]):
             self.assert_bad_words("zkreport.py", *words)

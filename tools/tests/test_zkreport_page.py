@@ -287,10 +287,12 @@ class InBrowser(PageCase):
     def test_a_stall_is_seen_and_failed_requests_hide_nothing(self):
         """Of many requests one in sixteen fails, and five wait for the same three seconds."""
         self.browser.open(self.page("crowded", crowded))
-        slow, red, blue = self.browser.run("""const canvas = document.querySelector("#latency canvas"), count = [0, 0, 0];
+        slow, red, blue = self.browser.run("""const canvas = document.querySelector("#latency canvas");
             const { data } = canvas.getContext("2d").getImageData(0, 0, canvas.width, canvas.height);
+            const count = [0, 0, 0];
             for (let at = 0; at < data.length; at += 4) {
-              const [r, g, b] = data.subarray(at, at + 3), isBlue = b - r > 40, y = at / 4 / canvas.width / canvas.height;
+              const [r, g, b] = data.subarray(at, at + 3), isBlue = b - r > 40;
+              const y = at / 4 / canvas.width / canvas.height;
               count[0] += isBlue && y < 0.3;
               count[1] += r - b > 100 && r - g > 60;
               count[2] += isBlue;

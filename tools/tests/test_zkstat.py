@@ -320,7 +320,10 @@ class Zkstat(ToolCase):
                                  each["asked"] - each["answered"])
 
     def test_words(self):
-        for words in (["--nonsense"], ["a", "b", "--recording", "c"], ["--times", "a"], ["a", "a"], ["a", "./a"]):
+        link = self.folder / "link"
+        link.symlink_to("a")
+        for words in (["--nonsense"], ["a", "b", "--recording", "c"], ["--times", "a"], ["a", "a"], ["a", "./a"],
+                      [self.folder / "a", link]):
             self.assert_bad_words("zkstat.py", *words)
         self.assertEqual(self.run_tool("zkstat.py", stdin=b"nonsense\n")[::2],
                          (1, "zkstat.py: line 1: from column 1 on this is no line as zkdump show writes it\n"))
