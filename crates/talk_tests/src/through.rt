@@ -153,10 +153,19 @@ S 000000140000000100000000000000050000000000000000 = Ok(Passed { used: 24, went:
 C 00000037000000020000000e0000000d00ffffffff000000022f61000000000000000d00ffffffff000000022f6100000000ffffffff01ffffffff = Ok(Passed { used: 59, went: Message }) waiting 3
 C 00000008fffffffe0000000b = Ok(Passed { used: 0, went: Full }) waiting 3
 C 0000001cfffffff8000000650000000000000005000000000000000000000000 = Ok(Passed { used: 0, went: Full }) waiting 3
+C 00000015fffffffc0000006400000000000000016100000000 = Ok(Passed { used: 0, went: Full }) waiting 3
 C 00000024fffffff80000006900000000000000050000000000000000000000000000000000000000 = Ok(Passed { used: 0, went: Full }) waiting 3
 C 0000000e0000000300000003000000022f61 = Err(Fault { side: Client, frame: 3, offset: 144, place: 14, reason: Short })";
 
+/// A multi that alone weighs more than may wait is never taken.
+const TOO_HEAVY: &str = "\
+C 0000002d000000000000000000000000000075300000000000000000000000100000000000000000000000000000000000 = Ok(Passed { used: 49, went: Message })
+S 000000250000000000007530010000000000000100000010000102030405060708090a0b0c0d0e0f00 = Ok(Passed { used: 41, went: Message })
+C 00000037000000020000000e0000000d00ffffffff000000022f61000000000000000d00ffffffff000000022f6100000000ffffffff01ffffffff = Ok(Passed { used: 0, went: Full }) waiting 0 out (false, false) ends Whole { unanswered: 0 }
+C 0000000f0000000200000003000000022f6101 = Ok(Passed { used: 19, went: Message }) waiting 1";
+
 #[test]
 fn full_is_weighed_as_the_talk_weighs(rt: HostRuntime) -> Result<(), Fail> {
-    goes(&rt, rt.alloc(), 3, WEIGHED)
+    goes(&rt, rt.alloc(), 3, WEIGHED)?;
+    goes(&rt, rt.alloc(), 2, TOO_HEAVY)
 }

@@ -7,19 +7,22 @@ use Rattle.zk_records.specs.Codes.{IsNoOp}
 use Rattle.zk_waiting.specs.Lane.{lane_of}
 use Rattle.zk_talk.specs.declared.message.Side.TheVariants.{Client}
 use Rattle.zk_talk.specs.declared.message.Fault.{Fault}
-use Rattle.zk_talk.specs.Conversation.{load}
+use Rattle.zk_talk.specs.Conversation.{load, with_client}
 use Rattle.zk_talk.specs.Fault.{fault_of}
 use Rattle.zk_talk.specs.Stands.{TalkState, WhereItStands}
 use Rattle.zk_talk.specs.Streams.{StreamState, TakenBack, passed, kept_now}
 use Rattle.zk_talk.specs.Receiving.{CameWithin, CameWhole, IsStopped as WasStopped}
 use Rattle.zk_through.specs.declared.turn.Turn.{Turn}
 use Rattle.zk_through.specs.declared.through.Went.TheVariants as went
-use Rattle.zk_through.specs.Came.{told}
+use Rattle.zk_talk.specs.History.{on}
+use Rattle.zk_talk.proofs.Headline.{fault_is_bad}
+use Rattle.zk_through.specs.Came.{payloads, told}
 use Rattle.zk_through.specs.Turns.{TurnsState, turn_of, left_out, with_lane, with_request, with_left, after_request}
-use Rattle.zk_through.specs.Runs.{ThroughState, Runs, WentOn, IsRefused, IsTold, IsNotTold, IsAhead, IsNotAhead, IsKeptAt, IsRequestOf, Weighs}
+use Rattle.zk_through.specs.Runs.{ThroughState, Runs, WentOn, IsRefused, IsTold, IsNotTold, IsAhead, IsNotAhead, IsKeptAt, IsRequestOf, IsSizeOf, Weighs}
 use Rattle.zk_through.proofs.Steps.{nothing_more, within_on_client, ClientCame}
-use Rattle.zk_through.proofs.Outcomes.{client_other, client_asks, client_lacks}
+use Rattle.zk_through.proofs.Outcomes.{counted, client_other, client_asks, client_lacks}
 use Rattle.zk_through.proofs.Refusals.{refused_early, refused_told}
+use Rattle.zk_through.proofs.Fitting.{some_weight, its_good, talk_takes}
 
 module _ (old : ThroughState) (piece : List ℕ) (limit : old.client.limit ≡ old.talk.limits.client) (none : old.client.kept ≡ []) where
   pub client_within : (s : StreamState) → CameWithin old.client piece s → WentOn old Client piece (length piece) went.Within (record old { client = s })
@@ -70,27 +73,32 @@ module _ (old : ThroughState) (piece : List ℕ) (limit : old.client.limit ≡ o
       left : s'.kept ≡ []
       left = ap (λ (z : StreamState). z.kept) pass ∙ still
 
-      pub client_told : (ahead : Option Turn) → turns ≡ after_request ahead old.turns → IfSome ahead (λ turn. IsAhead 8 s (λ p. turn ≡ turn_of (s.count, p))) → IfNone ahead (IsNotAhead 8 s) →
-          ((turn : Turn) → ahead ≡ Some turn → IsNoOp old.talk.limits.profile turn.number → ⊥) → WentOn old Client piece used went.Message new
-      client_told None same some none known = (
-        w.advance.1,
-        left,
-        whole.0,
-        client_other old new piece used whole.0 passed_on (tells whole.0 whole.1) same (λ later. none (omega (arith, later, ap (λ (z : StreamState). z.count) w.stays)) whole.0 whole.1),
-      )
-      client_told (Some turn) more a none known =
-          let t = a.1 whole.0 whole.1 in (
-            w.advance.1,
-            left,
-            whole.0,
-            client_asks old new piece used whole.0 passed_on t.0 (later a.0) (tells whole.0 whole.1) (more ∙ ap (λ (z : Turn). with_lane (lane_of z.xid) with_request old.turns) t.1)
-                (λ foreign. known turn refl (subst (IsNoOp old.talk.limits.profile) (sym (ap (λ (z : Turn). z.number) t.1)) foreign)),
-          )
+      module _ (size : ℕ) (weighs : IsSizeOf old.talk.limits.profile s size)
+          (fits : 0 < size → WhereItStands old.talk (λ v client_rest server_rest. load v.client v.server + left_out old.turns + size ≤ old.talk.limits.waiting)) where
+        only : 0 < old.client.count → (n : ℕ) → IsRequestOf old.talk.limits.profile whole.0 n → n ≡ size
+        only begun n q = weighs.only (omega (arith, begun, ap (λ (z : StreamState). z.count) w.stays)) whole.0 n whole.1 q
+
+        pub client_told : (ahead : Option Turn) → turns ≡ after_request ahead old.turns → IfSome ahead (λ turn. IsAhead 8 s (λ p. turn ≡ turn_of (s.count, p))) → IfNone ahead (IsNotAhead 8 s) →
+            ((turn : Turn) → ahead ≡ Some turn → IsNoOp old.talk.limits.profile turn.number → ⊥) → WentOn old Client piece used went.Message new
+        client_told None same some none known = (
+          w.advance.1,
+          left,
+          whole.0,
+          client_other old new piece used whole.0 passed_on size only fits (tells whole.0 whole.1) same (λ later. none (omega (arith, later, ap (λ (z : StreamState). z.count) w.stays)) whole.0 whole.1),
+        )
+        client_told (Some turn) more a none known =
+            let t = a.1 whole.0 whole.1 in (
+              w.advance.1,
+              left,
+              whole.0,
+              client_asks old new piece used whole.0 passed_on size only fits t.0 (later a.0) (tells whole.0 whole.1) (more ∙ ap (λ (z : Turn). with_lane (lane_of z.xid) with_request old.turns) t.1)
+                  (λ foreign. known turn refl (subst (IsNoOp old.talk.limits.profile) (sym (ap (λ (z : Turn). z.number) t.1)) foreign)),
+            )
 
     -- it is left out
     pub client_left : (s' : StreamState) (turns : TurnsState) (turn : Turn) → s' ≡ kept_now s used → turns ≡ with_lane (lane_of turn.xid) (with_left turn) old.turns → IsAhead 8 s (λ p. turn ≡ turn_of (s.count, p)) → IsNoOp old.talk.limits.profile turn.number →
-        WentOn old Client piece used (went.Asked turn) (record old { client = s'; turns = turns })
-    client_left s' turns turn keep more a foreign =
+        WhereItStands old.talk (λ v client_rest server_rest. load v.client v.server + left_out old.turns + 1 ≤ old.talk.limits.waiting) → WentOn old Client piece used (went.Asked turn) (record old { client = s'; turns = turns })
+    client_left s' turns turn keep more a foreign fits =
         let new : ThroughState = record old { client = s'; turns = turns } in
         let t = a.1 whole.0 whole.1 in
         let is_turn : turn ≡ turn_of (old.client.count, whole.0) = t.1 ∙ ap (λ (z : StreamState). turn_of (z.count, whole.0)) w.stays in
@@ -100,7 +108,7 @@ module _ (old : ThroughState) (piece : List ℕ) (limit : old.client.limit ≡ o
           whole.0,
           ap (λ (z : StreamState). z.kept) keep ∙ whole.1,
           is_turn,
-          client_lacks old new piece used whole.0 c' t.0 (later a.0) refl turn is_turn (more ∙ ap (λ (z : Turn). with_lane (lane_of z.xid) (with_left turn) old.turns) t.1) (subst (IsNoOp old.talk.limits.profile) (ap (λ (z : Turn). z.number) t.1) foreign),
+          client_lacks old new piece used whole.0 c' t.0 (later a.0) refl turn is_turn (more ∙ ap (λ (z : Turn). with_lane (lane_of z.xid) (with_left turn) old.turns) t.1) (subst (IsNoOp old.talk.limits.profile) (ap (λ (z : Turn). z.number) t.1) foreign) fits,
         )
 
     -- there is no room for it
@@ -127,12 +135,12 @@ module _ (old : ThroughState) (piece : List ℕ) (limit : old.client.limit ≡ o
 
     -- where it is full, the frame weighs something
     pub client_weighs : (out : Option Turn) (size : ℕ) → IfSome out (λ turn. IsAhead 8 s (λ p. turn ≡ turn_of (s.count, p)) × IsNoOp old.talk.limits.profile turn.number) → IfSome out (λ turn. size ≡ 1) →
-        IfNone out (0 < size → (0 < s.count) × ((p : List ℕ) → s.held ≡ frame p → IsRequestOf old.talk.limits.profile p size)) → 0 < size → (0 < s.count) × Weighs old.talk.limits.profile whole.0 size
+        IfNone out (IsSizeOf old.talk.limits.profile s size) → 0 < size → (0 < s.count) × Weighs old.talk.limits.profile whole.0 size
     client_weighs (Some turn) size a one none more =
         let t = a.0.1 whole.0 whole.1 in
         (a.0.0, inl (t.0, subst (IsNoOp old.talk.limits.profile) (ap (λ (z : Turn). z.number) t.1) a.1, one))
     client_weighs None size a one asks more =
-        let y = asks more in
+        let y = asks.found more in
         (y.0, inr (y.1 whole.0 whole.1))
 
     pub out_ahead : (ahead out : Option Turn) → IfSome ahead (λ turn. IsAhead 8 s (λ p. turn ≡ turn_of (s.count, p))) → IfSome out (λ turn. (ahead ≡ Some turn) × IsNoOp old.talk.limits.profile turn.number) →
@@ -140,9 +148,18 @@ module _ (old : ThroughState) (piece : List ℕ) (limit : old.client.limit ≡ o
     out_ahead ahead None a o = tt
     out_ahead ahead (Some turn) a o = (subst (λ (z : Option Turn). IfSome z (λ t. IsAhead 8 s (λ p. t ≡ turn_of (s.count, p)))) o.0 a, o.1)
 
-    -- the talk refused it
-    pub client_refused : (e : Fault) (k : Option Fault) (s' : StreamState) (talk : TalkState) → IsKeptAt Client s used e k → ((p : List ℕ) → s.held ≡ frame p → IsNotTold old.talk Client p e) →
+    -- the talk refused it: it is no request that there is room for
+    pub client_refused : (size : ℕ) (e : Fault) (k : Option Fault) (s' : StreamState) (talk : TalkState) → IsSizeOf old.talk.limits.profile s size →
+        (0 < size → WhereItStands old.talk (λ v client_rest server_rest. load v.client v.server + left_out old.turns + size ≤ old.talk.limits.waiting)) →
+        IsKeptAt Client s used e k → ((p : List ℕ) → s.held ≡ frame p → IsNotTold old.talk Client p e) →
         IsRefused old Client piece e (record old { talk = talk; client = s'; fault = k })
-    client_refused e k s' talk at not =
-        refused_told Client old (record old { talk = talk; client = s'; fault = k }) piece used e w.advance.1 at.1 whole.0 is
+    client_refused size e kept s' talk weighs fits at not =
+        refused_told Client old (record old { talk = talk; client = s'; fault = kept }) piece used e w.advance.1 at.1 whole.0 (omega (arith, whole.2, limit)) is
         (at.0 ∙ (λ i. fault_of Client (w.stays i).count ((w.stays i).size + used) e.place e.reason)) (not whole.0 whole.1)
+        (λ h c k M r f is_fault some n q.
+        let begun : 0 < old.client.count = counted old.client.count (payloads Client c) r.client_count some in
+        let begun' : 0 < s.count = omega (arith, begun, ap (λ (z : StreamState). z.count) w.stays) in
+        let same = weighs.only begun' whole.0 n whole.1 q in
+        let room = fits (omega (arith, same, q.5, some_weight q.0 q.1)) (told k) M r.stands.conversation [] [] r.stands (its_good old h c k M r) in
+        fault_is_bad old.talk.limits (told k ++ on Client (frame whole.0)) f is_fault
+        (with_client r.stands.conversation q.0, [], [], talk_takes old h c k M r piece used whole.0 w.advance.1 w.advance.2 is (omega (arith, whole.2, limit)) begun n q (omega (arith, room, same))))

@@ -127,5 +127,5 @@ module _ (old : ThroughState) (piece : List ℕ) (limit : old.server.limit ≡ o
     pub server_refused : (e : Fault) (k : Option Fault) (s' : StreamState) (talk : TalkState) → IsKeptAt Server s used e k → ((p : List ℕ) → s.held ≡ frame p → IsNotTold old.talk Server p e) →
         IsRefused old Server piece e (record old { talk = talk; server = s'; fault = k })
     server_refused e k s' talk at not =
-        refused_told Server old (record old { talk = talk; server = s'; fault = k }) piece used e w.advance.1 at.1 whole.0 is
-        (at.0 ∙ (λ i. fault_of Server (w.stays i).count ((w.stays i).size + used) e.place e.reason)) (not whole.0 whole.1)
+        refused_told Server old (record old { talk = talk; server = s'; fault = k }) piece used e w.advance.1 at.1 whole.0 (omega (arith, whole.2, limit)) is
+        (at.0 ∙ (λ i. fault_of Server (w.stays i).count ((w.stays i).size + used) e.place e.reason)) (not whole.0 whole.1) (λ h c k M r f is_fault. tt)

@@ -100,7 +100,7 @@ order_same limits h x came c s c' s' o cut =
     (order_more limits h x came [] c s c' s' o (subst (λ z. AreCut limits (h ++ x ∷ []) z c' s') (sym (append-nil came)) cut))
 
 -- ---- A piece
-pushed : (side : Side) (h : History) (bs : List ℕ) (b : ℕ) → (h ++ on side bs) ++ (side, b) ∷ [] ≡ h ++ on side (bs ++ b ∷ [])
+pub pushed : (side : Side) (h : History) (bs : List ℕ) (b : ℕ) → (h ++ on side bs) ++ (side, b) ∷ [] ≡ h ++ on side (bs ++ b ∷ [])
 pushed side h bs b = append_assoc h (on side bs) ((side, b) ∷ []) ∙ ap (λ z. h ++ z) (sym (on-push side bs b))
 
 module _ (limits : Limits) (came : Came) where

@@ -12,4 +12,10 @@ mod Answering
 mod AnsweringClient
 mod AnsweringServer
 mod Given
+mod AskReasons
+mod AnswerReasons
+mod Fitting
+mod Causes
+mod Never
+mod Rooms
 mod Endings

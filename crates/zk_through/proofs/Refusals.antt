@@ -7,8 +7,8 @@ use Rattle.zk_talk.specs.declared.message.Side.{Side}
 use Rattle.zk_talk.specs.declared.message.Side.TheVariants.{Client, Server}
 use Rattle.zk_talk.specs.declared.message.Fault.{Fault}
 use Rattle.zk_talk.specs.Held.{Message}
-use Rattle.zk_talk.specs.History.{History, side_bytes}
-use Rattle.zk_talk.specs.Fault.{fault_of, side_limit}
+use Rattle.zk_talk.specs.History.{History, side_bytes, on}
+use Rattle.zk_talk.specs.Fault.{IsFaultOf, fault_of, side_limit}
 use Rattle.zk_talk.specs.Streams.{StreamState}
 use Rattle.zk_talk.specs.Advance.{IsStop}
 use Rattle.zk_talk.specs.Advance.IsStop.{too_many, out_of_range}
@@ -17,7 +17,7 @@ use Rattle.zk_through.specs.declared.turn.Turn.{Turn}
 use Rattle.zk_through.specs.Came.{Came, payloads, told}
 use Rattle.zk_through.specs.LeftOut.{has_turn, lane_in, xid_of}
 use Rattle.zk_through.specs.Turns.{IsDue, lane_on}
-use Rattle.zk_through.specs.Runs.{ThroughState, Runs, IsWhy, IsRefused, IsNotTold, stream_on}
+use Rattle.zk_through.specs.Runs.{ThroughState, Runs, IsWhy, IsRefused, IsNotTold, IsNoRequest, stream_on}
 use Rattle.zk_through.specs.Runs.IsWhy.{stream_end, length_range, unasked, other_turn, told_so}
 use Rattle.zk_through.proofs.Lanes.{turn_is, over_is}
 
@@ -47,9 +47,13 @@ module _ (side : Side) (old new : ThroughState) (piece : List ℕ) (used : ℕ) 
   )
 
   -- the talk refuses it
-  pub refused_told : (p : List ℕ) → (stream_on side old).held ++ take used piece ≡ frame p → e ≡ fault_of side (stream_on side old).count ((stream_on side old).size + used) e.place e.reason →
-      IsNotTold old.talk side p e → IsRefused old side piece e new
-  refused_told p is at t = refused_at at (λ h c k M r. told_so p is t.0 (t.3 (told k) M r.stands) t.1 t.2)
+  pub refused_told : (p : List ℕ) → length p ≤ side_limit old.talk.limits side → (stream_on side old).held ++ take used piece ≡ frame p → e ≡ fault_of side (stream_on side old).count ((stream_on side old).size + used) e.place e.reason →
+      IsNotTold old.talk side p e →
+      ((h : History) (c k : Came) (M : List Message) (r : Runs old h c k M) (f : Fault) → IsFaultOf old.talk.limits (told k ++ on side (frame p)) f → IsNoRequest old.talk.limits.profile c side p) → IsRefused old side piece e new
+  refused_told p fits is at t none =
+      refused_at at (λ h c k M r.
+      let f = t.3 (told k) M r.stands in
+      told_so p is fits t.0 f (none h c k M r t.0 f) t.1 t.2)
 
   -- before a frame is whole
   stopped_why : (limit : ℕ) → limit ≡ side_limit old.talk.limits side → e.place ≡ 0 → (reason : Reason) → e.reason ≡ reason → IsStop limit (stream_on side old).size (stream_on side old).held piece used reason →

@@ -12,13 +12,15 @@ use Rattle.zk_talk.specs.Held.{Message}
 use Rattle.zk_talk.specs.History.{History, side_bytes, on}
 use Rattle.zk_talk.specs.Stands.{TalkState, Stands}
 use Rattle.zk_talk.specs.Streams.{StreamState}
-use Rattle.zk_talk.specs.Good.{client_bytes, server_bytes}
+use Rattle.zk_talk.specs.Conversation.{Conversation, load}
+use Rattle.zk_talk.specs.Good.{Good, client_bytes, server_bytes}
+use Rattle.zk_talk.proofs.GoodSteps.{load_here}
 use Rattle.zk_talk.proofs.Histories.{no_bytes}
 use Rattle.zk_talk.proofs.Lists.{both_empty}
 use Rattle.zk_talk.proofs.Standing.{bytes-on, other-on}
 use Rattle.zk_through.specs.Came.{Came, payloads, AreCut, AreFrames, told}
 use Rattle.zk_through.specs.LeftOut.{is_on, asked, replied, Kept}
-use Rattle.zk_through.specs.Turns.{AreLeft, IsLane, AreLanes, no_turns}
+use Rattle.zk_through.specs.Turns.{AreLeft, IsLane, AreLanes, no_turns, left_out}
 use Rattle.zk_through.specs.Runs.{ThroughState, Runs, GoesOn}
 use Rattle.zk_through.proofs.Frames.{no_payloads, payloads-same, payloads-other, within_client, within_server, whole_client, whole_server}
 
@@ -39,6 +41,7 @@ module _ (old : ThroughState) (piece : List ℕ) where
         stands = r.stands;
         alone = r.alone;
         lanes = r.lanes;
+        room = r.room;
         client_count = ap (λ (z : StreamState). z.count) e ∙ r.client_count;
         server_count = r.server_count;
         client_size = ap (λ (z : StreamState). z.size) e ∙ omega (arith, r.client_size, bytes-on Client piece h);
@@ -58,6 +61,7 @@ module _ (old : ThroughState) (piece : List ℕ) where
         stands = r.stands;
         alone = r.alone;
         lanes = r.lanes;
+        room = r.room;
         client_count = r.client_count;
         server_count = ap (λ (z : StreamState). z.count) e ∙ r.server_count;
         client_size = r.client_size ∙ ap length (sym (other-on Server piece h));
@@ -84,8 +88,9 @@ module _ (old new : ThroughState) (piece : List ℕ) (used : ℕ) (p : List ℕ)
   pub client_came : (h : History) (c k : Came) (M : List Message) → Runs old h c k M → (k' : Came) (M' : List Message) →
       Kept old.talk.limits.profile (c ++ (Client, p) ∷ []) k' → Stands new.talk (told k') M' → (new.talk.client_held ≡ []) × (new.talk.server_held ≡ []) →
       AreLanes old.talk.limits.profile (c ++ (Client, p) ∷ []) new.turns →
+      ((v : Conversation) → Good old.talk.limits (told k') v [] [] → load v.client v.server + left_out new.turns ≤ old.talk.limits.waiting) →
       Runs new (h ++ on Client (take used piece)) (c ++ (Client, p) ∷ []) k' M'
-  client_came h c k M r k' M' kept stands alone lanes =
+  client_came h c k M r k' M' kept stands alone lanes room =
       let t = take used piece in
       let n = length-take-le used piece x.part in
       let frames' = whole_client old.talk.limits c t h old.client.held old.server.held p r.frames (omega (arith, n, x.some)) x.fits x.is in
@@ -97,6 +102,7 @@ module _ (old new : ThroughState) (piece : List ℕ) (used : ℕ) (p : List ℕ)
         stands = stands;
         alone = alone;
         lanes = subst (λ (l : Limits). AreLanes l.profile (c ++ (Client, p) ∷ []) new.turns) (sym x.limits) lanes;
+        room = subst (λ (l : Limits). (v : Conversation) → Good l (told k') v [] [] → load v.client v.server + left_out new.turns ≤ l.waiting) (sym x.limits) room;
         client_count = omega (arith, x.count, r.client_count, ap length (payloads-same Client c p), length_push (payloads Client c) p);
         server_count = ap (λ (z : StreamState). z.count) x.other ∙ r.server_count ∙ ap length (sym (payloads-other Client c p));
         client_size = omega (arith, x.size, r.client_size, bytes-on Client t h, n);
@@ -121,8 +127,9 @@ module _ (old new : ThroughState) (piece : List ℕ) (used : ℕ) (p : List ℕ)
   pub server_came : (h : History) (c k : Came) (M : List Message) → Runs old h c k M → (k' : Came) (M' : List Message) →
       Kept old.talk.limits.profile (c ++ (Server, p) ∷ []) k' → Stands new.talk (told k') M' → (new.talk.client_held ≡ []) × (new.talk.server_held ≡ []) →
       AreLanes old.talk.limits.profile (c ++ (Server, p) ∷ []) new.turns →
+      ((v : Conversation) → Good old.talk.limits (told k') v [] [] → load v.client v.server + left_out new.turns ≤ old.talk.limits.waiting) →
       Runs new (h ++ on Server (take used piece)) (c ++ (Server, p) ∷ []) k' M'
-  server_came h c k M r k' M' kept stands alone lanes =
+  server_came h c k M r k' M' kept stands alone lanes room =
       let t = take used piece in
       let n = length-take-le used piece x.part in
       let frames' = whole_server old.talk.limits c t h old.client.held old.server.held p r.frames (omega (arith, n, x.some)) x.fits x.is in
@@ -134,6 +141,7 @@ module _ (old new : ThroughState) (piece : List ℕ) (used : ℕ) (p : List ℕ)
         stands = stands;
         alone = alone;
         lanes = subst (λ (l : Limits). AreLanes l.profile (c ++ (Server, p) ∷ []) new.turns) (sym x.limits) lanes;
+        room = subst (λ (l : Limits). (v : Conversation) → Good l (told k') v [] [] → load v.client v.server + left_out new.turns ≤ l.waiting) (sym x.limits) room;
         client_count = ap (λ (z : StreamState). z.count) x.other ∙ r.client_count ∙ ap length (sym (payloads-other Server c p));
         server_count = omega (arith, x.count, r.server_count, ap length (payloads-same Server c p), length_push (payloads Server c) p);
         client_size = ap (λ (z : StreamState). z.size) x.other ∙ r.client_size ∙ ap length (sym (other-on Server t h));
@@ -177,6 +185,7 @@ module _ (talk : TalkState) (client server : StreamState) (stands : Stands talk 
     stands = stands;
     alone = (no_client, no_server);
     lanes = (no_lane Plain plain, no_lane Watches watches);
+    room = λ v g. omega (arith, load_here talk.limits [] v [] [] g);
     client_count = cc' ∙ sym (ap length (no_payloads Client));
     server_count = sc ∙ sym (ap length (no_payloads Server));
     client_size = cs ∙ sym (ap length (no_bytes Client));

@@ -19,13 +19,13 @@ use Rattle.zk_talk.proofs.Small.{AreSmall}
 use Rattle.zk_through.specs.Runs.{IsTold}
 
 -- ---- Bytes that are told
-side_bytes-on : (side : Side) (bs : List ℕ) → side_bytes side (on side bs) ≡ bs
+pub side_bytes-on : (side : Side) (bs : List ℕ) → side_bytes side (on side bs) ≡ bs
 unfolding side_bytes
 side_bytes-on side [] = refl
 side_bytes-on Client (b ∷ bs) = ap (λ z. b ∷ z) (side_bytes-on Client bs)
 side_bytes-on Server (b ∷ bs) = ap (λ z. b ∷ z) (side_bytes-on Server bs)
 
-bytes_more : (side : Side) (h : History) (bs : List ℕ) → side_bytes side (h ++ on side bs) ≡ side_bytes side h ++ bs
+pub bytes_more : (side : Side) (h : History) (bs : List ℕ) → side_bytes side (h ++ on side bs) ≡ side_bytes side h ++ bs
 bytes_more side h bs = side_bytes-append side h (on side bs) ∙ ap (λ z. side_bytes side h ++ z) (side_bytes-on side bs)
 
 -- ---- One frame

@@ -1,18 +1,23 @@
 -- What a request weighs.
-use Rattle.std.proofs.Common.{◌≡◌, ℕ, ◌+◌, ◌<◌, ◌≤◌, ℤ, List, length, refl, sym, ap, ◌∙◌, subst, arith}
+use Rattle.std.proofs.Common.{Result, Ok, Err, ◌≡◌, ℕ, ◌+◌, ◌<◌, ◌≤◌, ℤ, List, length, refl, sym, ap, ◌∙◌, subst, arith}
 use Rattle.zk_records.specs.declared.profile.Profile.{Profile}
 use Rattle.zk_asks.specs.Held.{Ask as Asked}
 use Rattle.zk_asks.specs.Held.{ClientFrame}
 use Rattle.zk_asks.specs.declared.frame.ClientFrameOf.TheVariants.{Ask}
-use Rattle.zk_asks.specs.Frames.{IsSent, IsOfProfile, ops_of_ask}
+use Rattle.zk_asks.specs.Frames.{IsLater, IsSent, IsOfProfile, ops_of_ask}
 use Rattle.zk_asks.specs.Frames as asks
 use Rattle.zk_frames.specs.Framing.{frame, IsFrame}
 use Rattle.zk_frames.proofs.Cuts.{length-frame}
+use Rattle.zk_talk.specs.Conversation.{weight}
 use Rattle.zk_talk.specs.Payloads.{client_payload}
 use Rattle.zk_talk.specs.Streams.{StreamState}
 use Rattle.zk_talk.proofs.Payloads.{few_parts}
-use Rattle.zk_through.specs.Runs.{IsRequestOf}
+use Rattle.zk_through.specs.Runs.{IsSizeOf}
 use Rattle.zk_through.proofs.Carried.{carried}
+
+payload_of : (f : ClientFrame) → client_payload f ≡ asks.payload f
+unfolding client_payload
+payload_of f = refl
 
 payload_is : (xid : ℤ) (ask : Asked) → client_payload (Ask xid ask) ≡ asks.payload (Ask xid ask)
 unfolding client_payload
@@ -25,5 +30,33 @@ module _ (s : StreamState) (payload : List ℕ) (f : ClientFrame) (xid : ℤ) (a
   pub are_few : s.limit ≤ 16777216 → IsFrame s.limit s.held → length (ops_of_ask ask) < 4294967296
   are_few small whole = omega (arith, small, few_parts xid ask, ap length its_payload, ap length is, ap length whole.1, whole.2, length-frame payload, length-frame whole.0)
 
-  pub weighs_so : (profile : Profile) (w : ℕ) → 0 < s.count → IsOfProfile profile f → IsSent f → w ≡ 1 + length (ops_of_ask ask) → (0 < s.count) × ((p : List ℕ) → s.held ≡ frame p → IsRequestOf profile p w)
-  weighs_so profile w some of sent e = (some, λ p at. (Ask xid ask, tt, subst IsSent form sent, subst (IsOfProfile profile) form of, sym its_payload ∙ carried payload p (sym is ∙ at), e))
+  pub weighs_so : (profile : Profile) (w : ℕ) → 0 < s.count → IsOfProfile profile f → IsSent f → w ≡ 1 + length (ops_of_ask ask) →
+      ((g : ClientFrame) → IsLater g → IsOfProfile profile g → IsSent g → payload ≡ asks.payload g → f ≡ g) → IsSizeOf profile s w
+  weighs_so profile w some of sent e one = record {
+    found = λ more. (some, λ p at. (Ask xid ask, tt, subst IsSent form sent, subst (IsOfProfile profile) form of, sym its_payload ∙ carried payload p (sym is ∙ at), e));
+    only = λ begun p n at q.
+        let same = one q.0 q.1 q.3 q.2 (carried payload p (sym is ∙ at) ∙ sym q.4 ∙ payload_of q.0) in
+        q.5 ∙ ap weight (sym same ∙ form) ∙ sym e;
+  }
+
+-- the first frame, and one that is malformed, weigh nothing
+pub first_weighs : (profile : Profile) (s : StreamState) → s.count ≡ 0 → IsSizeOf profile s 0
+first_weighs profile s first = record { found = λ more. absurd (omega (arith, more)); only = λ begun p n at q. absurd (omega (arith, begun, first)) }
+
+pub none_weighs : (profile : Profile) (s : StreamState) (payload : List ℕ) → s.held ≡ frame payload →
+    ((g : ClientFrame) → IsLater g → IsOfProfile profile g → IsSent g → payload ≡ asks.payload g → ⊥) → IsSizeOf profile s 0
+none_weighs profile s payload is none = record {
+  found = λ more. absurd (omega (arith, more));
+  only = λ begun p n at q. absurd (none q.0 q.1 q.3 q.2 (carried payload p (sym is ∙ at) ∙ sym q.4 ∙ payload_of q.0));
+}
+
+ok_value : {X E : Type 0} → X → Result X E → X
+ok_value d (Ok x) = x
+ok_value d (Err e) = d
+
+pub same_ok : {X E : Type 0} (a b : X) (r : Result X E) → r ≡ Ok a → r ≡ Ok b → a ≡ b
+unfolding ok_value
+same_ok a b r e f = ap (ok_value a) (sym e ∙ f)
+
+pub not_ok : {X E : Type 0} (a : X) (b : E) (r : Result X E) → r ≡ Err b → r ≡ Ok a → ⊥
+not_ok a b r e f = cc

@@ -1,7 +1,7 @@
 -- What a connection comes to: the conversation that the talk is told, and the requests and replies that are left out.
 use Rattle.std.specs.Prelude.{◌≡◌, ◌≢◌, ℕ, ◌+◌, ◌≤◌, ◌<◌, ◌^◌, ◌⊎◌, List, [], ◌∷◌, ◌++◌, length, take, Option, Some, None, true, false}
 use Rattle.zk_jute.specs.declared.fault.Reason.{Reason}
-use Rattle.zk_jute.specs.declared.fault.Reason.TheVariants.{StreamEnd, LengthRange, Unasked, XidOrder}
+use Rattle.zk_jute.specs.declared.fault.Reason.TheVariants.{StreamEnd, LengthRange, QueueFull, Unasked, XidOrder}
 use Rattle.zk_records.specs.declared.profile.Profile.{Profile}
 use Rattle.zk_asks.specs.Held.{ClientFrame}
 use Rattle.zk_asks.specs.Frames.{IsLater, IsSent, IsOfProfile}
@@ -44,6 +44,7 @@ pub record Runs (t : ThroughState) (h : History) (came given : Came) (messages :
   pub stands : Stands t.talk (told given) messages
   pub alone : (t.talk.client_held ≡ []) × (t.talk.server_held ≡ [])
   pub lanes : AreLanes t.talk.limits.profile came t.turns
+  pub room : (v : Conversation) → Good t.talk.limits (told given) v [] [] → load v.client v.server + left_out t.turns ≤ t.talk.limits.waiting
   pub client_count : t.client.count ≡ length (payloads Client came)
   pub server_count : t.server.count ≡ length (payloads Server came)
   pub client_size : t.client.size ≡ length (side_bytes Client h)
@@ -81,6 +82,11 @@ left_on side t = (stream_on side t).kept
 abbrev pub IsRequestOf : Profile → List ℕ → ℕ → Type 0
 IsRequestOf profile p w = (f : ClientFrame) × IsLater f × IsSent f × IsOfProfile profile f × (client_payload f ≡ p) × (w ≡ weight f)
 
+-- what the client's whole frame weighs: none if it is the first, or no request of the profile
+pub record IsSizeOf (profile : Profile) (s : StreamState) (size : ℕ) : Type 0 where
+  pub found : 0 < size → (0 < s.count) × ((p : List ℕ) → s.held ≡ frame p → IsRequestOf profile p size)
+  pub only : 0 < s.count → (p : List ℕ) (w : ℕ) → s.held ≡ frame p → IsRequestOf profile p w → w ≡ size
+
 -- a request that is left out weighs 1, and one that the talk gets as there
 abbrev pub Weighs : Profile → List ℕ → ℕ → Type 0
 Weighs profile p w = ((has_turn 8 p ≡ true) × IsForeign profile p × (w ≡ 1)) ⊎ IsRequestOf profile p w
@@ -109,6 +115,12 @@ WentOn old side piece used (went.Answered turn) new =
 WentOn old side piece used went.Full new =
     (used ≡ 0) × (side ≡ Client) × (left_on side new ≡ []) × IsFull old piece × GoesOn old side [] [] [] [] new
 
+-- The frame, after these, is no later frame of the client's that is a request of the profile. So no frame is refused because
+-- too much waits.
+abbrev pub IsNoRequest : Profile → Came → Side → List ℕ → Type 0
+IsNoRequest profile came Client p = (payloads Client came ≢ []) → (w : ℕ) → IsRequestOf profile p w → ⊥
+IsNoRequest profile came Server p = Unit {0}
+
 -- why the side's frame is refused, after these frames of which the talk was told `kept`
 pub data IsWhy (limits : Limits) (came kept : Came) (side : Side) (size : ℕ) (bytes : List ℕ) (place : ℕ) (reason : Reason) : Type 0 where
   stream_end : size ≡ 2 ^ 62 → place ≡ 0 → reason ≡ StreamEnd → IsWhy limits came kept side size bytes place reason
@@ -119,8 +131,8 @@ pub data IsWhy (limits : Limits) (came kept : Came) (side : Side) (size : ℕ) (
   other_turn : side ≡ Server → (q : List ℕ) → bytes ≡ frame q → has_turn 16 q ≡ true →
       (x : ℕ × List ℕ) → IsTurnOf came q x → IsForeign limits.profile x.1 → xid_of x.1 ≢ xid_of q →
       place ≡ 0 → reason ≡ XidOrder (xid_of x.1) (xid_of q) → IsWhy limits came kept side size bytes place reason
-  told_so : (q : List ℕ) → bytes ≡ frame q → (f : Fault) → IsFaultOf limits (told kept ++ on side (frame q)) f →
-      place ≡ f.place → reason ≡ f.reason → IsWhy limits came kept side size bytes place reason
+  told_so : (q : List ℕ) → bytes ≡ frame q → length q ≤ side_limit limits side → (f : Fault) → IsFaultOf limits (told kept ++ on side (frame q)) f →
+      IsNoRequest limits.profile came side q → place ≡ f.place → reason ≡ f.reason → IsWhy limits came kept side size bytes place reason
 
 -- The last of these bytes of the piece is refused, at the side's own frame and offset.
 pub record IsStopped (old : ThroughState) (side : Side) (piece : List ℕ) (fault : Fault) (h : History) (came kept : Came) : Type 0 where
@@ -132,6 +144,10 @@ pub record IsStopped (old : ThroughState) (side : Side) (piece : List ℕ) (faul
 abbrev pub IsRefused : ThroughState → Side → List ℕ → Fault → ThroughState → Type 0
 IsRefused old side piece fault new = (new.fault ≡ Some fault) ×
     ((h : History) (c k : Came) (M : List Message) → Runs old h c k M → IsStopped old side piece fault h c k)
+
+-- the refusal isn't that too much waits
+abbrev pub IsNeverFull : ThroughState → Fault → Type 0
+IsNeverFull old fault = (h : History) (c k : Came) (M : List Message) → Runs old h c k M → fault.reason ≢ QueueFull
 
 -- the talk was told this frame, whatever it had been told, and it is a message's
 abbrev pub IsTold : TalkState → Side → List ℕ → TalkState → Type 0

@@ -1,11 +1,11 @@
 //! What is known of a frame by its header alone.
-ghost use Rattle.std.specs.Prelude.{◌≡◌, ◌≤◌, ◌<◌, ◌^◌, ℕ, List, true, false, Some, IfSome, IfNone};
-ghost use Rattle.zk_frames.specs.Framing.{frame, IsFrame};
+ghost use Rattle.std.specs.Prelude.{◌≡◌, ◌≤◌, ◌<◌, ◌^◌, true, false, Some, IfSome, IfNone};
+ghost use Rattle.zk_frames.specs.Framing.{IsFrame};
 ghost use Rattle.zk_records.specs.Codes.{IsNoOp};
 ghost use Rattle.zk_through.specs.declared.turn.Turn.{Turn};
 ghost use Rattle.zk_through.specs.LeftOut.{is_turn_xid, has_turn, xid_of};
 ghost use Rattle.zk_through.specs.Turns.{turn_of};
-ghost use Rattle.zk_through.specs.Runs.{IsAhead, IsNotAhead, IsRequestOf};
+ghost use Rattle.zk_through.specs.Runs.{IsAhead, IsNotAhead, IsSizeOf};
 
 use crate::turn::Turn;
 use zk_asks::{Asked, ClientFrameOf, RequestRef, borrow_ask};
@@ -104,7 +104,7 @@ pub fn weight(profile: Profile, out: Option<Turn>, client: &Stream) -> u64
     requires small { client.now.limit ≤ 16777216 }
     ensures fits { result ≤ 2 ^ 32 }
     ensures out { IfSome out (λ turn. result ≡ 1) }
-    ensures ask { IfNone out (0 < result → (0 < client.now.count) × ((p : List ℕ) → client.now.held ≡ frame p → IsRequestOf profile p result)) }
+    ensures ask { IfNone out (IsSizeOf profile client.now result) }
 {
     if out.is_some() {
         return 1;

@@ -17,7 +17,7 @@ ghost use Rattle.zk_through.specs.Came.{Came};
 ghost use Rattle.zk_through.specs.declared.through.Passed.{Passed};
 ghost use Rattle.zk_through.specs.declared.through.Went.{Went};
 ghost use Rattle.zk_through.specs.Turns.{HaveRoom, left_out};
-ghost use Rattle.zk_through.specs.Runs.{WentOn, IsRefused, IsTold, IsNotTold, IsKeptAt, IsEndOf, Runs, WhereItRuns, given_up, stream_on, left_on, LeavesSide};
+ghost use Rattle.zk_through.specs.Runs.{WentOn, IsRefused, IsTold, IsNotTold, IsKeptAt, IsNeverFull, IsEndOf, Runs, WhereItRuns, given_up, stream_on, left_on, LeavesSide};
 
 use crate::ahead::{asked, lacking, replied, weight};
 use crate::turn::Turn;
@@ -38,7 +38,8 @@ pub enum Went {
     Asked(Turn),
     /// The reply to such a request, the oldest that waits, is whole.
     Answered(Turn),
-    /// With the client's frame more would wait than may: it is not taken, and nothing of the piece was used.
+    /// With the client's frame more would wait than may: it is not taken, and nothing of the piece was used. Where nothing
+    /// waits, the frame alone is too heavy.
     Full,
 }
 
@@ -119,7 +120,7 @@ fn tell(
 /// The weight of the requests that wait, those that are left out too.
 fn weight_of(talk: &Talk, turns: &Turns) -> u32
     requires { HaveRoom talk.now.limits.waiting turns.now }
-    ensures stands { WhereItStands talk.now (λ v client_rest server_rest. result ≡ load v.client v.server + left_out turns.now) }
+    ensures stands { WhereItStands talk.now (λ v c s. result ≡ load v.client v.server + left_out turns.now) }
     ensures left { left_out turns.now ≤ result }
 {
     talk.waiting() + turns.left() as u32
@@ -129,7 +130,8 @@ fn weight_of(talk: &Talk, turns: &Turns) -> u32
 fn is_full(talk: &Talk, turns: &Turns, weight: u64, most: u32) -> bool
     requires small { weight ≤ 2 ^ 32 }
     requires room { HaveRoom talk.now.limits.waiting turns.now }
-    ensures full { IsTrue result → (0 < weight) × WhereItStands talk.now (λ v client_rest server_rest. most < load v.client v.server + left_out turns.now + weight) }
+    ensures full { IsTrue result → (0 < weight) × WhereItStands talk.now (λ v c s. most < load v.client v.server + left_out turns.now + weight) }
+    ensures fits { result ≡ false → 0 < weight → WhereItStands talk.now (λ v c s. load v.client v.server + left_out turns.now + weight ≤ most) }
     ensures room { result ≡ false → 0 < weight → left_out turns.now + weight ≤ most }
 {
     weight > 0 && u64::from(weight_of(talk, turns)) + weight > u64::from(most)
@@ -262,14 +264,16 @@ impl Through {
     ///
     /// # Errors
     ///
-    /// Why the frame is refused, at the side's own frame and offset, those left out counted. It is kept, and each later
-    /// call returns it and uses nothing.
+    /// Why the frame is refused, at the side's own frame and offset, those left out counted; never `QueueFull`. It is kept,
+    /// and each later call returns it and uses nothing.
     pub fn step(&mut self, side: Side, piece: &[u8]) -> Result<Passed, Fault>
         ensures limits { self.new.talk.limits ≡ self.old.talk.limits }
         // What is used goes on with the history: by a message, by a frame that is left out, or by no frame.
         ensures ok { IfOk result (λ s. WentOn self.old side piece.now s.used s.went self.new) }
         // A refusal is that of the frame: the talk's own, or of its length, its turn or the stream.
         ensures err { IfErr result (λ e. IsRefused self.old side piece.now e self.new) }
+        // It is never that too much waits.
+        ensures room { IfErr result (λ e. IsNeverFull self.old e) }
         // The other side's frames stay as they are, and show what they show.
         ensures other { LeavesSide (other_side side) self.old self.new }
         // A fault is kept.
@@ -326,6 +330,7 @@ impl Through {
     pub fn waiting(&self) -> u32
         ensures value { WhereItRuns self.now (λ v. result ≡ load v.client v.server + left_out self.now.turns) }
         ensures left { left_out self.now.turns ≤ result }
+        ensures most { WhereItRuns self.now (λ v. result ≤ self.now.talk.limits.waiting) }
     {
         weight_of(&self.talk, &self.turns)
     }

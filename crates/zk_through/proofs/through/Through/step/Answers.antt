@@ -3,6 +3,7 @@ use Rattle.std.proofs.lemmas.Result.{IfErr-weaker, IfOk-weaker}
 use Rattle.zk_talk.specs.declared.message.Side.TheVariants.{Client, Server}
 use Rattle.zk_through.specs.Runs.{ThroughState, WentOn, IsRefused, LeavesSide, given_up}
 use Rattle.zk_through.proofs.Given.{given_went, given_refused, given_leaves, given_itself, fault_stays, kept_refused}
+use Rattle.zk_through.proofs.Never.{never_full}
 use Rattle.zk_through.proofs.through.Through.step.Goals as goal
 
 pub returns-in-Some-clause-err : goal.returns-in-Some-clause-err
@@ -56,3 +57,24 @@ returns-in-Server-clause-other c =
     let new = c.server_step.new.self in
     let gave : c.give_up.new.self ≡ given_up Server old = c.give_up.ensures ∙ ap (λ z. given_up z old) c.in-Server.is in
     rw c.in-Server.is (given_leaves Server old new (subst (λ (z : ThroughState). LeavesSide Client z new) gave c.server_step.ensures.other))
+
+pub returns-in-Client-clause-room : goal.returns-in-Client-clause-room
+returns-in-Client-clause-room c =
+    let old = c.args.self.now in
+    let new = c.client_step.new.self in
+    let gave : c.give_up.new.self ≡ given_up Client old = c.give_up.ensures ∙ ap (λ z. given_up z old) c.in-Client.is in
+    IfErr-weaker c.client_step.result _ _ (λ e x. never_full Client old c.args.piece.now e new (given_refused Client old c.args.piece.now e new (subst (λ (z : ThroughState). IsRefused z Client c.args.piece.now e new) gave x))) c.client_step.ensures.err
+
+pub returns-in-Server-clause-room : goal.returns-in-Server-clause-room
+returns-in-Server-clause-room c =
+    let old = c.args.self.now in
+    let new = c.server_step.new.self in
+    let gave : c.give_up.new.self ≡ given_up Server old = c.give_up.ensures ∙ ap (λ z. given_up z old) c.in-Server.is in
+    IfErr-weaker c.server_step.result _ _ (λ e x. never_full Server old c.args.piece.now e new (given_refused Server old c.args.piece.now e new (subst (λ (z : ThroughState). IsRefused z Server c.args.piece.now e new) gave x))) c.server_step.ensures.err
+
+pub returns-in-Some-clause-room : goal.returns-in-Some-clause-room
+returns-in-Some-clause-room c =
+    let old = c.args.self.now in
+    let f = c.in-Some.fault in
+    let kept : old.fault ≡ Some f = fault_stays c.args.side old ∙ ap (λ (t : ThroughState). t.fault) (sym c.give_up.ensures ∙ sym c.self.view_is) ∙ c.in-Some.is in
+    never_full c.args.side old c.args.piece.now f (given_up c.args.side old) (kept_refused c.args.side old c.args.piece.now f kept)
