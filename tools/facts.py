@@ -168,13 +168,14 @@ def write(path, facts, times=None):
 
 
 def read(path):
-    """The object of the facts beside the recording at this path; None if there are none. A ValueError where these are
-    not such facts."""
+    """The object of the facts beside the recording at this path, or to which that links; None if there are none. A
+    ValueError where these are not such facts."""
     try:
         with open(facts_path(path), encoding="ascii", errors="replace") as file:
             line = file.read(LONGEST + 1)
     except FileNotFoundError:
-        return None
+        linked = os.path.realpath(path)
+        return read(linked) if os.path.islink(path) and linked != os.fspath(path) else None
     try:
         made = json.loads(line) if len(line) <= LONGEST else None
     except (ValueError, RecursionError):

@@ -77,10 +77,14 @@ def paths_of(name):
 
 
 def recordings_in(folder):
-    """The recordings in a folder and below it. A folder that can't be read is one of them, and so becomes a row."""
-    found = []
-    for place, _, names in os.walk(folder, onerror=lambda error: found.append(error.filename)):
+    """The recordings in a folder and below it, also where a link leads. A folder that can't be read is one of them, and
+    so becomes a row."""
+    found, seen = [], {zkr.real_path(folder)}
+    for place, folders, names in os.walk(folder, onerror=lambda error: found.append(error.filename), followlinks=True):
         found += [os.path.join(place, name) for name in names if name.endswith(".zkr")]
+        below = {zkr.real_path(os.path.join(place, name)): name for name in sorted(folders, reverse=True)}
+        folders[:] = sorted(name for path, name in below.items() if path not in seen)
+        seen.update(below)
     if not found:
         raise ValueError(f"{folder} has no recordings: NAME.zkr in it or in folders below")
     return sorted(found)

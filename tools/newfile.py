@@ -45,8 +45,9 @@ class NewFile:
         else:
             self.take_back()
 
-    def take_back(self):
-        """Takes back the bytes of a write that was not whole."""
+    def take_back(self, count=0):
+        """Takes back the bytes of a write that was not whole, and `count` before them."""
+        self.size -= count
         self.file.truncate(self.size)
         self.file.seek(self.size)
 

@@ -227,7 +227,6 @@ class Writer:
     def __init__(self, path, head, times, gather=0):
         self.path, self.head, self.gather, self.timed = path, head, gather, times or head.form == "zkr2"
         self.usual = PIECE_HEADS["zkr1"].pack if head.form == "zkr1" else None
-        self.is_straight = not times and not gather     # a piece is written at once, to one file
         self.count = {CLIENT: 0, SERVER: 0}
         if os.access(facts.facts_path(path), os.F_OK):
             raise FileExistsError(errno.EEXIST, "File exists", facts.facts_path(path))
@@ -248,8 +247,8 @@ class Writer:
         """Writes any number of bytes of a side as pieces. Their time is the same in both files, to a microsecond."""
         size, waiting = len(data), self.recording.waiting
         if self.usual and 0 < size <= LARGEST_PIECE:    # the loop below in a shorter form
-            if self.is_straight:
-                self.recording.put(self.usual(side, size) + data)
+            if not self.gather:
+                self.put(self.usual(side, size) + data, milliseconds)
                 self.count[side] += size
                 return
             waiting += self.usual(side, size)
@@ -265,6 +264,16 @@ class Writer:
             if self.times:
                 self.times.waiting += b"%.3f\n" % milliseconds
         self.gathered(side, size)
+
+    def put(self, piece, milliseconds):
+        """Writes a piece and its time, with nothing that waits in between."""
+        self.recording.put(piece)
+        if self.times:
+            try:
+                self.times.put(b"%.3f\n" % milliseconds)
+            except OSError:
+                self.recording.take_back(len(piece))
+                raise
 
     def gathered(self, side, size):
         """Counts bytes of a side that wait to be written, and writes all if it is enough."""

@@ -48,6 +48,16 @@ class Format(FactsCase):
         self.assertEqual(facts.Facts().to_object(), {})
         self.assertEqual(facts.from_object(found.to_object()), found)
 
+    def test_a_link_to_a_recording(self):
+        path, link, loop = self.copy("a"), self.folder / "latest.zkr", self.folder / "loop.zkr"
+        link.symlink_to(path.name)
+        loop.symlink_to("loop.zkr")
+        self.assertEqual(facts.facts_of(path).session, SESSION)
+        self.assertEqual(facts.facts_of(link), facts.facts_of(path))
+        self.assertIsNone(facts.facts_of(loop))
+        facts.write(link, facts.Facts(session="0x7"))
+        self.assertEqual(facts.facts_of(link).session, "0x7")
+
     def test_the_mark(self):
         """A change in the first or in the last 65,536 bytes, or of the length, makes another mark."""
         path = self.folder / "a"

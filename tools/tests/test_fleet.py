@@ -146,6 +146,14 @@ class FleetCase(ToolCase):
         (self.fleet / "latest.zkr").symlink_to(self.names[-1])
         self.assertEqual(self.output("zkfleet.py", "check", self.fleet), wanted)
 
+    def test_links_to_folders(self):
+        """What a link leads to is read, once; and none leads round and round."""
+        linked = self.folder / "linked"
+        (linked / "a").mkdir(parents=True)
+        for name, to in (("b", self.fleet), ("c", self.fleet / "1"), ("d", linked), ("a/e", linked), ("f", "f")):
+            (linked / name).symlink_to(to)
+        self.assertEqual(sorted(map(os.path.realpath, fleet.expanded([str(linked)]))), list(map(str, self.names)))
+
     def test_a_folder_that_cannot_be_read_is_a_row(self):
         locked, scandir = str(self.fleet / "1"), os.scandir
 

@@ -271,7 +271,7 @@ class Others(PcapCase):
         port, packets, source = listener.getsockname()[1], [], (TOP / "captures" / "kazoo_multi.zkr").read_bytes()
 
         def listen():
-            with contextlib.suppress(TimeoutError):
+            with contextlib.suppress(socket.timeout):
                 while True:
                     packets.append((time.time() * 1000, tap.recv(1 << 17)))
         listening = threading.Thread(target=listen)

@@ -49,7 +49,7 @@ class Descriptors(TroubleCase):
                     client.settimeout(0.5)
                     try:
                         self.ask(client)
-                    except TimeoutError:
+                    except socket.timeout:
                         break
                     answered += 1
                     self.assertEqual(self.complaints(), [], answered)

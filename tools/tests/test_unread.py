@@ -9,13 +9,14 @@ import time
 
 from proxied import SECONDS, STAND_IN, TroubleCase
 from support import TOOLS
+import columns
 
 
 class Output(TroubleCase):
     def unread_pipe(self):
         """A path that is a pipe of 4,096 bytes, which nobody reads."""
         end, other = os.pipe()
-        fcntl.fcntl(end, fcntl.F_SETPIPE_SZ, 4096)
+        fcntl.fcntl(end, columns.F_SETPIPE_SZ, 4096)
         self.addCleanup(os.close, end)
         self.addCleanup(os.close, other)
         return f"/proc/{os.getpid()}/fd/{other}"
