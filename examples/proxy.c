@@ -48,19 +48,9 @@ struct lane {
     int64_t times[WAITING + 1]; /* the connect request, too */
 };
 
-/* Bytes, and the room that there is for them. */
-struct bytes {
-    uint8_t *at;
-    size_t length, room;
-};
-
-/* What reads a conversation: the passage finds the messages, and the talk, which gets their frames alone, has their
- * lines. */
+/* What reads a conversation. */
 struct reader {
     struct zk_through through;
-    struct zk_talk talk;
-    struct bytes begun[2]; /* what came of each side after its last whole frame */
-    size_t whole[2];       /* how many frames of each are whole */
     struct lane lanes[LANES];
 };
 
@@ -80,7 +70,8 @@ static size_t count;
 static struct reader *spares[SPARES];
 static size_t spare_count;
 static struct addrinfo *server;
-static struct bytes text;
+static uint8_t *text;
+static size_t room;
 static volatile sig_atomic_t over;
 
 static void stop(int number) {
@@ -99,21 +90,10 @@ static int64_t now(void) {
     return (int64_t)time.tv_sec * 1000000 + time.tv_nsec / 1000;
 }
 
-/* Makes room for this number of bytes. */
-static void make_room(struct bytes *bytes, size_t room) {
-    if (room <= bytes->room) return;
-    uint8_t *at = realloc(bytes->at, room);
-    if (at == NULL) fail("no memory");
-    bytes->at = at;
-    bytes->room = room;
-}
-
 /* ---- Readers */
 
 static void free_reader(struct reader *reader) {
     zk_through_free(&reader->through);
-    zk_talk_free(&reader->talk);
-    for (uint32_t side = ZK_CLIENT; side <= ZK_SERVER; side++) free(reader->begun[side].at);
     free(reader);
 }
 
@@ -122,9 +102,8 @@ static struct reader *new_reader(void) {
     if (spare_count > 0) return spares[--spare_count];
     struct reader *reader = calloc(1, sizeof *reader);
     if (reader == NULL) return NULL;
-    if (zk_through_new(&reader->through, LIMIT, LIMIT, WAITING, ZK_PROFILE_35) == ZK_WELL
-        && zk_talk_new(&reader->talk, LIMIT, LIMIT, WAITING, ZK_PROFILE_35) == ZK_WELL) return reader;
-    free_reader(reader);
+    if (zk_through_new(&reader->through, LIMIT, LIMIT, WAITING, ZK_PROFILE_35) == ZK_WELL) return reader;
+    free(reader);
     return NULL;
 }
 
@@ -137,9 +116,7 @@ static void end_reader(struct connection *it) {
         return;
     }
     zk_through_renew(&reader->through);
-    zk_talk_renew(&reader->talk);
     memset(reader->lanes, 0, sizeof reader->lanes);
-    for (uint32_t side = ZK_CLIENT; side <= ZK_SERVER; side++) reader->begun[side].length = reader->whole[side] = 0;
     spares[spare_count++] = reader;
 }
 
@@ -181,16 +158,24 @@ static void begin_line(const struct connection *it, int64_t waited) {
     else printf("%lu %" PRId64 " ", it->number, waited);
 }
 
+/* Makes room for a text that was too long. */
+static bool longer(struct zk_line line) {
+    if (line.status != ZK_ROOM) return false;
+    uint8_t *bytes = realloc(text, line.length);
+    if (bytes == NULL) fail("no memory");
+    text = bytes;
+    room = line.length;
+    return true;
+}
+
 /* Prints the message whose frame a side has completed. */
 static void put_message(struct connection *it, uint32_t side) {
-    struct reader *reader = it->reader;
-    struct zk_message message = zk_through_view(&reader->through, side);
-    begin_line(it, latency(reader, message.kind, message.xid));
-    zk_talk_step(&reader->talk, side, reader->begun[side].at, reader->begun[side].length);
-    struct zk_line line = zk_talk_line(&reader->talk, side, text.at, text.room);
-    make_room(&text, line.length);
-    if (line.status == ZK_ROOM) line = zk_talk_line(&reader->talk, side, text.at, text.room);
-    if (line.status == ZK_WELL) fwrite(text.at, 1, line.length, stdout);
+    struct zk_through *through = &it->reader->through;
+    struct zk_message message = zk_through_view(through, side);
+    begin_line(it, latency(it->reader, message.kind, message.xid));
+    struct zk_line line = zk_through_line(through, side, text, room);
+    if (longer(line)) line = zk_through_line(through, side, text, room);
+    if (line.status == ZK_WELL) fwrite(text, 1, line.length, stdout);
     putchar('\n');
 }
 
@@ -208,53 +193,40 @@ static void put_reason(uint32_t reason) {
 }
 
 /* Prints how the conversation ended, by a fault if there was one, and reads it no more. */
-static void put_ending(struct connection *it, const struct zk_fault *fault) {
-    const struct reader *reader = it->reader;
-    uint32_t side = reader->begun[ZK_CLIENT].length > 0 ? ZK_CLIENT : ZK_SERVER;
+static void put_ending(struct connection *it) {
+    struct zk_ending ending = zk_through_finish(&it->reader->through);
+    const struct zk_fault *fault = &ending.fault;
     begin_line(it, -1);
-    if (fault != NULL) {
+    if (ending.kind == ZK_REFUSED) {
         printf(". refused side=%c frame=%" PRIu64 " offset=%" PRIu64 " place=%" PRIu32 " reason=", "CS"[fault->side],
                fault->frame, fault->offset, fault->place);
         put_reason(fault->reason);
         if (fault->reason == ZK_XID_ORDER) printf(" expected=%" PRId32 " got=%" PRId32, fault->expected, fault->got);
-    } else if (reader->begun[side].length > 0) {
-        printf(". cut side=%c frame=%zu got=%zu", "CS"[side], reader->whole[side], reader->begun[side].length);
+    } else if (ending.kind == ZK_CUT) {
+        printf(". cut side=%c frame=%" PRIu64 " got=%" PRIu32, "CS"[ending.side], ending.frame, ending.got);
     } else {
-        printf(". whole unanswered=%zu", unanswered(reader));
+        printf(". whole unanswered=%" PRIu32, ending.unanswered);
     }
     putchar('\n');
     end_reader(it);
 }
 
-/* Keeps these bytes of a side, and prints what they complete. */
-static void put(struct connection *it, uint32_t side, const struct zk_passed *passed, const uint8_t *bytes) {
-    struct bytes *begun = &it->reader->begun[side];
-    make_room(begun, begun->length + passed->used);
-    memcpy(begun->at + begun->length, bytes, passed->used);
-    begun->length += passed->used;
-    if (passed->went == ZK_WITHIN) return;
-    if (passed->went == ZK_MESSAGE) put_message(it, side);
-    else put_left_out(it, side, passed);
-    begun->length = 0;
-    it->reader->whole[side]++;
-}
-
-/* Prints what came from a side and wasn't seen. While as many requests wait as may, the client's next one stays unseen.
- */
+/* Prints what came from a side and wasn't seen. While as many requests wait as may, the client's next stays unseen. */
 static void see(struct connection *it, uint32_t side) {
     struct way *way = &it->ways[side];
     while (it->reader != NULL && way->seen < way->to) {
         const uint8_t *bytes = way->bytes + way->seen;
         struct zk_passed passed = zk_through_step(&it->reader->through, side, bytes, way->to - way->seen);
         if (passed.status != ZK_WELL) {
-            put_ending(it, &passed.fault);
+            put_ending(it);
         } else if (passed.went != ZK_FULL) {
-            put(it, side, &passed, bytes);
+            if (passed.went == ZK_MESSAGE) put_message(it, side);
+            else if (passed.went != ZK_WITHIN) put_left_out(it, side, &passed);
             way->seen += passed.used;
         } else if (!it->ways[ZK_SERVER].ended && unanswered(it->reader) > 0) {
             return;
         } else { /* no reply comes */
-            put_ending(it, NULL);
+            put_ending(it);
         }
     }
     way->seen = way->to;
@@ -338,7 +310,7 @@ static bool ready(int socket) {
 
 static void give_up(size_t at) {
     struct connection *it = all[at];
-    if (it->reader != NULL) put_ending(it, NULL);
+    if (it->reader != NULL) put_ending(it);
     for (uint32_t side = ZK_CLIENT; side <= ZK_SERVER; side++)
         if (it->ends[side] >= 0) close(it->ends[side]);
     free(it);
@@ -421,6 +393,6 @@ int main(int given, char **words) {
     while (spare_count > 0) free_reader(spares[--spare_count]);
     close(listener);
     freeaddrinfo(server);
-    free(text.at);
+    free(text);
     return 0;
 }

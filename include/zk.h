@@ -349,6 +349,9 @@ struct zk_passed zk_through_step(struct zk_through *through, uint32_t side, cons
 /* The message of the side's newest whole frame; ZK_NO_MESSAGE if that was left out. */
 struct zk_message zk_through_view(struct zk_through *through, uint32_t side);
 
+/* Writes that message's line, as zk_talk_line. */
+struct zk_line zk_through_line(struct zk_through *through, uint32_t side, uint8_t *out, size_t room);
+
 /* The fields of that message, as zk_talk_fields writes them. */
 struct zk_read zk_through_fields(struct zk_through *through, uint32_t side, struct zk_field *out, size_t room);
 
@@ -723,6 +726,12 @@ static inline struct zk_message zk_safe_through_view(struct zk_through *through,
     return answer.status != ZK_WELL ? answer : zk_through_view(through, side);
 }
 
+static inline struct zk_line zk_safe_through_line(struct zk_through *through, uint32_t side, uint8_t *out, size_t room) {
+    struct zk_line answer = ZK_ZEROS;
+    answer.status = zk_first_of(zk_fault_at(through, 1, sizeof *through), zk_fault_of(out, room, sizeof *out));
+    return answer.status != ZK_WELL ? answer : zk_through_line(through, side, (uint8_t *)zk_into(out), room);
+}
+
 static inline struct zk_read zk_safe_through_fields(struct zk_through *through, uint32_t side, struct zk_field *out, size_t room) {
     struct zk_read answer = ZK_ZEROS;
     answer.status = zk_first_of(zk_fault_at(through, 1, sizeof *through), zk_fault_of(out, room, sizeof *out));
@@ -888,6 +897,7 @@ static inline struct zk_line zk_safe_listing(const struct zk_piece *pieces, size
 #define zk_through_renew zk_safe_through_renew
 #define zk_through_step zk_safe_through_step
 #define zk_through_view zk_safe_through_view
+#define zk_through_line zk_safe_through_line
 #define zk_through_fields zk_safe_through_fields
 #define zk_through_payload zk_safe_through_payload
 #define zk_through_finish zk_safe_through_finish

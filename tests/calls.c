@@ -121,6 +121,10 @@ static struct zk_line payload(struct played *it, uint32_t side, uint8_t *out, si
     return zk_talk_payload(&it->talk, side, out, room);
 }
 
+static struct zk_line passed_line(struct played *it, uint32_t side, uint8_t *out, size_t room) {
+    return zk_through_line(&it->through, side, out, room);
+}
+
 static struct zk_line left_out(struct played *it, uint32_t side, uint8_t *out, size_t room) {
     return zk_through_payload(&it->through, side, out, room);
 }
@@ -277,6 +281,7 @@ static void call_passage(struct played *it) {
     case 2: write_text(it, left_out, side); break;
     case 3: show_fields(it, PASSAGE, side); break;
     case 4: finish(it, PASSAGE); break;
+    case 5: write_text(it, passed_line, side); break;
     default: pass_through(it);
     }
 }

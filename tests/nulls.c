@@ -42,6 +42,7 @@ static void handles_that_are_null(void) {
     expect("zk_through_renew", zk_through_renew(NULL), ZK_NULL);
     expect("zk_through_step", zk_through_step(NULL, ZK_CLIENT, &byte, 1).status, ZK_NULL);
     expect("zk_through_view", zk_through_view(NULL, ZK_CLIENT).status, ZK_NULL);
+    expect("zk_through_line", zk_through_line(NULL, ZK_CLIENT, out, room).status, ZK_NULL);
     expect("zk_through_fields", zk_through_fields(NULL, ZK_CLIENT, &field, 1).status, ZK_NULL);
     expect("zk_through_payload", zk_through_payload(NULL, ZK_CLIENT, out, room).status, ZK_NULL);
     expect("zk_through_finish", zk_through_finish(NULL).status, ZK_NULL);
@@ -106,6 +107,7 @@ static void empty_passages(void) {
     expect("zk_through_step, no passage, used", (uint32_t)zk_through_step(&through, ZK_CLIENT, &byte, 1).used, 0);
     expect("zk_through_step, no passage, no side", zk_through_step(&through, 2, &byte, 1).status, ZK_RANGE);
     expect("zk_through_view, no passage", zk_through_view(&through, ZK_CLIENT).status, ZK_EMPTY);
+    expect("zk_through_line, no passage", zk_through_line(&through, ZK_CLIENT, out, room).status, ZK_EMPTY);
     expect("zk_through_fields, no passage", zk_through_fields(&through, ZK_CLIENT, &field, 1).status, ZK_EMPTY);
     expect("zk_through_payload, no passage", zk_through_payload(&through, ZK_CLIENT, out, room).status, ZK_EMPTY);
     expect("zk_through_finish, no passage", zk_through_finish(&through).status, ZK_EMPTY);
@@ -130,6 +132,10 @@ static void passages(void) {
     expect("zk_through_step, too long", zk_through_step(&through, ZK_CLIENT, &byte, more).status, ZK_RANGE);
     expect("zk_through_view, no message", zk_through_view(&through, ZK_CLIENT).status, ZK_NO_MESSAGE);
     expect("zk_through_view, no side", zk_through_view(&through, 2).status, ZK_RANGE);
+    expect("zk_through_line, null", zk_through_line(&through, ZK_CLIENT, NULL, 1).status, ZK_NULL);
+    expect("zk_through_line, no room", zk_through_line(&through, ZK_CLIENT, NULL, 0).status, ZK_NO_MESSAGE);
+    expect("zk_through_line, no side", zk_through_line(&through, 2, out, room).status, ZK_RANGE);
+    expect("zk_through_line, too long", zk_through_line(&through, ZK_CLIENT, out, more).status, ZK_RANGE);
     expect("zk_through_fields, null", zk_through_fields(&through, ZK_CLIENT, NULL, 1).status, ZK_NULL);
     expect("zk_through_fields, no room", zk_through_fields(&through, ZK_CLIENT, NULL, 0).status, ZK_NO_MESSAGE);
     expect("zk_through_fields, no side", zk_through_fields(&through, 2, &field, 1).status, ZK_RANGE);

@@ -33,6 +33,11 @@ ENDINGS = (
     (("C", EPHEMERALS + NODE), ("S", "00000010 00000002 0000000000000005 ffffff9b"),
      ["C 1 operation 103, left out", 'C 2 exists path="/a" watch=0',
       ". refused side=S frame=1 offset=61 place=0 reason=XidOrder expected=1 got=2"]),
+    # setWatches2 (105) under its xid, with five lists of no paths, and its reply after one that was asked later.
+    (("C", f"00000024 fffffff8 00000069 0000000000000005 {'00000000' * 5}" + NODE),
+     ("S", "00000010 00000002 0000000000000005 ffffff9b 00000010 fffffff8 0000000000000005 00000000"),
+     ["C -8 operation 105, left out", 'C 2 exists path="/a" watch=0', "S 2 exists zxid=5 err=-101/NONODE",
+      "S -8 operation 105, left out", ". whole unanswered=0"]),
     # An operation that no release has (999), and the first ten bytes of the reply to it.
     (("C", "00000008 00000001 000003e7"), ("S", "00000010 00000001 0000"),
      ["C 1 operation 999, left out", ". cut side=S frame=1 got=10"]),

@@ -5,37 +5,28 @@
  */
 #include "verdict.h"
 
-/* Judges that are over, all of these limits: the next connections begin them anew. A capture that begins late, or is
- * read again, ends as many judges as it has connections, so more aren't kept. */
+/* Passages that are over, all of these limits: the next connections begin them anew. A capture that begins late, or is
+ * read again, ends as many passages as it has connections, so more aren't kept. */
 enum { SPARES = 16 };
 static struct judge spares[SPARES];
 static unsigned spare_count;
 
-static void give_back(struct judge *judge) {
-    zk_through_free(&judge->through);
-    zk_talk_free(&judge->talk);
-}
-
 void judge_begin(struct judge *judge, uint32_t limit, uint32_t profile) {
     while (spare_count > 0 && (spares[0].limit != limit || spares[0].profile != profile)) {
-        give_back(&spares[--spare_count]);
+        zk_through_free(&spares[--spare_count].through);
     }
     if (spare_count > 0) {
         *judge = spares[--spare_count];
-        judge->judges = zk_through_renew(&judge->through) == ZK_WELL && zk_talk_renew(&judge->talk) == ZK_WELL;
+        judge->judges = zk_through_renew(&judge->through) == ZK_WELL;
         return;
     }
     judge->limit = limit;
     judge->profile = profile;
-    judge->judges = zk_through_new(&judge->through, limit, limit, VERDICT_WAITING, profile) == ZK_WELL &&
-                    zk_talk_new(&judge->talk, limit, limit, VERDICT_WAITING, profile) == ZK_WELL;
-    if (!judge->judges) {
-        give_back(judge);
-    }
+    judge->judges = zk_through_new(&judge->through, limit, limit, VERDICT_WAITING, profile) == ZK_WELL;
 }
 
 void judge_end(struct judge *judge) {
-    static const struct judge none = {ZK_ZEROS, ZK_ZEROS, false, 0, 0};
+    static const struct judge none = {ZK_ZEROS, false, 0, 0};
     if (!judge->judges) {
         return;
     }
@@ -43,7 +34,7 @@ void judge_end(struct judge *judge) {
     if (alike && spare_count < SPARES) {
         spares[spare_count++] = *judge;
     } else {
-        give_back(judge);
+        zk_through_free(&judge->through);
     }
     *judge = none; /* a handle isn't used twice */
 }
@@ -55,7 +46,6 @@ enum verdict judge_take(struct judge *judge, uint32_t side, const uint8_t *frame
     }
     struct zk_passed passed = zk_through_step(&judge->through, side, frame, length);
     if (passed.status == ZK_WELL && passed.went == ZK_MESSAGE) {
-        zk_talk_step(&judge->talk, side, frame, length);
         return VERDICT_WELL;
     }
     if (passed.status == ZK_WELL && (passed.went == ZK_ASKED || passed.went == ZK_ANSWERED)) {
@@ -71,11 +61,11 @@ enum verdict judge_take(struct judge *judge, uint32_t side, const uint8_t *frame
 }
 
 size_t judge_line_length(struct judge *judge, uint32_t side) {
-    struct zk_line line = zk_talk_line(&judge->talk, side, NULL, 0);
+    struct zk_line line = zk_through_line(&judge->through, side, NULL, 0);
     return line.status == ZK_ROOM ? line.length : 0;
 }
 
 bool judge_line(struct judge *judge, uint32_t side, char *out, size_t length) {
-    struct zk_line line = zk_talk_line(&judge->talk, side, (uint8_t *)out, length);
+    struct zk_line line = zk_through_line(&judge->through, side, (uint8_t *)out, length);
     return line.status == ZK_WELL && line.length == length;
 }

@@ -8,16 +8,14 @@
 
 #include "zk.h"
 
-/* How many requests may wait. More are rare, and a judge takes 34 bytes for each, at once. */
+/* How many requests may wait. More are rare, and a passage takes 21 bytes for each, at once. */
 enum { VERDICT_WAITING = 1024 };
 
 enum verdict { VERDICT_WELL, VERDICT_REFUSED, VERDICT_NONE, VERDICT_LEFT_OUT };
 
-/* Reads the conversation of a connection; all zeros at first. The passage judges all of it, and the talk, which gets
- * what that doesn't leave out, has the lines. */
+/* Reads the conversation of a connection; all zeros at first. */
 struct judge {
     struct zk_through through;
-    struct zk_talk talk;
     bool judges;
     uint32_t limit, profile;
 };
@@ -36,7 +34,7 @@ enum verdict judge_take(struct judge *judge, uint32_t side, const uint8_t *frame
 size_t judge_line_length(struct judge *judge, uint32_t side);
 bool judge_line(struct judge *judge, uint32_t side, char *out, size_t length);
 
-/* Judges no more; what it has is begun anew by a later one, or its memory given back. */
+/* Judges no more; its passage is begun anew by a later one, or its memory given back. */
 void judge_end(struct judge *judge);
 
 #endif

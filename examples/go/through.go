@@ -76,6 +76,19 @@ func (p Through) Renew() error {
 	return fault(C.zk_safe_through_renew(&p.it.handle), 0)
 }
 
+// Line returns the line of the side's newest message. It has none if the side's newest frame is left out.
+func (p Through) Line(side Side) (string, error) {
+	if p.it == nil {
+		return "", empty
+	}
+	p.it.Lock()
+	defer p.it.Unlock()
+	line, err := written(512, func(out *C.uint8_t, room C.size_t) C.struct_zk_line {
+		return C.zk_safe_through_line(&p.it.handle, C.uint32_t(side), out, room)
+	})
+	return string(line), err
+}
+
 // Feed returns what became of these bytes of a side, step by step, and the first fault. Where the last step is WentFull,
 // feed the server's bytes, and then again those of the piece that weren't used.
 func (p Through) Feed(side Side, piece []byte) (every []Passed, err error) {

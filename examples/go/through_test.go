@@ -65,6 +65,24 @@ func told(t *testing.T, p Through, side Side, piece []byte) (found []string, use
 	return
 }
 
+func TestLinesOfPassages(t *testing.T) {
+	p, found := newThrough(t, 65536), []string{}
+	defer p.Close()
+	for _, each := range came {
+		told(t, p, each.side, framed(each.payload))
+		line, err := p.Line(each.side)
+		if err != nil {
+			line = err.Error()
+		}
+		found = append(found, line)
+	}
+	none := Fault{Status: 69}.Error()
+	wanted := []string{none, `C 2 exists path="/a" watch=1`, none, "S 2 exists zxid=5 err=-101/NONODE"}
+	if !reflect.DeepEqual(found[2:], wanted) {
+		t.Errorf("lines %q, not %q", found[2:], wanted)
+	}
+}
+
 func TestPairsAreLeftOut(t *testing.T) {
 	p := newThrough(t, 65536)
 	for _, cut := range []int{1, 7, 1000} {

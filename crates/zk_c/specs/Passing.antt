@@ -25,6 +25,7 @@ use Rattle.zk_c.specs.declared.read_answer.ReadAnswer.{ReadAnswer}
 use Rattle.zk_c.specs.Numbers.{reason_number}
 use Rattle.zk_c.specs.Answer.{no_fault, fault_numbers, no_message, message_answer, no_line}
 use Rattle.zk_c.specs.Read.{no_read, TellsClient, TellsServer}
+use Rattle.zk_lines.specs.Lines.{line}
 use Rattle.zk_c.specs.Handle.{AreNumbers, TellsText, size_held}
 use Rattle.zk_c.specs.Passage.{PassageState, newest_on}
 
@@ -109,6 +110,11 @@ pub record IsView (p : PassageState) (side : Side) (answer : MessageAnswer) : Ty
   pub none : ShowsNone p side → answer ≡ no_message 69
   pub some : newest_on side p ≡ true → (m : Message) → Shows p.through.talk side m →
       answer ≡ message_answer (size_held side p.through.talk) (stream_on side p.through).count m
+
+-- the answer is the line of that message
+pub record IsLine (p : PassageState) (side : Side) (before after : List ℕ) (answer : LineAnswer) : Type 0 where
+  pub none : ShowsNone p side → (answer ≡ no_line 69) × (after ≡ before)
+  pub some : newest_on side p ≡ true → (m : Message) → Shows p.through.talk side m → TellsText (line m) before after answer
 
 -- the answer is that message's fields
 pub record IsFields (p : PassageState) (side : Side) (before after : List Field) (answer : ReadAnswer) : Type 0 where

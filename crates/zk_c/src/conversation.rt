@@ -1,7 +1,8 @@
 //! `Conversation`: a talk, and a buffer for the lines of its messages.
 ghost use Rattle.std.specs.Prelude.{◌≡◌, [], IfOk};
 ghost use Rattle.zk_talk.specs.Stands.{Stands};
-ghost use Rattle.zk_c.specs.Handle.{IsRenewed, IsStep, IsPass, IsFinish, IsView, IsLine, IsEndingLine, IsFields, IsPayload, IsWaiting, IsHeld};
+ghost use Rattle.zk_lines.specs.Lines.{line};
+ghost use Rattle.zk_c.specs.Handle.{IsRenewed, IsStep, IsPass, IsFinish, IsView, IsLine, IsEndingLine, IsFields, IsPayload, IsWaiting, IsHeld, TellsText};
 
 use crate::answer::{LineAnswer, MessageAnswer};
 use crate::counts::{HeldAnswer, WaitingAnswer};
@@ -11,7 +12,7 @@ use std::alloc::{AllocError, Global};
 use std::marker::Model;
 use zk_fields::Field;
 use zk_lines::{ending_line, put_line_ref};
-use zk_talk::{Ending, Fault, Limits, MessageOf, Side, Stepped, Talk};
+use zk_talk::{Ending, Fault, Limits, MessageOf, MessageRef, Side, Stepped, Talk};
 
 /// The first room of a line, more than glibc's malloc keeps for itself of small blocks. Such a block would lie above those
 /// of the talk, and then nothing below it goes back to the system when the talk is freed.
@@ -27,10 +28,24 @@ pub struct Conversation {
 /// Makes the first room of a line.
 #[cold]
 #[inline(never)]
-fn make_room(line: &mut Vec<u8>) -> Result<(), AllocError>
-    ensures { line.new.items ≡ line.old.items }
+fn make_room(text: &mut Vec<u8>) -> Result<(), AllocError>
+    ensures { text.new.items ≡ text.old.items }
 {
-    line.reserve(FIRST_ROOM)
+    text.reserve(FIRST_ROOM)
+}
+
+/// Writes the line of `message` to `out`, if there is room for it. It is made in `text`, whose memory is kept.
+pub fn write_line(text: &mut Vec<u8>, message: &MessageRef<'_>, out: &mut [u8]) -> LineAnswer
+    ensures { TellsText (line message.now) out.old out.new result }
+{
+    if text.capacity() == 0 && make_room(text).is_err() {
+        return LineAnswer::none(NO_MEMORY);
+    }
+    text.clear();
+    let Ok(()) = put_line_ref(text, message) else {
+        return LineAnswer::none(NO_MEMORY);
+    };
+    LineAnswer::put(text, out)
 }
 
 impl Model for Conversation {
@@ -123,14 +138,7 @@ impl Conversation {
         let Some(message) = self.talk.view(side) else {
             return LineAnswer::none(NO_MESSAGE);
         };
-        if self.line.capacity() == 0 && make_room(&mut self.line).is_err() {
-            return LineAnswer::none(NO_MEMORY);
-        }
-        self.line.clear();
-        let Ok(()) = put_line_ref(&mut self.line, &message) else {
-            return LineAnswer::none(NO_MEMORY);
-        };
-        LineAnswer::put(&self.line, out)
+        write_line(&mut self.line, &message, out)
     }
 
     /// Writes the fields of the side's kept frame, as far as there is room.

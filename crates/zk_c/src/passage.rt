@@ -1,9 +1,10 @@
 //! `Passage`: a conversation that goes on where its profile ends, and whether each side's newest frame is a message.
 ghost use Rattle.std.specs.Prelude.{◌≡◌, IfOk};
 ghost use Rattle.zk_c.specs.Passage.{newest_on};
-ghost use Rattle.zk_c.specs.Passing.{HasBegun, IsRenewed, IsPassing, IsView, IsFields, IsLeftOut, IsFinish, newest};
+ghost use Rattle.zk_c.specs.Passing.{HasBegun, IsRenewed, IsPassing, IsView, IsLine, IsFields, IsLeftOut, IsFinish, newest};
 
 use crate::answer::{LineAnswer, MessageAnswer};
+use crate::conversation::write_line;
 use crate::number::NO_MESSAGE;
 use crate::read_answer::{ReadAnswer, read_client, read_server};
 use std::alloc::{AllocError, Global};
@@ -20,6 +21,7 @@ pub struct Passage {
     client: bool,
     /// Whether the server's is.
     server: bool,
+    line: Vec<u8>,
 }
 
 impl Model for Passage {
@@ -48,10 +50,12 @@ impl Passage {
         ensures begun { IfOk result HasBegun }
     {
         let through = Through::new(alloc, limits)?;
+        let line = Vec::new(alloc);
         Ok(Passage {
             through,
             client: false,
             server: false,
+            line,
         })
     }
 
@@ -106,6 +110,20 @@ impl Passage {
             }
             None => MessageAnswer::none(NO_MESSAGE),
         }
+    }
+
+    /// Writes the line of that message, if there is room for it.
+    pub fn line(&mut self, side: Side, out: &mut [u8]) -> LineAnswer
+        ensures same { self.new ≡ self.old }
+        ensures line { IsLine self.old side out.old out.new result }
+    {
+        if !self.is_newest(side) {
+            return LineAnswer::none(NO_MESSAGE);
+        }
+        let Some(message) = self.through.view(side) else {
+            return LineAnswer::none(NO_MESSAGE);
+        };
+        write_line(&mut self.line, &message, out)
     }
 
     /// Writes the fields of that message, as far as there is room.

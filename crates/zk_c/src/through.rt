@@ -7,7 +7,7 @@ ghost use Rattle.zk_c.specs.Answer.{no_message, no_line, no_ending};
 ghost use Rattle.zk_c.specs.Handle.{AreNoLimits, TellsEnding};
 ghost use Rattle.zk_c.specs.Read.{no_read};
 ghost use Rattle.zk_c.specs.Passage.{PassageState};
-ghost use Rattle.zk_c.specs.Passing.{no_passed, IsNew, Renews, TellsStep, IsView, IsFields, IsLeftOut, IsFinish};
+ghost use Rattle.zk_c.specs.Passing.{no_passed, IsNew, Renews, TellsStep, IsView, IsLine, IsFields, IsLeftOut, IsFinish};
 
 use crate::answer::{EndingAnswer, LineAnswer, MessageAnswer};
 use crate::loose::Loose;
@@ -173,6 +173,34 @@ pub extern "C" fn zk_through_view(
         return MessageAnswer::none(EMPTY);
     };
     let answer = passage.view(side);
+    handle.put(passage);
+    answer
+}
+
+/// Writes the line of that message, if there is room for it.
+#[unsafe(no_mangle)]
+pub extern "C" fn zk_through_line(
+    alloc: Global,
+    handle: &mut ThroughHandle,
+    side: u32,
+    out: &mut [u8],
+) -> LineAnswer
+    // A number that is no side's is refused.
+    ensures range { side_of side ≡ None → (result ≡ no_line 67) × (out.new ≡ out.old) }
+    // With no passage there is no line.
+    ensures empty { handle.old.held.value ≡ None → IsSome (side_of side) → (result ≡ no_line 65) × (out.new ≡ out.old) }
+    // The line is that of the passage's message.
+    ensures line { (s : Side) (p : PassageState) → side_of side ≡ Some s → handle.old.held.value ≡ Some p → IsLine p s out.old out.new result }
+    // The passage stays as it is.
+    ensures same { handle.new.held.value ≡ handle.old.held.value }
+{
+    let Some(side) = side_of(side) else {
+        return LineAnswer::none(RANGE);
+    };
+    let Some(mut passage) = handle.take(alloc) else {
+        return LineAnswer::none(EMPTY);
+    };
+    let answer = passage.line(side, out);
     handle.put(passage);
     answer
 }

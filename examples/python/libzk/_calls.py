@@ -97,6 +97,7 @@ CALLS = {
     "zk_through_renew": (U32, HANDLE),
     "zk_through_step": (Passed, HANDLE, U32, BYTES, SIZE),
     "zk_through_view": (Message, HANDLE, U32),
+    "zk_through_line": (Line, HANDLE, U32, BYTES, SIZE),
     "zk_through_fields": (Read, HANDLE, U32, FIELDS, SIZE),
     "zk_through_payload": (Line, HANDLE, U32, BYTES, SIZE),
     "zk_through_finish": (Ending, HANDLE),

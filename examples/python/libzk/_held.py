@@ -173,13 +173,13 @@ class Passed(NamedTuple):
 
 
 class Through(_Held):
-    """A passage: a conversation that goes on where its profile ends. The limits are those of a talk."""
+    """A passage: a conversation that goes on where its profile ends. The limits and `lines` are those of a talk."""
 
     def __init__(self, client: int = 4194304, server: int = 4194304, waiting: int = 65536,
-                 profile: Profile = Profile.V34):
+                 profile: Profile = Profile.V34, lines: bool = False):
         super().__init__(library.zk_through_new, library.zk_through_renew, library.zk_through_free,
                          (client, server, waiting, Profile(profile)))
-        self._came = (bytearray(), bytearray())
+        self._came, self._lines = (bytearray(), bytearray()), lines
 
     def renew(self) -> None:
         super().renew()
@@ -209,8 +209,10 @@ class Through(_Held):
         frame = bytes(came)
         came.clear()
         if went == Went.MESSAGE:
-            view = library.zk_through_view(self._handle, side)
-            read = message_of(view, lambda *out: library.zk_through_fields(self._handle, side, *out), frame[4:])
+            view, line = library.zk_through_view(self._handle, side), None
+            if self._lines:
+                line = written(lambda *out: library.zk_through_line(self._handle, side, *out)).decode()
+            read = message_of(view, lambda *out: library.zk_through_fields(self._handle, side, *out), frame[4:], line)
             return Passed(went, step.used, read)
         payload = written(lambda *out: library.zk_through_payload(self._handle, side, *out), len(frame))
         return Passed(went, step.used, None, step.xid, step.operation, payload, step.frame)

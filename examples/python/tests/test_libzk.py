@@ -326,6 +326,12 @@ class Passages(unittest.TestCase):
                 self.assertEqual((found[3].message["path"], found[5].message.err), ("/a", -101))
                 through.renew()
 
+    def test_lines(self):
+        with Through(lines=True) as through:
+            every = [passed for side, payload in self.CAME for passed in through.feed(side, frame(payload))]
+        self.assertEqual([passed.message and passed.message.line for passed in every[2:]],
+                         [None, 'C 2 exists path="/a" watch=1', None, "S 2 exists zxid=5 err=-101/NONODE"])
+
     def test_steps_of_one_piece(self):
         with Through() as through:
             asked = [frame(payload) for side, payload in self.CAME if side == Side.CLIENT]

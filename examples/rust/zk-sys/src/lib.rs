@@ -200,6 +200,12 @@ extern "C" {
         length: usize,
     ) -> zk_passed;
     pub fn zk_through_view(through: *mut zk_through, side: u32) -> zk_message;
+    pub fn zk_through_line(
+        through: *mut zk_through,
+        side: u32,
+        out: *mut u8,
+        room: usize,
+    ) -> zk_line;
     pub fn zk_through_fields(
         through: *mut zk_through,
         side: u32,

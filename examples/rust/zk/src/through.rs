@@ -89,6 +89,14 @@ impl Through {
         self.came.iter_mut().for_each(Vec::clear);
     }
 
+    /// Writes the line of the side's newest message into `text`, in place of what is there. It has none if the side's
+    /// newest frame is left out.
+    pub fn line(&mut self, side: Side, text: &mut Vec<u8>) -> Result<(), Fault> {
+        written(text, |out, room| unsafe {
+            zk_sys::zk_through_line(&mut self.handle, side as u32, out, room)
+        })
+    }
+
     /// Takes bytes of a side away from the front of `piece`, up to the end of the first frame. Returns what became of
     /// them.
     pub fn step<'t>(&'t mut self, side: Side, piece: &mut &[u8]) -> Result<Went<'t>, Fault> {

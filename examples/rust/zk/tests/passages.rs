@@ -67,6 +67,20 @@ fn step(through: &mut Through, side: Side, bytes: &[u8], used: usize) -> String 
 }
 
 #[test]
+fn lines() {
+    let (mut through, mut found) = (passage(65536), Vec::new());
+    for (side, payload) in CAME {
+        step(&mut through, side, &frame(payload), payload.len() + 4);
+        let mut text = Vec::new();
+        let line = through.line(side, &mut text).map_err(|fault| fault.status);
+        found.push(line.map(|()| String::from_utf8(text).expect("ASCII")));
+    }
+    let asked = r#"C 2 exists path="/a" watch=1"#.to_string();
+    let answered = "S 2 exists zxid=5 err=-101/NONODE".to_string();
+    assert_eq!(found[2..], [Err(69), Ok(asked), Err(69), Ok(answered)]);
+}
+
+#[test]
 fn pairs_are_left_out() {
     let wanted = [
         "message 0 0 45 frame 0",
