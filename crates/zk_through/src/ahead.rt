@@ -97,8 +97,8 @@ pub fn lacking(profile: Profile, turn: Option<Turn>) -> Option<Turn>
     }
 }
 
-/// The weight of the client's whole frame as a request that waits: 1 if it is `out`, which is left out; else what it weighs
-/// in the talk. 0 if it is the first frame, or malformed.
+/// The weight of the client's whole frame as a request that waits: 1 if it is `out`, which is left out; else what it
+/// weighs in the talk. 0 if it is the first frame, or malformed.
 pub fn weight(profile: Profile, out: Option<Turn>, client: &Stream) -> u64
     requires whole { IsFrame client.now.limit client.now.held }
     requires small { client.now.limit ≤ 16777216 }

@@ -38,8 +38,8 @@ pub enum Went {
     Asked(Turn),
     /// The reply to such a request, the oldest that waits, is whole.
     Answered(Turn),
-    /// With the client's frame more would wait than may: it is not taken, and nothing of the piece was used. Where nothing
-    /// waits, the frame alone is too heavy.
+    /// With the client's frame more would wait than may: it is not taken, and nothing of the piece was used. Where
+    /// nothing waits, the frame alone is too heavy.
     Full,
 }
 
@@ -85,8 +85,8 @@ impl Model for Through {
     ghost invariant = { λ t. (t.talk.limits ≡ t.limits) × IsSide t.limits.client t.fault t.client × IsSide t.limits.server t.fault t.server × IsKnown t.fault × HaveRoom t.limits.waiting t.turns × AreFewer (t.client.count + 1) (t.server.count + 1) t.turns };
 }
 
-/// Gives the talk the side's whole frame, whose last `new` bytes are new. A refusal is kept, at the side's own frame and
-/// offset.
+/// Gives the talk the side's whole frame, whose last `new` bytes are new. A refusal is kept, at the side's own frame
+/// and offset.
 fn tell(
     talk: &mut Talk,
     kept: &mut Option<Fault>,
@@ -259,13 +259,13 @@ impl Through {
         }
     }
 
-    /// Takes the piece up to the end of the first frame that becomes whole, or all of it. The talk gets the frame, or it
-    /// is left out and kept until the side's next call. Allocates nothing.
+    /// Takes the piece up to the end of the first frame that becomes whole, or all of it. The talk gets the frame, or
+    /// it is left out and kept until the side's next call. Allocates nothing.
     ///
     /// # Errors
     ///
-    /// Why the frame is refused, at the side's own frame and offset, those left out counted; never `QueueFull`. It is kept,
-    /// and each later call returns it and uses nothing.
+    /// Why the frame is refused, at the side's own frame and offset, those left out counted; never `QueueFull`. It is
+    /// kept, and each later call returns it and uses nothing.
     pub fn step(&mut self, side: Side, piece: &[u8]) -> Result<Passed, Fault>
         ensures limits { self.new.talk.limits ≡ self.old.talk.limits }
         // What is used goes on with the history: by a message, by a frame that is left out, or by no frame.
@@ -325,8 +325,8 @@ impl Through {
         self.talk.held(side)
     }
 
-    /// The weight of the requests that wait for their replies: 1 each, those left out too, and 1 more for each part of a
-    /// multi.
+    /// The weight of the requests that wait for their replies: 1 each, those left out too, and 1 more for each part of
+    /// a multi.
     pub fn waiting(&self) -> u32
         ensures value { WhereItRuns self.now (λ v. result ≡ load v.client v.server + left_out self.now.turns) }
         ensures left { left_out self.now.turns ≤ result }

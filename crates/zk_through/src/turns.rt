@@ -197,12 +197,13 @@ impl Turns {
         }
     }
 
-    /// The request that is left out and that the reply with this xid answers; `None` if the xid is of no lane, or the request
-    /// is one that the talk got.
+    /// The request that is left out and that the reply with this xid answers; `None` if the xid is of no lane, or the
+    /// request is one that the talk got.
     ///
     /// # Errors
     ///
-    /// `Unasked` if nothing of the lane waits; `XidOrder` if it is the turn of a request that is left out, of another xid.
+    /// `Unasked` if nothing of the lane waits; `XidOrder` if it is the turn of a request that is left out, with another
+    /// xid.
     pub fn due(&self, xid: Option<i32>) -> Result<Option<Turn>, Reason>
         ensures { Judges self.now xid result }
     {
