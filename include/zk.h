@@ -343,7 +343,8 @@ uint32_t zk_through_new(struct zk_through *through, uint32_t client, uint32_t se
 uint32_t zk_through_renew(struct zk_through *through);
 
 /* Takes a piece as zk_talk_step does. A fault's frame and offset are the side's own, those left out counted. After ZK_FULL
- * the server's bytes come first: give the client's piece again when a request has its reply. */
+ * the server's bytes come first: give the client's piece again when a request has its reply. So no frame is refused with
+ * ZK_QUEUE_FULL. */
 struct zk_passed zk_through_step(struct zk_through *through, uint32_t side, const uint8_t *piece, size_t length);
 
 /* The message of the side's newest whole frame; ZK_NO_MESSAGE if that was left out. */

@@ -172,6 +172,7 @@ static void pass_through(struct played *it) {
     if (step.went <= ZK_FULL) wents[step.went]++;
     bool asked = step.went == ZK_ASKED, answers = step.went == ZK_ANSWERED, left = asked || answers;
     must(step.went <= ZK_FULL && (step.status == ZK_WELL || step.went == ZK_WITHIN), "what became of the bytes");
+    must(step.status != ZK_QUEUE_FULL, "a passage that is refused where more would wait than may");
     must(left || (step.xid == 0 && step.operation == 0 && step.frame == 0), "a request that wasn't left out");
     must(!left || step.frame > 0, "the number of the frame of what is left out");
     must(!asked || side == ZK_CLIENT, "a request of the server");

@@ -159,8 +159,6 @@ C 0000000e0000000300000003000000022f61 = Err(Fault { side: Client, frame: 3, off
 
 /// A multi that alone weighs more than may wait is never taken.
 const TOO_HEAVY: &str = "\
-C 0000002d000000000000000000000000000075300000000000000000000000100000000000000000000000000000000000 = Ok(Passed { used: 49, went: Message })
-S 000000250000000000007530010000000000000100000010000102030405060708090a0b0c0d0e0f00 = Ok(Passed { used: 41, went: Message })
 C 00000037000000020000000e0000000d00ffffffff000000022f61000000000000000d00ffffffff000000022f6100000000ffffffff01ffffffff = Ok(Passed { used: 0, went: Full }) waiting 0 out (false, false) ends Whole { unanswered: 0 }
 C 0000000f0000000200000003000000022f6101 = Ok(Passed { used: 19, went: Message }) waiting 1";
 

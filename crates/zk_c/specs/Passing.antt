@@ -16,7 +16,7 @@ use Rattle.zk_through.specs.declared.through.Passed.{Passed}
 use Rattle.zk_through.specs.declared.through.Went.{Went}
 use Rattle.zk_through.specs.declared.through.Went.TheVariants as went
 use Rattle.zk_through.specs.Came.{Came}
-use Rattle.zk_through.specs.Runs.{Runs, WentOn, IsRefused, LeavesSide, IsEndOf, given_up, stream_on, left_on}
+use Rattle.zk_through.specs.Runs.{Runs, WentOn, IsRefused, IsNeverFull, LeavesSide, IsEndOf, given_up, stream_on, left_on}
 use Rattle.zk_fields.specs.declared.field.Field.{Field}
 use Rattle.zk_c.specs.declared.answer.MessageAnswer.{MessageAnswer}
 use Rattle.zk_c.specs.declared.answer.LineAnswer.{LineAnswer}
@@ -65,6 +65,7 @@ pub record IsPassing (old : PassageState) (side : Side) (piece : List ℕ) (outc
   pub limits : new.through.talk.limits ≡ old.through.talk.limits
   pub ok : IfOk outcome (λ s. WentOn old.through side piece s.used s.went new.through)
   pub err : IfErr outcome (λ e. IsRefused old.through side piece e new.through)
+  pub room : IfErr outcome (λ e. IsNeverFull old.through e)
   pub other : LeavesSide (other_side side) old.through new.through
   pub kept : (f : Fault) → old.through.fault ≡ Some f → (outcome ≡ Err f) × (new.through ≡ given_up side old.through)
   pub newest : newest_on side new ≡ newest_after outcome (newest_on side old)

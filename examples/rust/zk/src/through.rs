@@ -27,7 +27,7 @@ pub enum Went<'t> {
     Full,
 }
 
-/// A frame that is left out. The xid, the operation and the frame's number are the request's, also where it is the reply.
+/// A frame that is left out. The xid, the operation and the frame's number are the request's, also of the reply.
 #[derive(Clone, Copy, Debug, PartialEq, Eq)]
 pub struct LeftOut<'t> {
     pub xid: i32,

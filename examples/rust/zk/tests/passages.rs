@@ -36,8 +36,8 @@ fn passage(waiting: u32) -> Through {
     Through::new(limits).expect("a passage")
 }
 
-/// What became of a step's bytes: the xid, the operation, the payload's length, and the number of the frame, which is the
-/// request's of what is left out.
+/// What became of a step's bytes: the xid, the operation, the payload's length, and the number of the frame, which is
+/// the request's of what is left out.
 fn told(went: Went) -> String {
     let of = |left: LeftOut| {
         let (xid, operation, frame) = (left.xid, left.operation, left.frame);

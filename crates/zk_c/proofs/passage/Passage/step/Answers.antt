@@ -13,6 +13,7 @@ returns-in-Err c =
       limits = c.in-Err.ensures.limits;
       ok = tt;
       err = c.in-Err.ensures.err;
+      room = c.in-Err.ensures.room;
       other = c.in-Err.ensures.other;
       kept = c.in-Err.ensures.kept;
       newest = same_newest c.args.side c.step.new.self was.through was.client was.server;
