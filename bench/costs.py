@@ -76,8 +76,8 @@ def writing(name):
 
 
 def steps(way):
-    return Row(f"library, {way}", *(Run("fields" if way == "fields" else "handle", (way,), name)
-                                    for name in ("small", NOTHING)))
+    program = "fields" if way in ("passage", "fields") else "handle"
+    return Row(f"library, {way}", *(Run(program, (way,), name) for name in ("small", NOTHING)))
 
 
 def talks(way, times):
@@ -98,7 +98,7 @@ ROWS = (
     *(command("build", name) for name in (*BUILT, "Cyrillic", TEXTS[-1], "containers")),
     *(command("migrate", name) for name in ("small", "listing", "one message a piece")),
     Row("check --earliest refused", Run("zkdump", ("check", "--earliest"), "refused", 1), START),
-    *map(steps, ("step", "view", "fields")),
+    *map(steps, ("step", "passage", "view", "fields")),
     talks("open", 400),
     talks("renew", 400),
 )

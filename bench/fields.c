@@ -1,11 +1,13 @@
 /* What the fields of a conversation's messages cost: by the library, and by a decoder by hand.
  *
- *     fields step|fields|hand [sum] < RECORDING
+ *     fields step|passage|fields|hand [sum] < RECORDING
  *
- * `step` judges the recording (format ZKR1) by zk_talk_step, `fields` also writes each message's fields by
- * zk_talk_fields, and `hand` does the same by hand.h. It prints the messages, the fields, with `sum` a sum of all in
+ * `step` judges the recording (format ZKR1) by zk_talk_step, `passage` by zk_through_step, `fields` also writes each
+ * message's fields by zk_talk_fields, and `hand` does the same by hand.h. It prints the messages, the fields, with `sum` a sum of all in
  * them, the CPU seconds, the number of allocations between the first message and the last, and the bytes of a talk. */
 #define _POSIX_C_SOURCE 200809L
+#pragma weak zk_through_new /* so that an older library, which lacks them, can be measured without them */
+#pragma weak zk_through_step
 #include "hand.h"
 
 #include <inttypes.h>
@@ -37,6 +39,7 @@ void *__wrap_realloc(void *block, size_t size) {
 static struct zk_field fields[FIELDS];
 static struct hand hand;
 static struct zk_talk talk;
+static struct zk_through through;
 static uint64_t messages, field_count, sum;
 static bool summed;
 
@@ -58,6 +61,11 @@ static size_t step(char what, uint32_t side, const uint8_t *piece, size_t length
         messages += whole;
         if (whole) add(hand.count);
         return used;
+    }
+    if (what == 'p') {
+        struct zk_passed passed = zk_through_step(&through, side, piece, length);
+        messages += passed.went == ZK_MESSAGE;
+        return passed.used;
     }
     struct zk_step step = zk_talk_step(&talk, side, piece, length);
     if (step.status != ZK_WELL) return 0;
@@ -90,6 +98,7 @@ int main(int count, char **words) {
     allocated = 0;
     if (zk_talk_new(&talk, 4194304, 4194304, 65536, ZK_PROFILE_34) != ZK_WELL) return 2;
     size_t made = allocated;
+    if (words[1][0] == 'p' && zk_through_new(&through, 4194304, 4194304, 65536, ZK_PROFILE_34) != ZK_WELL) return 2;
     hand.out = fields;
     struct timespec begun, ended;
     long before = growths;
