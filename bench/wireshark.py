@@ -6,7 +6,7 @@
 The plugin is built as tests/wireshark.py builds it, with the proved library of this repository or another libzk.a. The
 first capture is one connection with N messages (100,000), a packet each. tshark lists it, or makes a statistic of it.
 The second has N connections (3,000) of two messages each: what memory a connection takes more where the library judges
-it. What a talk of the plugin's size allocates is asked of the C library. Each run is one of --times (3), on one core;
+it. What a passage of the plugin's size allocates is asked of the C library. Each run is one of --times (3), on one core;
 the least time counts, and the greatest memory. The plugin has to judge every message of the first capture.
 
 It prints a table: CPU seconds, messages a second, and the greatest memory.
@@ -31,27 +31,27 @@ from dissected import wire, zkr  # noqa: E402
 RUNS = (("tshark without the plugin", None), ("with it", ()), ("with it, no verdict", ("-o", "zookeeper.strict:FALSE")),
         ("with it, response times", ("-q", "-z", "zookeeper,srt")), ("with it, two passes, all fields", ("-2", "-V")))
 
-TALK = r"""
+PASSAGE = r"""
 #include <malloc.h>
 #include <stdio.h>
 #include "verdict.h"
 static size_t used(void) { struct mallinfo2 now = mallinfo2(); return now.uordblks + now.hblkhd; }
 int main(void) {
-    struct zk_talk talk = ZK_ZEROS;
+    struct zk_through through = ZK_ZEROS;
     size_t before = used();
-    uint32_t status = zk_talk_new(&talk, 4194304, 4194304, VERDICT_WAITING, ZK_PROFILE_35);
+    uint32_t status = zk_through_new(&through, 4194304, 4194304, VERDICT_WAITING, ZK_PROFILE_35);
     printf("%zu bytes\n", used() - before);
-    zk_talk_free(&talk);
+    zk_through_free(&through);
     return (int)status;
 }
 """
 
 
-def talk(folder, libzk):
-    """What a talk takes at once."""
-    program, include = folder / "talk", f"-I{dissected.TOP / 'include'}"
+def passage(folder, libzk):
+    """What a passage takes at once."""
+    program, include = folder / "passage", f"-I{dissected.TOP / 'include'}"
     subprocess.run(["cc", "-x", "c", "-", "-x", "none", include, f"-I{dissected.SOURCES}", "-o", program, libzk],
-                   input=TALK.encode(), check=True)
+                   input=PASSAGE.encode(), check=True)
     return subprocess.run([program], capture_output=True, text=True, check=True).stdout.strip()
 
 
@@ -134,7 +134,7 @@ def main():
         told = f"{judged:.0f}, {other:.0f}: {each:.1f} KB each"
         print(f"| {words.connections:,} connections: judged, not judged | | | {told} |")
         libzk = words.libzk or pathlib.Path(folder, "libzk.a")
-        print(f"| a talk | | | {talk(pathlib.Path(folder), libzk)} |")
+        print(f"| a passage | | | {passage(pathlib.Path(folder), libzk)} |")
     print(f"\nThe load was {timing.load()} at the end.")
 
 
