@@ -52,8 +52,7 @@ enum verdict judge_take(struct judge *judge, uint32_t side, const uint8_t *frame
         return VERDICT_LEFT_OUT;
     }
     judge_end(judge);
-    if (passed.status == ZK_WELL || passed.status == ZK_NO_MEMORY || passed.status == ZK_QUEUE_FULL ||
-        passed.status > ZK_STREAM_END) {
+    if (passed.status == ZK_WELL || passed.status == ZK_NO_MEMORY || passed.status > ZK_STREAM_END) {
         return VERDICT_NONE;
     }
     *fault = passed.fault;
