@@ -3,11 +3,10 @@
 
     docs/names.py --write|--check
 
-The sources are the one table (source.py reads them). Of these files it writes all, or what is between two marks:
-include/zk.h, the packages' lists (examples/python/libzk/_names.py, examples/rust/zk/src/names.rs), wireshark/names.c,
-tools/operations.py and tests/chosen.h. In a table that has more numbers than the sources, such as those of later
+The sources are the one table (source.py reads them). The files that it writes, or of which it writes what is between
+two marks, are those of WHOLE and PARTS. In a table that has more numbers than the sources, such as those of later
 releases, the other rows stay as they are. The rest is only compared: the tables of docs/FORMATS.md, which the tests
-take their forms from (formats.py), docs/REASONS.md, and rows and constants that stand in other code.
+take their forms from (formats.py), docs/REASONS.md, and rows and constants of other code.
 
 With --check nothing is written, and each row that is wrong is named. The status is 0 if all is current, 1 if it isn't,
 2 for wrong arguments.
@@ -24,7 +23,7 @@ import source
 from source import TOP
 
 BEGIN, END = "The lines from here on are written by docs/names.py", "Up to here."
-ENTRY = re.compile(r'-?\d+: "\w+"|\{[\w()-]+, "\w+"\}')
+ENTRY = re.compile(r'-?\d+: "\w+"|\{[\w()-]+, "\w+"\}|(?<=[( ])-?\d+(?=, -?[\dI])')
 # Kinds of numbers: the types of C and of Rust, the table in Python, and of what they are.
 KINDS = (("operation", "int32_t", "i32", "OPERATIONS", "an operation, or of a part of a multi"),
          ("error", "int32_t", "i32", "ERRORS", "a reply's err"),
@@ -35,15 +34,8 @@ KINDS = (("operation", "int32_t", "i32", "OPERATIONS", "an operation, or of a pa
 TOOLS = {"int": "number", "bool": "bit", "blob": "data", "acl": "acls"}
 LINES = {"int": "num", "long": "num", "bool": "bit", "texts": "list of text", "acl": "list of acl"}
 ODD_OPERATIONS = ("0", "10", "-1", "INT32_MIN", "INT32_MAX")
-# Code with a row for each name of a field: where, how a row begins, and the names that it handles elsewhere.
-FIELD_ROWS = (("tools/columns/json.c", r"case ZK_NAME_(\w+):", {"PERMS", "ID", "ERR"}),
-              ("wireshark/tree.c", r"\[ZK_NAME_(\w+)\] =", set()))
+NOT_ALONE = {"NONE", "PERMS", "ID", "ERR"}      # fields that tools/columns/json.c writes elsewhere
 CONSTANTS = ("bench/peer/peer.rs", "wireshark/message.h", "examples/server.c")
-
-
-def camel(name):
-    """A name as lines have it."""
-    return re.sub(r"_(\w)", lambda found: found[1].upper(), name)
 
 
 def in_order(kind, names):
@@ -124,7 +116,7 @@ def operation_row(each, constants):
         words = []
         for name, kind in fields:
             is_id = kind == "long" and (name.endswith("zxid") or name.startswith("session"))
-            words.append(f"{camel(name)}:{'hexadecimal' if is_id else TOOLS.get(kind, kind)}")
+            words.append(f"{source.in_line(name)}:{'hexadecimal' if is_id else TOOLS.get(kind, kind)}")
         text = " ".join(words)
         return constants.get(text, f'"{text}"')
     more = ["" if each.xid is None else str(each.xid), "" if each.ordinary else "False"]
@@ -155,11 +147,21 @@ def random_operations(_):
     return wrapped(["return (int32_t)PICK(" + words[0], *words[1:]], 120)
 
 
-# By file, what writes each of its marked parts; None where it writes all of it.
-WRITTEN = {"include/zk.h": (header_enum, header_functions), "wireshark/names.c": (plugin_names,),
-           "tools/operations.py": (operation_rows,), "tests/chosen.h": (random_operations,),
-           "examples/python/libzk/_names.py": None, "examples/rust/zk/src/names.rs": None}
+def json_keys(_):
+    named, keys = {name: own for own, name in source.names_in_c().items()}, {}
+    for name in source.field_names():
+        if name not in NOT_ALONE:
+            keys.setdefault(source.in_line(named.get(name, name.lower())), []).append(name)
+    stat = {source.records()["Stat"][0][0]: '\\"stat\\": {'}
+    return [f"    {' '.join(f'case ZK_NAME_{name}:' for name in of)} return \", {stat.get(key, '')}\\\"{key}\\\": \";"
+            for key, of in keys.items()]
+
+
+# By file, what writes all of it, or each of its marked parts.
 WHOLE = {"examples/python/libzk/_names.py": python_names, "examples/rust/zk/src/names.rs": rust_names}
+PARTS = {"include/zk.h": (header_enum, header_functions), "wireshark/names.c": (plugin_names,),
+         "tools/operations.py": (operation_rows,), "tools/columns/json.c": (json_keys,),
+         "tests/chosen.h": (random_operations,)}
 
 
 def current(name, lines):
@@ -167,10 +169,10 @@ def current(name, lines):
     if name in WHOLE:
         return WHOLE[name](lines)
     found, marks = [], [at for at, line in enumerate(lines) if BEGIN in line or END in line]
-    if len(marks) != 2 * len(WRITTEN[name]):
-        raise source.Missing(f"{name} has {len(marks)} marks, not {2 * len(WRITTEN[name])}")
+    if len(marks) != 2 * len(PARTS[name]):
+        raise source.Missing(f"{name} has {len(marks)} marks, not {2 * len(PARTS[name])}")
     at = 0
-    for made, begin, end in zip(WRITTEN[name], marks[::2], marks[1::2]):
+    for made, begin, end in zip(PARTS[name], marks[::2], marks[1::2]):
         found += [*lines[at:begin + 1], *made(lines[begin + 1:end])]
         at = end
     return found + lines[at:]
@@ -179,8 +181,7 @@ def current(name, lines):
 def differences(name, found, wanted):
     """What a file lacks, and what it has instead, by the line."""
     def entries(lines):
-        numbers = re.findall(r"-?\d+(?=[,)])", " ".join(lines)) if '"' not in "".join(lines) else []
-        return numbers or [entry for line in lines for entry in ENTRY.findall(line) or [line.strip()]]
+        return [entry for line in lines for entry in ENTRY.findall(line) or [line.strip()]]
     for tag, a, b, c, d in difflib.SequenceMatcher(None, found, wanted, autojunk=False).get_opcodes():
         if tag != "equal":
             has, lacks = entries(found[a:b]), entries(wanted[c:d])
@@ -195,6 +196,15 @@ def differences(name, found, wanted):
 
 def spelled(fields):
     return ", ".join(f"{kind} {name}" for name, kind in fields) or "nothing"
+
+
+def compare_in_c(line, fields):
+    """The names in C of fields in a line of the page."""
+    known = source.names_in_c()
+    for field in fields:
+        name = known.get(field.name, field.name.upper()).lower()
+        if field.name != field.kind != "id" and field.in_c != name:
+            yield f"docs/FORMATS.md:{line}: {field.name} is {field.in_c} in C, and in the sources {name}"
 
 
 def compare_rows(variant, wanted):
@@ -213,21 +223,19 @@ def compare_rows(variant, wanted):
             ours.append(spelled(each.reply))
         yield from (f"docs/FORMATS.md:{row.line}: {each.number} {each.name} has {there}, and in the sources {here}"
                     for there, here in zip(page, ours) if there != here)
+        yield from compare_in_c(row.line, row.reply)
     yield from (f"docs/FORMATS.md:{row.line}: the sources have no {variant} {row.number} {row.name}"
                 for row in rows.values())
 
 
 def compare_records():
-    """The page's records with those of the sources, and the names of their fields in C."""
-    ours, in_c = source.records(), source.names_in_c()
+    """The page's records with those of the sources."""
+    ours = source.records()
     for name, (line, fields) in formats.records().items():
         here, there = spelled(ours.get(name, [])), spelled((field.name, field.kind) for field in fields)
         if here != there:
             yield f"docs/FORMATS.md:{line}: {name} has {there}, and in the sources {here}"
-        for field in fields:
-            name_in_c = in_c.get(field.name, field.name.upper()).lower()
-            if field.kind != "id" and field.in_c != name_in_c:
-                yield f"docs/FORMATS.md:{line}: {field.name} is {field.in_c} in C, and in the sources {name_in_c}"
+        yield from compare_in_c(line, fields)
 
 
 def compare_codes(page, found, wanted):
@@ -244,7 +252,7 @@ def compare_lines():
     for each in source.operations():
         for what, rows, begin, fields in (("request", asks, each.name, each.request), ("reply", tails, "", each.reply)):
             line, there = rows.get(each.name, (None, ""))
-            here = begin + "".join(f" {camel(name)}={LINES.get(kind, kind)}" for name, kind in fields)
+            here = begin + "".join(f" {source.in_line(name)}={LINES.get(kind, kind)}" for name, kind in fields)
             if line is None:
                 yield f"docs/FORMATS.md: no row of the line of a {what} of {each.name}"
             elif each.name != "multi" and re.sub(r"^name\b", each.name, there) != here:
@@ -270,11 +278,26 @@ def compare_parts():
                 for number, each in known.items() if number > 0 and rows.get(str(number)) != each.name)
 
 
+def compare_forms():
+    """The names of the fields that tools/forms.py has, besides those of operations."""
+    text, records = (TOP / "tools" / "forms.py").read_text(), source.records()
+    ro, zxid = ("read_only", "bool"), ("zxid", "long")
+    for name, fields in (("STAT", records["Stat"]), ("CONNECT", [*records["ConnectRequest"], ro]),
+                         ("REPLIES[listing.CONNECT]", [*records["ConnectResponse"], ro]),
+                         ("REPLIES[listing.EVENT]", [zxid, *records["WatcherEvent"]])):
+        row = re.search(rf"^{re.escape(name)} = (.*?)\n(?=\S)", text, re.M | re.S)
+        found = ["".join(pair) for pair in re.findall(r'"(\w+)"|(\w+):\w+', row[1] if row else "")]
+        wanted = [source.in_line(name) for name, _ in fields]
+        if found != wanted:
+            line = text.count("\n", 0, row.start()) + 1 if row else 0
+            yield f"tools/forms.py:{line}: {name} has {', '.join(found)}, and in the sources {', '.join(wanted)}"
+
+
 def compare_field_rows():
-    """Code that has a row for each name of a field."""
-    for name, begin, elsewhere in FIELD_ROWS:
-        rows = {*re.findall(begin, (TOP / name).read_text())} | elsewhere | {"NONE"}
-        yield from (f"{name}: no row of ZK_NAME_{field}" for field in source.field_names() if field not in rows)
+    """The plugin's table of the names of fields."""
+    rows = re.findall(r"\[ZK_NAME_(\w+)\] =", (TOP / "wireshark" / "tree.c").read_text())
+    yield from (f"wireshark/tree.c: no row of ZK_NAME_{name}" for name in source.field_names()
+                if name not in rows and name != "NONE")
 
 
 def compare_constants():
@@ -300,13 +323,14 @@ def compared():
     yield compare_lines()
     yield compare_codes("docs/REASONS.md", reasons(), source.reasons())
     yield compare_parts()
+    yield compare_forms()
     yield compare_field_rows()
     yield compare_constants()
 
 
 def judged(writes):
     """A list for each file and each comparison: what is wrong."""
-    for name in WRITTEN:
+    for name in (*PARTS, *WHOLE):
         path = TOP / name
         found = path.read_text().splitlines()
         wanted = current(name, found)

@@ -5,6 +5,7 @@ A field is a pair: its name in zk_records, and its kind, which is int, long, boo
 parts or results. What isn't found in the sources is a Missing.
 """
 
+import functools
 import pathlib
 import re
 from typing import List, NamedTuple, Optional, Tuple
@@ -39,6 +40,7 @@ def plain(text):
     return re.sub(r"/\*.*?\*/|//[^\n]*", "", text, flags=re.S)
 
 
+@functools.lru_cache(maxsize=None)
 def text_of(crate, *names):
     """The text of these files of a crate, of all if none is named, without comments."""
     folder = TOP / "crates" / crate / "src"
@@ -102,6 +104,7 @@ def variants(crate, name):
     return some([(variant, (held, fields(spelled))) for variant, held, spelled in rows], f"variants of {name}")
 
 
+@functools.lru_cache(maxsize=None)
 def operations():
     """The operations in the order of their numbers, closeSession's last."""
     of_record, release, rules = records(), releases(), xids()
@@ -145,6 +148,21 @@ def names_in_c():
     return some([pair for pair in sorted(pairs) if pair[1] != "NONE"], "names in C")
 
 
+@functools.lru_cache(maxsize=None)
+def names_in_lines():
+    """By the name of a field in zk_records, the one that zk_lines has in a line."""
+    words = dict(re.findall(r'Word::(\w+) => b" (\w+)="', body(text_of("zk_lines", "word"), "fn word_bytes")))
+    rows = " ".join(re.findall(r"\$then!\((.*?)\)\n", text_of("zk_lines", "request", "ask", "answer", "body"), re.S))
+    pairs = [*re.findall(r"\b([A-Z]\w*) ([a-z]\w*)(?=[,)]|$)", rows), ("ReadOnly", "read_only"),
+             *((word, name) for name, word in re.findall(r"\b[A-Z]\w* ([a-z]\w*) ([A-Z]\w*)", rows))]
+    return some([(name, words[word]) for word, name in pairs if word in words], "words of fields")
+
+
+def in_line(name):
+    """The name of a field in a line, or as the parts of a Stat, which a line doesn't name, are called elsewhere."""
+    return names_in_lines().get(name) or re.sub(r"_(\w)", lambda found: found[1].upper(), name)
+
+
 def statuses():
     """The number of each status, by its name in C without ZK_; that of a null pointer is the header's own."""
     text = text_of("zk_c")
@@ -163,6 +181,7 @@ def reasons():
     return some([(int(number), name) for name, number in rows], "reasons")
 
 
+@functools.lru_cache(maxsize=None)
 def names():
     """By kind, the name of each number: of operation, error, event, field and status."""
     ordered = {each.number: each.name for each in sorted([*operations(), *parts()], key=lambda each: each.number)}
