@@ -23,7 +23,8 @@ import source
 from source import TOP
 
 BEGIN, END = "The lines from here on are written by docs/names.py", "Up to here."
-ENTRY = re.compile(r'-?\d+: "\w+"|\{[\w()-]+, "\w+"\}|(?<=[( ])-?\d+(?=, -?[\dI])')
+ENTRY = re.compile(r'-?\d+: "\w+"|\{[\w()-]+, "\w+"\}|\{-?\d+, (?:true|false)[^}]*\}'
+                   r"|(?<=[( ])-?\d+(?=, -?[\dI])")
 # Kinds of numbers: the types of C and of Rust, the table in Python, and of what they are.
 KINDS = (("operation", "int32_t", "i32", "OPERATIONS", "an operation, or of a part of a multi"),
          ("error", "int32_t", "i32", "ERRORS", "a reply's err"),
@@ -140,6 +141,18 @@ def operation_rows(lines):
             for line in (operation_row(found[number], constants) if number in found else there[number][1])]
 
 
+def hole_shapes(_):
+    """The sizes of requests, of all operations that tools/operations.py has."""
+    known, words = runpy.run_path(str(TOP / "tools" / "operations.py")), []
+    for each in known["ALL"]:
+        path = each.request.startswith(known["PATH"])
+        least, exactly = known["least"](each.request.replace(known["PATH"], "", 1) if path else each.request)
+        if each.name != "check":
+            flags = f"{str(path).lower()}, {str(exactly).lower()}"
+            words.append(f"{{{each.number}, {flags}, {least if path else 8 + least}}},")
+    return ["static const struct shape shapes[] = {", *wrapped(words, 120), "};"]
+
+
 def random_operations(_):
     known = [str(number) for number in sorted(source.names()["operation"], key=lambda number: (number < 0, number))]
     words = [f"{number}," for number in (*known, *ODD_OPERATIONS)]
@@ -160,8 +173,8 @@ def json_keys(_):
 # By file, what writes all of it, or each of its marked parts.
 WHOLE = {"examples/python/libzk/_names.py": python_names, "examples/rust/zk/src/names.rs": rust_names}
 PARTS = {"include/zk.h": (header_enum, header_functions), "wireshark/names.c": (plugin_names,),
-         "tools/operations.py": (operation_rows,), "tools/columns/json.c": (json_keys,),
-         "tests/chosen.h": (random_operations,)}
+         "tools/operations.py": (operation_rows,), "wireshark/hole.c": (hole_shapes,),
+         "tools/columns/json.c": (json_keys,), "tests/chosen.h": (random_operations,)}
 
 
 def current(name, lines):

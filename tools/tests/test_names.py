@@ -10,9 +10,9 @@ from support import TOP, ToolCase
 FOLDERS = [f"crates/{name}/src" for name in ("zk_records", "zk_asks", "zk_answers", "zk_fields", "zk_lines", "zk_c")]
 FILES = ("docs/names.py", "docs/source.py", "docs/formats.py", "docs/FORMATS.md", "docs/REASONS.md", "include/zk.h",
          "examples/python/libzk/_names.py", "examples/rust/zk/src/names.rs", "examples/server.c", "wireshark/names.c",
-         "wireshark/tree.c", "wireshark/message.h", "tools/operations.py", "tools/forms.py", "tools/columns/json.c",
-         "tests/chosen.h", "bench/peer/peer.rs")
-ALL_PASSED = (0, ["18 passed, 0 failed"])
+         "wireshark/tree.c", "wireshark/hole.c", "wireshark/message.h", "tools/operations.py", "tools/forms.py",
+         "tools/columns/json.c", "tests/chosen.h", "bench/peer/peer.rs")
+ALL_PASSED = (0, ["19 passed, 0 failed"])
 # A file, what is replaced in it and by what, and what is then said: `{line}` is the line of the change.
 WRITTEN = (
     ("include/zk.h", '    case 8: return "getChildren";\n', "", 'lacks case 8: return "getChildren";'),
@@ -35,6 +35,8 @@ WRITTEN = (
      'lacks Operation(11, "ping", "3.4", "", "", -2, False),'),
     ("tools/columns/json.c", '    case ZK_NAME_WATCH: return ", \\"watch\\": ";\n', "",
      r'lacks case ZK_NAME_WATCH: return ", \"watch\": ";'),
+    ("wireshark/hole.c", "{8, true, true, 1}, ", "{8, true, true, 2}, ",
+     "has {8, true, true, 2}; lacks {8, true, true, 1}"),
     ("tests/chosen.h", "PICK(1, 2, 3, 4,", "PICK(1, 2, 4,", "lacks 3"),
 )
 COMPARED = (
