@@ -43,14 +43,14 @@ def in_order(kind, names):
     return sorted(names.items(), reverse=kind == "error")
 
 
-def wrapped(words, width, indent="    "):
-    """Words in lines of at most this width."""
-    lines = []
-    for word in words:
-        if lines and len(lines[-1]) + 1 + len(word) <= width:
+def wrapped(words, width, more=4):
+    """Words in lines of at most this width: the first line is indented by four places, the others by `more`."""
+    lines = [f"    {words[0]}"]
+    for word in words[1:]:
+        if len(lines[-1]) + 1 + len(word) <= width:
             lines[-1] += f" {word}"
         else:
-            lines.append(indent + word)
+            lines.append(" " * more + word)
     return lines
 
 
@@ -157,7 +157,7 @@ def random_operations(_):
     known = [str(number) for number in sorted(source.names()["operation"], key=lambda number: (number < 0, number))]
     words = [f"{number}," for number in (*known, *ODD_OPERATIONS)]
     words[-1] = words[-1].replace(",", ");")
-    return wrapped(["return (int32_t)PICK(" + words[0], *words[1:]], 120)
+    return wrapped(["return (int32_t)PICK(" + words[0], *words[1:]], 120, 25)
 
 
 def json_keys(_):
@@ -194,14 +194,14 @@ def current(name, lines):
 def differences(name, found, wanted):
     """What a file lacks, and what it has instead, by the line."""
     def entries(lines):
-        return [entry for line in lines for entry in ENTRY.findall(line) or [line.strip()]]
+        return [entry for line in lines for entry in ENTRY.findall(line) or [line.strip().rstrip(",;")]]
     for tag, a, b, c, d in difflib.SequenceMatcher(None, found, wanted, autojunk=False).get_opcodes():
         if tag != "equal":
             has, lacks = entries(found[a:b]), entries(wanted[c:d])
             more = [entry for entry in has if entry not in lacks]
             less = [entry for entry in lacks if entry not in has]
             told = [f"{word} {', '.join(each)}" for word, each in (("has", more), ("lacks", less)) if each]
-            yield f"{name}:{a + 1}: {'; '.join(told) or 'its lines are in another order'}"
+            yield f"{name}:{a + 1}: {'; '.join(told) or 'its lines are laid out otherwise'}"
 
 
 # ---- What is compared
@@ -279,16 +279,22 @@ def reasons():
         yield int(found[1]), (text.count("\n", 0, found.start()) + 1, found[2])
 
 
-def compare_parts():
-    """The parts in tools/operations.py, which are no operations, and its names with the plugin's."""
+def compare_others():
+    """What tools/operations.py has and the sources lack: the parts of a multi that are no operations, and with the
+    plugin's names those of later releases."""
     known = runpy.run_path(str(TOP / "tools" / "operations.py"))["BY_NUMBER"]
     for each in source.parts():
         row = known.get(each.number)
         if row is None or row.name != each.name or len(row.request.split()) != len(each.request):
             yield f"tools/operations.py: no row of the part {each.number} {each.name} with {spelled(each.request)}"
-    rows = dict(re.findall(r'\{(\d+), "(\w+)"\}', (TOP / "wireshark" / "names.c").read_text().partition("};")[0]))
+    text = (TOP / "wireshark" / "names.c").read_text()
+    rows = dict(re.findall(r'\{(\d+), "(\w+)"\}', text.partition("};")[0]))
     yield from (f"wireshark/names.c: no row of {number} {each.name}, which tools/operations.py has"
                 for number, each in known.items() if number > 0 and rows.get(str(number)) != each.name)
+    newer = re.findall(r"op >= (\d+) && op <= (\d+)", text)
+    yield from (f"wireshark/names.c: op_is_newer is wrong on {number} {each.name}" for number, each in known.items()
+                if any(int(least) <= number <= int(most) for least, most in newer) != (each.release != "3.4" and
+                                                                                       each.name != "check"))
 
 
 def compare_forms():
@@ -335,7 +341,7 @@ def compared():
     yield compare_codes("docs/FORMATS.md", formats.events(), names["event"])
     yield compare_lines()
     yield compare_codes("docs/REASONS.md", reasons(), source.reasons())
-    yield compare_parts()
+    yield compare_others()
     yield compare_forms()
     yield compare_field_rows()
     yield compare_constants()
