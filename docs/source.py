@@ -99,7 +99,7 @@ def allows(rule, xid):
 
 def variants(crate, name):
     """The variants of an enum in frame.rt, each with the name of what it holds, and the fields of its own."""
-    rows = re.findall(r"^    (\w+)(?:\((\w+?)(?:Of)?(?:<[^>]*>)?\)| \{(.*?)\})?,$",
+    rows = re.findall(r"^    (\w+)(?:\((\w+?)(?:Of)?(?:<[^>]*>)?\)| \{([^}]*)\})?,$",
                       body(text_of(crate, "frame"), f"enum {name}"), re.M)
     return some([(variant, (held, fields(spelled))) for variant, held, spelled in rows], f"variants of {name}")
 
@@ -111,6 +111,8 @@ def operations():
     asks, bodies = variants("zk_asks", "AskOf"), variants("zk_answers", "BodyOf")
     found = []
     for variant, (number, name) in numbers("op").items():
+        if not (variant in release and variant in asks and variant in bodies):
+            raise Missing(f"the crates' sources have no {variant} in op_of, AskOf or BodyOf")
         held, rule = asks[variant][0], rules.get(variant, rules[""])
         own = [xid for xid in OWN_XIDS if allows(rule, xid)]
         found.append(Operation(

@@ -8,7 +8,8 @@ import sys
 from support import TOP, ToolCase
 
 FOLDERS = [f"crates/{name}/src" for name in ("zk_records", "zk_asks", "zk_answers", "zk_fields", "zk_lines", "zk_c")]
-FILES = ("docs/names.py", "docs/source.py", "docs/formats.py", "docs/FORMATS.md", "docs/REASONS.md", "include/zk.h",
+FILES = ("docs/names.py", "docs/lists.py", "docs/source.py", "docs/formats.py", "docs/FORMATS.md", "docs/REASONS.md",
+         "include/zk.h",
          "examples/python/libzk/_names.py", "examples/rust/zk/src/names.rs", "examples/server.c", "wireshark/names.c",
          "wireshark/tree.c", "wireshark/hole.c", "wireshark/message.h", "tools/operations.py", "tools/forms.py",
          "tools/columns/json.c", "tests/chosen.h", "bench/peer/peer.rs")
@@ -83,6 +84,8 @@ COMPARED = (
       'examples/python/libzk/_names.py:*: has -102: "NOAUTH"; lacks -102: "NORIGHT"',
       'examples/rust/zk/src/names.rs:*: has -102 => "NOAUTH"; lacks -102 => "NORIGHT"',
       "docs/FORMATS.md:*: -102 is NOAUTH, and in the sources NORIGHT")),
+    ("crates/zk_answers/src/frame.rt", "    Sync { path: T },\n", "",
+     ("the crates' sources have no Sync in op_of, AskOf or BodyOf",)),
     ("crates/zk_records/src/op.rt", "pub fn op_number", "pub fn number_of",
      ("the crates' sources have no fn op_number",)),
     ("include/zk.h", "/* Up to here. */\n", "", ("include/zk.h has 3 marks, not 4",)),
