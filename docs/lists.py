@@ -90,20 +90,22 @@ def plugin_names(lines):
     return [*found, "const value_string reason_names[] = {", *wrapped([*entries, "{0, NULL},"], 120), "};"]
 
 
+def form(fields):
+    """Fields as tools/operations.py has them."""
+    words = []
+    for name, kind in fields:
+        is_id = kind == "long" and (name.endswith("zxid") or name.startswith("session"))
+        words.append(f"{source.in_line(name)}:{'hexadecimal' if is_id else TOOLS.get(kind, kind)}")
+    return " ".join(words)
+
+
 def operation_row(each, constants):
-    """The row of an operation in tools/operations.py."""
-    def spelled(fields):
-        words = []
-        for name, kind in fields:
-            is_id = kind == "long" and (name.endswith("zxid") or name.startswith("session"))
-            words.append(f"{source.in_line(name)}:{'hexadecimal' if is_id else TOOLS.get(kind, kind)}")
-        text = " ".join(words)
-        return constants.get(text, f'"{text}"')
-    more = ["" if each.xid is None else str(each.xid), "" if each.ordinary else "False"]
-    words = [str(each.number), f'"{each.name}"', f'"{each.release}"', spelled(each.request), spelled(each.reply)]
-    row = f"    Operation({', '.join([*words, *filter(None, more)])}),"
-    return [row] if len(row) <= 120 else [f"    Operation({', '.join(words[:3])},",
-                                          f"              {', '.join([*words[3:], *filter(None, more)])}),"]
+    """The row of an operation in tools/operations.py, in one line or in two."""
+    forms = [constants.get(text, f'"{text}"') for text in (form(each.request), form(each.reply))]
+    begin = f'    Operation({each.number}, "{each.name}", "{each.release}",'
+    more = [*forms, *([] if each.xid is None else [str(each.xid)]), *([] if each.ordinary else ["False"])]
+    end = f"{', '.join(more)}),"
+    return [f"{begin} {end}"] if len(begin) + 1 + len(end) <= 120 else [begin, " " * 14 + end]
 
 
 def operation_rows(lines):

@@ -26,7 +26,7 @@ ENTRY = re.compile(r'-?\d+: "\w+"|\{[\w()-]+, "\w+"\}|\{-?\d+, (?:true|false)[^}
                    r"|(?<=[( ])-?\d+(?=, -?[\dI])")
 # A kind of field in a line.
 LINES = {"int": "num", "long": "num", "bool": "bit", "texts": "list of text", "acl": "list of acl"}
-CONSTANTS = ("bench/peer/peer.rs", "wireshark/message.h", "examples/server.c")
+CONSTANTS = ("bench/peer/peer.rs", "bench/make_recording.py", "wireshark/message.h", "examples/server.c")
 
 
 def differences(name, found, wanted):
@@ -123,7 +123,7 @@ def compare_others():
     known = runpy.run_path(str(TOP / "tools" / "operations.py"))["BY_NUMBER"]
     for each in source.parts():
         row = known.get(each.number)
-        if row is None or row.name != each.name or len(row.request.split()) != len(each.request):
+        if row is None or (row.name, row.request) != (each.name, lists.form(each.request)):
             yield f"tools/operations.py: no row of the part {each.number} {each.name} with {spelled(each.request)}"
     text = (TOP / "wireshark" / "names.c").read_text()
     rows = dict(re.findall(r'\{(\d+), "(\w+)"\}', text.partition("};")[0]))
@@ -157,16 +157,24 @@ def compare_field_rows():
                 if name not in rows and name != "NONE")
 
 
+def constants(name):
+    """The constants of a file: where each is, its name, and its number."""
+    text = (TOP / name).read_text()
+    if name.endswith(".py"):
+        known = runpy.run_path(str(TOP / name))
+        yield from ((name, each, number) for each, number in known.items() if isinstance(number, int))
+        return
+    for found in re.finditer(r"\b(?:OP_)?([A-Z][A-Z_0-9]*)(?:: i32)? = (-?\d+)\b", text):
+        yield f"{name}:{text.count(chr(10), 0, found.start()) + 1}", found[1], int(found[2])
+
+
 def compare_constants():
     """Constants that are named as operations or errors."""
     numbers = {name.upper(): number for kind in ("error", "operation") for number, name in source.names()[kind].items()}
-    for name in CONSTANTS:
-        text = (TOP / name).read_text()
-        for found in re.finditer(r"\b(?:OP_)?([A-Z][A-Z_0-9]*)(?:: i32)? = (-?\d+)\b", text):
-            number = numbers.get(found[1].replace("_", ""), int(found[2]))
-            if number != int(found[2]):
-                line = text.count("\n", 0, found.start()) + 1
-                yield f"{name}:{line}: {found[0]}, and in the sources it is {number}"
+    for where, each, number in (found for name in CONSTANTS for found in constants(name)):
+        wanted = numbers.get(each.replace("_", ""), number)
+        if number != wanted:
+            yield f"{where}: {each} is {number}, and in the sources {wanted}"
 
 
 def compared():

@@ -12,7 +12,7 @@ FILES = ("docs/names.py", "docs/lists.py", "docs/source.py", "docs/formats.py", 
          "include/zk.h",
          "examples/python/libzk/_names.py", "examples/rust/zk/src/names.rs", "examples/server.c", "wireshark/names.c",
          "wireshark/tree.c", "wireshark/hole.c", "wireshark/message.h", "tools/operations.py", "tools/forms.py",
-         "tools/columns/json.c", "tests/chosen.h", "bench/peer/peer.rs")
+         "tools/columns/json.c", "tests/chosen.h", "bench/peer/peer.rs", "bench/make_recording.py")
 ALL_PASSED = (0, ["19 passed, 0 failed"])
 # A file, what is replaced in it and by what, and what is then said: `{line}` is the line of the change.
 WRITTEN = (
@@ -77,7 +77,9 @@ COMPARED = (
       "ephemeralOwner, dataLength, numChildren, pzxid",)),
     ("wireshark/tree.c", "[ZK_NAME_AUTH] = FIELD_AUTH, ", "", ("wireshark/tree.c: no row of ZK_NAME_AUTH",)),
     ("bench/peer/peer.rs", "const GET_ACL: i32 = 6;", "const GET_ACL: i32 = 7;",
-     ("bench/peer/peer.rs:{line}: GET_ACL: i32 = 7, and in the sources it is 6",)),
+     ("bench/peer/peer.rs:{line}: GET_ACL is 7, and in the sources 6",)),
+    ("bench/make_recording.py", "NODE_EXISTS = -101, -103, -110", "NODE_EXISTS = -101, -103, -111",
+     ("bench/make_recording.py: NODE_EXISTS is -111, and in the sources -110",)),
     ("crates/zk_records/src/names.rt", '-102 => Some("NOAUTH"),', '-102 => Some("NORIGHT"),',
      ("include/zk.h:*: has case -102: return \"NOAUTH\"; lacks case -102: return \"NORIGHT\"",
       "wireshark/names.c:*: has {NUMBER(-102), \"NOAUTH\"}; lacks {NUMBER(-102), \"NORIGHT\"}",
@@ -134,6 +136,12 @@ class Names(ToolCase):
         at = text.index(old)
         (self.folder / name).write_text(text[:at] + new + text[at + len(old):])
         return text, text.count("\n", 0, at) + 1
+
+    def test_words(self):
+        for words in ([], ["--check", "--write"], ["--help"]):
+            done = subprocess.run([sys.executable, self.folder / "docs" / "names.py", *words], capture_output=True,
+                                  text=True, check=False)
+            self.assertEqual((done.returncode, done.stdout, done.stderr), (2, "", "docs/names.py --write|--check\n"))
 
     def test_written(self):
         """A written row that is removed or changed is named, and written again."""
