@@ -11,7 +11,7 @@ from typing import List, NamedTuple, Optional
 PAGE = pathlib.Path(__file__).resolve().parent / "FORMATS.md"
 KINDS = {"int": "int", "long": "long", "boolean": "bool", "ustring": "text", "buffer": "blob", "Stat": "stat",
          "Id": "id", "vector of ustring": "texts", "vector of ACL": "acl"}
-FIELD = re.compile(r"(vector of \w+|\w+)(?: ([a-z]\w*))?(?: \(([^)]*)\))?")
+FIELD = re.compile(rf"({'|'.join(KINDS)})(?: ([a-z]\w*))?(?: \(([^)]*)\))?$")
 
 
 class Field(NamedTuple):
@@ -32,6 +32,14 @@ class Row(NamedTuple):
     reply: List[Field]
 
 
+def matched(pattern, text, line):
+    """What a cell's text is found to be; a ValueError where it is something else."""
+    found = re.match(pattern, text)
+    if found is None:
+        raise ValueError(f"docs/FORMATS.md:{line}: this can't be read: {text}")
+    return found
+
+
 def rows(*head):
     """The rows of the tables whose heads begin with these cells: the line of each, and its cells."""
     inside = None
@@ -46,15 +54,13 @@ def rows(*head):
             yield number, cells
 
 
-def fields(text):
+def fields(text, line):
     """The fields that a cell spells. Jute's name, in brackets where it differs, is that in C where it is in lower
     case."""
     text = re.sub(r"\w+ vectors of (\w+): (.*)", lambda found: ", ".join(
         f"vector of {found[1]} {name}" for name in found[2].split(", ")), text)
     for spelled in [] if text == "nothing" else re.split(r", (?![^(]*\))", text):
-        found = FIELD.fullmatch(spelled)
-        if found is None or found[1] not in KINDS:
-            raise ValueError(f"docs/FORMATS.md: this is no field: {spelled}")
+        found = matched(FIELD, spelled, line)
         jute = (found[3] or "").partition(";")[0]
         name = found[2] or found[1].lower()
         yield Field(name, jute if re.fullmatch("[a-z]+", jute) else name, KINDS[found[1]])
@@ -62,13 +68,13 @@ def fields(text):
 
 def records():
     """The line and the fields of each record that section 3 has, and of those that the operations have."""
-    found = {re.match(r"`(\w+)`", cells[0])[1]: (line, list(fields(cells[1])))
+    found = {matched(r"`(\w+)`", cells[0], line)[1]: (line, list(fields(cells[1], line)))
              for line, cells in rows("Record", "Fields in order")}
     for variant in ("Op", "PartOp"):
         for line, cells in rows("Number", f"Name and `{variant}`"):
             record = re.match(r"`(\w+)` \(\w+\): (.*)", cells[2])
             if record:
-                found[record[1]] = line, list(fields(record[2]))
+                found[record[1]] = line, list(fields(record[2], line))
     return found
 
 
@@ -76,12 +82,12 @@ def table(variant):
     """The operations (of the variants of Op) or the parts of a multi (PartOp)."""
     known = records()
     for line, (number, named, asked, answered) in rows("Number", f"Name and `{variant}`"):
-        name, variant_of = re.fullmatch(r"(\w+), `(\w+)`", named).groups()
-        record = re.match(r"`(\w+)`", asked)
+        name, variant_of = matched(r"(\w+), `(\w+)`$", named, line).groups()
+        record = re.match(rf"`({'|'.join(known)})`", asked)
         if asked == "section 6":
             forms = [Field("parts", "parts", "parts")], [Field("results", "results", "results")]
         else:
-            forms = known[record[1]][1] if record else list(fields(asked)), list(fields(answered))
+            forms = known[record[1]][1] if record else list(fields(asked, line)), list(fields(answered, line))
         yield Row(line, int(number), name, variant_of, record and record[1], *forms)
 
 

@@ -53,6 +53,8 @@ COMPARED = (
     ("docs/FORMATS.md", "vector of ustring names (children), Stat (GetChildren2Response)",
      "vector of ustring names (paths), Stat (GetChildren2Response)",
      ("docs/FORMATS.md:{line}: names is paths in C, and in the sources children",)),
+    ("docs/FORMATS.md", "(SyncRequest) | ustring path (SyncResponse)", "(SyncRequest) | string path (SyncResponse)",
+     ("docs/FORMATS.md:{line}: this can't be read: string path (SyncResponse)",)),
     ("docs/FORMATS.md", "-103 | BADVERSION", "-104 | BADVERSION",
      ("docs/FORMATS.md: no row of -103 BADVERSION",
       "docs/FORMATS.md:{line}: -104 is BADVERSION, and in the sources nothing")),
