@@ -26,6 +26,8 @@ ENTRY = re.compile(r'-?\d+: "\w+"|\{[\w()-]+, "\w+"\}|\{-?\d+, (?:true|false)[^}
                    r"|(?<=[( ])-?\d+(?=, -?[\dI])")
 # A kind of field in a line.
 LINES = {"int": "num", "long": "num", "bool": "bit", "texts": "list of text", "acl": "list of acl"}
+# The enumerations of the package for Python: how each name begins in the header.
+ENUMERATIONS = {"Side": "ZK_", "Profile": "ZK_PROFILE_", "Kind": "ZK_", "FieldKind": "ZK_KIND_", "Went": "ZK_"}
 CONSTANTS = ("bench/peer/peer.rs", "bench/make_recording.py", "wireshark/message.h", "examples/server.c")
 
 
@@ -157,6 +159,23 @@ def compare_field_rows():
                 if name not in rows and name != "NONE")
 
 
+def compare_enumerations():
+    """The enumerations of the package for Python with the header's."""
+    header = dict(re.findall(r"\b(ZK_\w+) = (-?\d+)", (TOP / "include" / "zk.h").read_text()))
+    found = {}
+    for path in sorted((TOP / "examples" / "python" / "libzk").glob("*.py")):
+        text = path.read_text()
+        for each in re.finditer(r"^class (\w+)\(enum.IntEnum\):\n(?:^(?:    .*)?\n)*", text, re.M):
+            rows = dict(re.findall(r"^    V?(\w+) = (\d+)$", each[0], re.M))
+            found[each[1]] = f"{path.relative_to(TOP)}:{text.count(chr(10), 0, each.start()) + 1}", rows
+    for kind, begin in ENUMERATIONS.items():
+        where, rows = found.get(kind, ("examples/python/libzk", {}))
+        if not rows:
+            yield f"{where}: no enumeration {kind}"
+        yield from (f"{where}: {kind}.{name} is {number}, and {begin}{name} {header.get(begin + name)}"
+                    for name, number in rows.items() if header.get(begin + name) != number)
+
+
 def constants(name):
     """The constants of a file: where each is, its name, and its number."""
     text = (TOP / name).read_text()
@@ -190,6 +209,7 @@ def compared():
     yield compare_others()
     yield compare_forms()
     yield compare_field_rows()
+    yield compare_enumerations()
     yield compare_constants()
 
 

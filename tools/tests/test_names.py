@@ -9,11 +9,11 @@ from support import TOP, ToolCase
 
 FOLDERS = [f"crates/{name}/src" for name in ("zk_records", "zk_asks", "zk_answers", "zk_fields", "zk_lines", "zk_c")]
 FILES = ("docs/names.py", "docs/lists.py", "docs/source.py", "docs/formats.py", "docs/FORMATS.md", "docs/REASONS.md",
-         "include/zk.h",
-         "examples/python/libzk/_names.py", "examples/rust/zk/src/names.rs", "examples/server.c", "wireshark/names.c",
+         "include/zk.h", "examples/python/libzk/_names.py", "examples/python/libzk/_messages.py",
+         "examples/python/libzk/_held.py", "examples/rust/zk/src/names.rs", "examples/server.c", "wireshark/names.c",
          "wireshark/tree.c", "wireshark/hole.c", "wireshark/message.h", "tools/operations.py", "tools/forms.py",
          "tools/columns/json.c", "tests/chosen.h", "bench/peer/peer.rs", "bench/make_recording.py")
-ALL_PASSED = (0, ["19 passed, 0 failed"])
+ALL_PASSED = (0, ["20 passed, 0 failed"])
 # A file, what is replaced in it and by what, and what is then said: `{line}` is the line of the change.
 WRITTEN = (
     ("include/zk.h", '    case 8: return "getChildren";\n', "", 'lacks case 8: return "getChildren"'),
@@ -78,6 +78,8 @@ COMPARED = (
       "dataLength, numChildren, pzxid, and in the sources czxid, mzxid, ctime, mtime, version, cversion, aversion, "
       "ephemeralOwner, dataLength, numChildren, pzxid",)),
     ("wireshark/tree.c", "[ZK_NAME_AUTH] = FIELD_AUTH, ", "", ("wireshark/tree.c: no row of ZK_NAME_AUTH",)),
+    ("examples/python/libzk/_messages.py", "    BLOB = 5", "    BLOB = 6",
+     ("examples/python/libzk/_messages.py:*: FieldKind.BLOB is 6, and ZK_KIND_BLOB 5",)),
     ("bench/peer/peer.rs", "const GET_ACL: i32 = 6;", "const GET_ACL: i32 = 7;",
      ("bench/peer/peer.rs:{line}: GET_ACL is 7, and in the sources 6",)),
     ("bench/make_recording.py", "NODE_EXISTS = -101, -103, -110", "NODE_EXISTS = -101, -103, -111",
