@@ -208,6 +208,7 @@ enum {
 
 /* Names of a field (docs/FORMATS.md, sections 3 and 4; data, type, id and children are jute's). The elements of a list
  * have the list's name, except that each field of an access right has its own; the header of a part has none. */
+/* The lines from here on are written by docs/names.py. */
 enum {
     ZK_NAME_NONE = 0,
     ZK_NAME_PATH = 1,
@@ -245,6 +246,7 @@ enum {
     ZK_NAME_READ_ONLY = 33,
     ZK_NAME_ERR = 34
 };
+/* Up to here. */
 
 /* A field of a message: an item of its payload. Its content is the `length` bytes of the payload from `place` on: for a
  * text or a blob those after its length, for all else the whole item. `number` is that of an int, a long or a boolean
@@ -448,6 +450,7 @@ struct zk_line zk_listing(const struct zk_piece *pieces, size_t count, const uin
 
 /* ---- Names of numbers; "" where a number has none */
 
+/* The lines from here on are written by docs/names.py. */
 /* Of an operation, or of a part of a multi. */
 static inline const char *zk_operation_name(int32_t number) {
     switch (number) {
@@ -592,6 +595,7 @@ static inline const char *zk_status_name(uint32_t number) {
     default: return "";
     }
 }
+/* Up to here. */
 
 /* ---- Null pointers, and lengths of more than PTRDIFF_MAX bytes
  *

@@ -4,14 +4,19 @@
     answering.py [PORT]
 
 It listens at 127.0.0.1 (0, or no PORT: any free port), prints the port, and serves every connection until it is ended.
-A connect request is answered by a stored response. A reply's body is stored for each operation (docs/FORMATS.md,
-section 4), and has the node /a with the data "hello"; a request whose path ends with /missing is answered by NONODE.
+A connect request is answered by a stored response. A reply's body has for each field of its operation (docs/FORMATS.md,
+section 4) a stored value, of the node /a with the data "hello"; a request whose path ends with /missing is answered by
+NONODE.
 Each reply has its request's xid, and the next zxid. After a reply to closeSession the server ends the connection.
 """
 
+import pathlib
 import socketserver
 import struct
 import sys
+
+sys.path.append(str(pathlib.Path(__file__).resolve().parent.parent / "docs"))
+import formats  # noqa: E402
 
 CONNECTED = bytes.fromhex("00000000 00002710 0100000000000001 00000010 000102030405060708090a0b0c0d0e0f 00")
 STAT = bytes.fromhex("0000000000000004 0000000000000005 00000000000003e8 00000000000003e9 00000006 00000007 00000008"
@@ -20,8 +25,9 @@ PATH, CHILDREN = bytes.fromhex("00000002 2f61"), bytes.fromhex("00000002 0000000
 ACL = bytes.fromhex("00000001 0000001f 00000005 776f726c64 00000006 616e796f6e65")
 END = bytes.fromhex("ffffffff 01 ffffffff")
 CLOSE, MULTI, NO_NODE = -11, 14, -101
-BODIES = {1: PATH, 2: b"", 3: STAT, 4: bytes.fromhex("00000005 68656c6c6f") + STAT, 5: STAT, 6: ACL + STAT, 7: STAT,
-          8: CHILDREN, 9: PATH, 11: b"", 12: CHILDREN + STAT, 15: PATH + STAT, 100: b"", 101: b"", CLOSE: b""}
+VALUES = {"text": PATH, "blob": bytes.fromhex("00000005 68656c6c6f"), "texts": CHILDREN, "acl": ACL, "stat": STAT}
+BODIES = {row.number: b"".join(VALUES[field.kind] for field in row.reply)
+          for row in formats.table("Op") if row.number != MULTI}
 RESULTS = {1: PATH, 2: b"", 5: STAT, 13: b""}
 # The items after the path of a part, which a multi has to be walked by.
 PARTS = {1: ("blob", "acl", 4), 2: (4,), 5: ("blob", 4), 13: (4,)}

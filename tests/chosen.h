@@ -62,7 +62,9 @@ static uint32_t any_profile(void) {
 }
 
 static int32_t any_operation(void) {
+    /* The lines from here on are written by docs/names.py. */
     return (int32_t)PICK(1, 2, 3, 4, 5, 6, 7, 8, 9, 11, 12, 13, 14, 15, 100, 101, -11, 0, 10, -1, INT32_MIN, INT32_MAX);
+    /* Up to here. */
 }
 
 /* A limit that is mostly enough for the recordings, and seldom in need of much memory. */

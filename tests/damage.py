@@ -25,7 +25,10 @@ import re
 import struct
 import sys
 
-from program import BUILT, HEAD, Program, last_line, recording, sides, split, stored
+from program import BUILT, HEAD, TOP, Program, last_line, recording, sides, split, stored
+
+sys.path.append(str(TOP / "docs"))
+import formats  # noqa: E402
 
 BYTES = (0x00, 0x01, 0x7F, 0x80, 0xFF)
 LENGTHS = ("7fffffff", "80000000", "fffffffe")
@@ -87,13 +90,20 @@ def prefix(pieces, size):
 
 # Fields: int, long, boolean, text or data, list of texts, list of access rights, Stat.
 SIZES = {"i": 4, "l": 8, "o": 1, "S": 68}
-ASKS = {1: "ttAi", 2: "ti", 3: "to", 4: "to", 5: "tti", 6: "t", 7: "tAi", 8: "to", 9: "t", 11: "", 12: "to", 15: "ttAi",
-        100: "itt", 101: "lLLL", -11: ""}
-REPLIES = {1: "t", 2: "", 3: "S", 4: "tS", 5: "S", 6: "AS", 7: "S", 8: "L", 9: "t", 11: "", 12: "LS", 15: "tS", 100: "",
-           101: "", -11: ""}
-PARTS = {1: "ttAi", 2: "ti", 5: "tti", 13: "ti"}
-RESULTS = {1: "t", 2: "", 5: "S", 13: "", -1: "i"}
+LETTERS = {"int": "i", "long": "l", "bool": "o", "text": "t", "blob": "t", "texts": "L", "acl": "A", "stat": "S"}
 MULTI = 14
+
+
+def letters(of):
+    """A letter for each field."""
+    return "".join(LETTERS[field.kind] for field in of)
+
+
+OPERATIONS, OF_MULTI = [row for row in formats.table("Op") if row.number != MULTI], list(formats.table("PartOp"))
+ASKS = {row.number: letters(row.request) for row in OPERATIONS}
+REPLIES = {row.number: letters(row.reply) for row in OPERATIONS}
+PARTS = {row.number: letters(row.request) for row in OF_MULTI}
+RESULTS = {**{row.number: letters(row.reply) for row in OF_MULTI}, -1: "i"}
 
 
 def walk(payload, at, fields, found):

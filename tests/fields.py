@@ -2,25 +2,22 @@
 
 tests/library.py calls it. The rows of the table were derived from docs/FORMATS.md and docs/EXAMPLES.md. Then each row's
 payload is truncated at each byte and each byte is changed, and the answer is compared with that of a reader in this
-file, written from the tables of docs/FORMATS.md: the fields before a fault, and no byte outside of the room is written.
+file, by the tables of docs/FORMATS.md: the fields before a fault, and no byte outside of the room is written.
 """
 
 import ctypes
+import pathlib
+import sys
+
+sys.path.append(str(pathlib.Path(__file__).resolve().parent.parent / "docs"))
+import formats  # noqa: E402
 
 KINDS = dict(zip(("int", "long", "bool", "text", "blob", "list", "part"), range(1, 8)))
-STAT = ("czxid:long mzxid:long ctime:long mtime:long version:int cversion:int aversion:int ephemeral_owner:long "
-        "data_length:int num_children:int pzxid:long")
-RIGHTS = "acl:[perms:int scheme:text id:text]"
-CREATE, DELETE = f"path:text data:blob {RIGHTS} flags:int", "path:text version:int"
-SET_DATA, WATCH = "path:text data:blob version:int", "path:text watch:bool"
-ASKS = {1: CREATE, 2: DELETE, 3: WATCH, 4: WATCH, 5: SET_DATA, 6: "path:text", 7: f"path:text {RIGHTS} version:int",
-        8: WATCH, 9: "path:text", 11: "", 12: WATCH, 14: "parts", 15: CREATE, 100: "type:int scheme:text auth:blob",
-        101: "zxid:long data_watches:[text] exist_watches:[text] child_watches:[text]", -11: ""}
-BODIES = {1: "path:text", 2: "", 3: STAT, 4: f"data:blob {STAT}", 5: STAT, 6: f"{RIGHTS} {STAT}", 7: STAT,
-          8: "children:[text]", 9: "path:text", 11: "", 12: f"children:[text] {STAT}", 14: "results",
-          15: f"path:text {STAT}", 100: "", 101: "", -11: ""}
-PARTS = {1: CREATE, 2: DELETE, 5: SET_DATA, 13: DELETE}
-RESULTS = {1: "path:text", 2: "", 5: STAT, 13: "", -1: "err:int"}
+STAT = formats.columns(formats.records()["Stat"][1])
+ASKS = {row.number: formats.columns(row.request) for row in formats.table("Op")}
+BODIES = {row.number: formats.columns(row.reply) for row in formats.table("Op")}
+PARTS = {row.number: formats.columns(row.request) for row in formats.table("PartOp")}
+RESULTS = {**{row.number: formats.columns(row.reply) for row in formats.table("PartOp")}, -1: "err:int"}
 
 # A row: the call and its numbers, the payload, what message it is or what is wrong, and its fields, a line a field:
 # the place and the length of its content, its name, its kind, and its number if it has one.
@@ -185,7 +182,7 @@ class Stop(Exception):
 
 
 class Reader:
-    """The fields of a payload up to a place, by the tables above."""
+    """The fields of a payload up to a place, by the page's tables."""
 
     def __init__(self, payload, names):
         self.payload, self.names, self.place, self.fields = payload, names, 0, []

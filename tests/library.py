@@ -32,8 +32,9 @@ import renewed
 import written
 
 TOP = pathlib.Path(__file__).resolve().parent.parent
-sys.path += [str(TOP / "packaging"), str(TOP / "examples")]
+sys.path += [str(TOP / folder) for folder in ("packaging", "examples", "docs")]
 import make_library  # noqa: E402
+import source  # noqa: E402
 from build_library import CRATE, built  # noqa: E402
 
 HEADER = TOP / "include" / "zk.h"
@@ -47,12 +48,7 @@ C_TYPES = {"u8": "uint8_t", "u16": "uint16_t", "u32": "uint32_t", "u64": "uint64
            "Field": "struct zk_field", "ReadAnswer": "struct zk_read", "WriteAnswer": "struct zk_written",
            "WaitingAnswer": "struct zk_waiting", "HeldAnswer": "struct zk_held"}
 INSIDE = {"TalkBox", "PassageBox", "VoiceBox"}
-FIELDS, RECORDS = (TOP / "crates" / name / "src" for name in ("zk_fields", "zk_records"))
-
-
-def plain(text):
-    """C or Rattle without its comments."""
-    return re.sub(r"/\*.*?\*/|//[^\n]*", "", text, flags=re.S)
+FIELDS = TOP / "crates" / "zk_fields" / "src"
 
 
 def c_words(word):
@@ -71,10 +67,10 @@ def joined(text):
 
 def exported():
     """What the crate exports: of each call its result and the C types of its parameters; the fields of each struct that
-    C sees; the numbers."""
-    calls, structs, numbers = {}, {}, {}
+    C sees."""
+    calls, structs = {}, {}
     for path in [*sorted((CRATE / "src").glob("*.rt")), FIELDS / "field.rt"]:
-        text = plain(path.read_text())
+        text = source.plain(path.read_text())
         for name, words, result in re.findall(r'extern "C" fn (\w+)\((.*?)\)(?: -> (\w+))?\s', text, flags=re.S):
             types = [word.split(":", 1)[1].strip() for word in words.split(",") if ":" in word]
             calls[name] = (C_TYPES.get(result, "void"), [c for t in types if t != "Global" for c in c_words(t)])
@@ -82,19 +78,7 @@ def exported():
             if name not in INSIDE:
                 fields = re.findall(r"^\s+(?:pub )?(\w+): ([^,\n]+),", body, flags=re.M)
                 structs[C_TYPES[name]] = [(field, C_TYPES[kind]) for field, kind in fields]
-        numbers.update((name, int(n)) for name, n in re.findall(r"const (\w+): u32 = (\d+);", text))
-        for name, n in re.findall(r"LineReason::(\w+) => (\d+)", text):
-            numbers["LINE_" + name.upper()] = int(n)
-        for body in re.findall(r"fn (?:reason|say)_number.*?\n\}", text, flags=re.S):
-            for name, n in re.findall(r"(?:Reason|SayFault)::(\w+).*? => (\d+)", body):
-                numbers[re.sub(r"(?<=[a-z])(?=[A-Z])", "_", name).upper()] = int(n)
-    return calls, structs, numbers
-
-
-def field_names():
-    """The number of each name of a field."""
-    text = (FIELDS / "name.rt").read_text()
-    return {name: int(n) for name, n in re.findall(r"const (\w+): u16 = (\d+);", text)}
+    return calls, structs
 
 
 def went_numbers():
@@ -103,24 +87,9 @@ def went_numbers():
     return {name.upper(): int(n) for name, n in re.findall(r"Went::(\w+)(?:\(\w+\))? => \((\d+),", text)}
 
 
-def crate_names(numbers):
-    """What the header's functions for names should return, by those of zk_records: for each, the name of a number."""
-    text = plain((RECORDS / "names.rt").read_text() + (RECORDS / "op.rt").read_text())
-    body = {name: found for name, found in re.findall(r"^pub fn (\w+)(.*?)^\}", text, flags=re.M | re.S)}
-    operations = {}
-    for kind in ("op", "part"):
-        names = dict(re.findall(r'Op::(\w+) => "(\w+)"', body[f"{kind}_name"]))
-        operations.update((int(n), names[op]) for op, n in re.findall(r"Op::(\w+) => (-?\d+)", body[f"{kind}_number"]))
-    coded = {kind: {int(n): name for n, name in re.findall(r'(-?\d+) => Some\("(\w+)"\)', body[f"{call}_name"])}
-             for kind, call in (("error", "code"), ("event", "event"))}
-    named = {number: name.lower() for name, number in field_names().items() if name != "NONE"}
-    statuses = {number: name for name, number in numbers.items()}
-    return {"operation": operations, **coded, "field": named, "status": {**statuses, 70: "NULL"}}
-
-
 def declared():
     """The same of the header."""
-    text = plain(HEADER.read_text())
+    text = source.plain(HEADER.read_text())
     calls, structs = {}, {}
     for result, name, words in re.findall(r"^([a-z][\w ]*?[ *])(zk_\w+)\(([^)]*)\);", text, flags=re.M | re.S):
         types = [joined(re.sub(r"\w+$", "", word.strip())) for word in words.split(",")]
@@ -142,17 +111,17 @@ def header_names(numbers):
 
 def compare_header():
     """A line for each difference between the crate and its header."""
-    (calls, structs, numbers), (c_calls, c_structs, c_numbers) = exported(), declared()
+    (calls, structs), (c_calls, c_structs, c_numbers) = exported(), declared()
     for kind, ours, theirs in (("call", calls, c_calls), ("struct", structs, c_structs)):
         for name in sorted({*ours, *theirs}):
             yield (name, ours.get(name) == theirs.get(name),
                    f"{kind} {name}: the crate has {ours.get(name)}, the header {theirs.get(name)}")
-    ours, theirs = crate_names(numbers), header_names(c_numbers)
+    ours, theirs = source.names(), header_names(c_numbers)
     for kind in sorted({*ours, *theirs}):
         yield (kind, ours.get(kind) == theirs.get(kind),
                f"names of {kind}: {ours.get(kind)}, the header {theirs.get(kind)}")
-    numbers.update((f"NAME_{name}", number) for name, number in field_names().items())
-    numbers.update(went_numbers())
+    numbers = {**source.statuses(), **went_numbers()}
+    numbers.update((f"NAME_{name}", number) for name, number in source.field_names().items())
     for name, number in sorted(numbers.items()):
         yield (name, c_numbers.get(name) == number,
                f"number {name}: the crate has {number}, the header {c_numbers.get(name)}")
@@ -160,13 +129,14 @@ def compare_header():
 
 def compare_calls(shared):
     """Whether the calls answer what the tests' tables say, and read recordings' messages as the formats say."""
-    talk, names = importlib.import_module("talk"), {name.lower(): number for name, number in field_names().items()}
+    talk, statuses = importlib.import_module("talk"), source.statuses()
+    names = {name.lower(): number for name, number in source.field_names().items()}
     library = talk.Library(str(shared))
     yield from judged.compare(talk, library, declared()[2])
-    yield from fields.compare(talk, library, names, exported()[2])
+    yield from fields.compare(talk, library, names, statuses)
     recordings = sorted((TOP / "captures").glob("*.zkr"))
     yield from messages.compare(talk, library, names, recordings)
-    yield from written.compare(talk, library, names, exported()[2], recordings)
+    yield from written.compare(talk, library, names, statuses, recordings)
     yield from renewed.compare(talk, library, declared()[2], recordings)
 
 

@@ -6,13 +6,11 @@ import collections
 import struct
 import xml.etree.ElementTree
 
-import fields
+import fields  # which adds docs/ to the path
+import source
 from dissected import joined, wire, zkr
 
-NAMES = {name: number for number, name in enumerate(
-    ("none path data acl flags version watch perms scheme id type state auth czxid mzxid ctime mtime cversion aversion "
-     "ephemeral_owner data_length num_children pzxid children zxid data_watches exist_watches child_watches "
-     "protocol_version last_zxid_seen time_out session_id passwd read_only err").split())}
+NAMES = {name.lower(): number for name, number in source.field_names().items()}
 WORDS = {number: name for name, number in NAMES.items()}
 NUMBERS = {number: name for name, number in fields.KINDS.items()}
 STAT = {column.partition(":")[0] for column in fields.STAT.split()}

@@ -21,8 +21,8 @@ import facts
 import operations
 import zkr
 
-OPERATIONS = {each.number for each in operations.ALL if each.release == "3.4"}
-OF_PROFILE = {"3.4": OPERATIONS, "3.5": OPERATIONS | {operations.BY_NAME["create2"].number}}
+OF_PROFILE = {profile: {each.number for each in operations.ALL if each.release and each.release <= profile}
+              for profile in ("3.4", "3.5")}
 OTHERS = {each.number: each.name for each in operations.ALL if each.release != "3.4"}
 MULTI, AUTH = 14, 100
 EVENT_XID, AUTH_XID = -1, -4

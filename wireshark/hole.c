@@ -17,16 +17,16 @@ struct shape {
     uint32_t behind;
 };
 
+/* The lines from here on are written by docs/names.py. */
 static const struct shape shapes[] = {
-    {1, true, false, 12},   {2, true, true, 4},    {3, true, true, 1},    {4, true, true, 1},
-    {5, true, false, 8},    {6, true, true, 0},    {7, true, false, 8},   {8, true, true, 1},
-    {9, true, true, 0},     {11, false, true, 8},  {12, true, true, 1},   {14, false, false, 17},
-    {15, true, false, 12},  {16, false, false, 28}, {17, true, true, 4},  {18, true, true, 4},
-    {19, true, false, 12},  {20, true, true, 0},   {21, true, false, 20}, {22, false, false, 17},
+    {1, true, false, 12}, {2, true, true, 4}, {3, true, true, 1}, {4, true, true, 1}, {5, true, false, 8},
+    {6, true, true, 0}, {7, true, false, 8}, {8, true, true, 1}, {9, true, true, 0}, {11, false, true, 8},
+    {12, true, true, 1}, {14, false, false, 17}, {15, true, false, 12}, {16, false, false, 28}, {17, true, true, 4},
+    {18, true, true, 4}, {19, true, false, 12}, {20, true, true, 0}, {21, true, false, 20}, {22, false, false, 17},
     {100, false, false, 20}, {101, false, false, 28}, {102, false, false, 12}, {103, true, true, 0},
-    {104, true, true, 0},   {105, false, false, 36}, {106, true, true, 4}, {107, false, true, 8},
-    {OP_CLOSE, false, true, 8},
+    {104, true, true, 0}, {105, false, false, 36}, {106, true, true, 4}, {107, false, true, 8}, {-11, false, true, 8},
 };
+/* Up to here. */
 
 enum { SET_WATCHES_2 = 105 };
 

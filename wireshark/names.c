@@ -12,14 +12,14 @@
 
 #define NUMBER(n) ((guint32)(n))
 
+/* The lines from here on are written by docs/names.py; rows that the sources lack stay. */
 const value_string op_names[] = {
     {NUMBER(-11), "closeSession"}, {NUMBER(-10), "createSession"}, {NUMBER(-1), "error"}, {0, "notification"},
     {1, "create"}, {2, "delete"}, {3, "exists"}, {4, "getData"}, {5, "setData"}, {6, "getACL"}, {7, "setACL"},
-    {8, "getChildren"}, {9, "sync"}, {11, "ping"}, {12, "getChildren2"}, {13, "check"}, {14, "multi"},
-    {15, "create2"}, {16, "reconfig"}, {17, "checkWatches"}, {18, "removeWatches"}, {19, "createContainer"},
-    {20, "deleteContainer"}, {21, "createTTL"}, {22, "multiRead"}, {100, "auth"}, {101, "setWatches"}, {102, "sasl"},
-    {103, "getEphemerals"}, {104, "getAllChildrenNumber"}, {105, "setWatches2"}, {106, "addWatch"}, {107, "whoAmI"},
-    {0, NULL},
+    {8, "getChildren"}, {9, "sync"}, {11, "ping"}, {12, "getChildren2"}, {13, "check"}, {14, "multi"}, {15, "create2"},
+    {16, "reconfig"}, {17, "checkWatches"}, {18, "removeWatches"}, {19, "createContainer"}, {20, "deleteContainer"},
+    {21, "createTTL"}, {22, "multiRead"}, {100, "auth"}, {101, "setWatches"}, {102, "sasl"}, {103, "getEphemerals"},
+    {104, "getAllChildrenNumber"}, {105, "setWatches2"}, {106, "addWatch"}, {107, "whoAmI"}, {0, NULL},
 };
 
 const value_string error_names[] = {
@@ -36,20 +36,9 @@ const value_string error_names[] = {
     {NUMBER(-127), "THROTTLEDOP"}, {0, NULL},
 };
 
-const value_string kind_names[] = {
-    {ZK_CONNECT, "connect request"}, {ZK_REQUEST, "request"}, {ZK_CONNECTED, "connect response"}, {ZK_REPLY, "reply"},
-    {ZK_EVENT, "event"}, {0, NULL},
-};
-
 const value_string event_kind_names[] = {
     {NUMBER(-1), "None"}, {1, "NodeCreated"}, {2, "NodeDeleted"}, {3, "NodeDataChanged"}, {4, "NodeChildrenChanged"},
     {5, "DataWatchRemoved"}, {6, "ChildWatchRemoved"}, {7, "PersistentWatchRemoved"}, {0, NULL},
-};
-
-const value_string event_state_names[] = {
-    {NUMBER(-112), "Expired"}, {NUMBER(-1), "Unknown"}, {0, "Disconnected"}, {1, "NoSyncConnected"},
-    {3, "SyncConnected"}, {4, "AuthFailed"}, {5, "ConnectedReadOnly"}, {6, "SaslAuthenticated"}, {7, "Closed"},
-    {0, NULL},
 };
 
 const value_string reason_names[] = {
@@ -57,6 +46,18 @@ const value_string reason_names[] = {
     {ZK_NO_MEMORY, "NoMemory"}, {ZK_TRAILING, "Trailing"}, {ZK_UNKNOWN_OP, "UnknownOp"}, {ZK_XID_OP, "XidOp"},
     {ZK_BAD_PART, "BadPart"}, {ZK_EVENT_ERR, "EventErr"}, {ZK_LENGTH_RANGE, "LengthRange"},
     {ZK_QUEUE_FULL, "QueueFull"}, {ZK_UNASKED, "Unasked"}, {ZK_XID_ORDER, "XidOrder"}, {ZK_STREAM_END, "StreamEnd"},
+    {0, NULL},
+};
+/* Up to here. */
+
+const value_string kind_names[] = {
+    {ZK_CONNECT, "connect request"}, {ZK_REQUEST, "request"}, {ZK_CONNECTED, "connect response"}, {ZK_REPLY, "reply"},
+    {ZK_EVENT, "event"}, {0, NULL},
+};
+
+const value_string event_state_names[] = {
+    {NUMBER(-112), "Expired"}, {NUMBER(-1), "Unknown"}, {0, "Disconnected"}, {1, "NoSyncConnected"},
+    {3, "SyncConnected"}, {4, "AuthFailed"}, {5, "ConnectedReadOnly"}, {6, "SaslAuthenticated"}, {7, "Closed"},
     {0, NULL},
 };
 

@@ -199,6 +199,7 @@ static void put_acl(struct walk *walk, int64_t count) {
 /* The name of a field in JSON, after a comma; and of a Stat's first field the beginning of that. */
 static const char *key_of(uint16_t name) {
     switch (name) {
+    /* The lines from here on are written by docs/names.py. */
     case ZK_NAME_PATH: return ", \"path\": ";
     case ZK_NAME_DATA: return ", \"blob\": ";
     case ZK_NAME_ACL: return ", \"acl\": ";
@@ -228,6 +229,7 @@ static const char *key_of(uint16_t name) {
     case ZK_NAME_SESSION_ID: return ", \"session\": ";
     case ZK_NAME_PASSWD: return ", \"passwd\": ";
     case ZK_NAME_READ_ONLY: return ", \"ro\": ";
+    /* Up to here. */
     default: stop(STATUS_SYSTEM, "a field without a name");
     }
 }

@@ -1,4 +1,4 @@
-"""Names of numbers (include/zk.h); tests/packages.py compares them with the header."""
+"""Names of numbers (include/zk.h), written by docs/names.py."""
 
 from typing import Dict
 

@@ -1,4 +1,4 @@
-//! Names of numbers, "" where a number has none; tests/packages.py compares them with the header.
+//! Names of numbers, "" where a number has none; written by docs/names.py.
 
 /// Of an operation, or of a part of a multi.
 pub fn operation_name(number: i32) -> &'static str {

@@ -1,0 +1,242 @@
+#!/usr/bin/env python3
+"""Writes the names of operations, errors, events, fields and statuses where they are listed, from the crates' sources.
+
+    docs/names.py --write|--check
+
+The sources are the one table (source.py reads them). The files that it writes, or of which it writes what is between
+two marks, are those of lists.py. In a table that has more numbers than the sources, such as those of later
+releases, the other rows stay as they are. The rest is only compared: the tables of docs/FORMATS.md, which the tests
+take their forms from (formats.py), docs/REASONS.md, and rows and constants of other code.
+
+With --check nothing is written, and each row that is wrong is named. The status is 0 if all is current, 1 if it isn't,
+2 for wrong arguments.
+"""
+
+import difflib
+import re
+import runpy
+import sys
+
+import formats
+import lists
+import source
+from source import TOP
+
+ENTRY = re.compile(r'-?\d+: "\w+"|\{[\w()-]+, "\w+"\}|\{-?\d+, (?:true|false)[^}]*\}'
+                   r"|(?<=[( ])-?\d+(?=, -?[\dI])")
+# A kind of field in a line.
+LINES = {"int": "num", "long": "num", "bool": "bit", "texts": "list of text", "acl": "list of acl"}
+# The enumerations of the package for Python: how each name begins in the header.
+ENUMERATIONS = {"Side": "ZK_", "Profile": "ZK_PROFILE_", "Kind": "ZK_", "FieldKind": "ZK_KIND_", "Went": "ZK_"}
+CONSTANTS = ("bench/peer/peer.rs", "bench/make_recording.py", "wireshark/message.h", "examples/server.c")
+
+
+def differences(name, found, wanted):
+    """What a file lacks, and what it has instead, by the line."""
+    def entries(lines):
+        return [entry for line in lines for entry in ENTRY.findall(line) or [line.strip().rstrip(",;")]]
+    for tag, a, b, c, d in difflib.SequenceMatcher(None, found, wanted, autojunk=False).get_opcodes():
+        if tag != "equal":
+            has, lacks = entries(found[a:b]), entries(wanted[c:d])
+            more = [entry for entry in has if entry not in lacks]
+            less = [entry for entry in lacks if entry not in has]
+            told = [f"{word} {', '.join(each)}" for word, each in (("has", more), ("lacks", less)) if each]
+            yield f"{name}:{a + 1}: {'; '.join(told) or 'its lines are laid out otherwise'}"
+
+
+# ---- What is compared
+
+
+def spelled(fields):
+    return ", ".join(f"{kind} {name}" for name, kind in fields) or "nothing"
+
+
+def compare_in_c(line, fields):
+    """The names in C of fields in a line of the page."""
+    known = source.names_in_c()
+    for field in fields:
+        name = known.get(field.name, field.name.upper()).lower()
+        if field.name != field.kind != "id" and field.in_c != name:
+            yield f"docs/FORMATS.md:{line}: {field.name} is {field.in_c} in C, and in the sources {name}"
+
+
+def compare_rows(variant, wanted):
+    """The page's operations or parts with those of the sources."""
+    rows = {row.number: row for row in formats.table(variant)}
+    for each in wanted:
+        row = rows.pop(each.number, None)
+        if row is None:
+            yield f"docs/FORMATS.md: no row of {each.number} {each.name} among those of {variant}"
+            continue
+        page, ours = ([of.name, of.variant, str(of.record)] for of in (row, each))
+        page.append(spelled((field.name, field.kind) for field in row.request))
+        ours.append(spelled(each.request))
+        if variant == "Op":
+            page.append(spelled((field.name, field.kind) for field in row.reply))
+            ours.append(spelled(each.reply))
+        yield from (f"docs/FORMATS.md:{row.line}: {each.number} {each.name} has {there}, and in the sources {here}"
+                    for there, here in zip(page, ours) if there != here)
+        yield from compare_in_c(row.line, row.reply)
+    yield from (f"docs/FORMATS.md:{row.line}: the sources have no {variant} {row.number} {row.name}"
+                for row in rows.values())
+
+
+def compare_records():
+    """The page's records with those of the sources."""
+    ours = source.records()
+    for name, (line, fields) in formats.records().items():
+        here, there = spelled(ours.get(name, [])), spelled((field.name, field.kind) for field in fields)
+        if here != there:
+            yield f"docs/FORMATS.md:{line}: {name} has {there}, and in the sources {here}"
+        yield from compare_in_c(line, fields)
+
+
+def compare_codes(page, found, wanted):
+    """Names of numbers in a page, each with its line."""
+    found = dict(found)
+    yield from (f"{page}: no row of {number} {name}" for number, name in wanted.items() if number not in found)
+    yield from (f"{page}:{line}: {number} is {name}, and in the sources {wanted.get(number, 'nothing')}"
+                for number, (line, name) in found.items() if wanted.get(number) != name)
+
+
+def compare_lines():
+    """How the page spells the lines of requests and replies."""
+    asks, tails = dict(formats.spelled("ask")), dict(formats.spelled("Tail"))
+    for each in source.operations():
+        for what, rows, begin, fields in (("request", asks, each.name, each.request), ("reply", tails, "", each.reply)):
+            line, there = rows.get(each.name, (None, ""))
+            here = begin + "".join(f" {source.in_line(name)}={LINES.get(kind, kind)}" for name, kind in fields)
+            if line is None:
+                yield f"docs/FORMATS.md: no row of the line of a {what} of {each.name}"
+            elif each.name != "multi" and re.sub(r"^name\b", each.name, there) != here:
+                yield f"docs/FORMATS.md:{line}: a {what} of {each.name} is {there!r}, and in the sources {here!r}"
+
+
+def reasons():
+    """The line and the name of each number of a reason in docs/REASONS.md."""
+    text = (TOP / "docs" / "REASONS.md").read_text()
+    for found in re.finditer(r"^\| (\d+) \| (\w+) \| ", text.partition("## Damaged recordings")[0], re.M):
+        yield int(found[1]), (text.count("\n", 0, found.start()) + 1, found[2])
+
+
+def compare_others():
+    """What tools/operations.py has and the sources lack: the parts of a multi that are no operations, and with the
+    plugin's names those of later releases."""
+    known = runpy.run_path(str(TOP / "tools" / "operations.py"))["BY_NUMBER"]
+    for each in source.parts():
+        row = known.get(each.number)
+        if row is None or (row.name, row.request) != (each.name, lists.form(each.request)):
+            yield f"tools/operations.py: no row of the part {each.number} {each.name} with {spelled(each.request)}"
+    text = (TOP / "wireshark" / "names.c").read_text()
+    rows = dict(re.findall(r'\{(\d+), "(\w+)"\}', text.partition("};")[0]))
+    yield from (f"wireshark/names.c: no row of {number} {each.name}, which tools/operations.py has"
+                for number, each in known.items() if number > 0 and rows.get(str(number)) != each.name)
+    newer = re.findall(r"op >= (\d+) && op <= (\d+)", text)
+    yield from (f"wireshark/names.c: op_is_newer is wrong on {number} {each.name}" for number, each in known.items()
+                if any(int(least) <= number <= int(most) for least, most in newer) != (each.release != "3.4" and
+                                                                                       each.name != "check"))
+
+
+def compare_forms():
+    """The names of the fields that tools/forms.py has, besides those of operations."""
+    text, records = (TOP / "tools" / "forms.py").read_text(), source.records()
+    ro, zxid = ("read_only", "bool"), ("zxid", "long")
+    for name, fields in (("STAT", records["Stat"]), ("CONNECT", [*records["ConnectRequest"], ro]),
+                         ("REPLIES[listing.CONNECT]", [*records["ConnectResponse"], ro]),
+                         ("REPLIES[listing.EVENT]", [zxid, *records["WatcherEvent"]])):
+        row = re.search(rf"^{re.escape(name)} = (.*?)\n(?=\S)", text, re.M | re.S)
+        found = ["".join(pair) for pair in re.findall(r'"(\w+)"|(\w+):\w+', row[1] if row else "")]
+        wanted = [source.in_line(name) for name, _ in fields]
+        if found != wanted:
+            line = text.count("\n", 0, row.start()) + 1 if row else 0
+            yield f"tools/forms.py:{line}: {name} has {', '.join(found)}, and in the sources {', '.join(wanted)}"
+
+
+def compare_field_rows():
+    """The plugin's table of the names of fields."""
+    rows = re.findall(r"\[ZK_NAME_(\w+)\] =", (TOP / "wireshark" / "tree.c").read_text())
+    yield from (f"wireshark/tree.c: no row of ZK_NAME_{name}" for name in source.field_names()
+                if name not in rows and name != "NONE")
+
+
+def compare_enumerations():
+    """The enumerations of the package for Python with the header's."""
+    header = dict(re.findall(r"\b(ZK_\w+) = (-?\d+)", (TOP / "include" / "zk.h").read_text()))
+    found = {}
+    for path in sorted((TOP / "examples" / "python" / "libzk").glob("*.py")):
+        text = path.read_text()
+        for each in re.finditer(r"^class (\w+)\(enum.IntEnum\):\n(?:^(?:    .*)?\n)*", text, re.M):
+            rows = dict(re.findall(r"^    V?(\w+) = (\d+)$", each[0], re.M))
+            found[each[1]] = f"{path.relative_to(TOP)}:{text.count(chr(10), 0, each.start()) + 1}", rows
+    for kind, begin in ENUMERATIONS.items():
+        where, rows = found.get(kind, ("examples/python/libzk", {}))
+        if not rows:
+            yield f"{where}: no enumeration {kind}"
+        yield from (f"{where}: {kind}.{name} is {number}, and {begin}{name} {header.get(begin + name)}"
+                    for name, number in rows.items() if header.get(begin + name) != number)
+
+
+def constants(name):
+    """The constants of a file: where each is, its name, and its number."""
+    text = (TOP / name).read_text()
+    if name.endswith(".py"):
+        known = runpy.run_path(str(TOP / name))
+        yield from ((name, each, number) for each, number in known.items() if isinstance(number, int))
+        return
+    for found in re.finditer(r"\b(?:OP_)?([A-Z][A-Z_0-9]*)(?:: i32)? = (-?\d+)\b", text):
+        yield f"{name}:{text.count(chr(10), 0, found.start()) + 1}", found[1], int(found[2])
+
+
+def compare_constants():
+    """Constants that are named as operations or errors."""
+    numbers = {name.upper(): number for kind in ("error", "operation") for number, name in source.names()[kind].items()}
+    for where, each, number in (found for name in CONSTANTS for found in constants(name)):
+        wanted = numbers.get(each.replace("_", ""), number)
+        if number != wanted:
+            yield f"{where}: {each} is {number}, and in the sources {wanted}"
+
+
+def compared():
+    """What is wrong with each thing that is compared."""
+    names = source.names()
+    yield compare_rows("Op", source.operations())
+    yield compare_rows("PartOp", source.parts())
+    yield compare_records()
+    yield compare_codes("docs/FORMATS.md", formats.errors(), names["error"])
+    yield compare_codes("docs/FORMATS.md", formats.events(), names["event"])
+    yield compare_lines()
+    yield compare_codes("docs/REASONS.md", reasons(), source.reasons())
+    yield compare_others()
+    yield compare_forms()
+    yield compare_field_rows()
+    yield compare_enumerations()
+    yield compare_constants()
+
+
+def judged(writes):
+    """A list for each file and each comparison: what is wrong."""
+    for name in (*lists.PARTS, *lists.WHOLE):
+        path = TOP / name
+        found = path.read_text().splitlines()
+        wanted = lists.current(name, found)
+        if writes and found != wanted:
+            path.write_text("\n".join([*wanted, ""]))
+        yield [] if writes else list(differences(name, found, wanted))
+    yield from map(list, compared())
+
+
+def main():
+    if sys.argv[1:] not in (["--write"], ["--check"]):
+        print(__doc__.split("\n\n")[1].strip(), file=sys.stderr)
+        return 2
+    try:
+        results = list(judged(sys.argv[1] == "--write"))
+    except (source.Missing, ValueError) as error:
+        results = [[str(error)]]
+    wrong = [line for result in results for line in result]
+    print("\n".join([*wrong, f"{sum(not result for result in results)} passed, {len(wrong)} failed"]))
+    return 1 if wrong else 0
+
+
+if __name__ == "__main__":
+    sys.exit(main())

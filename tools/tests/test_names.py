@@ -1,0 +1,188 @@
+"""Tests of docs/names.py: a row that is removed or changed is named, and a new operation is written everywhere."""
+
+import re
+import shutil
+import subprocess
+import sys
+
+from support import TOP, ToolCase
+
+FOLDERS = [f"crates/{name}/src" for name in ("zk_records", "zk_asks", "zk_answers", "zk_fields", "zk_lines", "zk_c")]
+FILES = ("docs/names.py", "docs/lists.py", "docs/source.py", "docs/formats.py", "docs/FORMATS.md", "docs/REASONS.md",
+         "include/zk.h", "examples/python/libzk/_names.py", "examples/python/libzk/_messages.py",
+         "examples/python/libzk/_held.py", "examples/rust/zk/src/names.rs", "examples/server.c", "wireshark/names.c",
+         "wireshark/tree.c", "wireshark/hole.c", "wireshark/message.h", "tools/operations.py", "tools/forms.py",
+         "tools/columns/json.c", "tests/chosen.h", "bench/peer/peer.rs", "bench/make_recording.py")
+ALL_PASSED = (0, ["20 passed, 0 failed"])
+# A file, what is replaced in it and by what, and what is then said: `{line}` is the line of the change.
+WRITTEN = (
+    ("include/zk.h", '    case 8: return "getChildren";\n', "", 'lacks case 8: return "getChildren"'),
+    ("include/zk.h", "    ZK_NAME_CTIME = 15,", "    ZK_NAME_CTIME = 16,",
+     "has ZK_NAME_CTIME = 16; lacks ZK_NAME_CTIME = 15"),
+    ("include/zk.h", 'case ZK_MISFIT: return "MISFIT";', 'case ZK_MISFIT: return "UNFIT";',
+     'has case ZK_MISFIT: return "UNFIT"; lacks case ZK_MISFIT: return "MISFIT"'),
+    ("examples/python/libzk/_names.py", '8: "getChildren", ', "", 'lacks 8: "getChildren"'),
+    ("examples/python/libzk/_names.py", '-101: "NONODE"', '-101: "NO_NODE"',
+     'has -101: "NO_NODE"; lacks -101: "NONODE"'),
+    ("examples/rust/zk/src/names.rs", '        3 => "NodeDataChanged",\n', "", 'lacks 3 => "NodeDataChanged"'),
+    ("wireshark/names.c", '{12, "getChildren2"}, ', "", 'lacks {12, "getChildren2"}'),
+    ("wireshark/names.c", '{NUMBER(-103), "BADVERSION"}', '{NUMBER(-104), "BADVERSION"}',
+     'has {NUMBER(-104), "BADVERSION"}; lacks {NUMBER(-103), "BADVERSION"}'),
+    ("wireshark/names.c", '{ZK_BAD_LENGTH, "BadLength"}, ', "", 'lacks {ZK_BAD_LENGTH, "BadLength"}'),
+    ("tools/operations.py", 'WATCH, "names:texts"),', 'WATCH, "names:acls"),',
+     'has Operation(8, "getChildren", "3.4", WATCH, "names:acls"); '
+     'lacks Operation(8, "getChildren", "3.4", WATCH, "names:texts")'),
+    ("tools/operations.py", '    Operation(11, "ping", "3.4", "", "", -2, False),\n', "",
+     'lacks Operation(11, "ping", "3.4", "", "", -2, False)'),
+    ("tools/columns/json.c", '    case ZK_NAME_WATCH: return ", \\"watch\\": ";\n', "",
+     r'lacks case ZK_NAME_WATCH: return ", \"watch\": "'),
+    ("wireshark/hole.c", "{8, true, true, 1}, ", "{8, true, true, 2}, ",
+     "has {8, true, true, 2}; lacks {8, true, true, 1}"),
+    ("tests/chosen.h", "PICK(1, 2, 3, 4,", "PICK(1, 2, 4,", "lacks 3"),
+)
+COMPARED = (
+    ("docs/FORMATS.md", "| 9 | sync, `Sync` |", "| 10 | sync, `Sync` |",
+     ("docs/FORMATS.md: no row of 9 sync among those of Op", "docs/FORMATS.md:{line}: the sources have no Op 10 sync")),
+    ("docs/FORMATS.md", "buffer blob (data), int version", "int version, buffer blob (data)",
+     ("docs/FORMATS.md:{line}: 5 setData has text path, int version, blob blob, "
+      "and in the sources text path, blob blob, int version",
+      "docs/FORMATS.md:*: 5 setData has text path, int version, blob blob, "
+      "and in the sources text path, blob blob, int version",
+      "docs/FORMATS.md:{line}: SetDataAsk has text path, int version, blob blob, "
+      "and in the sources text path, blob blob, int version")),
+    ("docs/FORMATS.md", "vector of ustring names (children), Stat (GetChildren2Response)",
+     "vector of ustring names (paths), Stat (GetChildren2Response)",
+     ("docs/FORMATS.md:{line}: names is paths in C, and in the sources children",)),
+    ("docs/FORMATS.md", "(SyncRequest) | ustring path (SyncResponse)", "(SyncRequest) | string path (SyncResponse)",
+     ("docs/FORMATS.md:{line}: this can't be read: string path (SyncResponse)",)),
+    ("docs/FORMATS.md", "-103 | BADVERSION", "-104 | BADVERSION",
+     ("docs/FORMATS.md: no row of -103 BADVERSION",
+      "docs/FORMATS.md:{line}: -104 is BADVERSION, and in the sources nothing")),
+    ("docs/FORMATS.md", "2 NodeDeleted", "2 NodeGone",
+     ("docs/FORMATS.md:{line}: 2 is NodeGone, and in the sources NodeDeleted",)),
+    ("docs/FORMATS.md", "| create, sync | ` path=`text |", "| create | ` path=`text |",
+     ("docs/FORMATS.md: no row of the line of a reply of sync",)),
+    ("docs/FORMATS.md", "`setACL path=`text` acl=`list of acl", "`setACL path=`text` acls=`list of acl",
+     ("docs/FORMATS.md:{line}: a request of setACL is 'setACL path=text acls=list of acl version=num', "
+      "and in the sources 'setACL path=text acl=list of acl version=num'",)),
+    ("docs/REASONS.md", "| 9 | BadPart |", "| 9 | NoPart |",
+     ("docs/REASONS.md:{line}: 9 is NoPart, and in the sources BadPart",)),
+    ("tools/operations.py", 'Operation(13, "check", None, VERSION),', 'Operation(13, "check", None, PATH),',
+     ("tools/operations.py: no row of the part 13 check with text path, int version",)),
+    ("wireshark/names.c", '{104, "getAllChildrenNumber"}, ', "",
+     ("wireshark/names.c: no row of 104 getAllChildrenNumber, which tools/operations.py has",)),
+    ("wireshark/names.c", "(op >= 15 && op <= 22)", "(op >= 16 && op <= 22)",
+     ("wireshark/names.c: op_is_newer is wrong on 15 create2",)),
+    ("tools/forms.py", '"cversion", "aversion"', '"aversion", "cversion"',
+     ("tools/forms.py:{line}: STAT has czxid, mzxid, ctime, mtime, version, aversion, cversion, ephemeralOwner, "
+      "dataLength, numChildren, pzxid, and in the sources czxid, mzxid, ctime, mtime, version, cversion, aversion, "
+      "ephemeralOwner, dataLength, numChildren, pzxid",)),
+    ("wireshark/tree.c", "[ZK_NAME_AUTH] = FIELD_AUTH, ", "", ("wireshark/tree.c: no row of ZK_NAME_AUTH",)),
+    ("examples/python/libzk/_messages.py", "    BLOB = 5", "    BLOB = 6",
+     ("examples/python/libzk/_messages.py:*: FieldKind.BLOB is 6, and ZK_KIND_BLOB 5",)),
+    ("bench/peer/peer.rs", "const GET_ACL: i32 = 6;", "const GET_ACL: i32 = 7;",
+     ("bench/peer/peer.rs:{line}: GET_ACL is 7, and in the sources 6",)),
+    ("bench/make_recording.py", "NODE_EXISTS = -101, -103, -110", "NODE_EXISTS = -101, -103, -111",
+     ("bench/make_recording.py: NODE_EXISTS is -111, and in the sources -110",)),
+    ("crates/zk_records/src/names.rt", '-102 => Some("NOAUTH"),', '-102 => Some("NORIGHT"),',
+     ("include/zk.h:*: has case -102: return \"NOAUTH\"; lacks case -102: return \"NORIGHT\"",
+      "wireshark/names.c:*: has {NUMBER(-102), \"NOAUTH\"}; lacks {NUMBER(-102), \"NORIGHT\"}",
+      'examples/python/libzk/_names.py:*: has -102: "NOAUTH"; lacks -102: "NORIGHT"',
+      'examples/rust/zk/src/names.rs:*: has -102 => "NOAUTH"; lacks -102 => "NORIGHT"',
+      "docs/FORMATS.md:*: -102 is NOAUTH, and in the sources NORIGHT")),
+    ("crates/zk_answers/src/frame.rt", "    Sync { path: T },\n", "",
+     ("the crates' sources have no Sync in op_of, AskOf or BodyOf",)),
+    ("crates/zk_records/src/op.rt", "pub fn op_number", "pub fn number_of",
+     ("the crates' sources have no fn op_number",)),
+    ("include/zk.h", "/* Up to here. */\n", "", ("include/zk.h has 3 marks, not 4",)),
+)
+# getEphemerals of ZooKeeper 3.6, whose reply has a list of texts: what is added, after what, to each file.
+NEW = (
+    ("crates/zk_records/src/op.rt", "    SetWatches,\n", "    GetEphemerals,\n"),
+    ("crates/zk_records/src/op.rt", "        101 => Some(Op::SetWatches),\n",
+     "        103 if profile == Profile::V36 => Some(Op::GetEphemerals),\n"),
+    ("crates/zk_records/src/op.rt", "        Op::SetWatches => 101,\n", "        Op::GetEphemerals => 103,\n"),
+    ("crates/zk_records/src/names.rt", '        Op::SetWatches => "setWatches",\n',
+     '        Op::GetEphemerals => "getEphemerals",\n'),
+    ("crates/zk_asks/src/frame.rt", "    SetWatches(SetWatchesAskOf<L>),\n", "    GetEphemerals(PathAskOf<T>),\n"),
+    ("crates/zk_answers/src/frame.rt", "    SetWatches,\n", "    GetEphemerals { paths: L },\n"),
+    ("crates/zk_fields/src/name.rt", "pub const ERR: u16 = 34;\n", "pub const EPHEMERALS: u16 = 35;\n"),
+    ("crates/zk_fields/src/body.rt", "            BodyOf::SetWatches => at,\n",
+     "            BodyOf::GetEphemerals { paths } => paths.show(EPHEMERALS, room, at),\n"),
+)
+PAGE = (
+    ("docs/FORMATS.md", "| 100 | auth,", "| 103 | getEphemerals, `GetEphemerals` | `PathAsk` (GetEphemeralsRequest) | "
+     "vector of ustring paths (ephemerals; GetEphemeralsResponse) |\n"),
+    ("docs/FORMATS.md", "| getACL, sync |", "| getEphemerals | `getEphemerals path=`text |\n"),
+    ("docs/FORMATS.md", "| create2 | ` path=", "| getEphemerals | ` paths=`list of text |\n"),
+    ("wireshark/tree.c", "    [ZK_NAME_READ_ONLY]", "    [ZK_NAME_EPHEMERALS] = FIELD_EPHEMERALS,\n"),
+)
+
+
+class Names(ToolCase):
+    def setUp(self):
+        super().setUp()
+        for name in (*FOLDERS, *FILES):
+            to = self.folder / name
+            to.parent.mkdir(parents=True, exist_ok=True)
+            (shutil.copytree if (TOP / name).is_dir() else shutil.copy)(TOP / name, to)
+
+    def run_names(self, word):
+        """The status and the lines of docs/names.py."""
+        done = subprocess.run([sys.executable, self.folder / "docs" / "names.py", word], capture_output=True, text=True,
+                              check=False)
+        self.assertEqual(done.stderr, "")
+        return done.returncode, done.stdout.splitlines()
+
+    def change(self, name, old, new):
+        """Replaces the first `old` in a file; returns what the file was, and the line of the change."""
+        text = (self.folder / name).read_text()
+        at = text.index(old)
+        (self.folder / name).write_text(text[:at] + new + text[at + len(old):])
+        return text, text.count("\n", 0, at) + 1
+
+    def test_words(self):
+        for words in ([], ["--check", "--write"], ["--help"]):
+            done = subprocess.run([sys.executable, self.folder / "docs" / "names.py", *words], capture_output=True,
+                                  text=True, check=False)
+            self.assertEqual((done.returncode, done.stdout, done.stderr), (2, "", "docs/names.py --write|--check\n"))
+
+    def test_written(self):
+        """A written row that is removed or changed is named, and written again."""
+        self.assertEqual(self.run_names("--check"), ALL_PASSED)
+        for name, old, new, told in WRITTEN:
+            with self.subTest(name=name, old=old):
+                text, line = self.change(name, old, new)
+                status, lines = self.run_names("--check")
+                self.assertEqual((status, lines[0]), (1, f"{name}:{line}: {told}"))
+                self.run_names("--write")
+                self.assertEqual((self.folder / name).read_text(), text)
+
+    def test_compared(self):
+        """A row that is compared with the sources, or a row of these, is named where it differs."""
+        for name, old, new, told in COMPARED:
+            with self.subTest(name=name, old=old):
+                text, line = self.change(name, old, new)
+                status, lines = self.run_names("--check")
+                (self.folder / name).write_text(text)
+                self.assertEqual((status, len(lines) - 1), (1, len(told)))
+                for each, wanted in zip(lines, told):
+                    wanted = re.escape(wanted).replace(re.escape("{line}"), str(line)).replace(r"\*", r"\d+")
+                    self.assertRegex(each, f"^{wanted}$")
+
+    def test_new_operation(self):
+        """Of a new operation each place that lacks it is named; what isn't written by hand is then written."""
+        for name, after, added in NEW:
+            self.change(name, after, after + added)
+        _, lines = self.run_names("--check")
+        said = [line for line in lines if "phemerals" in line or "EPHEMERALS" in line or "103" in line]
+        places = {re.match(r"[\w./]+", line)[0] for line in said}
+        self.assertEqual(places, {"include/zk.h", "tools/operations.py", "tests/chosen.h", "docs/FORMATS.md",
+                                  "examples/python/libzk/_names.py", "examples/rust/zk/src/names.rs",
+                                  "tools/columns/json.c", "wireshark/tree.c"})
+        for name, before, added in PAGE:
+            self.change(name, before, added + before)
+        self.assertEqual(self.run_names("--write"), ALL_PASSED)
+        self.assertIn('    Operation(103, "getEphemerals", "3.6", PATH, "paths:texts"),\n',
+                      (self.folder / "tools" / "operations.py").read_text())
+        self.assertEqual(self.run_names("--check"), ALL_PASSED)
