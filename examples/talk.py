@@ -106,6 +106,7 @@ class Library:
             ("zk_speaker_new", number, (handle, number, number, number, number)),
             ("zk_speaker_renew", number, (handle,)),
             ("zk_speaker_say", Say, (handle, ctypes.c_char_p, size)),
+            ("zk_speaker_say_payload", Payload, (handle, number, ctypes.c_char_p, size)),
             ("zk_speaker_frame", Line, (handle, ctypes.c_char_p, size)),
             ("zk_speaker_free", None, (handle,)),
             ("zk_judge_first", Payload, (ctypes.c_char_p, size)),

@@ -374,8 +374,12 @@ uint32_t zk_speaker_new(struct zk_speaker *speaker, uint32_t client, uint32_t se
 /* Begins the speaker anew with its limits: it has said nothing. It never allocates. Returns ZK_WELL or ZK_EMPTY. */
 uint32_t zk_speaker_renew(struct zk_speaker *speaker);
 
-/* Says the message of a line, without line feed, if it may come next; its frame is kept until the next line. */
+/* Says the message of a line, without line feed, if it may come next; its frame is kept until the next call that says. */
 struct zk_say zk_speaker_say(struct zk_speaker *speaker, const uint8_t *line, size_t length);
+
+/* The same for the side's message of which the bytes are the payload. What a talk would find in the payload is returned
+ * with its place; ZK_TOO_LONG, ZK_QUEUE_FULL and ZK_NO_MEMORY as for the message's line. Only the frame is allocated. */
+struct zk_payload zk_speaker_say_payload(struct zk_speaker *speaker, uint32_t side, const uint8_t *bytes, size_t length);
 
 /* Writes that frame. */
 struct zk_line zk_speaker_frame(struct zk_speaker *speaker, uint8_t *out, size_t room);
@@ -777,6 +781,13 @@ static inline struct zk_say zk_safe_speaker_say(struct zk_speaker *speaker, cons
     return answer.status != ZK_WELL ? answer : zk_speaker_say(speaker, (const uint8_t *)zk_from(line), length);
 }
 
+static inline struct zk_payload zk_safe_speaker_say_payload(struct zk_speaker *speaker, uint32_t side, const uint8_t *bytes,
+                                                            size_t length) {
+    struct zk_payload answer = ZK_ZEROS;
+    answer.status = zk_first_of(zk_fault_at(speaker, 1, sizeof *speaker), zk_fault_of(bytes, length, sizeof *bytes));
+    return answer.status != ZK_WELL ? answer : zk_speaker_say_payload(speaker, side, (const uint8_t *)zk_from(bytes), length);
+}
+
 static inline struct zk_line zk_safe_speaker_frame(struct zk_speaker *speaker, uint8_t *out, size_t room) {
     struct zk_line answer = ZK_ZEROS;
     answer.status = zk_first_of(zk_fault_at(speaker, 1, sizeof *speaker), zk_fault_of(out, room, sizeof *out));
@@ -910,6 +921,7 @@ static inline struct zk_line zk_safe_listing(const struct zk_piece *pieces, size
 #define zk_speaker_new zk_safe_speaker_new
 #define zk_speaker_renew zk_safe_speaker_renew
 #define zk_speaker_say zk_safe_speaker_say
+#define zk_speaker_say_payload zk_safe_speaker_say_payload
 #define zk_speaker_frame zk_safe_speaker_frame
 #define zk_speaker_free zk_safe_speaker_free
 #define zk_judge_first zk_safe_judge_first

@@ -215,6 +215,30 @@ static void say(struct played *it) {
     must(frame.length == said.length && number_at(text.at) == (int32_t)said.length - 4, "a frame's length in it");
 }
 
+/* Says a payload of a recording: it is the frame that is then kept. */
+static void say_payload(struct played *it) {
+    const struct payload *chosen = &payloads[chance(payload_count)];
+    uint32_t side = one_in(20) ? any_side() : chosen->kind <= ZK_REQUEST ? ZK_CLIENT : ZK_SERVER;
+    put_bytes(chosen->bytes, chosen->length, 9);
+    const uint8_t *at = bytes.at;
+    size_t length = bytes.length;
+    uint32_t expected = astray(&at, &length);
+    struct zk_payload said = zk_speaker_say_payload(&it->speaker, side, at, length);
+    answered(said.status);
+    unchanged(&bytes);
+    if (expected != ZK_WELL) must(said.status == expected, "a pointer or a length astray");
+    else refused(said.status, it->live, side <= ZK_SERVER);
+    must(said.place <= bytes.length && (said.status != ZK_WELL || said.place == 0), "a place outside of the payload");
+    if (said.status == ZK_WELL) it->broken = true; /* the listing's next line is another conversation's */
+    clear(&text, one_in(2) ? bytes.length + 4 : any_room());
+    struct zk_line frame = zk_speaker_frame(&it->speaker, text.at, text.room);
+    wrote(frame, "a frame's length");
+    refused(frame.status, it->live, true);
+    if (said.status != ZK_WELL || frame.status != ZK_WELL) return;
+    must(frame.length == length + 4 && number_at(text.at) == (int32_t)length, "a frame's length in it");
+    must(memcmp(text.at + 4, bytes.at, length) == 0, "another payload");
+}
+
 static void list(void) {
     const struct recording *it = &recordings[chance(recording_count)];
     size_t count = (size_t)chance(it->count + 1), length = 0;
@@ -291,8 +315,9 @@ static void call_speaker(struct played *it) {
     switch (chance(12)) {
     case 0: begin(it, SPEAKER); break;
     case 1: if (one_in(40)) end(it, SPEAKER);
-            else if (one_in(20)) renew(it, SPEAKER);
+            else if (one_in(it->broken ? 4 : 20)) renew(it, SPEAKER);
             break;
+    case 2: say_payload(it); break;
     default: say(it);
     }
 }

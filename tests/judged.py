@@ -90,6 +90,32 @@ REFUSED_LINES = (
     (3, b"S -1 exists zxid=5 err=-101/NONODE", "MISFIT", 0),
 )
 
+# Payloads that are refused by docs/CONVERSATION.md, sections 9, 10 and 20: how many of those lines' payloads were said
+# before, the side, the payload, the status and the place. The client's first payload is read as a connect request.
+EXISTS = "00000001 00000003 00000002 2f61 01"
+REFUSED_PAYLOADS = (
+    (0, 0, EXISTS, "SHORT", 12),
+    (0, 0, HELLO + "0000", "TRAILING", 45),
+    (0, 1, WELCOME, "UNASKED", 0),
+    (0, 1, "", "UNASKED", 0),
+    (1, 0, HELLO, "UNKNOWN_OP", 4),
+    (1, 1, WELCOME + "02", "BAD_BOOL", 36),
+    (1, 1, WELCOME + "00" * 28, "TRAILING", 37),
+    (2, 0, "00000001 0000000b", "XID_OP", 4),
+    (2, 0, "00000001 0000000f 00000002 2f61 ffffffff 00000000 00000000", "UNKNOWN_OP", 4),
+    (2, 0, "00000001 00000003 00000034 2f" + "61" * 51 + "01", "TOO_LONG", 0),
+    (2, 0, "00000001 00000003 00000034 2f" + "61" * 51 + "02", "BAD_BOOL", 64),
+    (2, 1, WELCOME, "UNASKED", 0),
+    (2, 1, "00000001 0000000000000005 ffffff9b 00", "UNASKED", 0),
+    (2, 1, "ffffffff ffffffffffffffff 00000001 00000003 00000003 00000002 2f61", "EVENT_ERR", 12),
+    (3, 0, "00000002 00000003 00000002 2f61 01", "QUEUE_FULL", 0),
+    (3, 0, "00000002 00000003 00000034 2f" + "61" * 51 + "01", "TOO_LONG", 0),
+    (3, 0, "00000002 00000003 00000002 2f61 02", "BAD_BOOL", 14),
+    (3, 1, "00000002 0000000000000005 ffffff9b", "XID_ORDER", 0),
+    (3, 1, "00000001 0000000000000005 00000000 0000", "SHORT", 16),
+    (3, 1, "00000001 0000000000000005 ffffff9b 00", "TRAILING", 16),
+)
+
 
 def judge_payloads(library, numbers):
     """Whether each payload of the table is judged as it says."""
@@ -117,6 +143,28 @@ def refuse_lines(talk, library, numbers):
                f"zk_speaker_say {refused.decode()}: statuses and columns {found}, not {wanted}")
 
 
+def answered(library, handle, side, payload):
+    """What is returned of a payload that is to be said: the status, the place, and the frame that is kept then."""
+    answer, out = library.zk_speaker_say_payload(handle, side, payload, len(payload)), ctypes.create_string_buffer(96)
+    frame = library.zk_speaker_frame(handle, out, len(out))
+    return answer.status, answer.place, out.raw[:frame.length]
+
+
+def refuse_payloads(talk, library, numbers):
+    """Whether each payload of the table is refused as it says; the payloads of the lines before it and of the next one
+    that may be said are said, and their frames are the lines'."""
+    with talk.Speaker(library, limit=64, waiting=1) as speaker:
+        frames = [speaker.say(line) for line in MAY_BE_SAID]
+    said = [("CS".index(chr(line[0])), frame[4:]) for line, frame in zip(MAY_BE_SAID, frames)]
+    for before, side, digits, status, place in REFUSED_PAYLOADS:
+        wanted = [*((0, 0, frame) for frame in frames[:before]), (numbers[status], place, b""), (0, 0, frames[before])]
+        with talk.Speaker(library, limit=64, waiting=1) as speaker:
+            found = [answered(library, speaker.handle, *asked)
+                     for asked in (*said[:before], (side, bytes.fromhex(digits)), said[before])]
+        yield (digits, found == wanted,
+               f"zk_speaker_say_payload {side} {digits}: statuses, places and frames {found}, not {wanted}")
+
+
 def list_whole(talk, library, numbers):
     """Whether each recording's listing comes by one call, or its length where there is no room; and pieces that aren't
     the bytes are refused."""
@@ -138,4 +186,5 @@ def compare(talk, library, numbers):
     """Whether each answer is as it should be. `numbers` are those of statuses by their names."""
     yield from judge_payloads(library, numbers)
     yield from refuse_lines(talk, library, numbers)
+    yield from refuse_payloads(talk, library, numbers)
     yield from list_whole(talk, library, numbers)

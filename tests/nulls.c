@@ -50,6 +50,7 @@ static void handles_that_are_null(void) {
     expect("zk_speaker_new", zk_speaker_new(NULL, 64, 64, 1, 34), ZK_NULL);
     expect("zk_speaker_renew", zk_speaker_renew(NULL), ZK_NULL);
     expect("zk_speaker_say", zk_speaker_say(NULL, &byte, 1).status, ZK_NULL);
+    expect("zk_speaker_say_payload", zk_speaker_say_payload(NULL, ZK_CLIENT, &byte, 1).status, ZK_NULL);
     expect("zk_speaker_frame", zk_speaker_frame(NULL, out, room).status, ZK_NULL);
     zk_speaker_free(NULL);
 }
@@ -159,6 +160,10 @@ static void speakers(void) {
     expect("zk_speaker_say, no line", zk_speaker_say(&speaker, NULL, 0).status, ZK_LINE_WORD);
     expect("zk_speaker_say, no line, column", zk_speaker_say(&speaker, NULL, 0).column, 1);
     expect("zk_speaker_say, too long", zk_speaker_say(&speaker, &byte, more).status, ZK_RANGE);
+    expect("zk_speaker_say_payload, null", zk_speaker_say_payload(&speaker, ZK_CLIENT, NULL, 1).status, ZK_NULL);
+    expect("zk_speaker_say_payload, no bytes", zk_speaker_say_payload(&speaker, ZK_CLIENT, NULL, 0).status, ZK_SHORT);
+    expect("zk_speaker_say_payload, no side", zk_speaker_say_payload(&speaker, 2, &byte, 1).status, ZK_RANGE);
+    expect("zk_speaker_say_payload, too long", zk_speaker_say_payload(&speaker, ZK_CLIENT, &byte, more).status, ZK_RANGE);
     expect("zk_speaker_frame, null", zk_speaker_frame(&speaker, NULL, 1).status, ZK_NULL);
     expect("zk_speaker_frame, no room for no frame", zk_speaker_frame(&speaker, NULL, 0).status, ZK_WELL);
     expect("zk_speaker_frame, no frame", (uint32_t)zk_speaker_frame(&speaker, out, room).length, 0);
@@ -166,6 +171,8 @@ static void speakers(void) {
     expect("zk_speaker_renew", zk_speaker_renew(&speaker), ZK_WELL);
     zk_speaker_free(&speaker);
     expect("zk_speaker_renew, no speaker", zk_speaker_renew(&speaker), ZK_EMPTY);
+    expect("zk_speaker_say_payload, no speaker", zk_speaker_say_payload(&speaker, ZK_CLIENT, &byte, 1).status, ZK_EMPTY);
+    expect("zk_speaker_say_payload, no speaker, no side", zk_speaker_say_payload(&speaker, 2, &byte, 1).status, ZK_RANGE);
 }
 
 static void judged_payloads(void) {

@@ -194,6 +194,40 @@ func TestRenewed(t *testing.T) {
 	}
 }
 
+func TestSaidPayloads(t *testing.T) {
+	speaker, err := NewSpeaker(Usual)
+	if err != nil {
+		t.Fatal(err)
+	}
+	for _, it := range []struct {
+		side        Side
+		said, wrong string
+	}{
+		{Server, welcome, "UNASKED at 0"},
+		{Client, exists, "SHORT at 12"},
+		{2, hello, "RANGE at 0"},
+		{Client, "", "SHORT at 0"},
+		{Client, hello, ""},
+		{Client, exists, ""},
+		{Server, welcome, ""},
+		{Client, exists + "00", "TRAILING at 15"},
+	} {
+		frame, err := speaker.SayPayload(it.side, payload(it.said))
+		if it.wrong == "" && (err != nil || !bytes.Equal(frame, framed(it.said))) {
+			t.Error(it, frame, err)
+		}
+		if it.wrong != "" && (err == nil || err.Error() != it.wrong) {
+			t.Error(it, frame, err)
+		}
+	}
+	speaker.Close()
+	for _, it := range []Speaker{speaker, {}} {
+		if _, err := it.SayPayload(Client, payload(hello)); err != empty {
+			t.Error(err)
+		}
+	}
+}
+
 func second(_ int, err error) error { return err }
 
 func TestListing(t *testing.T) {

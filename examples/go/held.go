@@ -292,3 +292,19 @@ func (s Speaker) Say(line string) ([]byte, error) {
 		return C.zk_safe_speaker_frame(&s.it.handle, out, room)
 	})
 }
+
+// SayPayload returns the frame of the side's message of which the bytes are the payload, and which may come next.
+func (s Speaker) SayPayload(side Side, payload []byte) ([]byte, error) {
+	if s.it == nil {
+		return nil, empty
+	}
+	s.it.Lock()
+	defer s.it.Unlock()
+	said := C.zk_safe_speaker_say_payload(&s.it.handle, C.uint32_t(side), start(payload), C.size_t(len(payload)))
+	if err := fault(said.status, said.place); err != nil {
+		return nil, err
+	}
+	return written(4+len(payload), func(out *C.uint8_t, room C.size_t) C.struct_zk_line {
+		return C.zk_safe_speaker_frame(&s.it.handle, out, room)
+	})
+}

@@ -9,7 +9,8 @@ use Rattle.zk_talk.specs.Stands.{TalkState}
 use Rattle.zk_c.specs.Handle.{Call, IsFinish}
 use Rattle.zk_c.specs.declared.said.SayAnswer.{SayAnswer}
 use Rattle.zk_c.specs.Voice.{VoiceState}
-use Rattle.zk_c.specs.Saying.{TellsSay}
+use Rattle.zk_c.specs.Saying.{TellsSay, TellsPayload}
+use Rattle.zk_c.specs.declared.payload.PayloadAnswer.{PayloadAnswer}
 use Rattle.zk_talk.specs.declared.message.Side.TheVariants.{Client, Server}
 use Rattle.zk_through.specs.Runs.{ThroughState}
 use Rattle.zk_through.specs.declared.through.Passed.{Passed}
@@ -28,6 +29,13 @@ finish_of {ending = ending} same finish = subst (λ (s : TalkState). IsFinish s 
 
 pub say_of : {v w new : VoiceState} {text : List ℕ} {answer : SayAnswer} → v ≡ w → TellsSay v text new answer → TellsSay w text new answer
 say_of {new = new} {text = text} {answer = answer} same says = subst (λ (u : VoiceState). TellsSay u text new answer) same says
+
+pub payload_on : {v w new : VoiceState} {s r : Side} {p : List ℕ} {answer : PayloadAnswer} → v ≡ w → s ≡ r → TellsPayload v s p new answer → TellsPayload w r p new answer
+payload_on {new = new} {p = p} {answer = answer} same_voice same_side says =
+    subst (λ (x : VoiceState × Side). TellsPayload x.0 x.1 p new answer) (λ i. (same_voice i, same_side i)) says
+
+pub payload_of : {v w new : VoiceState} {side : Side} {p : List ℕ} {answer : PayloadAnswer} → v ≡ w → TellsPayload v side p new answer → TellsPayload w side p new answer
+payload_of same says = payload_on same refl says
 
 -- which frame is the newest doesn't depend on what came
 pub same_newest : (side : Side) (t u : ThroughState) (client server : Bool) → newest_on side (record { through = t; client = client; server = server }) ≡ newest_on side (record { through = u; client = client; server = server })

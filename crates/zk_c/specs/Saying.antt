@@ -7,9 +7,16 @@ use Rattle.zk_items.specs.declared.fault.LineReason.TheVariants as lines
 use Rattle.zk_talk.specs.Held.{Message}
 use Rattle.zk_talk.specs.declared.say.SayFault.{SayFault}
 use Rattle.zk_talk.specs.declared.say.SayFault.TheVariants.{NotFirst, Unasked, XidOrder, Misfit, TooLong, QueueFull, NoMemory}
+use Rattle.zk_talk.specs.declared.message.Side.{Side}
+use Rattle.zk_talk.specs.declared.payload.PayloadFault.{PayloadFault}
+use Rattle.zk_talk.specs.declared.payload.PayloadFault.TheVariants.{Item, Say}
 use Rattle.zk_talk.specs.Said.{SpeakerState, Says, MaySay, MayStand, IsSayFault, payload_of}
+use Rattle.zk_talk.specs.SaidPayload.{SaysPayload, RefusesPayload, StandsPayload, CannotSay}
 use Rattle.zk_lines.specs.Lines.{line, Fits}
 use Rattle.zk_c.specs.declared.said.SayAnswer.{SayAnswer}
+use Rattle.zk_c.specs.declared.payload.PayloadAnswer.{PayloadAnswer}
+use Rattle.zk_c.specs.Numbers.{reason_number}
+use Rattle.zk_c.specs.Judged.{payload_answer}
 use Rattle.zk_c.specs.Voice.{VoiceState}
 use Rattle.zk_c.specs.Handle.{AreNumbers}
 
@@ -58,6 +65,32 @@ pub data TellsSay (old : VoiceState) (text : List ℕ) (new : VoiceState) (answe
   -- the line is no message's, or memory was refused
   no_line : (e : LineFault) → new ≡ silent old → answer ≡ say_answer (line_number e.reason) 0 e.column →
       ((m : Message) → Fits m → text ≡ line m → e.reason ≡ lines.NoMemory) → TellsSay old text new answer
+
+-- what is answered where a payload is refused
+abbrev pub refused_payload : PayloadFault → PayloadAnswer
+refused_payload (Item e) = payload_answer (reason_number e.reason) e.place
+refused_payload (Say e) = payload_answer (say_number e) 0
+
+-- why the payload isn't said: memory was refused, for one that may come next; or the case that refuses what may not be said
+pub record IsPayloadRefused (s : SpeakerState) (side : Side) (p : List ℕ) (e : PayloadFault) : Type 0 where
+  pub err : (e ≡ Say NoMemory) ⊎ RefusesPayload s side p e
+  pub lacks : e ≡ Say NoMemory → StandsPayload s side p
+  pub exact : e ≢ Say NoMemory → CannotSay s side p
+
+-- what a call does with a payload of the side
+pub data TellsPayload (old : VoiceState) (side : Side) (p : List ℕ) (new : VoiceState) (answer : PayloadAnswer) : Type 0 where
+  -- it is a message's, which may be said after those that were said, and was said
+  payload_said : new.speaker.limits ≡ old.speaker.limits → new.frame ≡ frame p → answer ≡ payload_answer 0 0 →
+      SaysPayload old.speaker side p new.speaker → TellsPayload old side p new answer
+  -- it is refused
+  payload_refused : (e : PayloadFault) → new ≡ silent old → answer ≡ refused_payload e →
+      IsPayloadRefused old.speaker side p e → TellsPayload old side p new answer
+
+-- the speaker behind the handle says the payload
+pub record SaysBytes (old : VoiceState) (side : Side) (p : List ℕ) (answer : PayloadAnswer) (after : Option VoiceState) : Type 0 where
+  pub voice : VoiceState
+  pub held : after ≡ Some voice
+  pub says : TellsPayload old side p voice answer
 
 -- the speaker behind the handle says the line
 pub record SaysLine (old : VoiceState) (text : List ℕ) (answer : SayAnswer) (after : Option VoiceState) : Type 0 where

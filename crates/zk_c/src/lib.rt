@@ -69,6 +69,7 @@ pub use payload::{
 pub use read::{zk_read_connected, zk_read_event, zk_read_first, zk_read_reply, zk_read_request};
 pub use speaker::{
     zk_speaker_frame, zk_speaker_free, zk_speaker_new, zk_speaker_renew, zk_speaker_say,
+    zk_speaker_say_payload,
 };
 pub use talk::{
     zk_talk_ending_line, zk_talk_fields, zk_talk_finish, zk_talk_free, zk_talk_held, zk_talk_line,

@@ -28,13 +28,14 @@ pub struct PayloadAnswer {
 
 impl PayloadAnswer {
     /// Nothing was judged, or the payload is a message's.
-    fn none(status: u32) -> PayloadAnswer
+    pub fn none(status: u32) -> PayloadAnswer
         ensures { result ≡ payload_answer status 0 }
     {
         PayloadAnswer { status, place: 0 }
     }
 
-    fn refused(fault: ItemFault) -> PayloadAnswer
+    /// The payload is refused for this fault.
+    pub fn refused(fault: ItemFault) -> PayloadAnswer
         ensures { TellsFault fault result }
     {
         PayloadAnswer {

@@ -1,10 +1,11 @@
-//! `SayAnswer`: what a call returns that says a line.
+//! What calls return that say a line or a payload.
 ghost use Rattle.std.specs.Prelude.{◌≡◌};
-ghost use Rattle.zk_c.specs.Saying.{say_number, line_number, say_answer};
+ghost use Rattle.zk_c.specs.Saying.{say_number, line_number, say_answer, refused_payload};
 
 use crate::number::{MISFIT, NO_MEMORY, WELL};
+use crate::payload::PayloadAnswer;
 use zk_lines::{LineFault, LineReason};
-use zk_talk::SayFault;
+use zk_talk::{PayloadFault, SayFault};
 
 /// Whether a line was said, and if not, why.
 #[repr(C)]
@@ -88,5 +89,15 @@ impl SayAnswer {
             length: 0,
             column: fault.column,
         }
+    }
+}
+
+/// The payload can't be said.
+pub fn refused_payload(fault: PayloadFault) -> PayloadAnswer
+    ensures { result ≡ refused_payload fault }
+{
+    match fault {
+        PayloadFault::Item(item) => PayloadAnswer::refused(item),
+        PayloadFault::Say(say) => PayloadAnswer::none(say_number(say)),
     }
 }

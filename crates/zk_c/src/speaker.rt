@@ -1,14 +1,18 @@
 //! `zk_speaker_new` and its like: a speaker that a handle owns.
 ghost use Rattle.std.specs.Prelude.{◌≡◌, ◌≢◌, ◌⊎◌, Some, None, IsSome, MatchOption};
 ghost use Rattle.std.specs.Option.{is_some};
+ghost use Rattle.zk_talk.specs.declared.message.Side.{Side};
+ghost use Rattle.zk_c.specs.Numbers.{side_of};
 ghost use Rattle.zk_c.specs.Answer.{no_line};
 ghost use Rattle.zk_c.specs.Handle.{TellsText, AreNoLimits};
 ghost use Rattle.zk_c.specs.Voice.{VoiceState};
-ghost use Rattle.zk_c.specs.Saying.{say_answer, SaysLine, IsSilent, Renews};
+ghost use Rattle.zk_c.specs.Judged.{payload_answer};
+ghost use Rattle.zk_c.specs.Saying.{say_answer, SaysLine, SaysBytes, IsSilent, Renews};
 
 use crate::answer::LineAnswer;
 use crate::loose::Loose;
-use crate::number::{EMPTY, IN_USE, NO_MEMORY, RANGE, WELL};
+use crate::number::{EMPTY, IN_USE, NO_MEMORY, RANGE, WELL, side_of};
+use crate::payload::PayloadAnswer;
 use crate::said::SayAnswer;
 use crate::talk::limits_of;
 use crate::voice::Voice;
@@ -135,6 +139,32 @@ pub extern "C" fn zk_speaker_say(
         return SayAnswer::none(EMPTY);
     };
     let answer = voice.say(alloc, line);
+    handle.put(voice);
+    answer
+}
+
+/// Says the message of the side whose payload the bytes are; its frame is kept until the next message is said.
+#[unsafe(no_mangle)]
+pub extern "C" fn zk_speaker_say_payload(
+    alloc: Global,
+    handle: &mut SpeakerHandle,
+    side: u32,
+    payload: &[u8],
+) -> PayloadAnswer
+    // A number that is no side's changes nothing.
+    ensures range { side_of side ≡ None → (result ≡ payload_answer 67 0) × (handle.new ≡ handle.old) }
+    // With no speaker nothing is said.
+    ensures empty { handle.old.held.value ≡ None → IsSome (side_of side) → (result ≡ payload_answer 65 0) × (handle.new.held.value ≡ None) }
+    // The speaker says the payload, and the handle keeps it.
+    ensures say { (s : Side) (v : VoiceState) → side_of side ≡ Some s → handle.old.held.value ≡ Some v → SaysBytes v s payload.now result handle.new.held.value }
+{
+    let Some(side) = side_of(side) else {
+        return PayloadAnswer::none(RANGE);
+    };
+    let Some(mut voice) = handle.take(alloc) else {
+        return PayloadAnswer::none(EMPTY);
+    };
+    let answer = voice.say_payload(side, payload);
     handle.put(voice);
     answer
 }

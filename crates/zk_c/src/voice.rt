@@ -2,14 +2,16 @@
 ghost use Rattle.std.specs.Prelude.{◌≡◌, ◌≢◌, [], IfOk};
 ghost use Rattle.zk_talk.specs.Said.{Says};
 ghost use Rattle.zk_c.specs.Handle.{TellsText};
-ghost use Rattle.zk_c.specs.Saying.{IsRenewed, TellsSay};
+ghost use Rattle.zk_c.specs.Saying.{IsRenewed, TellsSay, TellsPayload};
 
 use crate::answer::LineAnswer;
-use crate::said::SayAnswer;
+use crate::number::WELL;
+use crate::payload::PayloadAnswer;
+use crate::said::{SayAnswer, refused_payload};
 use std::alloc::{AllocError, Global};
 use std::marker::Model;
 use zk_lines::read_line;
-use zk_talk::{Limits, Speaker};
+use zk_talk::{Limits, Side, Speaker};
 
 /// A speaker, and its newest frame.
 #[derive(Drop)]
@@ -59,6 +61,18 @@ impl Voice {
             Ok(()) => SayAnswer::said(self.frame.len()),
             Err(fault) => SayAnswer::refused(fault),
         }
+    }
+
+    /// Says the message of the side whose payload the bytes are.
+    pub fn say_payload(&mut self, side: Side, payload: &[u8]) -> PayloadAnswer
+        ensures { TellsPayload self.old side payload.now self.new result }
+    {
+        self.frame.clear();
+        match self.speaker.say_payload(side, payload, &mut self.frame) {
+            Ok(()) => {}
+            Err(fault) => return refused_payload(fault),
+        }
+        PayloadAnswer::none(WELL)
     }
 
     /// Writes the frame that was said last, if there is room for it.

@@ -35,7 +35,6 @@ use Rattle.zk_talk.specs.declared.message.Side.TheVariants.{Client, Server}
 use Rattle.zk_talk.specs.declared.message.Fault.{Fault}
 use Rattle.zk_talk.specs.declared.message.Ending.TheVariants as ending
 use Rattle.zk_talk.specs.declared.message.MessageOf.TheVariants.{Client as FromClient, Server as FromServer}
-use Rattle.zk_talk.specs.declared.stream.Advance.TheVariants.{Refused}
 use Rattle.zk_talk.specs.Held.{Message}
 use Rattle.zk_talk.specs.Payloads.{client_payload, server_payload}
 use Rattle.zk_talk.specs.History.{History, on}

@@ -51,7 +51,7 @@ pub are_conversation : (limits : Limits) (M : List Message) → AreSaid limits M
 are_conversation limits M are = conversation_from limits [] M (record { client = EachAfter-nil (ClientMay limits.profile); server = EachAfter-nil (ServerMay []) }) are
 
 -- ---- What may be said has no refusal.
-first_or_later : (f : ClientFrame) → IsFirst f → IsLater f → ⊥
+pub first_or_later : (f : ClientFrame) → IsFirst f → IsLater f → ⊥
 first_or_later (Connect t g) a b = b
 first_or_later (Ask xid ask) a b = a
 
@@ -79,7 +79,7 @@ answer_of : (C : List ClientFrame) (S : List ServerFrame) (r : Reply) → Server
 answer_of C [] r m = absurd m
 answer_of C (x ∷ xs) r m = m.1
 
-answered_next : (v : Conversation) (r : Reply) (w : IsAnswered v.client v.server r) → IsNext v (lane_of r.xid) r.xid w.ask
+pub answered_next : (v : Conversation) (r : Reply) (w : IsAnswered v.client v.server r) → IsNext v (lane_of r.xid) r.xid w.ask
 answered_next v r w = record { asked = w.asked; after = w.after; stands = w.stands; same_lane = refl; counts = w.counts }
 
 fit_client : (limits : Limits) (v : Conversation) (f : ClientFrame) → IsSaidClient limits v f → Fit limits.client (asks.frame_items f)
@@ -90,14 +90,14 @@ fit_server : (limits : Limits) (v : Conversation) (s : ServerFrame) → IsSaidSe
 unfolding server_payload
 fit_server limits v s may = ((sent_server v.client v.server s may.0).2, may.1)
 
-client_apart : (limits : Limits) (v : Conversation) (f : ClientFrame) (e : SayFault) → EachAfter (ServerMay v.client) v.server → IsSaidClient limits v f → IsClientRefusal limits v f e → ⊥
+pub client_apart : (limits : Limits) (v : Conversation) (f : ClientFrame) (e : SayFault) → EachAfter (ServerMay v.client) v.server → IsSaidClient limits v f → IsClientRefusal limits v f e → ⊥
 client_apart limits v f e each may (second_connect n first is) = first_or_later f first (may_later limits.profile v.client f n may.0).0
 client_apart limits v f e each may (before_connect n later is) = first_or_later f (may_first limits.profile v.client f n may.0).0 later
 client_apart limits v f e each may (not_allowed n later denied is) = (let t = sent_client limits.profile v.client f may.0 in denied (t.0.0, t.1))
 client_apart limits v f e each may (too_long a b sent denied is) = denied (fit_client limits v f may)
 client_apart limits v f e each may (queue_full n later sent fit over is) = omega (arith, over, may.2, load_ask v f each)
 
-server_apart : (limits : Limits) (v : Conversation) (s : ServerFrame) (e : SayFault) → IsSaidServer limits v s → IsServerRefusal limits v s e → ⊥
+pub server_apart : (limits : Limits) (v : Conversation) (s : ServerFrame) (e : SayFault) → IsSaidServer limits v s → IsServerRefusal limits v s e → ⊥
 server_apart limits v s e may (second_connected n c is) = once_connected v.client v.server s n c may.0
 server_apart limits v s e may (before_connected n c is) = c (sent_first v.client v.server s n may.0).0
 server_apart limits v s e may (no_connect n c none is) = (sent_first v.client v.server s n may.0).2 none

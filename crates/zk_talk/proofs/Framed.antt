@@ -8,7 +8,7 @@ use Rattle.zk_answers.specs.Frames as answers
 use Rattle.zk_frames.specs.Framing.{int_bytes, frame}
 use Rattle.zk_talk.specs.Payloads.{client_payload, server_payload}
 
-framed : (out between after payload : List ℕ) (n : ℕ) → n ≡ length payload → between ≡ out ++ jute.int_bytes (pos n) → after ≡ between ++ payload → after ≡ out ++ frame payload
+pub framed : (out between after payload : List ℕ) (n : ℕ) → n ≡ length payload → between ≡ out ++ jute.int_bytes (pos n) → after ≡ between ++ payload → after ≡ out ++ frame payload
 unfolding frame int_bytes
 framed out between after payload n e b a =
     a ∙ ap (λ z. z ++ payload) (b ∙ ap (λ m. out ++ jute.int_bytes (pos m)) e) ∙ append_assoc out (jute.int_bytes (pos (length payload))) payload

@@ -36,6 +36,8 @@ pub mod Framed
 pub mod Saying
 pub mod Speaking
 pub mod Spoken
+pub mod Hearing
+pub mod SayingPayloads
 pub mod Bodies
 pub mod Refusing
 pub mod Viewing

@@ -91,7 +91,7 @@ next_is v r next xid ask e n w =
     let t = s.1 in
     (cc, cc)
 
-server_alone : (v : Conversation) (p : List ℕ) (place : ℕ) (reason : Reason) → IsServerFault v p place reason → (s : ServerFrame) → ServerMay v.client v.server s → server_payload s ≡ p → ⊥
+pub server_alone : (v : Conversation) (p : List ℕ) (place : ℕ) (reason : Reason) → IsServerFault v p place reason → (s : ServerFrame) → ServerMay v.client v.server s → server_payload s ≡ p → ⊥
 server_alone v p place reason (no_connect es ec a b) s may e = (sent_first v.client v.server s es may).2 ec
 server_alone v p place reason (connected_fault es ec bad) s may e =
     let t = sent_first v.client v.server s es may in

@@ -22,3 +22,4 @@ pub mod Taking
 pub mod Answer
 pub mod Said
 pub mod SayNames
+pub mod SaidPayload

@@ -1,5 +1,5 @@
 //! Whether a payload may come next, and what waits after it.
-ghost use Rattle.std.specs.Prelude.{◌≡◌, ◌≢◌, ◌<◌, ◌^◌, ◌↔◌, ℕ, List, length, IsOk, IfOk, IfErr, IfSome, IfNone, OnOk, IsTrue, false, Some};
+ghost use Rattle.std.specs.Prelude.{◌≡◌, ◌≢◌, ◌<◌, ◌^◌, ◌↔◌, ℕ, List, length, IsOk, IfOk, IfErr, IfSome, IfNone, OnOk, IsTrue, MatchBool, false, Some};
 ghost use Rattle.zk_jute.specs.declared.fault.Reason.TheVariants.{NoMemory};
 ghost use Rattle.zk_asks.specs.Codes.{event_xid};
 ghost use Rattle.zk_asks.specs.Held as asks;
@@ -13,6 +13,8 @@ ghost use Rattle.zk_talk.specs.Conversation.{Conversation, ServerMay};
 ghost use Rattle.zk_talk.specs.Describes.{Describes};
 ghost use Rattle.zk_talk.specs.Settled.{IsAwaited, IsDueReply, IsSettled};
 ghost use Rattle.zk_talk.specs.Judged.{TellsLater, TellsClient, TellsServer, IsInTurn, IsTurnFault, IsPutRefusal, HasRoomFor, IsRemembered, IsDue, HasAsk, IsForgotten};
+ghost use Rattle.zk_talk.specs.Said.{Heard};
+ghost use Rattle.zk_talk.specs.SaidPayload.{HearsFault};
 
 use std::alloc::Global;
 use zk_answers::{
@@ -28,7 +30,7 @@ use zk_records::{Op, Profile, ReplyHeader};
 use zk_waiting::{Awaited, PutFault, lane_of};
 
 /// The client's payload after `count` frames, borrowed.
-fn seen_client(profile: Profile, count: u64, payload: &[u8]) -> Result<ClientRef<'_>, ItemFault>
+pub fn seen_client(profile: Profile, count: u64, payload: &[u8]) -> Result<ClientRef<'_>, ItemFault>
     ensures found { IfOk result (λ f. IsInTurn profile count f × IsSent f × (client_payload f ≡ payload.now)) }
     ensures fault { IfErr result (λ e. (e.reason ≢ NoMemory) × IsTurnFault profile count payload.now e) }
 {
@@ -40,7 +42,7 @@ fn seen_client(profile: Profile, count: u64, payload: &[u8]) -> Result<ClientRef
 }
 
 /// Whether there is room for what is to wait for the reply to `frame`.
-fn has_room(waiting: &Awaited, frame: &ClientRef<'_>) -> bool
+pub fn has_room(waiting: &Awaited, frame: &ClientRef<'_>) -> bool
     requires { length (client_payload frame.now) < 2 ^ 32 }
     ensures { IsTrue result ↔ HasRoomFor frame.now waiting.now }
 {
@@ -164,6 +166,38 @@ fn seen_answer<'a>(
     }
 }
 
+/// The server's payload, borrowed; `asked`: whether the client has spoken, `welcomed`: whether the server has.
+pub fn seen_server<'a>(
+    asked: bool,
+    welcomed: bool,
+    waiting: &Awaited,
+    payload: &'a [u8],
+) -> Result<ServerRef<'a>, ItemFault>
+    ensures due { IfOk result (λ s. IsDue s waiting.now × answers.IsSent s × (server_payload s ≡ payload.now)) }
+    ensures turn { IfOk result (λ s. MatchBool welcomed (answers.IsConnected s → ⊥) (answers.IsConnected s)) }
+    ensures may { IfOk result (λ s. (v : Conversation) → Heard asked welcomed waiting.now v → ServerMay v.client v.server s) }
+    ensures fault { IfErr result (λ e. (e.reason ≢ NoMemory) × HearsFault asked welcomed waiting.now payload.now e) }
+{
+    if welcomed {
+        let head = reply_head(payload)?;
+        if head.xid == -1 {
+            return borrow_event_under(&head, payload);
+        }
+        seen_answer(&head, waiting, payload)
+    } else if asked {
+        borrow_connected(payload)
+    } else {
+        Err(ItemFault::at(0, Reason::Unasked))
+    }
+}
+
+/// Whether a side has spoken, of which `count` frames have come.
+fn has_spoken(count: u64) -> bool
+    ensures { MatchBool result (count ≡ 0 → ⊥) (count ≡ 0) }
+{
+    count > 0
+}
+
 /// The server's payload after `asked` frames of the client and `count` of the server, borrowed.
 pub fn next_server<'a>(
     asked: u64,
@@ -176,17 +210,7 @@ pub fn next_server<'a>(
     ensures may { IfOk result (λ s. (v : Conversation) → Describes asked count waiting.now v → ServerMay v.client v.server s) }
     ensures fault { IfErr result (λ e. (e.reason ≢ NoMemory) × TellsServer asked count waiting.now payload.now e) }
 {
-    if count == 0 {
-        if asked == 0 {
-            return Err(ItemFault::at(0, Reason::Unasked));
-        }
-        return borrow_connected(payload);
-    }
-    let head = reply_head(payload)?;
-    if head.xid == -1 {
-        return borrow_event_under(&head, payload);
-    }
-    seen_answer(&head, waiting, payload)
+    seen_server(has_spoken(asked), has_spoken(count), waiting, payload)
 }
 
 /// The operation of the oldest request of the lane, if `payload`, which has the header `head`, is a reply to it; `None`:

@@ -72,7 +72,7 @@ impl Display for SayFault {
 impl Error for SayFault {}
 
 /// Appends `size` as the four bytes of length that come before a payload.
-fn put_length(size: u32, out: &mut Vec<u8>) -> Result<(), AllocError>
+pub fn put_length(size: u32, out: &mut Vec<u8>) -> Result<(), AllocError>
     requires { size < 2 ^ 31 }
     ensures ok { OnOk result (out.new.items ≡ out.old.items ++ int_bytes (pos size)) }
     ensures err { OnErr result (out.new.items ≡ out.old.items) }

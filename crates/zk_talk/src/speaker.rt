@@ -4,10 +4,13 @@ ghost use Rattle.zk_frames.specs.Framing.{frame};
 ghost use Rattle.zk_talk.specs.Held.{Message};
 ghost use Rattle.zk_talk.specs.declared.say.SayFault.TheVariants.{NoMemory};
 ghost use Rattle.zk_talk.specs.Ending.{unanswered};
+ghost use Rattle.zk_talk.specs.declared.payload.PayloadFault.TheVariants.{Say};
 ghost use Rattle.zk_talk.specs.Said.{Says, MaySay, MayStand, IsSayFault, payload_of, conversation_of};
+ghost use Rattle.zk_talk.specs.SaidPayload.{SaysPayload, RefusesPayload, StandsPayload, CannotSay};
 
 use crate::limits::Limits;
-use crate::message::Message;
+use crate::message::{Message, Side};
+use crate::payload::{PayloadFault, say_client_payload, say_server_payload};
 use crate::say::{SayFault, say_client, say_server};
 use std::alloc::{AllocError, Global};
 use std::marker::Model;
@@ -106,6 +109,57 @@ impl Speaker {
                     self.welcomed,
                     &mut self.waiting,
                     frame,
+                    out,
+                ) {
+                    Ok(()) => {}
+                    Err(e) => return Err(e),
+                }
+                self.welcomed = true;
+            }
+        }
+        Ok(())
+    }
+
+    /// Appends the frame of the side's `payload` to `out` if its message may be said next, as `say` does, and only then. The
+    /// message isn't made: nothing is allocated but room in `out`.
+    ///
+    /// # Errors
+    ///
+    /// `Item` if no message that may come next has the payload, `Say` if it is too long, if there is no room in the queue, or
+    /// if memory is refused. The speaker and `out` are then unchanged.
+    pub fn say_payload(
+        &mut self,
+        side: Side,
+        payload: &[u8],
+        out: &mut Vec<u8>,
+    ) -> Result<(), PayloadFault>
+        ensures limits { self.new.limits ≡ self.old.limits }
+        ensures bytes { OnOk result (out.new.items ≡ out.old.items ++ frame payload.now) }
+        // The payload is a message's, which may be said, and was said.
+        ensures said { OnOk result (SaysPayload self.old side payload.now self.new) }
+        ensures same { OnErr result ((self.new ≡ self.old) × (out.new.items ≡ out.old.items)) }
+        // Memory was refused, or the payload is, by this case.
+        ensures err { IfErr result (λ e. (e ≡ Say NoMemory) ⊎ RefusesPayload self.old side payload.now e) }
+        // Memory is needed only for a payload whose message may come after those said, within its side's limit.
+        ensures lacks { IfErr result (λ e. e ≡ Say NoMemory → StandsPayload self.old side payload.now) }
+        // Only a payload of which no message may be said is refused, unless memory was.
+        ensures exact { IfErr result (λ e. e ≢ Say NoMemory → CannotSay self.old side payload.now) }
+    {
+        match side {
+            Side::Client => {
+                match say_client_payload(self.limits, self.asked, &mut self.waiting, payload, out) {
+                    Ok(()) => {}
+                    Err(e) => return Err(e),
+                }
+                self.asked = true;
+            }
+            Side::Server => {
+                match say_server_payload(
+                    self.limits,
+                    self.asked,
+                    self.welcomed,
+                    &mut self.waiting,
+                    payload,
                     out,
                 ) {
                     Ok(()) => {}

@@ -105,6 +105,7 @@ CALLS = {
     "zk_speaker_new": (U32, HANDLE, U32, U32, U32, U32),
     "zk_speaker_renew": (U32, HANDLE),
     "zk_speaker_say": (Say, HANDLE, BYTES, SIZE),
+    "zk_speaker_say_payload": (Payload, HANDLE, U32, BYTES, SIZE),
     "zk_speaker_frame": (Line, HANDLE, BYTES, SIZE),
     "zk_speaker_free": (None, HANDLE),
     "zk_judge_first": (Payload, BYTES, SIZE),

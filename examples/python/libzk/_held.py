@@ -238,3 +238,11 @@ class Speaker(_Held):
         if said.status:
             raise Refused(said.status, said.column)
         return written(lambda *out: library.zk_speaker_frame(self._handle, *out), said.length)
+
+    def say_payload(self, side: Side, payload: bytes) -> bytes:
+        """The frame of the side's message of which the bytes are the payload, and which may come next."""
+        payload = bytes(payload)
+        said = library.zk_speaker_say_payload(self._handle, Side(side), payload, len(payload))
+        if said.status:
+            raise Refused(said.status, said.place)
+        return written(lambda *out: library.zk_speaker_frame(self._handle, *out), 4 + len(payload))

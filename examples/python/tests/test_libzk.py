@@ -384,21 +384,5 @@ class Passages(unittest.TestCase):
             self.assertEqual(through.ending(), (None, None, None, wanted))
 
 
-class Speakers(unittest.TestCase):
-    def test_frames(self):
-        with Speaker() as speaker:
-            frames = [speaker.say(line) for line in LINES]
-        self.assertEqual(frames, list(map(frame, (HELLO, WELCOME, EXISTS, NO_NODE, EVENT))))
-
-    def test_refusals(self):
-        with Speaker() as speaker:
-            for line, name, column in (("C 1 exists", "LINE_WORD", 11), ("", "LINE_WORD", 1),
-                                       (LINES[2], "NOT_FIRST", 0)):
-                with self.assertRaises(Refused) as caught:
-                    speaker.say(line)
-                self.assertEqual((caught.exception.name, caught.exception.place), (name, column))
-            self.assertEqual(speaker.say(LINES[0]), frame(HELLO))
-
-
 if __name__ == "__main__":
     unittest.main()

@@ -229,6 +229,12 @@ extern "C" {
     ) -> u32;
     pub fn zk_speaker_renew(speaker: *mut zk_speaker) -> u32;
     pub fn zk_speaker_say(speaker: *mut zk_speaker, line: *const u8, length: usize) -> zk_say;
+    pub fn zk_speaker_say_payload(
+        speaker: *mut zk_speaker,
+        side: u32,
+        bytes: *const u8,
+        length: usize,
+    ) -> zk_payload;
     pub fn zk_speaker_frame(speaker: *mut zk_speaker, out: *mut u8, room: usize) -> zk_line;
     pub fn zk_speaker_free(speaker: *mut zk_speaker);
     pub fn zk_judge_first(bytes: *const u8, length: usize) -> zk_payload;

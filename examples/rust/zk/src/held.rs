@@ -191,6 +191,19 @@ impl Speaker {
         })?;
         Ok(frame)
     }
+
+    /// The frame of the side's message of which the bytes are the payload, and which may come next.
+    pub fn say_payload(&mut self, side: Side, payload: &[u8]) -> Result<&[u8], Fault> {
+        let Speaker { handle, frame } = self;
+        let said = unsafe {
+            zk_sys::zk_speaker_say_payload(handle, side as u32, payload.as_ptr(), payload.len())
+        };
+        well(said.status, said.place)?;
+        written(frame, |out, room| unsafe {
+            zk_sys::zk_speaker_frame(handle, out, room)
+        })?;
+        Ok(frame)
+    }
 }
 
 impl Drop for Speaker {

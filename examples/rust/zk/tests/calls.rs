@@ -233,6 +233,21 @@ fn a_speaker_begins_anew() {
 }
 
 #[test]
+fn payloads_are_said() {
+    let mut speaker = zk::Speaker::new(Limits::default()).expect("a speaker");
+    let mut say = |side, payload: &[u8]| {
+        let said = speaker.say_payload(side, payload);
+        said.map(<[u8]>::to_vec)
+            .map_err(|fault| (fault.status, fault.place))
+    };
+    assert_eq!(say(Side::Client, &EXISTS), Err((1, 12)));
+    assert_eq!(say(Side::Client, &HELLO), Ok(frame(&HELLO)));
+    assert_eq!(say(Side::Client, &EXISTS), Ok(frame(&EXISTS)));
+    assert_eq!(say(Side::Client, &EXISTS[..14]), Err((1, 14)));
+    assert_eq!(say(Side::Client, &[]), Err((1, 0)));
+}
+
+#[test]
 fn listings() {
     let (hello, exists) = (frame(&HELLO), frame(&EXISTS));
     let pieces = [
