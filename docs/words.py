@@ -13,7 +13,7 @@ one.
 A sentence ends with a full stop, a question or an exclamation mark; a table's cell, an item of a list and a heading are
 sentences of their own. Code within a sentence is one word; blocks of code are none.
 
-The status is 0 if nothing is wrong, 1 if something is, 2 for wrong arguments.
+The status is 0 if nothing is wrong, 1 if something is, 2 for invalid arguments.
 """
 
 import pathlib
