@@ -7,8 +7,9 @@ It prints each page's words (those of `wc -w`, without the parts that scripts wr
 sentence. With --check it prints only what is wrong: a page or docs/ above its limit of words, a sentence above the
 page's, a word of DIALECT more often than its number allows, a date, a machine or an hour outside of bench/README.md and
 CHANGELOG.md, a link between pages whose file or heading isn't there, and a word of DIALECT in a script's comments or
-texts, which are its messages and help, or in a comment of a crate's sources. There a fast form "stands for" a plain
-one. So is a source or script of more than 400 lines that CONTRIBUTING.md doesn't name, or a shorter one that it names.
+texts, which are its messages and help, or in a comment of a crate's sources, or of C, Rust, Go or JavaScript. There a
+fast form "stands for" a plain one. So is a source or script of more than 400 lines that CONTRIBUTING.md doesn't name,
+or a shorter one that it names.
 
 A sentence ends with a full stop, a question or an exclamation mark; a table's cell, an item of a list and a heading are
 sentences of their own. Code within a sentence is one word; blocks of code are none.
@@ -53,6 +54,9 @@ DIARY = re.compile(r"\b\d{1,2} (?:January|February|March|April|May|June|July|Aug
 # folders that have none.
 MOST_LINES, RULES = 400, "CONTRIBUTING.md"
 SOURCES = ("", ".antt", ".c", ".css", ".go", ".h", ".html", ".java", ".js", ".py", ".rs", ".rt", ".sh")
+COMMENTED = ("crates/*/src/**/*.rt", "include/*.h", *(
+    f"{folder}/**/*.{suffix}" for suffix in ("c", "h", "rs", "go", "js")
+    for folder in ("bench", "examples", "tests", "tools", "wireshark")))
 TEXTS, MADE = ("COPYING", "LICENSE", ".git"), {".git", "__pycache__", "build", "dist", "out", "target"}
 
 GENERATED = re.compile(r"<!-- The lines from here on are written by .*?<!-- Up to here. -->", re.S)
@@ -139,12 +143,13 @@ def in_scripts():
 
 
 def in_sources():
-    """The words of DIALECT in the comments of the crates' sources; names in backticks are code."""
+    """The words of DIALECT in the comments of sources, those of crates and those in C, Rust, Go and JavaScript; names
+    in backticks are code."""
     dialect = re.compile(rf"\b(?:{'|'.join(DIALECT)})\b(?! for)", re.I)
-    for path in sorted(TOP.glob("crates/*/src/**/*.rt")):
+    for path in sorted({path for pattern in COMMENTED for path in TOP.glob(pattern) if not MADE & set(path.parts)}):
         text = path.read_text()
-        for block in re.finditer(r"(?:^[ \t]*//.*\n)+|//.*\n", text, re.M):
-            words = re.sub(r"\s*//[/!]?\s*", " ", block[0])
+        for block in re.finditer(r"(?:^[ \t]*//.*\n)+|//.*\n|/\*(?:.|\n)*?\*/", text, re.M):
+            words = re.sub(r"\s*(?://[/!]?|^ \*(?!/)|/\*)\s*", " ", block[0], flags=re.M)
             for found in dialect.finditer(re.sub(r"`[^`]*`", "code", words)):
                 yield f"{name_of(path)}:{text.count(chr(10), 0, block.start()) + 1}: plainer words: {found[0]}"
 
