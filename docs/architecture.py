@@ -8,7 +8,7 @@ the other src/*.rt, or the comment that a file of specs/ begins with. What a cra
 written between two marks of each page. With --check nothing is written, and it fails where a page isn't current, or
 where a file has no such comment.
 
-The status is 0 if the pages are current or were written, 1 if something is wrong, 2 for wrong arguments.
+The status is 0 if the pages are current or were written, 1 if something is wrong, 2 for invalid arguments.
 """
 
 import pathlib

@@ -8,7 +8,7 @@ marks of the page: what a call returns, its conditions, and the names of its cla
 success, a refusal or both. docs/MUST_FAIL.md names edits as `crate/edit`: each must be there. With --check it writes
 nothing and fails where the page isn't current. (docs/clauses.py checks the clauses that pages name.)
 
-The status is 0 if the page is current or was written, 1 if it isn't current or a name is wrong, 2 for wrong
+The status is 0 if the page is current or was written, 1 if it isn't current or a name is wrong, 2 for invalid
 arguments.
 """
 

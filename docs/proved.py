@@ -9,7 +9,7 @@ folders specs/ and every type of the folders src/ that they name, and writes the
 name that is spelled like a definition counts, too: the list may have a few names too many, and none too few. Laws,
 whose proofs the checker has read, are left out.
 
-The status is 0 if the page is current or was written, 1 if --check finds that it isn't, 2 for wrong arguments.
+The status is 0 if the page is current or was written, 1 if --check finds that it isn't, 2 for invalid arguments.
 """
 
 import pathlib

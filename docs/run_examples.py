@@ -26,7 +26,7 @@ does not begin with a command fails, and so does any block of code but for those
 "```rust FILE" or "```c FILE" must be in that file, line for line, but for how far it is indented.
 
 It prints what differs, what is marked, and one last line, N passed, M failed. The status is 0 if nothing differs, 1
-if something does, 2 for wrong arguments or if a page cannot be read.
+if something does, 2 for invalid arguments or if a page cannot be read.
 """
 
 import argparse

@@ -7,15 +7,17 @@ It prints each page's words (those of `wc -w`, without the parts that scripts wr
 sentence. With --check it prints only what is wrong: a page or docs/ above its limit of words, a sentence above the
 page's, a word of DIALECT more often than its number allows, a date, a machine or an hour outside of bench/README.md and
 CHANGELOG.md, a link between pages whose file or heading isn't there, and a word of DIALECT in a script's comments or
-texts, which are its messages and help, or in a comment of a crate's sources. There a fast form "stands for" a plain
-one.
+texts, which are its messages and help, or in a comment of a crate's sources, or of C, Rust, Go or JavaScript. There a
+fast form "stands for" a plain one. So is a source or script of more than 400 lines that CONTRIBUTING.md doesn't name,
+or a shorter one that it names.
 
 A sentence ends with a full stop, a question or an exclamation mark; a table's cell, an item of a list and a heading are
 sentences of their own. Code within a sentence is one word; blocks of code are none.
 
-The status is 0 if nothing is wrong, 1 if something is, 2 for wrong arguments.
+The status is 0 if nothing is wrong, 1 if something is, 2 for invalid arguments.
 """
 
+import os
 import pathlib
 import re
 import sys
@@ -47,6 +49,15 @@ DIALECT = {
 }
 DIARY = re.compile(r"\b\d{1,2} (?:January|February|March|April|May|June|July|August|September|October|November|December)"
                    r"|\b(?:this|that) machine\b|\b(?:hours?|minutes?) on\b|\bat a load of\b")
+
+# The greatest number of lines of a source, the page that names those with more, what a source's name ends with, and the
+# folders that have none.
+MOST_LINES, RULES = 400, "CONTRIBUTING.md"
+SOURCES = ("", ".antt", ".c", ".css", ".go", ".h", ".html", ".java", ".js", ".py", ".rs", ".rt", ".sh")
+COMMENTED = ("crates/*/src/**/*.rt", "include/*.h", *(
+    f"{folder}/**/*.{suffix}" for suffix in ("c", "h", "rs", "go", "js")
+    for folder in ("bench", "examples", "tests", "tools", "wireshark")))
+TEXTS, MADE = ("COPYING", "LICENSE", ".git"), {".git", "__pycache__", "build", "dist", "out", "target"}
 
 GENERATED = re.compile(r"<!-- The lines from here on are written by .*?<!-- Up to here. -->", re.S)
 FENCE = re.compile(r"^```.*?^```$", re.M | re.S)
@@ -132,14 +143,32 @@ def in_scripts():
 
 
 def in_sources():
-    """The words of DIALECT in the comments of the crates' sources; names in backticks are code."""
+    """The words of DIALECT in the comments of sources, those of crates and those in C, Rust, Go and JavaScript; names
+    in backticks are code."""
     dialect = re.compile(rf"\b(?:{'|'.join(DIALECT)})\b(?! for)", re.I)
-    for path in sorted(TOP.glob("crates/*/src/**/*.rt")):
+    for path in sorted({path for pattern in COMMENTED for path in TOP.glob(pattern) if not MADE & set(path.parts)}):
         text = path.read_text()
-        for block in re.finditer(r"(?:^[ \t]*//.*\n)+|//.*\n", text, re.M):
-            words = re.sub(r"\s*//[/!]?\s*", " ", block[0])
+        for block in re.finditer(r"(?:^[ \t]*//.*\n)+|//.*\n|/\*(?:.|\n)*?\*/", text, re.M):
+            words = re.sub(r"\s*(?://[/!]?|^ \*(?!/)|/\*)\s*", " ", block[0], flags=re.M)
             for found in dialect.finditer(re.sub(r"`[^`]*`", "code", words)):
                 yield f"{name_of(path)}:{text.count(chr(10), 0, block.start()) + 1}: plainer words: {found[0]}"
+
+
+def long_sources():
+    """The sources of more than MOST_LINES lines."""
+    for place, folders, names in os.walk(TOP):
+        folders[:] = set(folders) - MADE
+        for path in (pathlib.Path(place, name) for name in names if name not in TEXTS):
+            if path.suffix in SOURCES and len(path.read_bytes().splitlines()) > MOST_LINES:
+                yield name_of(path)
+
+
+def too_long():
+    """The long sources that the page of rules doesn't name, and what it names that is none."""
+    rule = re.search(rf"more than {MOST_LINES} lines, but for (.*?)\. ", (TOP / RULES).read_text())
+    named, found = set(re.findall(r"`([^`]+)`", rule[1] if rule else "")), set(long_sources())
+    yield from (f"{name}: more than {MOST_LINES} lines, and {RULES} doesn't name it" for name in sorted(found - named))
+    yield from (f"{RULES}: {name} is no source of more than {MOST_LINES} lines" for name in sorted(named - found))
 
 
 def judged(texts):
@@ -164,6 +193,7 @@ def judged(texts):
             yield f"the pages have \"{word}\" {count} times, and at most {limit} are allowed"
     yield from in_scripts()
     yield from in_sources()
+    yield from too_long()
 
 
 def main():

@@ -10,6 +10,7 @@
 #define _POSIX_C_SOURCE 200809L
 #include "zk.h"
 
+#include <errno.h>
 #include <inttypes.h>
 #include <netdb.h>
 #include <netinet/in.h>
@@ -108,7 +109,7 @@ static void say(const uint8_t *frame, struct zk_written written) {
     well(step.status);
     for (size_t at = 0; at < written.length;) {
         ssize_t wrote = send(server, frame + at, written.length - at, MSG_NOSIGNAL);
-        if (wrote <= 0) fail(2, "the connection is broken");
+        if (wrote <= 0) fail(2, "the connection to the server is broken");
         at += (size_t)wrote;
     }
     count = length = 0;
@@ -177,10 +178,11 @@ static void show(const struct zk_read *read, uint16_t content, uint16_t number) 
 static int connection(const char *host, const char *port) {
     struct addrinfo wanted = {0}, *found = NULL;
     wanted.ai_socktype = SOCK_STREAM;
-    if (getaddrinfo(host, port, &wanted, &found) != 0) fail(2, "no such server");
+    int failed = getaddrinfo(host, port, &wanted, &found);
+    if (failed != 0) fail(2, gai_strerror(failed));
     int to = socket(found->ai_family, found->ai_socktype, found->ai_protocol), yes = 1;
-    if (to < 0 || connect(to, found->ai_addr, found->ai_addrlen) != 0) fail(2, "no connection");
-    if (setsockopt(to, IPPROTO_TCP, TCP_NODELAY, &yes, sizeof yes) != 0) fail(2, "no connection by TCP");
+    if (to < 0 || connect(to, found->ai_addr, found->ai_addrlen) != 0) fail(2, strerror(errno));
+    if (setsockopt(to, IPPROTO_TCP, TCP_NODELAY, &yes, sizeof yes) != 0) fail(2, strerror(errno));
     freeaddrinfo(found);
     return to;
 }

@@ -16,6 +16,14 @@
 
 static const char *const messages[] = {"fault", "connect request", "request", "connect response", "reply", "event"};
 
+static const char USAGE[] = "usage: fields first|connected|event HEX, fields request PROFILE HEX, "
+                            "or fields reply OPERATION HEX";
+
+static _Noreturn void fail(const char *what) {
+    fprintf(stderr, "fields: %s\n", what);
+    exit(2);
+}
+
 /* The payload of hexadecimal digits; its length, or SIZE_MAX if they are no whole bytes. */
 static size_t payload_of(const char *digits, uint8_t *payload) {
     size_t count = strlen(digits);
@@ -67,26 +75,26 @@ static struct zk_read read_fields(int count, char **words, const uint8_t *payloa
     if (count == 3 && strcmp(name, "event") == 0) return zk_read_event(payload, length, out, room);
     if (count == 4 && strcmp(name, "request") == 0) return zk_read_request((uint32_t)atoi(words[2]), payload, length, out, room);
     if (count == 4 && strcmp(name, "reply") == 0) return zk_read_reply(atoi(words[2]), NULL, 0, payload, length, out, room);
-    exit(2);
+    fail(USAGE);
 }
 
 int main(int count, char **words) {
-    if (count < 3) return 2;
+    if (count < 3) fail(USAGE);
     uint8_t *payload = malloc(strlen(words[count - 1]) + 1);
-    if (payload == NULL) return 2;
+    if (payload == NULL) fail("out of memory");
     size_t length = payload_of(words[count - 1], payload), room = 8;
-    struct zk_field *fields = malloc(room * sizeof *fields);
-    if (fields == NULL || length == SIZE_MAX) {
-        free(fields);
+    if (length == SIZE_MAX) {
         free(payload);
-        return 2;
+        fail("HEX isn't pairs of hexadecimal digits");
     }
+    struct zk_field *fields = malloc(room * sizeof *fields);
+    if (fields == NULL) fail("out of memory");
     struct zk_read read = read_fields(count, words, payload, length, fields, room);
     if (read.count > room) { /* the room is too small: the answer says how large it has to be */
         room = read.count;
         free(fields);
         fields = malloc(room * sizeof *fields);
-        if (fields == NULL) return 2;
+        if (fields == NULL) fail("out of memory");
         read = read_fields(count, words, payload, length, fields, room);
     }
     printf("%s %s xid=%" PRId32, messages[read.kind], zk_operation_name(read.operation), read.xid);

@@ -5,6 +5,7 @@
  * The recording has the format ZKR1 (docs/FORMATS.md, section 12). The status is 0 if it was read to its end. */
 #include "zk.h"
 
+#include <errno.h>
 #include <stdio.h>
 #include <stdlib.h>
 #include <string.h>
@@ -22,7 +23,7 @@ struct text {
 
 static void grow(struct text *text, size_t room) {
     uint8_t *bytes = realloc(text->bytes, room);
-    if (bytes == NULL) fail("no memory");
+    if (bytes == NULL) fail("out of memory");
     text->bytes = bytes;
     text->room = room;
 }
@@ -54,11 +55,11 @@ static bool put_messages(struct zk_talk *talk, uint32_t side, const uint8_t *byt
 static void list(struct zk_talk *talk, FILE *recording, struct text *text) {
     uint8_t head[5], *piece = NULL;
     bool good = true;
-    if (fread(head, 1, 4, recording) != 4 || memcmp(head, "ZKR1", 4) != 0) fail("no recording of format ZKR1");
+    if (fread(head, 1, 4, recording) != 4 || memcmp(head, "ZKR1", 4) != 0) fail("the file is no recording of format ZKR1");
     while (good && fread(head, 1, 5, recording) == 5) {
         size_t length = (size_t)head[1] << 24 | (size_t)head[2] << 16 | (size_t)head[3] << 8 | head[4];
         uint8_t *larger = realloc(piece, length + 1);
-        if (larger == NULL) fail("no memory");
+        if (larger == NULL) fail("out of memory");
         piece = larger;
         if (fread(piece, 1, length, recording) != length) fail("the recording ends within a piece");
         good = put_messages(talk, head[0] == 'C' ? ZK_CLIENT : ZK_SERVER, piece, length, text);
@@ -67,8 +68,12 @@ static void list(struct zk_talk *talk, FILE *recording, struct text *text) {
 }
 
 int main(int count, char **words) {
-    FILE *recording = count == 2 ? fopen(words[1], "rb") : NULL;
-    if (recording == NULL) fail("usage: listing RECORDING");
+    if (count != 2) fail("usage: listing RECORDING");
+    FILE *recording = fopen(words[1], "rb");
+    if (recording == NULL) {
+        fprintf(stderr, "listing: %s: %s\n", words[1], strerror(errno));
+        return 2;
+    }
     struct zk_talk talk = ZK_ZEROS;
     struct text text = {NULL, 0};
     grow(&text, 4096);

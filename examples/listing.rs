@@ -119,25 +119,40 @@ fn pieces(recording: &[u8]) -> Option<Vec<(zk::Side, &[u8])>> {
     Some(pieces)
 }
 
-fn put(out: &mut impl Write, text: &[u8]) {
-    out.write_all(text).and_then(|()| out.write_all(b"\n")).expect("standard output");
+/// What went wrong, in words.
+fn status(number: u32) -> String {
+    format!("the library refuses this: status {number} of zk.h")
 }
 
-fn main() {
-    let path = std::env::args().nth(1).expect("usage: listing RECORDING");
-    let recording = std::fs::read(path).expect("a recording");
-    let mut talk = zk::Talk::new(4_194_304, 65_536).expect("a talk");
-    let (mut out, mut text) = (std::io::stdout().lock(), Vec::new());
-    'all: for (side, mut rest) in pieces(&recording).expect("pieces") {
+/// Writes the listing of the recording at this path.
+fn list(path: &str, out: &mut impl Write) -> Result<(), String> {
+    let recording = std::fs::read(path).map_err(|error| format!("{path}: {error}"))?;
+    let pieces = pieces(&recording).ok_or_else(|| format!("{path}: the file is no whole recording of format ZKR1"))?;
+    let mut put = |text: &[u8]| out.write_all(&[text, b"\n"].concat()).map_err(|error| format!("standard output: {error}"));
+    let (mut talk, mut text) = (zk::Talk::new(4_194_304, 65_536).map_err(status)?, Vec::new());
+    'all: for (side, mut rest) in pieces {
         while !rest.is_empty() {
             let Ok((used, whole)) = talk.step(side, rest) else { break 'all };
             rest = &rest[used..];
             if whole {
-                talk.line(side, &mut text).expect("a line");
-                put(&mut out, &text);
+                talk.line(side, &mut text).map_err(status)?;
+                put(&text)?;
             }
         }
     }
-    talk.ending_line(&mut text).expect("an ending");
-    put(&mut out, &text);
+    talk.ending_line(&mut text).map_err(status)?;
+    put(&text)
+}
+
+fn main() -> std::process::ExitCode {
+    let words: Vec<String> = std::env::args().collect();
+    let listed = match &words[..] {
+        [_, path] => list(path, &mut std::io::stdout().lock()),
+        _ => Err("usage: listing RECORDING".into()),
+    };
+    if let Err(trouble) = listed {
+        eprintln!("listing: {trouble}");
+        return 2.into();
+    }
+    0.into()
 }

@@ -79,8 +79,8 @@ static void stop(int number) {
     over = 1;
 }
 
-static void fail(const char *what) {
-    fprintf(stderr, "proxy: %s: %s\n", what, strerror(errno));
+static void fail(const char *what, const char *why) {
+    fprintf(stderr, "proxy: %s: %s\n", what, why);
     exit(2);
 }
 
@@ -162,7 +162,7 @@ static void begin_line(const struct connection *it, int64_t waited) {
 static bool longer(struct zk_line line) {
     if (line.status != ZK_ROOM) return false;
     uint8_t *bytes = realloc(text, line.length);
-    if (bytes == NULL) fail("no memory");
+    if (bytes == NULL) fail("memory", strerror(errno));
     text = bytes;
     room = line.length;
     return true;
@@ -368,9 +368,10 @@ static int listening(const char *port) {
     at.sin_family = AF_INET;
     at.sin_port = htons((uint16_t)atoi(port));
     at.sin_addr.s_addr = htonl(INADDR_LOOPBACK);
-    if (listener < 0 || setsockopt(listener, SOL_SOCKET, SO_REUSEADDR, &yes, sizeof yes) != 0) fail("a socket");
-    if (bind(listener, (struct sockaddr *)&at, sizeof at) != 0 || listen(listener, 128) != 0) fail(port);
-    if (!without_blocking(listener) || getsockname(listener, (struct sockaddr *)&at, &size) != 0) fail(port);
+    bool good = listener >= 0 && setsockopt(listener, SOL_SOCKET, SO_REUSEADDR, &yes, sizeof yes) == 0;
+    good = good && bind(listener, (struct sockaddr *)&at, sizeof at) == 0 && listen(listener, 128) == 0;
+    good = good && without_blocking(listener) && getsockname(listener, (struct sockaddr *)&at, &size) == 0;
+    if (!good) fail(port, strerror(errno));
     printf("listening on 127.0.0.1:%u\n", (unsigned)ntohs(at.sin_port));
     return listener;
 }
@@ -383,9 +384,10 @@ int main(int given, char **words) {
         return 2;
     }
     wanted.ai_socktype = SOCK_STREAM;
-    if (getaddrinfo(words[2], words[3], &wanted, &server) != 0) fail(words[2]);
+    int failed = getaddrinfo(words[2], words[3], &wanted, &server);
+    if (failed != 0) fail(words[2], gai_strerror(failed));
     ending.sa_handler = stop;
-    if (sigaction(SIGINT, &ending, NULL) != 0 || sigaction(SIGTERM, &ending, NULL) != 0) fail("a signal");
+    if (sigaction(SIGINT, &ending, NULL) != 0 || sigaction(SIGTERM, &ending, NULL) != 0) fail("sigaction", strerror(errno));
     setvbuf(stdout, NULL, _IOLBF, BUFSIZ);
     int listener = listening(words[1]);
     while (!over) turn(listener);

@@ -10,9 +10,11 @@
 #include "zk.h"
 
 #include <arpa/inet.h>
+#include <errno.h>
 #include <netinet/in.h>
 #include <stdio.h>
 #include <stdlib.h>
+#include <string.h>
 #include <sys/socket.h>
 #include <unistd.h>
 
@@ -85,16 +87,26 @@ static int first_client(const char *port) {
     return client;
 }
 
+/* Reports what went wrong; the status that is then due. */
+static int failed(const char *what) {
+    fprintf(stderr, "server: %s\n", what);
+    return 2;
+}
+
 int main(int count, char **words) {
-    static uint8_t bytes[65536];
+    static uint8_t bytes[65536], text[256];
     struct zk_talk talk = ZK_ZEROS;
-    if (zk_talk_new(&talk, LIMIT, LIMIT, WAITING, ZK_PROFILE_34) != ZK_WELL) return 1;
-    int client = first_client(count > 1 ? words[1] : "0");
-    if (client < 0) return 2;
+    if (count > 2) return failed("usage: server [PORT]");
+    if (zk_talk_new(&talk, LIMIT, LIMIT, WAITING, ZK_PROFILE_34) != ZK_WELL) return failed("out of memory");
+    int client = first_client(count == 2 ? words[1] : "0");
+    if (client < 0) return failed(strerror(errno));
     ssize_t came = 0;
     bool good = true;
     while (good && (came = recv(client, bytes, sizeof bytes, 0)) > 0) good = serve(&talk, client, bytes, (size_t)came);
     struct zk_ending ending = zk_talk_finish(&talk);
+    struct zk_line line = zk_talk_ending_line(&talk, text, sizeof text);
+    if (ending.kind != ZK_WHOLE) fprintf(stderr, "server: %.*s\n", (int)line.length, (const char *)text);
+    else if (!good) failed("the client has ended the connection before its answer");
     zk_talk_free(&talk);
     close(client);
     return good && ending.kind == ZK_WHOLE ? 0 : 1;

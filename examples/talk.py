@@ -79,7 +79,10 @@ class Written(ctypes.Structure):
 
 
 class Refused(Exception):
-    """A status, and the fault where there is one."""
+    """A status, and the place of the fault where there is one."""
+
+    def __str__(self):
+        return f"the library refuses this: status {self.args[0]} of zk.h, at {self.args[-1]}"
 
 
 class Library:
@@ -175,7 +178,7 @@ class Talk:
 def pieces(recording):
     """The side and the bytes of each piece of a recording of format ZKR1."""
     if recording[:4] != b"ZKR1":
-        raise ValueError("no recording")
+        raise ValueError("the file is no recording of format ZKR1")
     at = 4
     while at < len(recording):
         length = int.from_bytes(recording[at + 1:at + 5], "big")
@@ -229,14 +232,19 @@ def said(library, listing):
 
 
 def main():
-    library = Library(sys.argv[1])
-    with open(sys.argv[-1], "rb") as file:
-        content = file.read()
-    if sys.argv[2] == "--say":
-        sys.stdout.buffer.writelines(said(library, content))
-        return
-    for line in listing(library, content):
-        sys.stdout.buffer.write(line + b"\n")
+    if len(sys.argv) not in (3, 4) or (len(sys.argv) == 4) != (sys.argv[2] == "--say"):
+        sys.exit("usage: talk.py LIBRARY RECORDING, or talk.py LIBRARY --say LISTING")
+    try:
+        library = Library(sys.argv[1])
+        with open(sys.argv[-1], "rb") as file:
+            content = file.read()
+        if sys.argv[2] == "--say":
+            sys.stdout.buffer.writelines(said(library, content))
+            return
+        for line in listing(library, content):
+            sys.stdout.buffer.write(line + b"\n")
+    except (OSError, ValueError, Refused) as error:
+        sys.exit(f"talk.py: {error}")
 
 
 if __name__ == "__main__":

@@ -304,7 +304,7 @@ uint32_t zk_talk_renew(struct zk_talk *talk);
 /* Takes bytes of a side up to the end of the first frame that becomes whole, or all of them. It never allocates. */
 struct zk_step zk_talk_step(struct zk_talk *talk, uint32_t side, const uint8_t *piece, size_t length);
 
-/* The same, and it keeps no frame: for who wants no message. It doesn't copy a frame that is whole in the piece, unless a
+/* The same, and it keeps no frame: for who needs no message. It doesn't copy a frame that is whole in the piece, unless a
  * first look at it is undecided. */
 struct zk_step zk_talk_pass(struct zk_talk *talk, uint32_t side, const uint8_t *piece, size_t length);
 

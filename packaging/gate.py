@@ -32,8 +32,8 @@ def faults(log):
         if line not in found:
             name, _, value = line.partition(": ")
             other = next((each.partition(": ")[2] for each in found if each.startswith(f"{name}: ")), None)
-            yield f"the log ends without {line!r}" if other is None else \
-                f"the log is of another {name}: {other}, not {value}"
+            yield f"the log ends without {line!r}: name what ./test printed when it passed" if other is None else \
+                f"the log is of another {name}: {other}, not {value}; run ./test again"
 
 
 if __name__ == "__main__":

@@ -88,6 +88,13 @@ class Plugin:
         self.status, self.said = done.returncode, done.stderr.decode(errors="replace")
         return done.stdout.decode(errors="replace")
 
+    def shell(self, command, folder):
+        """The run of a command with tshark in this folder, with the preferences as they come."""
+        done = subprocess.run(["sh", "-c", command], cwd=folder, env=self.environment, capture_output=True, check=False,
+                              **self.user)
+        self.status, self.said = done.returncode, done.stderr.decode(errors="replace")
+        return done
+
     def trouble(self, out=""):
         """What is wrong with the last run, or nothing."""
         found = [word for word in BAD if word in self.said or word in out]

@@ -139,6 +139,31 @@ def show_fields(program):
         yield given, good, f"fields {given}: status {found.returncode}, {found.stdout}"
 
 
+def complain(programs):
+    """Whether each program says in one line why it can't begin."""
+    programs = {name: [program] for name, program in programs.items()}
+    programs["talk.py"] = [sys.executable, EXAMPLES / "talk.py"]
+    none, listing = "/no/such/file", CAPTURES / "kazoo_basic.show"
+    for name, given, told in (
+        ("listing", [], "listing: usage: listing RECORDING"),
+        ("listing", [none], f"listing: {none}: No such file or directory"),
+        ("listing", [listing], "listing: the file is no recording of format ZKR1"),
+        ("talk.py", ["--say"], "usage: talk.py LIBRARY RECORDING, or talk.py LIBRARY --say LISTING"),
+        ("talk.py", [none, listing], f"talk.py: {none}: cannot open shared object file: No such file or directory"),
+        ("fields", ["another", "00"], "fields: usage: fields first|connected|event HEX, fields request PROFILE HEX, or "
+                                      "fields reply OPERATION HEX"),
+        ("fields", ["first", "0g"], "fields: HEX isn't pairs of hexadecimal digits"),
+        ("client", ["127.0.0.1"], "client: usage: client SERVER PORT PATH DATA [ROUNDS]"),
+        ("client", ["127.0.0.1", "1", "/a", ""], "client: Connection refused"),
+        ("server", ["1", "2"], "server: usage: server [PORT]"),
+        ("proxy", ["0"], "usage: proxy PORT SERVER SERVERPORT"),
+        ("proxy", ["0", "127.0.0.1", "no port"], "proxy: 127.0.0.1: Servname not supported for ai_socktype"),
+    ):
+        found = subprocess.run([*programs[name], *given], capture_output=True, text=True)
+        good = found.returncode > 0 and (found.stdout, found.stderr) == ("", f"{told}\n")
+        yield f"{name} {given}", good, f"{name} {given}: status {found.returncode}, {found.stdout}{found.stderr}"
+
+
 def listers(folder, programs, archive, shared):
     """The examples that print listings, with the words that run them."""
     yield "listing.c", programs["listing"]
@@ -185,6 +210,7 @@ def check(folder, archive, shared, cc):
     for name, *words in listers(folder, programs, archive, shared):
         yield from list_recordings(name, *words)
     yield from show_fields(programs["fields"])
+    yield from complain(programs)
     found = subprocess.run([programs["first"]], capture_output=True, text=True)
     good = (found.returncode, found.stdout) == (0, "WELL: exists, 2 fields\npath at 12+2\nwatch at 14+1\n")
     yield "first", good, f"first: status {found.returncode}, {found.stdout}{found.stderr}"

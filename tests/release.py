@@ -108,6 +108,10 @@ def numbers():
         f"CHANGELOG.md begins with {changes[:2]}"
     found = run(sys.executable, TOP / "release", install.VERSION + "0")
     yield "another version", found.returncode == 2, f"release: status {found.returncode} for another version"
+    found = run(sys.executable, TOP / "release", "--log", "/no/such/log")
+    told = found.stderr.decode().splitlines()[-1:]
+    yield ("no such log", (found.returncode, told) == (2, ["release: error: /no/such/log: No such file or directory"]),
+           f"release: status {found.returncode}, {told}, where the log isn't there")
 
 
 def logs():

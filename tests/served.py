@@ -23,9 +23,9 @@ closeSession: OK
 
 
 def served(program, speak):
-    """What comes of speaking to the server's port, and the server's status."""
-    with subprocess.Popen([program], stdout=subprocess.PIPE, text=True) as process:
-        return speak(int(process.stdout.readline())), process.wait(PATIENCE)
+    """What comes of speaking to the server's port, the server's status, and its line on standard error."""
+    with subprocess.Popen([program], stdout=subprocess.PIPE, stderr=subprocess.PIPE, text=True) as process:
+        return speak(int(process.stdout.readline())), process.wait(PATIENCE), process.stderr.read()
 
 
 def answered(port, digits):
@@ -38,10 +38,11 @@ def answered(port, digits):
 def check(program, client):
     """Whether it answers what it should, and refuses what a client may not send."""
     for name, speak, wanted in (
-        ("answers", lambda port: answered(port, HELLO + EXISTS + ENDS), (bytes.fromhex(ANSWERS).hex(), 0)),
-        ("another first message", lambda port: answered(port, EXISTS), ("", 1)),
+        ("answers", lambda port: answered(port, HELLO + EXISTS + ENDS), (bytes.fromhex(ANSWERS).hex(), 0, "")),
+        ("another first message", lambda port: answered(port, EXISTS),
+         ("", 1, "server: . refused side=C frame=0 offset=19 place=12 reason=Short\n")),
         ("the client", lambda port: subprocess.run([client, "127.0.0.1", str(port), "/a", "x"], stdout=subprocess.PIPE,
-                                                   text=True).stdout, (SAID, 0)),
+                                                   text=True).stdout, (SAID, 0, "")),
     ):
         found = served(program, speak)
         yield name, found == wanted, f"server, {name}: {found}"

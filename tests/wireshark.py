@@ -21,6 +21,7 @@ import shutil
 import subprocess
 import sys
 import tempfile
+import textwrap
 
 from connections import WHOLE, Connections, listings, objects_of
 import dissected
@@ -164,19 +165,37 @@ class Tests(Connections):
         """Each field marks its bytes, those before a fault, too; the bytes after these are not read."""
         yield from placed.compare(self.plugin)
 
+    def test_the_commands_of_the_page(self):
+        """Each line of tshark ends well, and prints something where it has no filter."""
+        capture = joined(list(wire.conversation(pieces_of(path))) for path in WHOLE)
+        lines = re.findall(r"^    \$ (tshark .*)$", (SOURCES / "README.md").read_text(), re.M)
+        folder = self.folder_of_the_page(capture)
+        for line in lines:
+            done = self.plugin.shell(re.sub(r" -r \S+", " -r F", line), folder)
+            yield (done.returncode == 0 and not self.plugin.trouble() and (done.stdout or " -Y '" in line),
+                   f"{line}: status {done.returncode}, {done.stderr[-300:]}")
+        yield len(lines) > 8, f"{len(lines)} lines of tshark"
+
+    def folder_of_the_page(self, capture):
+        """A folder with the capture F and the script zkr_of.py of the page, in which its commands run."""
+        folder = pathlib.Path(tempfile.mkdtemp(dir=self.folder))
+        script = re.search(r"as `zkr_of\.py`\n(?:\n|<.*\n)*((?:    .*\n)+)", (SOURCES / "README.md").read_text())[1]
+        (folder / "zkr_of.py").write_text(textwrap.dedent(script))
+        (folder / "F").write_bytes(capture)
+        folder.chmod(0o777)
+        return folder
+
     def test_the_recipe_back(self):
         """Each side's bytes come back by the fields `side` and `frame`, as the page has it."""
+        line, = re.findall(r"^    \$ (tshark .* > OUT\.zkr)$", (SOURCES / "README.md").read_text(), re.M)
         for path in WHOLE:
-            text = self.plugin.read(capture_of(pieces_of(path)), "-Y", "zookeeper && tcp.stream == 0", "-T", "fields",
-                                    "-E", "occurrence=a", "-e", "zookeeper.side", "-e", "zookeeper.frame")
-            said = collections.defaultdict(bytes)
-            for line in text.splitlines():
-                names, frames = line.split("\t")
-                for side, frame in zip(names.split(","), frames.split(",")):
-                    said[b"CS"[int(side):int(side) + 1]] += bytes.fromhex(frame)
-            whole = collections.defaultdict(bytes)
-            for piece in pieces_of(path):
-                whole[piece.side] += piece.data
+            folder = self.folder_of_the_page(capture_of(pieces_of(path)))
+            done = self.plugin.shell(line, folder)
+            yield done.returncode == 0, f"{path.stem}: status {done.returncode}, {done.stderr[-300:]}"
+            said, whole = collections.defaultdict(bytes), collections.defaultdict(bytes)
+            for recording, found in ((folder / "OUT.zkr", said), (path, whole)):
+                for piece in pieces_of(recording):
+                    found[piece.side] += piece.data
             yield said == whole, f"{path.stem}: other bytes"
 
     def test_the_recipe_for_json(self):

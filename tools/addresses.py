@@ -35,8 +35,21 @@ def found(address, *flags):
     try:
         return socket.getaddrinfo(*address, 0, socket.SOCK_STREAM, 0, *flags)
     except (OSError, UnicodeError) as error:
-        raise OSError(error.errno if isinstance(error, OSError) else None, getattr(error, "strerror", None) or
-                      "this is not the name of a host", address_text(address)) from None
+        raise named(error, address) from None
+
+
+def named(error, address):
+    """An error that names the address which it is about."""
+    return OSError(error.errno if isinstance(error, OSError) else None, getattr(error, "strerror", None) or
+                   "this is not the name of a host", address_text(address))
+
+
+def connected(address):
+    """A connection to a host and a port. An OSError names the two."""
+    try:
+        return socket.create_connection(address)
+    except (OSError, UnicodeError) as error:
+        raise named(error, address) from None
 
 
 def listen(address):

@@ -1,6 +1,6 @@
-"""Proves and builds the program zkdump, and then runs it with these words: what ./zkdump calls.
+"""Proves and builds the program zkdump, and then runs it with these arguments: what ./zkdump calls.
 
-    build_program.py FOLDER [WORD ..]
+    build_program.py FOLDER [ARGUMENT ..]
 
 FOLDER is the repository. Crates are proved in the order of crates.txt's uses; those that don't use each other are
 proved side by side, as far as there are processors and memory. `rt check` keeps every other `rt` out of the crates that
@@ -91,7 +91,7 @@ class Build:
         started = time.monotonic()
         say("the program is not built, or older than a source, so all is proved and built first.")
         say(f"The last time this took {self.took.read_text().strip()}; crates that are proved already take seconds."
-            if self.took.is_file() else "From nothing this takes a while.")
+            if self.took.is_file() else "The first time this takes long: README.md says how long.")
         self.log.write_text("")
         for left in self.out().glob("lanes-*"):
             shutil.rmtree(left, ignore_errors=True)
@@ -253,7 +253,7 @@ class Build:
 
 def main():
     if len(sys.argv) < 2 or not os.path.isfile(f"{sys.argv[1]}/crates.txt"):
-        say("usage: build_program.py FOLDER [WORD ..], where FOLDER is the repository")
+        say("usage: build_program.py FOLDER [ARGUMENT ..], where FOLDER is the repository")
         return 2
 
     def stop(*_):
@@ -264,7 +264,7 @@ def main():
         build = Build(pathlib.Path(sys.argv[1]).resolve())
         build.run()
     except KeyboardInterrupt:
-        say("ended; what was proved so far is kept")
+        say("ended before the program was built; what was proved so far is kept, for the next ./zkdump")
         return 130
     except Failed as error:
         say(f"the program could not be built, since {error} was not proved; {build.log} says why")

@@ -53,10 +53,10 @@ def found_program():
 def lacks(words, counted):
     """What is missing for columns, or None; where they are `counted`, that is numpy too."""
     if words.zkdump != program.found():
-        return "another program is named"
+        return "--zkdump names another program"
     if not found_program():
-        return "zkcolumns isn't there"
-    return "numpy isn't there" if counted and not numpy else None
+        return "zkcolumns is not built or installed"
+    return "Python's numpy is not installed" if counted and not numpy else None
 
 
 class Block:
@@ -186,7 +186,8 @@ class Columns(listing.Listing):
                 yield block
                 self.progress.show(f"{n:,} lines")
             if self.status:
-                raise OSError(f"{self.program.args[0]} has ended with status {self.status}: {self.trouble}")
+                raise OSError(f"{self.file}: {self.program.args[0]} has ended with status {self.status}: "
+                              f"{self.trouble}")
         finally:
             if not self.program.stdout.closed:      # whoever reads has enough
                 self.program.kill()
@@ -252,7 +253,7 @@ def opened(words, path, known, progress, options):
     found = Columns(path, words, known, progress, options)
     if found.program.returncode is not None and found.status:
         if found.status != NOT_READ:
-            raise OSError(f"{found.program.args[0]} has ended with status {found.status}: {found.trouble}")
+            raise OSError(f"{path}: {found.program.args[0]} has ended with status {found.status}: {found.trouble}")
         return None
     return found
 

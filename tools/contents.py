@@ -38,7 +38,8 @@ def times_beside(path, beside=None):
     times = zkr.times_beside(path, beside)
     said, other = facts.are_of(path, beside)
     if said is False and not (other and have_the_same_pieces(path, other)):
-        raise ValueError(f"{beside} has the times of another recording than {path}, by the facts beside them")
+        raise ValueError(f"{beside} has the times of another recording than {path}, as the .facts.json beside them "
+                         "says: put those of this one there, or take it away")
     return times
 
 

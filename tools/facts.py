@@ -132,7 +132,7 @@ def from_object(made):
     found = {name: made[name] for name in CHECKS if name in made}
     for name, value in found.items():
         if not CHECKS[name](value):
-            raise ValueError(f"no facts have this value of {name!r}")
+            raise ValueError(f"{name!r} has a value that it can't have")
     return Facts(**{**found, "hole": tuple(found.get("hole", ()))})
 
 
@@ -181,7 +181,7 @@ def read(path):
     except (ValueError, RecursionError):
         made = None
     if not isinstance(made, dict) or made.get("facts") != VERSION or not is_mark(made.get("recording")):
-        raise ValueError(f"this is no object of facts of version {VERSION}")
+        raise ValueError(f"it is not what these tools write beside a recording (version {VERSION})")
     return made
 
 
@@ -195,11 +195,11 @@ def facts_of(path):
         found, mark = from_object(made), mark_of(path)
         if made["recording"] != mark:
             size = made["recording"].get("bytes")
-            raise ValueError(f"they are of another recording, of {size} bytes" if size != mark["bytes"] else
-                             "they are of another recording of the same length")
+            raise ValueError(f"it is of another recording, of {size} bytes" if size != mark["bytes"] else
+                             "it is of another recording of the same length")
         return found
     except (ValueError, OSError) as error:
-        running.complain(f"{facts_path(path)} is left out: {getattr(error, 'strerror', None) or error}")
+        running.complain(f"{facts_path(path)} is not used: {getattr(error, 'strerror', None) or error}")
         return None
 
 

@@ -68,7 +68,8 @@ def paths_of(name):
     if zkr.is_recording(name):
         raise ValueError(f"{name} is a recording, and a list has a path on each line: leave out the @")
     if zkr.begins_with(name, zkr.CAPTURES):
-        raise ValueError(f"{name} is a capture, or packed with gzip, and a list has a path on each line")
+        raise ValueError(f"{name} is a capture, or packed with gzip, and a list has a path on each line: pcap2zkr.py "
+                         "makes recordings of a capture")
     with open(name, encoding="utf-8", errors="surrogateescape") as lines:
         found = [line.rstrip("\n") for line in lines if line.strip()]
     if not found:
@@ -283,7 +284,8 @@ def results(words, tool, options, paths, together=True):
                         found[task.chunk].update((each.part, None) for each in again)
                         waiting.extendleft(reversed(again))
                         continue
-                    found[task.chunk][task.part] = task.paths, Unread("its worker died again and again")
+                    died = Unread("each process that read it died, maybe for lack of memory")
+                    found[task.chunk][task.part] = task.paths, died
                 shown.add(task.paths)
             while first in found and None not in found[first].values():
                 yield from (found[first][part] for part in sorted(found[first]))

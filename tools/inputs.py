@@ -30,7 +30,7 @@ def refuse_repetition(parser, paths):
     seen = set()
     for path in paths:
         if zkr.real_path(path) in seen:
-            parser.error(f"{path} is named twice: its messages would count twice")
+            parser.error(f"{path} is named twice, and its messages would count twice: name it once")
         seen.add(zkr.real_path(path))
 
 
@@ -77,7 +77,7 @@ def conversation(parser, words, path, stream, objects, progress, before_read, fa
         if words.recording:
             times = times_of(parser, words.recording, words.times, True)
         elif words.times:
-            parser.error(f"--times is for a recording, and {name} is a listing: add --recording with its recording")
+            parser.error(f"--times is for a recording, and {source} is a listing: add --recording with its recording")
         lines = listing.lines_of(stream, before_read)
     first = next(lines, None)
     if first is None:
@@ -100,7 +100,7 @@ def columns_of(words, path, fast, profile, known, progress):
         return None if times is None else columns.opened(words, path, known, progress, options)
     if os.path.getsize(path) >= columns.WORTH_A_LINE and not columns.said:
         columns.said = True
-        zkr.report(f"this takes longer than it could: {lacking} (tools/README.md)")
+        zkr.report(f"this takes longer than it could, since {lacking} (tools/README.md, \"The fast way\")")
     return None
 
 

@@ -179,7 +179,7 @@ class Known:
     def end(self, made):
         """Takes the ending."""
         if self.connection.ending:
-            raise ValueError("this connection has ended before: two recordings have this name")
+            raise ValueError("this connection has ended before: two recordings have this name, so read each by itself")
         waiting, lost = made.pop("waiting", None), made.pop("notCaptured", ())
         found = made.pop("facts", None)
         made.pop("connection", None)

@@ -65,7 +65,7 @@ def segments(stream):
     unpack_ip, unpack_tcp, unpack_usual, usual = IPV4.unpack_from, TCP_HEAD.unpack_from, USUAL.unpack_from, USUAL.size
     for number, (milliseconds, link, packet, at, end) in enumerate(packets, 1):
         if not 0 <= milliseconds < LATEST:
-            raise NotRead(f"packet {number} has no time between the years 1970 and 9999")
+            raise NotRead(f"packet {number} has no time between the years 1970 and 9999: correct it with editcap -t")
         if link == ETHERNET and end - at >= usual:
             kind, version, size, fragment, protocol, source_port, target_port, sequence, acknowledged, length, flags = \
                 unpack_usual(packet, at)

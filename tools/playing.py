@@ -118,7 +118,7 @@ class Play:
         try:
             self.connection.sendall(data)
         except OSError as error:
-            raise self.refused(f"no more could be sent to it: {error.strerror or error}") from None
+            raise self.refused(f"nothing more can be sent to it: {error.strerror or error}") from None
 
     def record(self, side, data):
         """Writes what is said to the recording, if there is one."""
@@ -181,7 +181,7 @@ class Play:
         self.has_ended = not got
         if self.has_ended:
             self.ended = self.ended or {"closed": self.peer.decode()}
-        return None if got else "it has ended its side"
+        return None if got else "it has closed its side"
 
     def hear(self, due):
         """Takes these bytes from the peer."""
@@ -200,13 +200,14 @@ class Play:
             if not size:
                 reason = self.take(until)
                 if reason:
-                    raise self.refused(f"expected {due[same]:02x}: {reason}", same)
+                    raise self.refused(f"expected byte 0x{due[same]:02x}: {reason}", same)
             elif self.heard[:size] == due[same:same + size]:
                 del self.heard[:size]
                 same, until = same + size, time.monotonic() + self.wait
             else:
                 other = next(at for at in range(size) if self.heard[at] != due[same + at])
-                raise self.refused(f"expected {due[same + other]:02x}, got {self.heard[other]:02x}", same + other)
+                raise self.refused(f"expected byte 0x{due[same + other]:02x}, got 0x{self.heard[other]:02x}",
+                                   same + other)
 
     def is_coming(self, due, until):
         """Answers the pings that come before this part of a frame. Returns whether the part itself is due: a recorded
@@ -227,7 +228,7 @@ class Play:
             elif reason := self.take(until):
                 if not head:
                     # (what comes from now on comes too late)
-                    raise self.refused(f"expected {due[0]:02x}: {reason}", 0)
+                    raise self.refused(f"expected byte 0x{due[0]:02x}: {reason}", 0)
                 return True
 
     def answer_ping(self):
@@ -244,7 +245,7 @@ class Play:
             is_ping = self.may_ping() and PING.startswith(self.heard)
             is_over = self.heard and not is_ping or self.take(until)
         if self.heard:
-            raise self.refused(f"expected the end, got {self.heard[0]:02x}")
+            raise self.refused(f"expected the end of the connection, got byte 0x{self.heard[0]:02x}")
 
     def refused(self, reason, same=0):
         """The refusal of the peer's next byte, after `same` bytes that are as recorded. The numbers are those of

@@ -47,4 +47,4 @@ def prove_runs(parser, path):
     except OSError as error:
         trouble = error.strerror
     if trouble:
-        parser.error(f"{path} is not a zkdump that runs here: {trouble}")
+        parser.error(f"{path} is not a zkdump that runs here: {trouble}; name another with --zkdump PATH")

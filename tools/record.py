@@ -49,7 +49,7 @@ class Recording:
             except OSError as error:
                 self.recorder.status = 3
                 self.recorder.complaints.print(f"{self.path}: {error.strerror}; the connection of "
-                                              f"{self.connection.peer} goes on without it")
+                                              f"{self.connection.peer} goes on, and no more of it is recorded")
                 self.close()
 
     def close(self):
@@ -82,14 +82,14 @@ class Recording:
                 profile=zkr.RELEASES[head.profile] if head.form == "zkr2" else None, **known))
         except OSError as error:
             self.recorder.status = 3
-            self.recorder.complaints.print(f"{error.filename or self.path}: {error.strerror}; the facts of "
-                                           f"{self.path} are not written")
+            self.recorder.complaints.print(f"{error.filename or self.path}: {error.strerror}; the session of "
+                                           f"{self.path}, and who ended it, are not written")
 
 
 class Recorder(proxy.Proxy):
     """Accepts clients' connections and records them; `status` is 3 if a recording could not be written."""
 
-    def __init__(self, server, series, server_text=None):
+    def __init__(self, server, series, server_text):
         super().__init__("record.py", server)
         self.series, self.status, self.descriptors = series, 0, 2 if series.times else 1
         self.server_text = server_text
@@ -98,7 +98,7 @@ class Recorder(proxy.Proxy):
         return Recording(self, connection)
 
     def unreached(self, connection, reason):
-        self.complaints.print(f"{connection.peer}: no connection to the server: {reason}")
+        self.complaints.print(f"{connection.peer}: no connection to the server {self.server_text}: {reason}")
 
 
 def words_of():

@@ -18,15 +18,20 @@ def shown(text):
     return text if text.isprintable() else "".join(each if each.isprintable() else ascii(each)[1:-1] for each in text)
 
 
+def described(trouble):
+    """Trouble in words, with the file that it is about."""
+    if not isinstance(trouble, OSError) or not trouble.strerror:
+        return str(trouble)
+    file = "" if trouble.filename is None else f"{os.fsdecode(trouble.filename)}: "
+    # Every file that a tool writes is named, but for standard output.
+    if not file and trouble.errno in (errno.ENOSPC, errno.EDQUOT, errno.EFBIG):
+        file = "standard output: "
+    return file + trouble.strerror
+
+
 def complain(trouble):
     """Reports trouble in one line on standard error, if that can be written."""
-    if isinstance(trouble, OSError) and trouble.strerror:
-        file = "" if trouble.filename is None else f"{os.fsdecode(trouble.filename)}: "
-        # Every file that a tool writes is named, but for standard output.
-        if not file and trouble.errno in (errno.ENOSPC, errno.EDQUOT, errno.EFBIG):
-            file = "standard output: "
-        trouble = file + trouble.strerror
-    report(f"{os.path.basename(sys.argv[0])}: {trouble}")
+    report(f"{os.path.basename(sys.argv[0])}: {described(trouble)}")
 
 
 def report(line):

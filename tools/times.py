@@ -15,6 +15,7 @@ LENGTH_AND_XID = struct.Struct(">ii")
 FRONT = 1 << 16         # bytes of a frame that are compared with its line
 CONNECT_FIELDS = re.compile(rf" session=({listing.NUMBER}) passwd=(~|#[0-9a-f]*)", re.ASCII)
 REPLY_FIELDS = re.compile(rf" zxid=({listing.NUMBER})(?: (?:err|kind)=({listing.NUMBER}))?", re.ASCII)
+OTHER = ": name the recording that the listing is of"
 SESSION_AT = {"C": 16, "S": 8}      # in the payload of a connect message; the password follows
 
 
@@ -100,9 +101,9 @@ class Times:
     def refuse(self, n, side, lines):
         """Raises a NoListing: why message `n` of the listing, which these lines follow, isn't the recording's next."""
         if side:
-            raise listing.NoListing(f"line {n}: the recording has another message there")
+            raise listing.NoListing(f"line {n}: the recording has another message there{OTHER}")
         messages = n + sum(not line.startswith(".") for line in lines)
-        raise listing.NoListing(f"the listing has {messages} messages, and the recording {n - 1}")
+        raise listing.NoListing(f"the listing has {messages} messages, and the recording {n - 1}{OTHER}")
 
     def compare(self, ending):
         """Checks that the recording ends as the listing does. A listing without an ending line may be the
@@ -113,11 +114,11 @@ class Times:
         if ending["ending"] == "refused":
             fits = more or self.begun[ending["side"]].got
         elif more:
-            raise listing.NoListing(f"the listing has {read} messages, and the recording {read + more}")
+            raise listing.NoListing(f"the listing has {read} messages, and the recording {read + more}{OTHER}")
         else:
             fits = self.fits(ending)
         if not fits:
-            raise listing.NoListing("the recording doesn't end as the listing does")
+            raise listing.NoListing(f"the recording doesn't end as the listing does{OTHER}")
 
     def fits(self, ending):
         """Whether the recording, of which all has been read, ends in this way."""

@@ -50,7 +50,8 @@ def check(words, path):
         checked = subprocess.run([words.zkdump, "check", *profile], stdin=recording, stdout=subprocess.PIPE,
                                  stderr=subprocess.PIPE, check=False)
     if checked.returncode not in (0, 1):
-        raise ValueError(checked.stderr.decode(errors="replace").strip() or f"zkdump ended with {checked.returncode}")
+        raise ValueError(checked.stderr.decode(errors="replace").strip() or
+                         f"zkdump check has ended with status {checked.returncode}")
     return listing.ending_of(checked.stdout.decode().rstrip("\n"), 1), os.stat(path).st_size
 
 

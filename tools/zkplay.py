@@ -23,7 +23,6 @@ import errno
 import io
 import re
 import select
-import socket
 import subprocess
 import sys
 import threading
@@ -35,6 +34,7 @@ import facts
 import frames
 import playing
 import program
+import running
 import zkr
 
 LONGEST_WAIT = 1_000_000
@@ -62,7 +62,8 @@ def opener(parser, path, words):
                 raise ValueError(f"{path}: {damage}") from None
             known = facts.facts_of(path)
             if known and known.skipped is not None:
-                zkr.complain(f"{path} doesn't begin with its connection: its connect messages were made up")
+                zkr.complain(f"{path} begins after bytes that were not captured: pcap2zkr.py made up its connect "
+                             "messages, and a client sends others")
             return lambda: open(path, "rb")
         program.prove_runs(parser, words.zkdump)
         built = subprocess.run([words.zkdump, "build"], stdin=file, capture_output=True, check=False)
@@ -111,7 +112,7 @@ class Bench:
         except (ValueError, OSError) as error:
             self.status = max(self.status, 3 if isinstance(error, OSError) else 1)
             file = f"{path}: " if isinstance(error, zkr.Damaged) else ""
-            self.print(sys.stderr, f"zkplay.py: {head}{file}{error}")
+            self.print(sys.stderr, f"zkplay.py: {head}{file}{running.described(error)}")
 
     def end(self, writer, play, begun, client, server):
         """Ends a recording, and writes its facts."""
@@ -194,7 +195,7 @@ def main():
     zkr.allow_many_files()
     bench = Bench([(path, opener(parser, path, words)) for path in words.recordings], words)
     if words.client:
-        return bench.run(socket.create_connection(words.address) for _ in range(words.connections))
+        return bench.run(addresses.connected(words.address) for _ in range(words.connections))
     listeners = addresses.listen(words.address)
     print(f"listening on {addresses.address_text(listeners[0].getsockname())}", flush=True)
     return bench.run(clients(listeners, words.connections))

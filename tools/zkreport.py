@@ -123,7 +123,7 @@ def words_of(arguments=None, kind=zkr.Words):
         parser.error("--against compares what --path and --op choose: leave out the other choices")
     if fleet.is_asked(words):
         if words.output or words.trace or words.against:
-            parser.error("--jobs and --scheduler are for --text")
+            parser.error("--jobs and --scheduler are for --text: leave out -o, --trace and --against")
     else:
         refuse_repetition(parser, words.inputs)
         refuse_repetition(parser, words.against or ())

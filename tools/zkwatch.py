@@ -206,7 +206,7 @@ class Watch(proxy.Proxy):
         super().__init__("zkwatch.py", server)
         self.command = [words.zkdump, "show", "--profile", words.profile, "--limit", str(words.limit)]
         self.head = zkr.Head(client_limit=words.limit, server_limit=words.limit)
-        self.profile, self.once, self.shows = words.profile, words.once, set()
+        self.profile, self.once, self.shows, self.server_text = words.profile, words.once, set(), words.server
 
     def say_of(self, number, text):
         self.say(f"{zkr.clock(time.time() * 1000)} #{number} {text}")
@@ -220,7 +220,7 @@ class Watch(proxy.Proxy):
         return show
 
     def unreached(self, connection, reason):
-        self.say_of(connection.number, f"not passed on: no connection to the server: {reason}")
+        self.say_of(connection.number, f"not passed on: no connection to the server {self.server_text}: {reason}")
         self.over |= self.once
 
     def busy(self):

@@ -36,7 +36,7 @@ static struct zk_read read_of(uint32_t kind, uint32_t profile, const struct aske
     }
 }
 
-/* Where those fields of the header end that are whole in so many bytes. */
+/* Where those fields of the header end that are whole in this many bytes. */
 static uint32_t head_end(uint32_t kind, size_t length) {
     static const uint32_t of_request[] = {REQUEST_HEAD, 4, 0}, of_reply[] = {REPLY_HEAD, 12, 4, 0};
     if (kind == ZK_CONNECT || kind == ZK_CONNECTED) {

@@ -6,7 +6,7 @@
 For each word given, the cases of the folder cases/WORD beside this file, and then the recordings of
 the folder captures/ at the top of the repository. The program is the script zkdump at the top, unless
 --program names another. It prints each case that differs and one last line. The exit status is 0 where
-none differs, 1 where one does, 2 for wrong arguments.
+none differs, 1 where one does, 2 for invalid arguments.
 
 A case NAME is the files
 

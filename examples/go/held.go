@@ -166,7 +166,7 @@ const (
 	Refused EndingKind = C.ZK_REFUSED
 )
 
-// Ending is how a conversation ends: with so many requests Unanswered where it is whole; cut within a Side's frame of
+// Ending is how a conversation ends: with the number of requests Unanswered where it is whole; cut within a Side's frame of
 // this number, of which Got bytes came; or refused with the Fault.
 type Ending struct {
 	Kind       EndingKind

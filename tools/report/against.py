@@ -99,7 +99,8 @@ class Comparison:
         for run in (ours, theirs):
             for before, after in zip(run, run[1:]):
                 if before.source is after.source:
-                    raise ValueError(f"{after.source.path} has several connections: --against compares files of one")
+                    raise ValueError(f"{after.source.path} has several connections: --against compares files of one "
+                                     "each")
         for number, (mine, other) in enumerate(itertools.zip_longest(ours, theirs)):
             if mine is None or other is None:
                 names = ((each and each.name, None) for each in (mine, other))

@@ -1,6 +1,6 @@
 // The picture of the requests: latency against time. A mark is larger the longer its request took. Where marks would hide
 // each other, a shade shows how many there are, and the slowest of them keeps its mark if that is large. Where the page has
-// not every request, a shade shows how many there were. The failed ones are behind all else.
+// not every request, a shade shows how many there were. The failed ones are drawn first, below all else.
 
 const TALL = 260, BAND = 22, FOOT = 40;
 const CELL = 5, CROWD = 3;                  // pixels of a side, and how many marks it has before it is a shade

@@ -155,7 +155,7 @@ function drawEnd(link, end, x, top, high) {
 
 const LEGEND = [
   ["closed", "closed"], ["reset", "reset, or the session was refused"], ["still", "end not recorded"],
-  ["hole", "the recording has a hole or ends early"], ["gap", "gap between a session's connections"],
+  ["hole", "bytes are missing, or the recording ends early"], ["gap", "gap between a session's connections"],
   ["ok", "answered"], ["failed", "failed"], ["unanswered", "unanswered"],
 ];
 

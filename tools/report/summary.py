@@ -136,7 +136,9 @@ def closed_by(connection):
     for word, how in (("reset", "reset"), ("closed", "FIN")):
         if word in notes:
             return f"{SIDES[notes[word]]}: {how}"
-    return "open at the end" if "open" in notes else "not known: a hole" if "hole" in notes else "not recorded"
+    if "open" in notes:
+        return "open at the end"
+    return "not known: bytes are missing" if "hole" in notes else "not recorded"
 
 
 def ending_of(connection):

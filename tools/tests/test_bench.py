@@ -56,7 +56,7 @@ class Differences(BenchCase):
         recording = [(zkr.CLIENT, CONNECT), (zkr.SERVER, CONNECTED), *((zkr.CLIENT, ask) for ask in asks),
                      (zkr.CLIENT, close)]
         self.client(self.play(recording), CONNECT, asks[0], asks[1].replace(b"c", b"d"), close)
-        self.assert_refused("client frame=2 offset=90 place=15: expected 63, got 64")
+        self.assert_refused("client frame=2 offset=90 place=15: expected byte 0x63, got 0x64")
 
     def test_waits_that_are_no_waits(self):
         for wait in ("--wait=1e300", "--wait=inf", "--wait=nan", "--wait=-1", "--wait=1000001", "--delay=inf"):
@@ -204,8 +204,8 @@ class Pings(BenchCase):
         self.assertEqual(self.ended()[:2], (0, ["played: 9600053 bytes of the client, 41 of the server"]))
 
     def test_what_only_begins_as_a_ping_is_refused(self):
-        for said, told in ((PING[:11] + b"\0", "client frame=1 offset=53 place=0: expected 0f, got 08"),
-                           (PING[:8], "client frame=1 offset=53 place=0: expected 0f, got 08")):
+        for said, told in ((PING[:11] + b"\0", "client frame=1 offset=53 place=0: expected byte 0x0f, got 0x08"),
+                           (PING[:8], "client frame=1 offset=53 place=0: expected byte 0x0f, got 0x08")):
             client = self.client(self.play(RUN, "--wait", "0.5"), CONNECT, said)
             self.assertEqual(receive(client, 41), CONNECTED)
             self.assert_refused(told)
@@ -220,7 +220,7 @@ class Pings(BenchCase):
                 break
             select.select([client], [], [], 0.1)
             time.sleep(0.05)
-        self.assert_refused("client frame=1 offset=50 place=0: expected 00: nothing came for 0.5 s")
+        self.assert_refused("client frame=1 offset=50 place=0: expected byte 0x00: nothing came for 0.5 s")
 
 
 class Many(BenchCase):
@@ -256,7 +256,8 @@ class Many(BenchCase):
         self.assertEqual(receive(good, 20), MISSING)
         good.close()
         self.assertEqual(self.ended(), (1, [f"#1 {PLAYED}"],
-                                        ["zkplay.py: #2 client frame=0 offset=1 place=0: expected 00, got 72"]))
+                                        ["zkplay.py: #2 client frame=0 offset=1 place=0: expected byte 0x00, got "
+                                         "0x72"]))
 
     def test_many_that_are_played_to_a_server(self):
         address = self.play(RUN, "--connections", "5")

@@ -19,7 +19,7 @@ import make_library  # noqa: E402
 
 SANITIZED = ("-O1", "-g", "-fsanitize=address,undefined", "-fno-sanitize-recover=all")
 HERE = pathlib.Path(__file__).resolve().parent
-SLOWER = "numpy isn't there"
+SLOWER = "Python's numpy is not installed"
 
 
 def interpreter():
@@ -114,7 +114,7 @@ class Missing(ToolCase):
                                   env={**os.environ, "ZKCOLUMNS": ""})
             self.assertEqual((done.returncode, done.stderr.count("\n")), (0, lines), done.stderr)
             if lines:
-                self.assertIn("takes longer than it could: zkcolumns isn't there", done.stderr)
+                self.assertIn("takes longer than it could, since zkcolumns is not built or installed", done.stderr)
 
 
 if __name__ == "__main__":

@@ -71,25 +71,25 @@ class Format(FactsCase):
     def test_facts_that_do_not_fit_are_told_in_a_line_and_left_out(self):
         usual = self.run_inside("zkstat.py", self.without("r"))[1]
         for name, value, told in (
-                ("recording", {"bytes": 9, "sha256": ""}, "they are of another recording, of 9 bytes"),
-                ("recording", {"bytes": 153, "sha256": "0"}, "they are of another recording of the same length"),
-                ("facts", 2, "this is no object of facts of version 1"),
-                ("recording", 3, "this is no object of facts of "
-                 "version 1"), ("hole", ["X"], "no facts have this value of 'hole'"),
-                ("hole", "S", "no facts have this value of 'hole'"),
-                ("session", "5", "no facts have this value of 'session'"),
-                ("lost", {"C": -1, "S": 0}, "no facts have this value of 'lost'"),
-                ("part", 1.5, "no facts have this value "
-                 "of 'part'"), ("client", "\x1b[2J", "no facts have this value of 'client'"),
-                ("closed", "X", "no facts have this value of 'closed'"),
-                ("ended", -1, "no facts have this value of 'ended'")):
+                ("recording", {"bytes": 9, "sha256": ""}, "it is of another recording, of 9 bytes"),
+                ("recording", {"bytes": 153, "sha256": "0"}, "it is of another recording of the same length"),
+                ("facts", 2, "it is not what these tools write beside a recording (version 1)"),
+                ("recording", 3, "it is not what these tools write beside a recording (version 1)"),
+                ("hole", ["X"], "'hole' has a value that it can't have"),
+                ("hole", "S", "'hole' has a value that it can't have"),
+                ("session", "5", "'session' has a value that it can't have"),
+                ("lost", {"C": -1, "S": 0}, "'lost' has a value that it can't have"),
+                ("part", 1.5, "'part' has a value that it can't have"),
+                ("client", "\x1b[2J", "'client' has a value that it can't have"),
+                ("closed", "X", "'closed' has a value that it can't have"),
+                ("ended", -1, "'ended' has a value that it can't have")):
             path = self.without("r")
             facts.write(path, facts.Facts())
             self.change("r", **{name: value})
             with self.subTest(name=name, value=value):
                 for tool in ("zkstat.py", "zkjson.py"):
                     status, out, err = self.run_inside(tool, path)
-                    self.assertEqual((status, err), (0, f"{tool}: {self.folder}/r.facts.json is left out: {told}\n"))
+                    self.assertEqual((status, err), (0, f"{tool}: {self.folder}/r.facts.json is not used: {told}\n"))
                     if tool == "zkstat.py":
                         self.assertEqual(out, usual)
         for text in ("", "{", "[" * 70_000, '"x"', "\xff"):
@@ -117,8 +117,8 @@ class Times(FactsCase):
         for words in (("--times", f"{other}.times", one), ("--times", f"{one}.times", other)):
             status, out, err = self.run_inside("zkstat.py", *words)
             self.assertEqual((status, out, err),
-                             (1, "", f"zkstat.py: {words[1]} has the times of another recording than "
-                                                         f"{words[2]}, by the facts beside them\n"))
+                             (1, "", f"zkstat.py: {words[1]} has the times of another recording than {words[2]}, as "
+                              "the .facts.json beside them says: put those of this one there, or take it away\n"))
         shutil.copyfile(f"{other}.times", f"{one}.times")
         self.assertEqual(self.run_inside("zkjson.py", one)[0], 1)
 

@@ -133,7 +133,7 @@ class FleetCase(ToolCase):
         self.assertEqual(self.output("zkfleet.py", "check", self.folder / "capture"),
                          (1, b"",
                           f"zkfleet.py: {self.folder}/capture is a capture, or packed with gzip, and a list has a "
-                          "path on each line\n".encode()))
+                          "path on each line: pcap2zkr.py makes recordings of a capture\n".encode()))
         for path in (copy, self.names[0]):
             self.assertIn(b"\n1 recordings, ", b"\n" + self.output("zkfleet.py", "check", path)[1])
 
@@ -210,7 +210,8 @@ class FleetCase(ToolCase):
             wanted = {path: (["x"], [path]) for path in "acd"}
             self.assertEqual(found,
                              [([path],
-                               wanted.get(path, fleet.Unread("its worker died again and again"))) for path in "abcd"])
+                               wanted.get(path, fleet.Unread("each process that read it died, maybe for lack of "
+                                                             "memory"))) for path in "abcd"])
 
     def test_chunks(self):
         sizes = {"a": fleet.LEAST_CHUNK - 1, "b": 1, "c": 1, "d": fleet.LEAST_CHUNK + 5, "e": 0}

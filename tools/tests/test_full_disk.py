@@ -42,7 +42,7 @@ class Record(TroubleCase):
         said = [size * sum(piece.side == side for piece in found) for side in (zkr.CLIENT, zkr.SERVER)]
         self.assertEqual(ended[4:], [f"client={said[0]}", f"server={said[1]}", "closed=C", "incomplete"])
         first, *facts = self.complaints(1)
-        self.assertTrue(first.endswith("goes on without it"), self.err)
+        self.assertTrue(first.endswith("no more of it is recorded"), self.err)
         self.assertTrue(all(line.endswith("are not written") for line in facts), self.err)
         self.tool.terminate()
         self.assertEqual(self.tool.wait(SECONDS), 3)

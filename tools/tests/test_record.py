@@ -239,7 +239,7 @@ class Files(RecordCase):
             client.sendall(bytes(300))
             self.assertEqual(receive(client, 300), bytes(300))
         self.assertEqual([len(piece.data) for piece in pieces(self.recording())], [300, 300, 300])
-        self.assertIn("goes on without it", self.tool.stderr.readline())
+        self.assertIn("no more of it is recorded", self.tool.stderr.readline())
         self.tool.terminate()
         self.assertEqual(self.tool.wait(SECONDS), 3)
 
@@ -251,7 +251,7 @@ class Addresses(RecordCase):
         port = self.record(server)
         with self.client(port) as client:
             self.assertEqual(receive(client, 1), b"")
-        self.assertRegex(self.tool.stderr.readline(), "no connection to the server: Connection refused")
+        self.assertRegex(self.tool.stderr.readline(), r"no connection to the server \S+:\d+: Connection refused")
         back = socket.create_server(("127.0.0.1", server))
         self.addCleanup(back.close)
         client = self.client(port)

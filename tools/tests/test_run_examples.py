@@ -21,7 +21,7 @@ OTHER_CLIENT = """
 
     $ tools/zkplay.py 2181 crates/zkdump/stdin
     listening on 127.0.0.1:2181
-    zkplay.py: client frame=0 offset=19 place=14: expected 75, got 27
+    zkplay.py: client frame=0 offset=19 place=14: expected byte 0x75, got 0x27
 """
 MARKED = "\n<!-- not run: no reason -->\n\n    $ exit 1\n    what it prints\n"
 

@@ -223,4 +223,5 @@ class Disk(TroubleCase):
         self.tool.terminate()
         self.assertEqual(self.tool.wait(SECONDS), 3)
         self.assertRegex(told[0], "^record.py: .*: File too large; new connections go on without a recording$")
-        self.assertRegex(told[1], "^record.py: .*-1.zkr: File too large; the connection of .* goes on without it$")
+        self.assertRegex(told[1], "^record.py: .*-1.zkr: File too large; the connection of .* goes on, and no more of "
+                                  "it is recorded$")

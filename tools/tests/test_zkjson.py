@@ -312,7 +312,7 @@ class Times(ToolCase):
                  "the recording doesn't end as the listing does")):
             with self.subTest(lines=lines):
                 status, _, err = self.run_tool("zkjson.py", "--recording", path, stdin="\n".join(lines).encode())
-                self.assertEqual((status, err), (1, f"zkjson.py: {told}\n"))
+                self.assertEqual((status, err), (1, f"zkjson.py: {told}: name the recording that the listing is of\n"))
 
     def test_another_recording_of_the_same_sides_and_xids(self):
         """Its operations, paths, zxids, errors or sessions differ."""
@@ -352,7 +352,8 @@ class Times(ToolCase):
                     changed[8] = changed[8].replace("closeSession", "ping")
                 status, out, err = self.run_tool("zkjson.py", "--recording", path, stdin="\n".join(changed).encode())
                 self.assertEqual((status, out.count("\n"), err),
-                                 (1, n - 1, f"zkjson.py: line {n}: the recording has another message there\n"))
+                                 (1, n - 1, f"zkjson.py: line {n}: the recording has another message there: name the "
+                                  "recording that the listing is of\n"))
 
     def test_a_recording_that_is_cut(self):
         path = self.recording(zkr.Head("zkr2"), range(8))
@@ -363,7 +364,8 @@ class Times(ToolCase):
             found = self.run_tool("zkjson.py", "--recording", path, stdin=f"{lines}. {ending}\n".encode())
             self.assertEqual(found[0], status, found)
         self.assertEqual(self.run_tool("zkjson.py", "--recording", path, stdin=self.LISTING.encode())[::2],
-                         (1, "zkjson.py: the listing has 4 messages, and the recording 3\n"))
+                         (1, "zkjson.py: the listing has 4 messages, and the recording 3: name the recording that the "
+                             "listing is of\n"))
 
     def test_words(self):
         for words in (["--nonsense"], ["a", "b", "--recording", "c"], ["--times", "a"], ["a", "a"], ["a", "./a"],

@@ -77,20 +77,20 @@ class Zkplay(ToolCase):
     def test_the_first_other_byte(self):
         said = sides(RUN.read_bytes())[0]
         for other, told in (
-                (said[:67] + b"\0", "client frame=1 offset=68 place=14: expected 01, got 00"),
-                (said[:4] + b"\1" + said[5:], "client frame=0 offset=5 place=0: expected 00, got 01"),
-                (said[:52] + b"\x10" + said[53:], "client frame=1 offset=53 place=0: expected 0f, got 10"),
-                (b"ruok", "client frame=0 offset=1 place=0: expected 00, got 72"),
-                (said + b"\7", "client frame=2 offset=69 place=0: expected the end, got 07")):
+                (said[:67] + b"\0", "client frame=1 offset=68 place=14: expected byte 0x01, got 0x00"),
+                (said[:4] + b"\1" + said[5:], "client frame=0 offset=5 place=0: expected byte 0x00, got 0x01"),
+                (said[:52] + b"\x10" + said[53:], "client frame=1 offset=53 place=0: expected byte 0x0f, got 0x10"),
+                (b"ruok", "client frame=0 offset=1 place=0: expected byte 0x00, got 0x72"),
+                (said + b"\7", "client frame=2 offset=69 place=0: expected the end of the connection, got byte 0x07")):
             with self.subTest(told):
                 self.assertEqual(self.refusal(other), told)
 
     def test_an_end_and_silence_where_a_byte_is_due(self):
         said = sides(RUN.read_bytes())[0][:-1]
-        self.assertEqual(self.refusal(said, end=True), "client frame=1 offset=68 place=14: expected 01: it has "
-                         "ended its side")
+        self.assertEqual(self.refusal(said, end=True), "client frame=1 offset=68 place=14: expected byte 0x01: it has "
+                         "closed its side")
         self.assertEqual(self.refusal(said, "--wait", "0.5"),
-                         "client frame=1 offset=68 place=14: expected 01: nothing came for 0.5 s")
+                         "client frame=1 offset=68 place=14: expected byte 0x01: nothing came for 0.5 s")
 
     def test_a_damaged_recording(self):
         path = self.folder / "damaged.zkr"
@@ -119,7 +119,17 @@ class Zkplay(ToolCase):
         _, address = self.play(other)
         client, _ = self.play(RUN, "--client", address=f"{address[0]}:{address[1]}")
         self.assertEqual(self.ended(client),
-                         (1, "", "zkplay.py: server frame=1 offset=61 place=15: expected 9b, got 9a\n"))
+                         (1, "", "zkplay.py: server frame=1 offset=61 place=15: expected byte 0x9b, got 0x9a\n"))
+
+    def test_an_error_of_the_system_names_what_it_is_about(self):
+        with socket.create_server(("127.0.0.1", 0)) as server:
+            port = server.getsockname()[1]
+        self.assertEqual(self.run_tool("zkplay.py", "--client", f"127.0.0.1:{port}", RUN),
+                         (3, "", f"zkplay.py: 127.0.0.1:{port}: Connection refused\n"))
+        player, address = self.play(RUN, "--record", self.folder / "none" / "r")
+        with socket.create_connection(address, SECONDS):
+            self.assertEqual(self.ended(player)[::2],
+                             (3, f"zkplay.py: {self.folder}/none/r-1.zkr: No such file or directory\n"))
 
     def test_words(self):
         for words in ([], ["0"], ["0", str(RUN), "more"], ["port", str(RUN)], ["99999", str(RUN)],

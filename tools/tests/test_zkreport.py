@@ -121,7 +121,7 @@ class Zkreport(ToolCase):
                          [["#1", "0x7", "one"], ["#2", "0x7", "other"]])
         self.assertEqual(self.rows(found, "Slowest requests"), self.rows(TABLES, "Slowest requests"))
         status, out, err = self.run_tool("zkreport.py", "--text", path, "--against", path)
-        expected = f"zkreport.py: {path} has several connections: --against compares files of one\n"
+        expected = f"zkreport.py: {path} has several connections: --against compares files of one each\n"
         self.assertEqual((status, out, err), (1, "", expected))
 
     def test_latencies_by_the_rule_of_hdrhistogram(self):

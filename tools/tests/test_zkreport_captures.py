@@ -32,7 +32,8 @@ class Captures(ToolCase):
                          [(begun, begun + 1000), (begun, begun + 2000), (begun + 2250, begun + 3000),
                           (begun, begun + 500), (begun, begun)])
         self.assertEqual([summary.closed_by(each) for each in run.connections],
-                         ["server: reset", "not known: a hole", "client: FIN", "open at the end", "not recorded"])
+                         ["server: reset", "not known: bytes are missing", "client: FIN", "open at the end",
+                          "not recorded"])
         self.assertEqual([summary.ending_of(each) for each in run.connections],
                          ["no ending line", "no ending line, resent=2, hole=S", "no ending line, lost=C:0,S:81",
                           "nothing recorded, late", "no ending line"])

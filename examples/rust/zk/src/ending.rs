@@ -10,7 +10,7 @@ const XID_ORDER: u32 = 14;
 /// How a conversation would end.
 #[derive(Clone, Copy, Debug, PartialEq, Eq)]
 pub enum Ending {
-    /// Whole; so many requests have no reply.
+    /// Whole, and how many requests have no reply.
     Whole { unanswered: u32 },
     /// A side ends within its frame of this number, of which `got` bytes came, its length included.
     Cut { side: Side, frame: u64, got: u32 },

@@ -1,0 +1,105 @@
+"""Tests of passages in the package libzk, which leave out what the profile lacks.
+
+    python3 -m unittest discover examples/python/tests
+"""
+
+import unittest
+
+from libzk import Cut, Fault, Kind, Passed, Refused, Side, Through, Went
+from test_libzk import EXISTS, HELLO, NO_NODE, WELCOME, frame
+
+# getEphemerals of ZooKeeper 3.6 of /a, and its reply.
+EPHEMERALS = bytes.fromhex("00000001 00000067 00000002 2f61")
+NONE = bytes.fromhex("00000001 0000000000000005 00000000 00000000")
+
+
+class Passages(unittest.TestCase):
+    """getEphemerals under xid 1, and an exists request under xid 2 before its reply."""
+    SECOND, SECOND_NO_NODE = b"\0\0\0\2" + EXISTS[4:], b"\0\0\0\2" + NO_NODE[4:]
+    CAME = ((Side.CLIENT, HELLO), (Side.SERVER, WELCOME), (Side.CLIENT, EPHEMERALS), (Side.CLIENT, SECOND),
+            (Side.SERVER, NONE), (Side.SERVER, SECOND_NO_NODE))
+
+    def told(self, passed):
+        """What is read of a step that ends with a frame."""
+        message = passed.message
+        if message is None:
+            return passed.went, passed.xid, passed.operation, passed.payload, passed.frame
+        self.assertEqual((passed.went, *passed[3:]), (Went.MESSAGE, None, None, None, None))
+        return message.kind, message.xid, message.operation, message.payload, message.frame
+
+    def test_pairs_are_left_out(self):
+        wanted = [(Kind.CONNECT, 0, "", HELLO, 0), (Kind.CONNECTED, 0, "", WELCOME, 0),
+                  (Went.ASKED, 1, 103, EPHEMERALS, 1), (Kind.REQUEST, 2, "exists", self.SECOND, 2),
+                  (Went.ANSWERED, 1, 103, NONE, 1), (Kind.REPLY, 2, "exists", self.SECOND_NO_NODE, 2)]
+        with Through() as through:
+            for cut in (1, 7, 1000):
+                found = []
+                for side, data in ((side, frame(payload)) for side, payload in self.CAME):
+                    for at in range(0, len(data), cut):
+                        every = through.feed(side, bytearray(data[at:at + cut]))
+                        self.assertEqual(sum(passed.used for passed in every), len(data[at:at + cut]))
+                        found += [passed for passed in every if passed.went != Went.WITHIN]
+                self.assertEqual(list(map(self.told, found)), wanted)
+                self.assertEqual((found[3].message["path"], found[5].message.err), ("/a", -101))
+                through.renew()
+
+    def test_lines(self):
+        with Through(lines=True) as through:
+            every = [passed for side, payload in self.CAME for passed in through.feed(side, frame(payload))]
+        self.assertEqual([passed.message and passed.message.line for passed in every[2:]],
+                         [None, 'C 2 exists path="/a" watch=1', None, "S 2 exists zxid=5 err=-101/NONODE"])
+
+    def test_steps_of_one_piece(self):
+        with Through() as through:
+            asked = [frame(payload) for side, payload in self.CAME if side == Side.CLIENT]
+            every = through.feed(Side.CLIENT, b"".join(asked) + b"\0")
+            self.assertEqual([(passed.went, passed.used) for passed in every],
+                             [(Went.MESSAGE, 49), (Went.ASKED, 18), (Went.MESSAGE, 19), (Went.WITHIN, 1)])
+            self.assertEqual(through.feed(Side.CLIENT, b""), [Passed(Went.WITHIN, 0)])
+
+    def test_full(self):
+        with Through(waiting=1) as through:
+            through.feed(Side.CLIENT, frame(HELLO))
+            through.feed(Side.SERVER, frame(WELCOME))
+            asked, full = through.feed(Side.CLIENT, frame(EPHEMERALS) + frame(self.SECOND))
+            self.assertEqual((asked.went, asked.used, full), (Went.ASKED, 18, Passed(Went.FULL, 0)))
+            self.assertEqual(through.feed(Side.CLIENT, frame(self.SECOND)[:9]), [Passed(Went.WITHIN, 9)])
+            for _ in range(2):
+                self.assertEqual(through.feed(Side.CLIENT, frame(self.SECOND)[9:]), [Passed(Went.FULL, 0)])
+            self.assertEqual([passed.went for passed in through.feed(Side.SERVER, frame(NONE))], [Went.ANSWERED])
+            (last,) = through.feed(Side.CLIENT, frame(self.SECOND)[9:])
+            self.assertEqual((last.used, self.told(last)), (10, (Kind.REQUEST, 2, "exists", self.SECOND, 2)))
+
+    def test_a_reply_before_its_turn(self):
+        with Through() as through:
+            for side, payload in self.CAME[:4]:
+                through.feed(side, frame(payload))
+            wanted = Fault(Side.SERVER, 1, 61, 0, "XID_ORDER", 1, 2)
+            for side, piece in ((Side.SERVER, frame(self.SECOND_NO_NODE)), (Side.CLIENT, b"")):
+                with self.assertRaises(Refused) as caught:
+                    through.feed(side, piece)
+                self.assertEqual((caught.exception.fault, caught.exception.messages), (wanted, ()))
+            through.renew()
+            with self.assertRaises(Refused) as caught:
+                through.feed(Side.CLIENT, frame(HELLO) + frame(EPHEMERALS) + frame(self.SECOND[:-1]))
+            self.assertEqual(caught.exception.fault, Fault(Side.CLIENT, 2, 85, 14, "SHORT", None, None))
+            self.assertEqual([message.kind for message in caught.exception.messages], [Kind.CONNECT])
+
+    def test_endings(self):
+        with Through() as through:
+            self.assertEqual(through.ending(), (None, 0, None, None))
+            for side, payload in self.CAME[:4]:
+                through.feed(side, frame(payload))
+            self.assertEqual(through.ending(), (None, 2, None, None))
+            through.feed(Side.SERVER, frame(NONE)[:9])
+            self.assertEqual(through.ending(), (None, None, Cut(Side.SERVER, 1, 9), None))
+            through.feed(Side.SERVER, frame(NONE)[9:])
+            self.assertEqual(through.ending(), (None, 1, None, None))
+            with self.assertRaises(Refused):
+                through.feed(Side.SERVER, frame(NONE))
+            wanted = Fault(Side.SERVER, 2, 89, 0, "XID_ORDER", 2, 1)
+            self.assertEqual(through.ending(), (None, None, None, wanted))
+
+
+if __name__ == "__main__":
+    unittest.main()
