@@ -86,14 +86,14 @@ class Connection:
         return self.known and self.known.ending
 
     def session_id(self):
-        """The session as ZooKeeper's logs print it; None if the recording has none."""
+        """The session as ZooKeeper's logs print it; None if nothing says which it is."""
         if self.first:
             return self.first.session_id()
         for number in (self.session, self.asked_session):
             if number not in (None, "0x0") and not self.is_late:
                 return number
-        found = self.source.facts or self.known and self.known.facts
-        return found and found.session
+        known = self.known or self.source.facts     # it knows the connect messages, too, if they aren't chosen
+        return known and known.session
 
     def span(self):
         """When it begins and ends, by its capture or else by its messages."""

@@ -112,6 +112,14 @@ class Zkreport(ToolCase):
                 found = self.report("--text", *words, self.one, self.other)
                 self.assertEqual({row[0]: row[1] for row in self.rows(found, "Operations")}, operations)
 
+    def test_a_session_whose_connect_messages_are_not_chosen(self):
+        """Both connections are of one session, whatever is chosen of them."""
+        names = [self.listing(f"{number}.show", LISTING.format(**HERE)) for number in range(2)]
+        for choice in (["--path", "/a"], ["--op", "exists"], ["--session", "72"]):
+            found = self.report("--text", *choice, *names)
+            self.assertEqual([row[:3:2] for row in self.rows(found, "Sessions")], [["0x48", "2"]], found)
+            self.assertEqual([row[:2] for row in self.rows(found, "Connections")], [["#1", "0x48"], ["#2", "0x48"]])
+
     def test_several_connections_in_the_lines_of_zkjson(self):
         path = self.folder / "both.json"
         path.write_text("".join(json.dumps({"connection": each.stem, **json.loads(line)}) + "\n"
