@@ -120,6 +120,18 @@ class Zkreport(ToolCase):
             self.assertEqual([row[:3:2] for row in self.rows(found, "Sessions")], [["0x48", "2"]], found)
             self.assertEqual([row[:2] for row in self.rows(found, "Connections")], [["#1", "0x48"], ["#2", "0x48"]])
 
+    def test_many_connections_without_a_message_in_the_lines_of_zkjson(self):
+        """3,000 of them, beside one of a session: the page has some of them, and counts them all."""
+        path, page = self.folder / "many.json", self.folder / "many.html"
+        ending = {"ending": "whole", "unanswered": 0, "waiting": []}
+        path.write_text(self.one.read_text() + "".join(json.dumps({"connection": f"c{number}", **ending}) + "\n"
+                                                       for number in range(3000)))
+        found = self.report("--text", "-o", page, path, self.other)
+        self.assertRegex(found, "^3002 connections, 1 sessions, 20 messages, ")
+        self.assertIn("\nand 2800 more\n", found)
+        self.assertLess(page.stat().st_size, 500_000)
+        self.assertEqual(self.report("--text", "--jobs", 2, path, self.other), found)
+
     def test_several_connections_in_the_lines_of_zkjson(self):
         path = self.folder / "both.json"
         path.write_text("".join(json.dumps({"connection": each.stem, **json.loads(line)}) + "\n"
