@@ -106,6 +106,8 @@ def work(tool, options, paths):
 def attempt(function, path):
     """What a function returns for a recording, or an Unread."""
     try:
+        if pathlib.Path(path).is_fifo():
+            raise ValueError("this is a pipe, which may never end: name a file")
         return function(path)
     except OSError as error:
         other = error.filename not in (None, path)

@@ -10,6 +10,8 @@ import collections
 import contextlib
 import re
 
+import operations
+
 BLOCK = 1 << 16
 STANDARD_INPUT = "-"
 OWN_LANES = (None, "-2", "-4", "-8")
@@ -17,6 +19,7 @@ NO_FRAME = (None, None, None)
 EVENT_XID = -1
 NOT_DONE = ("OK", "RUNTIMEINCONSISTENCY")   # the results of a failed multi's parts that did not fail themselves
 CONNECT, EVENT = "connect", "event"
+ASKED = {CONNECT, *(operation.name for operation in operations.ALL if operation.release)}
 UNREAD = "unread"       # in place of the ending of one of many recordings, which can't be read
 ENDINGS = ("whole", "cut", "refused", "recording", UNREAD)
 
@@ -34,7 +37,7 @@ QUOTED = re.compile('"[^"]*"')
 NO_ESCAPE = re.compile(r"\\(?![0-9a-f]{2})", re.ASCII)
 PATHS = re.compile(rf' path=({TEXT})|"[^"]*"', re.ASCII)
 EVENT_PATH = re.compile(rf" path=({TEXT})$", re.ASCII)
-DIGITS = re.compile("#[0-9a-f]*", re.ASCII)
+DIGITS = re.compile("#([0-9a-f]*)(.?)", re.ASCII | re.DOTALL)
 SESSION = re.compile(rf" session=({NUMBER})(?= |$)", re.ASCII)
 # What follows the operation in the connect messages that pcap2zkr makes up, by the side.
 MADE_UP = {"C": " version=-1 zxid=-1 timeout=-1 session=-1 passwd=~ ro=-",
@@ -50,7 +53,7 @@ class NoListing(ValueError):
 
 
 def check_values(line, n):
-    """Refuses line n where a text of it isn't UTF-8, or data have half a byte; these lie after its beginning, too."""
+    """Refuses line n where a text of it isn't UTF-8, or data are no bytes; these lie after its beginning, too."""
     if "\\" in line:
         for found in QUOTED.finditer(line):
             try:
@@ -60,10 +63,12 @@ def check_values(line, n):
                     pass
             except ValueError:
                 raise no_line(n, found.start()) from None
-    if "#" in line and 0 in [len(digits) % 2 for digits in DIGITS.findall(line)]:
+    if "#" in line and [1 for digits, after in DIGITS.findall(line) if len(digits) % 2 or after not in ("", " ")]:
         for found in DIGITS.finditer(QUOTED.sub(lambda text: "~" * len(text[0]), line)):
-            if len(found[0]) % 2 == 0:
+            if len(found[1]) % 2:
                 raise no_line(n, line.rfind(" ", 0, found.start()))
+            if found[2] not in ("", " "):
+                raise no_line(n, found.end(1))
 
 
 def no_line(n, at):
@@ -261,6 +266,8 @@ class Listing(Conversations):
                         connection.begun = made.moment
             lane, asked = plain if xid not in lanes else lanes[xid], None
             if side == "C":
+                if op not in ASKED:
+                    raise no_line(n, made.end)
                 lane.append(made)
             elif op != EVENT:
                 asked = self.take_reply(line, made, lane)

@@ -1,16 +1,25 @@
 """How a tool of this folder runs: its standard streams, its status, its messages on standard error."""
 
 import errno
+import fcntl
 import os
 import resource
 import sys
 import time
 
+USUAL_FILES = 1 << 16       # open files for which a table of descriptors has room from the start
+
 
 def allow_many_files():
-    """Lets this process have as many open files as the system allows it."""
+    """Lets this process have as many open files as the system allows it. The table of their descriptors gets its size at
+    once, while there is one thread: where it grows later, Linux has a process of several threads wait, for some 20 ms
+    each time."""
     _, most = resource.getrlimit(resource.RLIMIT_NOFILE)
     resource.setrlimit(resource.RLIMIT_NOFILE, (most, most))
+    try:
+        os.close(fcntl.fcntl(0, fcntl.F_DUPFD, min(most, USUAL_FILES) - 1))
+    except OSError:
+        pass        # it is in use, where there are that few
 
 
 def shown(text):

@@ -72,7 +72,7 @@ class Connection:
         self.begun = self.ended = self.known = None
         self.messages = self.events = 0
         self.last = None        # the number of its last message
-        self.closing, self.is_late = None, False
+        self.closing, self.is_late, self.is_silent = None, False, False
         self.operations = collections.defaultdict(Operation)
 
     def total(self, name):
@@ -86,14 +86,14 @@ class Connection:
         return self.known and self.known.ending
 
     def session_id(self):
-        """The session as ZooKeeper's logs print it; None if the recording has none."""
+        """The session as ZooKeeper's logs print it; None if nothing says which it is."""
         if self.first:
             return self.first.session_id()
         for number in (self.session, self.asked_session):
             if number not in (None, "0x0") and not self.is_late:
                 return number
-        found = self.source.facts or self.known and self.known.facts
-        return found and found.session
+        known = self.known or self.source.facts     # it knows the connect messages, too, if they aren't chosen
+        return known and known.session
 
     def span(self):
         """When it begins and ends, by its capture or else by its messages."""
@@ -136,19 +136,18 @@ class Run:
                 current.take(talk, line, made, asked)
             for made in chosen.left(talk):
                 reading(made.connection).left(made)
-            if chosen.all:
-                for known in talk.connections():
-                    reading(known)
+            silent = [known for known in talk.connections() if known not in readings] if chosen.all else []
         self.untimed += chosen.take_untimed()
         if chosen.all and not readings:
-            self.connection(source, source.name)
-        for each in readings.values():
-            each.end()
-        last = self.connections[-1] if chosen.all else None
-        if last and last.source is source and not last.messages and len(readings) < 2:
+            silent = silent or [None]
+        for known in silent:
             self.silent += 1
+            found = reading(known).connection if known else self.connection(source, source.name)
+            found.is_silent = True
             if self.silent > MOST_SILENT:
                 self.connections.pop()
+        for each in readings.values():
+            each.end()
 
     def silent_left_out(self):
         """How many connections without a message are not kept."""

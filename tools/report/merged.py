@@ -1,7 +1,5 @@
 """Adds what was found of each of many files, by another process, to what was found of those before."""
 
-import collections
-
 import listing
 from report import gather, kept
 
@@ -32,7 +30,6 @@ class Merged:
     def add_connections(self, other):
         """Adds the connections; by the number that each has there, the number that it has here."""
         run, numbers, silent = self.run, {}, 0
-        by_source = collections.Counter(each.source for each in other.connections)
         for each in other.connections:
             numbers[each.number] = len(run.connections)
             made = run.connection(each.source, each.name)
@@ -42,7 +39,7 @@ class Merged:
                 if operation.slowest:
                     operation.slowest = moved(operation.slowest, numbers, 1)
                 operation.failures = {error: moved(link, numbers, 0) for error, link in operation.failures.items()}
-            if other.silent and not each.messages and by_source[each.source] == 1:
+            if each.is_silent:
                 silent += 1
                 run.silent += 1
                 if run.silent > gather.MOST_SILENT:

@@ -78,3 +78,13 @@ class Tools(ToolCase):
                               capture_output=True, text=True, check=False)
         self.assertEqual((done.returncode, len(done.stdout.splitlines())), (1, 2), done.stdout)
         self.assertRegex(done.stderr, r"^/bin/false \S*/zkstat.py \S*/timed.zkr ended with status 1: ")
+
+
+class Crowd(ToolCase):
+    def test_few_clients(self):
+        done = subprocess.run([sys.executable, TOP / "bench" / "measure_crowd.py", "--busy", "2", "--new", "3",
+                               "--times", "1"], capture_output=True, text=True, check=False)
+        self.assertEqual((done.returncode, done.stderr), (0, ""))
+        head, _, *rows, load = [line.split("|")[1:-1] for line in done.stdout.splitlines()]
+        self.assertEqual([len(head), *map(len, rows), load], [10, 10, 10, []], done.stdout)
+        self.assertTrue(all(figure.strip().isdigit() for row in rows for figure in row[2:]), done.stdout)

@@ -97,23 +97,25 @@ class FleetCase(ToolCase):
         """What can't be read is a row with its reason."""
         (self.fleet / "bad.zkr").write_bytes(b"ZKR2 no head")
         (self.fleet / "gone.zkr").symlink_to("nowhere")
+        os.mkfifo(self.fleet / "pipe.zkr")
         shutil.copy(CAPTURES[0], self.fleet / "times.zkr")
         (self.fleet / "times.zkr.times").write_text("1\n")
         status, out, err = self.output("zkstat.py", "--json", "--jobs", 2, self.fleet)
         rows = {pathlib.Path(row["connection"]).name: row["ending"] for row in json.loads(out)["connections"]}
-        self.assertEqual((status, err, len(rows)), (1, b"", len(self.names) + 3))
+        self.assertEqual((status, err, len(rows)), (1, b"", len(self.names) + 4))
         reasons = {name: ending["reason"] for name, ending in rows.items() if ending["ending"] == "unread"}
-        self.assertEqual(set(reasons), {"bad.zkr", "gone.zkr", "times.zkr"})
+        self.assertEqual(set(reasons), {"bad.zkr", "gone.zkr", "pipe.zkr", "times.zkr"})
         self.assertEqual(reasons["gone.zkr"], "No such file or directory")
         self.assertIn("BadLimits", reasons["bad.zkr"])
+        self.assertEqual(reasons["pipe.zkr"], "this is a pipe, which may never end: name a file")
         self.assertIn("has 1 times", reasons["times.zkr"])
         for tool in TOOLS_WITH_WORDS[1:]:
             status, out, err = self.output(*tool, "--jobs", 2, self.fleet)
-            self.assertEqual((status, err, out.count(b"unread")), (1, b"", 3), tool)
+            self.assertEqual((status, err, out.count(b"unread")), (1, b"", 4), tool)
         status, out, _ = self.output("zkfleet.py", "check", "--json", self.fleet)
         counts = json.loads(out.splitlines()[-1])
         self.assertEqual((status, counts["recordings"], counts["endings"]),
-                         (1, len(self.names) + 3, {"recording": 1, "refused": REFUSED, "unread": 1,
+                         (1, len(self.names) + 4, {"recording": 1, "refused": REFUSED, "unread": 2,
                                                    "whole": len(self.names) + 1 - REFUSED}))
 
     def test_inputs_that_name_no_recording(self):

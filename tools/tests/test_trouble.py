@@ -1,5 +1,6 @@
 """Tests of record.py and zkwatch.py in trouble: the other connections are not delayed, and it is reported once."""
 
+import resource
 import socket
 import subprocess
 import sys
@@ -39,6 +40,14 @@ class Descriptors(TroubleCase):
     def test_zkwatch(self):
         self.assert_lives_through("zkwatch.py", 30, 20, "new clients have to wait: Too many open files")
 
+    def test_their_table_has_its_size_from_the_start(self):
+        """Where it grows later, all connections wait for some 20 ms."""
+        for tool in ("record.py", "zkwatch.py"):
+            self.begin(tool)
+            limit = resource.prlimit(self.tool.pid, resource.RLIMIT_NOFILE)[0]
+            with open(f"/proc/{self.tool.pid}/status", encoding="ascii") as status:
+                size, = (int(line.split()[1]) for line in status if line.startswith("FDSize:"))
+            self.assertGreaterEqual(size, min(limit, 1 << 16), tool)
 
     def test_nobody_waits_where_there_is_room_for_just_one_more(self):
         for limit in (20, 21, 22):

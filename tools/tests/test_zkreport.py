@@ -112,6 +112,26 @@ class Zkreport(ToolCase):
                 found = self.report("--text", *words, self.one, self.other)
                 self.assertEqual({row[0]: row[1] for row in self.rows(found, "Operations")}, operations)
 
+    def test_a_session_whose_connect_messages_are_not_chosen(self):
+        """Both connections are of one session, whatever is chosen of them."""
+        names = [self.listing(f"{number}.show", LISTING.format(**HERE)) for number in range(2)]
+        for choice in (["--path", "/a"], ["--op", "exists"], ["--session", "72"]):
+            found = self.report("--text", *choice, *names)
+            self.assertEqual([row[:3:2] for row in self.rows(found, "Sessions")], [["0x48", "2"]], found)
+            self.assertEqual([row[:2] for row in self.rows(found, "Connections")], [["#1", "0x48"], ["#2", "0x48"]])
+
+    def test_many_connections_without_a_message_in_the_lines_of_zkjson(self):
+        """3,000 of them, beside one of a session: the page has some of them, and counts them all."""
+        path, page = self.folder / "many.json", self.folder / "many.html"
+        ending = {"ending": "whole", "unanswered": 0, "waiting": []}
+        path.write_text(self.one.read_text() + "".join(json.dumps({"connection": f"c{number}", **ending}) + "\n"
+                                                       for number in range(3000)))
+        found = self.report("--text", "-o", page, path, self.other)
+        self.assertRegex(found, "^3002 connections, 1 sessions, 20 messages, ")
+        self.assertIn("\nand 2800 more\n", found)
+        self.assertLess(page.stat().st_size, 500_000)
+        self.assertEqual(self.report("--text", "--jobs", 2, path, self.other), found)
+
     def test_several_connections_in_the_lines_of_zkjson(self):
         path = self.folder / "both.json"
         path.write_text("".join(json.dumps({"connection": each.stem, **json.loads(line)}) + "\n"
