@@ -29,7 +29,7 @@ static gboolean equal_kept(gconstpointer one, gconstpointer other) {
     return a->packet == b->packet && a->number == b->number;
 }
 
-static flag forget(wmem_allocator_t *allocator _U_, wmem_cb_event_t event _U_, void *connection) {
+static wmem_flag forget(wmem_allocator_t *allocator _U_, wmem_cb_event_t event _U_, void *connection) {
     judge_end(&((struct connection *)connection)->judge);
     return FALSE;
 }

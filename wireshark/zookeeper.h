@@ -14,11 +14,17 @@
 #include "message.h"
 #include "verdict.h"
 
-/* What the boolean types of callbacks and preferences are: glib's up to 4.2, C's from 4.4 on. */
+/* What the boolean types of callbacks and preferences are: glib's up to 4.2, C's from 4.4 on; and that of the callbacks
+ * of wmem, which is C's from 4.2 on. */
 #if WIRESHARK_VERSION_MAJOR > 4 || (WIRESHARK_VERSION_MAJOR == 4 && WIRESHARK_VERSION_MINOR >= 3)
 typedef bool flag;
 #else
 typedef gboolean flag;
+#endif
+#if WIRESHARK_VERSION_MAJOR > 4 || (WIRESHARK_VERSION_MAJOR == 4 && WIRESHARK_VERSION_MINOR >= 1)
+typedef bool wmem_flag;
+#else
+typedef gboolean wmem_flag;
 #endif
 
 /* ---- Connections (connection.c) */
