@@ -1,8 +1,9 @@
 """Tests of bench/run, over scripts in the place of the programs of two checkouts, of the jobs that it runs, and of
-bench/tools.py."""
+bench/tools.py and bench/measure_crowd.py."""
 
 import pathlib
 import re
+import shutil
 import subprocess
 import sys
 
@@ -78,3 +79,15 @@ class Tools(ToolCase):
                               capture_output=True, text=True, check=False)
         self.assertEqual((done.returncode, len(done.stdout.splitlines())), (1, 2), done.stdout)
         self.assertRegex(done.stderr, r"^/bin/false \S*/zkstat.py \S*/timed.zkr ended with status 1: ")
+
+
+class Crowd(ToolCase):
+    def test_few_clients(self):
+        if not shutil.which("cc"):
+            self.skipTest("there is no compiler for C")
+        done = subprocess.run([sys.executable, TOP / "bench" / "measure_crowd.py", "--busy", "2", "--new", "3",
+                               "--times", "1"], capture_output=True, text=True, check=False)
+        self.assertEqual((done.returncode, done.stderr), (0, ""))
+        head, _, *rows, load = [line.split("|")[1:-1] for line in done.stdout.splitlines()]
+        self.assertEqual([len(head), *map(len, rows), load], [10, 10, 10, []], done.stdout)
+        self.assertTrue(all(figure.strip().isdigit() for row in rows for figure in row[2:]), done.stdout)
