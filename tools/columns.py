@@ -5,6 +5,7 @@ isn't there, the plain form is used. The environment variable ZKCOLUMNS names th
 """
 
 import collections
+import importlib
 import json
 import os
 import pathlib
@@ -17,10 +18,7 @@ import listing
 import program
 import zkr
 
-try:
-    import numpy
-except ImportError:
-    numpy = None
+numpy = None        # loaded where something is counted: it takes longer than most listings, and 15 MB
 
 TOOLS = pathlib.Path(__file__).resolve().parent
 PLACES = (TOOLS / "columns" / "out" / "zkcolumns", TOOLS.parent.parent.parent / "lib" / "zkdump" / "zkcolumns")
@@ -56,7 +54,18 @@ def lacks(words, counted):
         return "--zkdump names another program"
     if not found_program():
         return "zkcolumns is not built or installed"
-    return "Python's numpy is not installed" if counted and not numpy else None
+    return "Python's numpy is not installed" if counted and not has_numpy() else None
+
+
+def has_numpy():
+    """Whether numpy is there; then it is loaded."""
+    global numpy
+    if numpy is None:
+        try:
+            numpy = importlib.import_module("numpy")
+        except ImportError:
+            return False
+    return True
 
 
 class Block:

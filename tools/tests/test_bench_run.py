@@ -1,8 +1,9 @@
 """Tests of bench/run, over scripts in the place of the programs of two checkouts, of the jobs that it runs, and of
-bench/tools.py."""
+bench/tools.py and bench/measure_crowd.py."""
 
 import pathlib
 import re
+import shutil
 import subprocess
 import sys
 
@@ -82,6 +83,8 @@ class Tools(ToolCase):
 
 class Crowd(ToolCase):
     def test_few_clients(self):
+        if not shutil.which("cc"):
+            self.skipTest("there is no compiler for C")
         done = subprocess.run([sys.executable, TOP / "bench" / "measure_crowd.py", "--busy", "2", "--new", "3",
                                "--times", "1"], capture_output=True, text=True, check=False)
         self.assertEqual((done.returncode, done.stderr), (0, ""))
