@@ -1,10 +1,9 @@
 -- Bytes of one side that are given in several calls.
-use Rattle.std.proofs.Common.{◌≡◌, ℕ, ◌+◌, Bool, true, false, List, [], ◌∷◌, ◌++◌, length, take, drop, Option, None, Some, refl, sym, ◌∙◌, ap, subst, append_assoc, inl, inr}
+use Rattle.std.proofs.Common.{◌≡◌, ℕ, ◌+◌, Bool, true, false, List, [], ◌∷◌, ◌++◌, length, take, drop, Option, None, Some, refl, sym, ◌∙◌, ap, subst, append_assoc}
 use Rattle.std.specs.Io.KnownBytes.{Appends}
 use Rattle.std.proofs.lemmas.List.{take-append-drop, append-nil}
 use Rattle.std.proofs.lemmas.List.Concat.{flat_map-append}
 use Rattle.std.proofs.Math.Seq.{take-add, take-append-add, take-length}
-use Rattle.zk_jute.specs.declared.fault.Reason.TheVariants.{NoMemory}
 use Rattle.zk_talk.specs.declared.message.Side.{Side}
 use Rattle.zk_talk.specs.declared.message.Fault.{Fault}
 use Rattle.zk_talk.specs.Held.{Message}
@@ -14,7 +13,7 @@ use Rattle.zk_talk.specs.Stands.{TalkState, Stands, Refuses, kept_on}
 use Rattle.zk_talk.specs.Viewed.{Shows}
 use Rattle.std.specs.Option.{option_to_list}
 use Rattle.zk_talk.specs.Good.{Good, IsOrder}
-use Rattle.zk_talk.specs.Taking.{GoesOn, Steps, Fails}
+use Rattle.zk_talk.specs.Taking.{GoesOn, Steps, Passes, IsRefused}
 use Rattle.zk_listings.specs.declared.listing.Listing.{Listing}
 use Rattle.zk_listings.specs.declared.listing.Listing.TheVariants.{All, Last}
 use Rattle.zk_listings.specs.Lines.{message_line, text_of}
@@ -68,20 +67,13 @@ pub takes-none : (listing : Listing) (t : TalkState) (lines : List ℕ) (side : 
 takes-none listing t lines side h messages i =
     ([], subst (λ k. Stands t k (messages ++ [])) (sym (append-nil h)) (subst (Stands t h) (sym (append-nil messages)) i), listed-none listing lines)
 
--- a talk that stands as before has taken the same bytes
-pub takes-still : (listing : Listing) (old mid new : TalkState) (before during : List ℕ) (bytes : History) → Takes listing old before bytes None mid during →
-    ((h : History) (messages : List Message) → Stands mid h messages → Stands new h messages) → Takes listing old before bytes None new during
-takes-still listing old mid new before during bytes taken still h messages i =
-    let r = taken h messages i in
-    (r.0, still (h ++ bytes) (messages ++ r.0) r.1, r.2)
+-- a pass goes on with the history, by a message or by none
+passed-goes : (old : TalkState) (side : Side) (used : List ℕ) (whole : Bool) (new : TalkState) → Passes old side used whole new → (messages : List Message) × GoesOn old side used messages new
+passed-goes old side used true new p = (p.0 ∷ [], p.1)
+passed-goes old side used false new p = ([], p)
 
--- a step goes on with the history, by a message or by none
-pub stepped-goes : (old : TalkState) (side : Side) (used : List ℕ) (whole : Bool) (new : TalkState) → Steps old side used whole new → (messages : List Message) × GoesOn old side used messages new
-stepped-goes old side used true new s = (s.0 ∷ [], s.1)
-stepped-goes old side used false new s = ([], s.0)
-
--- and by the message that is seen, or by none
-pub stepped-shows : (old : TalkState) (side : Side) (used : List ℕ) (whole : Bool) (new : TalkState) → Steps old side used whole new → (seen : Option Message) → (kept_on side new ≡ [] → seen ≡ None) → ((m : Message) → Shows new side m → seen ≡ Some m) → GoesOn old side used (option_to_list seen) new
+-- a step goes on by the message that is seen, or by none
+stepped-shows : (old : TalkState) (side : Side) (used : List ℕ) (whole : Bool) (new : TalkState) → Steps old side used whole new → (seen : Option Message) → (kept_on side new ≡ [] → seen ≡ None) → ((m : Message) → Shows new side m → seen ≡ Some m) → GoesOn old side used (option_to_list seen) new
 stepped-shows old side used true new s seen none only = subst (λ (o : Option Message). GoesOn old side used (option_to_list o) new) (sym (only s.0 s.2)) s.1
 stepped-shows old side used false new s seen none only = subst (λ (o : Option Message). GoesOn old side used (option_to_list o) new) (sym (none s.1)) s.0
 
@@ -98,22 +90,36 @@ module _ (listing : Listing) (old mid new : TalkState) (before during after : Li
         listed-then listing before during after r.0 now r.2 told,
       )
 
-  pub rejects-later : (fault : Fault) → (fault.reason ≡ NoMemory → ⊥) → Fails mid side (drop at' bytes) fault new → Takes listing old before (on side bytes) (Some fault) new during
-  rejects-later fault known (inl w) h messages i = absurd (known (ap (λ (f : Fault). f.reason) w.told))
-  rejects-later fault known (inr r) h messages i =
+  pub rejects-later : (fault : Fault) → IsRefused mid side (drop at' bytes) fault new → Takes listing old before (on side bytes) (Some fault) new during
+  rejects-later fault r h messages i =
       let b = taken h messages i in
       let joined : (h ++ on side (take at' bytes)) ++ on side (drop at' bytes) ≡ h ++ on side bytes =
       on-append side (take at' bytes) (drop at' bytes) h ∙ ap (λ b. h ++ on side b) (take-append-drop at' bytes) in
       (b.0, subst (λ z. Refuses new z (messages ++ b.0) fault) joined (r (h ++ on side (take at' bytes)) (messages ++ b.0) b.1), b.2)
 
+-- a pass over a part of the bytes
+pub passed-more : (old from new : TalkState) (side : Side) (bytes piece : List ℕ) (at' used : ℕ) (whole : Bool) (lines : List ℕ) → piece ≡ drop at' bytes →
+    Takes Last old lines (on side (take at' bytes)) None from lines → Passes from side (take used piece) whole new → Takes Last old lines (on side (take (at' + used) bytes)) None new lines
+passed-more old from new side bytes piece at' used whole lines is taken passes =
+    let went = passed-goes from side (take used piece) whole new passes in
+    let goes = subst (λ z. GoesOn from side (take used z) went.0 new) is went.1 in
+    takes-more Last old from new lines lines lines side bytes at' taken used went.0 goes (sym (append-nil lines))
+
+-- a pass over the first bytes
+pub passed-first : (old new : TalkState) (side : Side) (bytes : List ℕ) (used : ℕ) (whole : Bool) (lines : List ℕ) → Passes old side (take used bytes) whole new →
+    Takes Last old lines (on side (take used bytes)) None new lines
+passed-first old new side bytes used whole lines passes h messages i =
+    let went = passed-goes old side (take used bytes) whole new passes in
+    (went.0, went.1 h messages i, sym (append-nil lines))
+
 -- a step over a part of the bytes, and the message that is seen then, or none
-pub shown-more : (old from new : TalkState) (side : Side) (bytes piece : List ℕ) (at' used end : ℕ) (whole : Bool) (before during after : List ℕ) (seen : Option Message) → piece ≡ drop at' bytes → end ≡ at' + used →
+pub shown-more : (old from new : TalkState) (side : Side) (bytes piece : List ℕ) (at' used : ℕ) (whole : Bool) (before during after : List ℕ) (seen : Option Message) → piece ≡ drop at' bytes →
     Takes All old before (on side (take at' bytes)) None from during → Steps from side (take used piece) whole new → (kept_on side new ≡ [] → seen ≡ None) → ((m : Message) → Shows new side m → seen ≡ Some m) →
-    after ≡ during ++ text_of All (option_to_list seen) → Takes All old before (on side (take end bytes)) None new after
-shown-more old from new side bytes piece at' used end whole before during after seen is ends taken steps none only told =
+    after ≡ during ++ text_of All (option_to_list seen) → Takes All old before (on side (take (at' + used) bytes)) None new after
+shown-more old from new side bytes piece at' used whole before during after seen is taken steps none only told =
     let went = stepped-shows from side (take used piece) whole new steps seen none only in
     let goes = subst (λ z. GoesOn from side (take used z) (option_to_list seen) new) is went in
-    subst (λ n. Takes All old before (on side (take n bytes)) None new after) (sym ends) (takes-more All old from new before during after side bytes at' taken used (option_to_list seen) goes told)
+    takes-more All old from new before during after side bytes at' taken used (option_to_list seen) goes told
 
 -- some first bytes, and the rest of them
 pub takes-then : (listing : Listing) (old mid new : TalkState) (before during after : List ℕ) (side : Side) (bytes : List ℕ) (n : ℕ) (refused : Option Fault) →

@@ -91,3 +91,6 @@ known_fault t f side e new piece h M st = absurd (nothing (sym st.no_fault ∙ e
   where
     nothing : None ≡ Some f → ⊥
     nothing q = cc
+
+pub same_fault : (f g : Fault) → Some f ≡ Some g → f ≡ g
+same_fault f g e = cc

@@ -1,5 +1,5 @@
 //! `Talk::pass`: a step after which no frame is kept.
-ghost use Rattle.std.specs.Prelude.{false, ◌≡◌, ◌≢◌, [], length, Some, Err, IfOk, IfErr};
+ghost use Rattle.std.specs.Prelude.{false, ◌≡◌, ◌≢◌, [], length, None, Some, Err, IfOk, IfErr};
 ghost use Rattle.zk_jute.specs.declared.fault.Reason.TheVariants.{NoMemory};
 ghost use Rattle.zk_talk.specs.declared.message.Fault.{Fault};
 ghost use Rattle.zk_talk.specs.Stands.{kept_on};
@@ -10,12 +10,30 @@ use crate::message::{Fault, Side};
 use crate::talk::{Stepped, Talk};
 
 impl Talk {
+    /// `step_exact`, and what it keeps is dropped.
+    #[inline(never)]
+    fn pass_exact(&mut self, side: Side, piece: &[u8]) -> Stepped
+        requires given_up { kept_on side self.old ≡ [] }
+        ensures limits { self.new.limits ≡ self.old.limits }
+        ensures ok { self.new.fault ≡ None → PassesOn self.old side piece.now result.used result.whole self.new }
+        ensures exact { self.new.fault ≡ None → result.whole ≡ false → result.used ≡ length piece.now }
+        ensures other { Leaves (other_side side) self.old self.new }
+        ensures err { (f : Fault) → self.new.fault ≡ Some f → (f.reason ≢ NoMemory) × IsRefused self.old side piece.now f self.new }
+        ensures given_up { kept_on side self.new ≡ [] }
+        ensures kept { (f : Fault) → self.old.fault ≡ Some f → self.new ≡ given_up side self.old }
+    {
+        let stepped = self.step_exact(side, piece);
+        self.give_up(side);
+        stepped
+    }
+
     /// Takes the piece up to the end of the first frame that becomes whole, or all of it, as `step`, and keeps no frame. One
-    /// that is whole in `piece` and that `pass_front` passes isn't copied; nothing is allocated.
+    /// that is whole in `piece` and comes in its turn isn't copied; nothing is allocated.
     ///
     /// # Errors
     ///
     /// Those of `step`.
+    #[inline(always)]
     pub fn pass(&mut self, side: Side, piece: &[u8]) -> Result<Stepped, Fault>
         ensures limits { self.new.limits ≡ self.old.limits }
         // What is used goes on with the history; a frame that it makes whole is the newest message's.
@@ -31,11 +49,13 @@ impl Talk {
         // A fault is kept.
         ensures kept { (f : Fault) → self.old.fault ≡ Some f → (result ≡ Err f) × (self.new ≡ given_up side self.old) }
     {
-        if let Some(used) = self.pass_front(side, piece) {
+        if let Some(used) = self.pass_at_once(side, piece) {
             return Ok(Stepped { used, whole: true });
         }
-        let stepped = self.step(side, piece);
-        self.give_up(side);
-        stepped
+        let stepped = self.pass_exact(side, piece);
+        if let Some(fault) = self.fault {
+            return Err(fault);
+        }
+        Ok(stepped)
     }
 }

@@ -1,5 +1,5 @@
 //! `Talk`: the conversation, judged as its bytes come.
-ghost use Rattle.std.specs.Prelude.{false, true, ◌≡◌, ◌≢◌, ◌≤◌, ◌+◌, List, [], ◌∷◌, length, take, Some, None, Err, IsOk, IfOk, IfErr, OnErr, IfSome, IfNone, MatchOption};
+ghost use Rattle.std.specs.Prelude.{false, true, ◌≡◌, ◌≢◌, ◌≤◌, ◌+◌, List, [], ◌∷◌, length, take, Some, None, Err, IsOk, IfOk, IfErr, OnOk, OnErr, IfSome, IfNone, MatchOption};
 ghost use Rattle.std.specs.Option.{option_to_list};
 ghost use Rattle.zk_jute.specs.declared.fault.Reason.TheVariants.{NoMemory};
 ghost use Rattle.zk_frames.specs.Framing.{frame};
@@ -62,7 +62,7 @@ pub struct Talk {
     pub(crate) waiting: Awaited,
     /// The operation of the request that the server's kept frame replies to; `None` if that is no reply.
     answered: Option<Op>,
-    fault: Option<Fault>,
+    pub(crate) fault: Option<Fault>,
 }
 
 impl Model for Talk {
@@ -242,6 +242,8 @@ impl Talk {
         ensures other { Leaves (other_side side) self.old self.new }
         ensures err { IfErr result (λ e. (e.reason ≢ NoMemory) × IsRefused self.old side piece.now e self.new) }
         ensures none { OnErr result (kept_on side self.new ≡ []) }
+        ensures well { OnOk result (self.new.fault ≡ None) }
+        ensures kept { IfErr result (λ e. self.new.fault ≡ Some e) }
     {
         match side {
             Side::Client => {
@@ -288,48 +290,62 @@ impl Talk {
     }
 
     /// Steps over the whole frame at the front of `piece`, if none is begun and it is seen at once that it may come next, and
-    /// returns the number of bytes that were used; `None`: undecided, as `step` decides.
-    // It returns in registers, which `step` doesn't.
+    /// returns the number of its bytes; `None`: undecided, and only what was kept on the side is dropped.
     #[inline(always)]
-    pub fn step_front(&mut self, side: Side, piece: &[u8]) -> Option<usize>
+    fn step_at_once(&mut self, side: Side, piece: &[u8]) -> Option<usize>
         ensures limits { self.new.limits ≡ self.old.limits }
-        // What is used goes on with the history; the frame that it makes whole is the newest message's.
         ensures some { IfSome result (λ used. StepsOn self.old side piece.now used true self.new) }
-        // The other side's frame stays as it is, and shows what it shows.
+        ensures good { IfSome result (λ used. self.old.fault ≡ None) }
         ensures other { Leaves (other_side side) self.old self.new }
-        // Otherwise no byte is used.
-        ensures none { IfNone result ((h : History) (M : List Message) → Stands self.old h M → Stands self.new h M) }
-        // Then what was kept on the side is dropped, and nothing else changes.
         ensures same { IfNone result (self.new ≡ given_up side self.old) }
     {
         self.give_up(side);
-        if self.fault.is_some() {
-            return None;
+        match self.fault {
+            None => self.front(side, piece),
+            Some(_) => None,
         }
-        self.front(side, piece)
     }
 
-    /// Passes the whole frame at the front of `piece`, if none is begun and it is seen at once that it may come next, and
-    /// returns the number of bytes that were used; the frame isn't kept. `None`: undecided, as `step` or `take` decides.
+    /// Passes the whole frame at the front of `piece`, as `step_at_once` steps over it, and keeps nothing; `None`: undecided.
     #[inline(always)]
-    pub fn pass_front(&mut self, side: Side, piece: &[u8]) -> Option<usize>
+    pub(crate) fn pass_at_once(&mut self, side: Side, piece: &[u8]) -> Option<usize>
         ensures limits { self.new.limits ≡ self.old.limits }
-        // What is used goes on with the history, by one message.
         ensures some { IfSome result (λ used. (m : Message) × TakesOn self.old side piece.now used (m ∷ []) self.new) }
-        // The other side's frame stays as it is, and shows what it shows.
-        ensures other { Leaves (other_side side) self.old self.new }
-        // What was kept on the side is dropped.
-        ensures given_up { kept_on side self.new ≡ [] }
-        // Nothing is held on after a frame, and none passes after a fault.
         ensures whole { IfSome result (λ used. (held_on side self.new ≡ []) × (self.old.fault ≡ None)) }
-        // Otherwise no byte is used, and nothing else changes.
-        ensures none { IfNone result ((h : History) (M : List Message) → Stands self.old h M → Stands self.new h M) }
+        ensures other { Leaves (other_side side) self.old self.new }
+        ensures given_up { kept_on side self.new ≡ [] }
         ensures same { IfNone result (self.new ≡ given_up side self.old) }
     {
         self.give_up(side);
         match self.fault {
             None => self.pass_whole(side, piece),
             Some(_) => None,
+        }
+    }
+
+    /// `step` of any piece, where no frame is kept on the side. If it is refused its fault is kept, and the result is void.
+    // A call of its own whose result is in registers: where `step` is inlined, most frames have no result in memory.
+    #[inline(never)]
+    pub(crate) fn step_exact(&mut self, side: Side, piece: &[u8]) -> Stepped
+        requires given_up { kept_on side self.old ≡ [] }
+        ensures limits { self.new.limits ≡ self.old.limits }
+        ensures ok { self.new.fault ≡ None → StepsOn self.old side piece.now result.used result.whole self.new }
+        ensures exact { self.new.fault ≡ None → result.whole ≡ false → result.used ≡ length piece.now }
+        ensures other { Leaves (other_side side) self.old self.new }
+        ensures err { (f : Fault) → self.new.fault ≡ Some f → (f.reason ≢ NoMemory) × IsRefused self.old side piece.now f self.new }
+        ensures none { (f : Fault) → self.new.fault ≡ Some f → kept_on side self.new ≡ [] }
+        ensures kept { (f : Fault) → self.old.fault ≡ Some f → self.new ≡ self.old }
+    {
+        let void = Stepped {
+            used: 0,
+            whole: false,
+        };
+        if let Some(_fault) = self.fault {
+            return void;
+        }
+        match self.exact(side, piece) {
+            Ok(stepped) => stepped,
+            Err(_refused) => void,
         }
     }
 
@@ -340,6 +356,7 @@ impl Talk {
     ///
     /// The fault of the history so far with the piece. It is kept, and each later call returns it and uses nothing. Never
     /// `NoMemory`.
+    #[inline(always)]
     pub fn step(&mut self, side: Side, piece: &[u8]) -> Result<Stepped, Fault>
         ensures limits { self.new.limits ≡ self.old.limits }
         // What is used goes on with the history; a frame that it makes whole is the newest message's.
@@ -355,14 +372,14 @@ impl Talk {
         // A fault is kept.
         ensures kept { (f : Fault) → self.old.fault ≡ Some f → (result ≡ Err f) × (self.new ≡ given_up side self.old) }
     {
-        self.give_up(side);
+        if let Some(used) = self.step_at_once(side, piece) {
+            return Ok(Stepped { used, whole: true });
+        }
+        let stepped = self.step_exact(side, piece);
         if let Some(fault) = self.fault {
             return Err(fault);
         }
-        if let Some(used) = self.front(side, piece) {
-            return Ok(Stepped { used, whole: true });
-        }
-        self.exact(side, piece)
+        Ok(stepped)
     }
 
     /// Takes the piece up to the end of the first frame that becomes whole, or all of it, and returns the message of a whole

@@ -81,3 +81,35 @@ returns-in_err-used-in-Server-clause-err c =
     let r = c.in_err-used-in-Server.ensures.received in
     let p = err_from_is_err_and c.from_residual-in_err-used-in-Server.result c.from_residual-in_err-used-in-Server.ensures.1 in
     rw (p.1, p.2, c.in-Server.is, ← c.self.view_is) (stops Server T c.args.piece.now c.receive-in-Server.new.stream c.receive-in-Server.new.stream c.self.invariant.1.same r.0.stays c.in-Server.is c.receive-in-Server.new.kept c.in_err-used-in-Server.field-0.0 r.0.used r.0.reason r.0.advance r.0.told r.1)
+
+pub returns-in_default-clause-well : goal.returns-in_default-clause-well
+returns-in_default-clause-well c =
+    (received c.args.side _ _ _ _ _ c.in_default.is c.in_ok-used-in-Client.ensures.received).1 ∙ ap (λ (z : TalkState). z.fault) c.self.view_is ∙ c.requires.good
+
+pub returns-in-Ok-clause-well : goal.returns-in-Ok-clause-well
+returns-in-Ok-clause-well c =
+    (received c.args.side _ _ _ _ _ c.in-Some.is c.in_ok-used-in-Client.ensures.received).1 ∙ ap (λ (z : TalkState). z.fault) c.self.view_is ∙ c.requires.good
+
+pub returns-in-Err-clause-kept : goal.returns-in-Err-clause-kept
+returns-in-Err-clause-kept c = (c.refuse.ensures.told c.in-Err.ensures.fault.0).1
+
+pub returns-in_err-used-in-Client-clause-kept : goal.returns-in_err-used-in-Client-clause-kept
+returns-in_err-used-in-Client-clause-kept c =
+    let p = err_from_is_err_and c.from_residual.result c.from_residual.ensures.1 in
+    rw (p.1, p.2) c.in_err-used-in-Client.ensures.received.1
+
+pub returns-in_default-2-clause-well : goal.returns-in_default-2-clause-well
+returns-in_default-2-clause-well c =
+    (received c.args.side _ _ _ _ _ c.in_default-2.is c.in_ok-used-in-Server.ensures.received).1 ∙ ap (λ (z : TalkState). z.fault) c.self.view_is ∙ c.requires.good
+
+pub returns-in-Ok-server_step-clause-well : goal.returns-in-Ok-server_step-clause-well
+returns-in-Ok-server_step-clause-well c =
+    (received c.args.side _ _ _ _ _ c.in-Some-2.is c.in_ok-used-in-Server.ensures.received).1 ∙ ap (λ (z : TalkState). z.fault) c.self.view_is ∙ c.requires.good
+
+pub returns-in-Err-server_step-clause-kept : goal.returns-in-Err-server_step-clause-kept
+returns-in-Err-server_step-clause-kept c = (c.refuse-in-Err-server_step.ensures.told c.in-Err-server_step.ensures.fault.0).1
+
+pub returns-in_err-used-in-Server-clause-kept : goal.returns-in_err-used-in-Server-clause-kept
+returns-in_err-used-in-Server-clause-kept c =
+    let p = err_from_is_err_and c.from_residual-in_err-used-in-Server.result c.from_residual-in_err-used-in-Server.ensures.1 in
+    rw (p.1, p.2) c.in_err-used-in-Server.ensures.received.1

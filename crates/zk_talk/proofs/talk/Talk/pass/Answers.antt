@@ -1,8 +1,6 @@
-use Rattle.std.proofs.Common.{take, sym, ap, ◌∙◌}
-use Rattle.std.proofs.lemmas.Result.{IfErr-weaker, IfOk-weaker}
+use Rattle.std.proofs.Common.{◌∙◌, take, sym, ap}
 use Rattle.zk_talk.specs.Stands.{TalkState}
-use Rattle.zk_talk.specs.Taking.{given_up}
-use Rattle.zk_talk.proofs.Stepping.{passes_first, passes_after, refused_first, refused_after, fault_stays, given_twice}
+use Rattle.zk_talk.proofs.Stepping.{passes_first, refused_first}
 use Rattle.zk_talk.proofs.talk.Talk.pass.Goals as goal
 
 pub returns-in-Some-clause-ok : goal.returns-in-Some-clause-ok
@@ -12,29 +10,15 @@ returns-in-Some-clause-ok c =
 
 pub returns-clause-ok : goal.returns-clause-ok
 returns-clause-ok c =
-    let side = c.args.side in
     let old = c.args.self.now in
-    let new = c.step-stepped.new.self in
-    IfOk-weaker c.step-stepped.result _ _ (λ s x.
-    let used = take s.used c.args.piece.now in
-    let steps = passes_after side (given_up side old) new used s.whole (rw (← c.in_default.ensures.same) x.2) in
-    (x.0, x.1, rw (c.give_up.ensures) (passes_first side old (given_up side new) used s.whole steps))) c.step-stepped.ensures.ok
+    let s = c.pass_exact-stepped in
+    let x = s.ensures.ok (ap (λ (t : TalkState). t.fault) (sym c.self.view_is) ∙ c.in_default-fault.is) in
+    (x.0, x.1, passes_first c.args.side old s.new.self (take s.result.used c.args.piece.now) s.result.whole (rw (← c.in_default.ensures.same) x.2))
 
-pub returns-clause-err : goal.returns-clause-err
-returns-clause-err c =
-    let side = c.args.side in
+pub returns-in-Some-fault-clause-err : goal.returns-in-Some-fault-clause-err
+returns-in-Some-fault-clause-err c =
     let old = c.args.self.now in
-    let new = c.step-stepped.new.self in
-    let piece = c.args.piece.now in
-    IfErr-weaker c.step-stepped.result _ _ (λ e x.
-    let refused = refused_after side (given_up side old) new piece e (rw (← c.in_default.ensures.same) x.1) in
-    (x.0, rw (c.give_up.ensures) (refused_first side old (given_up side new) piece e refused))) c.step-stepped.ensures.err
-
-pub returns-clause-kept : goal.returns-clause-kept
-returns-clause-kept c f e =
-    let side = c.args.side in
-    let old = c.args.self.now in
-    let same = c.in_default.ensures.same in
-    let k = c.step-stepped.ensures.kept f (ap (λ (t : TalkState). t.fault) same ∙ sym (fault_stays side old) ∙ e) in
-    let twice = given_twice side old in
-    (k.0, c.give_up.ensures ∙ ap (given_up side) (k.1 ∙ ap (given_up side) same ∙ twice) ∙ twice)
+    let s = c.pass_exact-stepped in
+    let f = c.in-Some-fault.fault in
+    let x = s.ensures.err f (ap (λ (t : TalkState). t.fault) (sym c.self.view_is) ∙ c.in-Some-fault.is) in
+    (x.0, refused_first c.args.side old s.new.self c.args.piece.now f (rw (← c.in_default.ensures.same) x.1))

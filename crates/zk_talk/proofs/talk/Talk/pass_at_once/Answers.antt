@@ -1,7 +1,7 @@
 use Rattle.std.proofs.Common.{take, ◌∷◌, []}
 use Rattle.std.proofs.lemmas.Option.{IfSome_then}
 use Rattle.zk_talk.proofs.Stepping.{goes_first}
-use Rattle.zk_talk.proofs.talk.Talk.pass_front.Goals as goal
+use Rattle.zk_talk.proofs.talk.Talk.pass_at_once.Goals as goal
 
 pub returns-in-None-clause-some : goal.returns-in-None-clause-some
 returns-in-None-clause-some c =

@@ -1,9 +1,9 @@
 use Rattle.std.proofs.Common.{true, take}
 use Rattle.std.proofs.lemmas.Option.{IfSome_then}
 use Rattle.zk_talk.proofs.Stepping.{steps_first}
-use Rattle.zk_talk.proofs.talk.Talk.step_front.Goals as goal
+use Rattle.zk_talk.proofs.talk.Talk.step_at_once.Goals as goal
 
-pub returns-clause-some : goal.returns-clause-some
-returns-clause-some c =
+pub returns-in-None-clause-some : goal.returns-in-None-clause-some
+returns-in-None-clause-some c =
     let old = c.args.self.now in
     IfSome_then c.front.result c.front.ensures.some (λ used x. (x.0, x.1, steps_first c.args.side old c.front.new.self (take used c.args.piece.now) true (rw (← c.give_up.ensures) x.2)))

@@ -2,7 +2,7 @@ use Rattle.std.proofs.Common.{◌≡◌, ◌≤◌, ◌-◌, ℕ, List, length, 
 use Rattle.zk_talk.specs.History.{on}
 use Rattle.zk_listings.specs.declared.listing.Listing.TheVariants.{Last}
 use Rattle.zk_listings.specs.Following.{Takes}
-use Rattle.zk_listings.proofs.progress.judge.Given as goal
+use Rattle.zk_listings.proofs.progress.pass_all.Given as goal
 
 abbrev pub invariant-loop-at : goal.invariant-loop-at
 invariant-loop-at l = record {
