@@ -18,7 +18,7 @@ use Rattle.zk_talk.specs.History.{on}
 use Rattle.zk_talk.proofs.Headline.{fault_is_bad}
 use Rattle.zk_through.specs.Came.{payloads, told}
 use Rattle.zk_through.specs.Turns.{TurnsState, turn_of, left_out, with_lane, with_request, with_left, after_request}
-use Rattle.zk_through.specs.Runs.{ThroughState, Runs, WentOn, IsRefused, IsTold, IsNotTold, IsAhead, IsNotAhead, IsKeptAt, IsRequestOf, IsSizeOf, Weighs}
+use Rattle.zk_through.specs.Runs.{ThroughState, Runs, WentOn, IsRefused, IsTold, IsNotTold, IsAhead, IsNotAhead, IsKeptAt, IsRequestOf, IsWeightOf, Weighs}
 use Rattle.zk_through.proofs.Steps.{nothing_more, within_on_client, ClientCame}
 use Rattle.zk_through.proofs.Outcomes.{counted, client_other, client_asks, client_lacks}
 use Rattle.zk_through.proofs.Refusals.{refused_early, refused_told}
@@ -73,7 +73,7 @@ module _ (old : ThroughState) (piece : List ℕ) (limit : old.client.limit ≡ o
       left : s'.kept ≡ []
       left = ap (λ (z : StreamState). z.kept) pass ∙ still
 
-      module _ (size : ℕ) (weighs : IsSizeOf old.talk.limits.profile s size)
+      module _ (size : ℕ) (weighs : IsWeightOf old.talk.limits.profile s size)
           (fits : 0 < size → WhereItStands old.talk (λ v client_rest server_rest. load v.client v.server + left_out old.turns + size ≤ old.talk.limits.waiting)) where
         only : 0 < old.client.count → (n : ℕ) → IsRequestOf old.talk.limits.profile whole.0 n → n ≡ size
         only begun n q = weighs.only (omega (arith, begun, ap (λ (z : StreamState). z.count) w.stays)) whole.0 n whole.1 q
@@ -135,7 +135,7 @@ module _ (old : ThroughState) (piece : List ℕ) (limit : old.client.limit ≡ o
 
     -- where it is full, the frame weighs something
     pub client_weighs : (out : Option Turn) (size : ℕ) → IfSome out (λ turn. IsAhead 8 s (λ p. turn ≡ turn_of (s.count, p)) × IsNoOp old.talk.limits.profile turn.number) → IfSome out (λ turn. size ≡ 1) →
-        IfNone out (IsSizeOf old.talk.limits.profile s size) → 0 < size → (0 < s.count) × Weighs old.talk.limits.profile whole.0 size
+        IfNone out (IsWeightOf old.talk.limits.profile s size) → 0 < size → (0 < s.count) × Weighs old.talk.limits.profile whole.0 size
     client_weighs (Some turn) size a one none more =
         let t = a.0.1 whole.0 whole.1 in
         (a.0.0, inl (t.0, subst (IsNoOp old.talk.limits.profile) (ap (λ (z : Turn). z.number) t.1) a.1, one))
@@ -149,7 +149,7 @@ module _ (old : ThroughState) (piece : List ℕ) (limit : old.client.limit ≡ o
     out_ahead ahead (Some turn) a o = (subst (λ (z : Option Turn). IfSome z (λ t. IsAhead 8 s (λ p. t ≡ turn_of (s.count, p)))) o.0 a, o.1)
 
     -- the talk refused it: it is no request that there is room for
-    pub client_refused : (size : ℕ) (e : Fault) (k : Option Fault) (s' : StreamState) (talk : TalkState) → IsSizeOf old.talk.limits.profile s size →
+    pub client_refused : (size : ℕ) (e : Fault) (k : Option Fault) (s' : StreamState) (talk : TalkState) → IsWeightOf old.talk.limits.profile s size →
         (0 < size → WhereItStands old.talk (λ v client_rest server_rest. load v.client v.server + left_out old.turns + size ≤ old.talk.limits.waiting)) →
         IsKeptAt Client s used e k → ((p : List ℕ) → s.held ≡ frame p → IsNotTold old.talk Client p e) →
         IsRefused old Client piece e (record old { talk = talk; client = s'; fault = k })

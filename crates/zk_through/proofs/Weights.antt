@@ -12,7 +12,7 @@ use Rattle.zk_talk.specs.Conversation.{weight}
 use Rattle.zk_talk.specs.Payloads.{client_payload}
 use Rattle.zk_talk.specs.Streams.{StreamState}
 use Rattle.zk_talk.proofs.Payloads.{few_parts}
-use Rattle.zk_through.specs.Runs.{IsSizeOf}
+use Rattle.zk_through.specs.Runs.{IsWeightOf}
 use Rattle.zk_through.proofs.Carried.{carried}
 
 payload_of : (f : ClientFrame) → client_payload f ≡ asks.payload f
@@ -31,7 +31,7 @@ module _ (s : StreamState) (payload : List ℕ) (f : ClientFrame) (xid : ℤ) (a
   are_few small whole = omega (arith, small, few_parts xid ask, ap length its_payload, ap length is, ap length whole.1, whole.2, length-frame payload, length-frame whole.0)
 
   pub weighs_so : (profile : Profile) (w : ℕ) → 0 < s.count → IsOfProfile profile f → IsSent f → w ≡ 1 + length (ops_of_ask ask) →
-      ((g : ClientFrame) → IsLater g → IsOfProfile profile g → IsSent g → payload ≡ asks.payload g → f ≡ g) → IsSizeOf profile s w
+      ((g : ClientFrame) → IsLater g → IsOfProfile profile g → IsSent g → payload ≡ asks.payload g → f ≡ g) → IsWeightOf profile s w
   weighs_so profile w some of sent e one = record {
     found = λ more. (some, λ p at. (Ask xid ask, tt, subst IsSent form sent, subst (IsOfProfile profile) form of, sym its_payload ∙ carried payload p (sym is ∙ at), e));
     only = λ begun p n at q.
@@ -40,11 +40,11 @@ module _ (s : StreamState) (payload : List ℕ) (f : ClientFrame) (xid : ℤ) (a
   }
 
 -- the first frame, and one that is malformed, weigh nothing
-pub first_weighs : (profile : Profile) (s : StreamState) → s.count ≡ 0 → IsSizeOf profile s 0
+pub first_weighs : (profile : Profile) (s : StreamState) → s.count ≡ 0 → IsWeightOf profile s 0
 first_weighs profile s first = record { found = λ more. absurd (omega (arith, more)); only = λ begun p n at q. absurd (omega (arith, begun, first)) }
 
 pub none_weighs : (profile : Profile) (s : StreamState) (payload : List ℕ) → s.held ≡ frame payload →
-    ((g : ClientFrame) → IsLater g → IsOfProfile profile g → IsSent g → payload ≡ asks.payload g → ⊥) → IsSizeOf profile s 0
+    ((g : ClientFrame) → IsLater g → IsOfProfile profile g → IsSent g → payload ≡ asks.payload g → ⊥) → IsWeightOf profile s 0
 none_weighs profile s payload is none = record {
   found = λ more. absurd (omega (arith, more));
   only = λ begun p n at q. absurd (none q.0 q.1 q.3 q.2 (carried payload p (sym is ∙ at) ∙ sym q.4 ∙ payload_of q.0));

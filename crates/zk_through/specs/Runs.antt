@@ -83,7 +83,7 @@ abbrev pub IsRequestOf : Profile → List ℕ → ℕ → Type 0
 IsRequestOf profile p w = (f : ClientFrame) × IsLater f × IsSent f × IsOfProfile profile f × (client_payload f ≡ p) × (w ≡ weight f)
 
 -- what the client's whole frame weighs: none if it is the first, or no request of the profile
-pub record IsSizeOf (profile : Profile) (s : StreamState) (size : ℕ) : Type 0 where
+pub record IsWeightOf (profile : Profile) (s : StreamState) (size : ℕ) : Type 0 where
   pub found : 0 < size → (0 < s.count) × ((p : List ℕ) → s.held ≡ frame p → IsRequestOf profile p size)
   pub only : 0 < s.count → (p : List ℕ) (w : ℕ) → s.held ≡ frame p → IsRequestOf profile p w → w ≡ size
 

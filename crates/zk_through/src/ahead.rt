@@ -5,7 +5,7 @@ ghost use Rattle.zk_records.specs.Codes.{IsNoOp};
 ghost use Rattle.zk_through.specs.declared.turn.Turn.{Turn};
 ghost use Rattle.zk_through.specs.LeftOut.{is_turn_xid, has_turn, xid_of};
 ghost use Rattle.zk_through.specs.Turns.{turn_of};
-ghost use Rattle.zk_through.specs.Runs.{IsAhead, IsNotAhead, IsSizeOf};
+ghost use Rattle.zk_through.specs.Runs.{IsAhead, IsNotAhead, IsWeightOf};
 
 use crate::turn::Turn;
 use zk_asks::{Asked, ClientFrameOf, RequestRef, borrow_ask};
@@ -104,7 +104,7 @@ pub fn weight(profile: Profile, out: Option<Turn>, client: &Stream) -> u64
     requires small { client.now.limit ≤ 16777216 }
     ensures fits { result ≤ 2 ^ 32 }
     ensures out { IfSome out (λ turn. result ≡ 1) }
-    ensures ask { IfNone out (IsSizeOf profile client.now result) }
+    ensures ask { IfNone out (IsWeightOf profile client.now result) }
 {
     if out.is_some() {
         return 1;

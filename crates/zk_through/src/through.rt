@@ -72,9 +72,8 @@ pub struct Through {
 }
 
 impl Model for Through {
-    ghost use Rattle.std.specs.Prelude.{◌≡◌};
+    ghost use Rattle.std.specs.Prelude.{◌≡◌, ◌+◌};
     ghost use Rattle.zk_talk.specs.Sound.{IsSide, IsKnown};
-    ghost use Rattle.std.specs.Prelude.{◌+◌};
     ghost use Rattle.zk_through.specs.Turns.{AreFewer, HaveRoom};
     ghost use Rattle.zk_through.specs.Runs.{ThroughState};
 
@@ -118,7 +117,7 @@ fn tell(
 }
 
 /// The weight of the requests that wait, those that are left out too.
-fn weight_of(talk: &Talk, turns: &Turns) -> u32
+fn weight_waiting(talk: &Talk, turns: &Turns) -> u32
     requires { HaveRoom talk.now.limits.waiting turns.now }
     ensures stands { WhereItStands talk.now (λ v c s. result ≡ load v.client v.server + left_out turns.now) }
     ensures left { left_out turns.now ≤ result }
@@ -134,7 +133,7 @@ fn is_full(talk: &Talk, turns: &Turns, weight: u64, most: u32) -> bool
     ensures fits { result ≡ false → 0 < weight → WhereItStands talk.now (λ v c s. load v.client v.server + left_out turns.now + weight ≤ most) }
     ensures room { result ≡ false → 0 < weight → left_out turns.now + weight ≤ most }
 {
-    weight > 0 && u64::from(weight_of(talk, turns)) + weight > u64::from(most)
+    weight > 0 && u64::from(weight_waiting(talk, turns)) + weight > u64::from(most)
 }
 
 /// 1 if a connect request has no reply, else 0.
@@ -332,7 +331,7 @@ impl Through {
         ensures left { left_out self.now.turns ≤ result }
         ensures most { WhereItRuns self.now (λ v. result ≤ self.now.talk.limits.waiting) }
     {
-        weight_of(&self.talk, &self.turns)
+        weight_waiting(&self.talk, &self.turns)
     }
 
     /// How the bytes so far end, those left out too.

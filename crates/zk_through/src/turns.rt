@@ -79,7 +79,7 @@ impl LaneTurns {
     }
 
     /// Whether no request waits.
-    fn is_over(&self) -> bool
+    fn none_waits(&self) -> bool
         ensures { MatchBool result (self.now.requests ≤ self.now.replies) (self.now.replies < self.now.requests) }
     {
         self.requests <= self.replies
@@ -211,7 +211,7 @@ impl Turns {
             return Ok(None);
         };
         let lane = self.lane(xid);
-        if lane.is_over() {
+        if lane.none_waits() {
             return Err(Reason::Unasked);
         }
         let Some(turn) = lane.due() else {

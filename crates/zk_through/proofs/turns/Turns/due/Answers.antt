@@ -9,4 +9,4 @@ pub returns-in_default-due : goal.returns-in_default-due
 returns-in_default-due c =
     let fits : SFits w32 c.in-Some.xid = search rules in
     let lane : c.lane-lane.result.now ≡ lane_on (lane_of c.in-Some.xid) c.args.self.now = c.lane-lane.ensures ∙ ap (λ (z : ℤ). lane_on (lane_of z) c.args.self.now) (to_z-of_z w32 c.in-Some.xid fits) in
-    for_talk c.args.self.now c.args.xid c.in-Some.xid c.lane-lane.result.now c.in-Some.is lane c.if-is_over.ensures c.in_default-due.ensures.none
+    for_talk c.args.self.now c.args.xid c.in-Some.xid c.lane-lane.result.now c.in-Some.is lane c.if-none_waits.ensures c.in_default-due.ensures.none
