@@ -18,7 +18,7 @@ use Rattle.zk_talk.specs.History.{on}
 use Rattle.zk_talk.proofs.Headline.{fault_is_bad}
 use Rattle.zk_through.specs.Came.{payloads, told}
 use Rattle.zk_through.specs.Turns.{TurnsState, turn_of, left_out, with_lane, with_request, with_left, after_request}
-use Rattle.zk_through.specs.Runs.{ThroughState, Runs, WentOn, IsRefused, IsTold, IsNotTold, IsAhead, IsNotAhead, IsKeptAt, IsRequestOf, IsWeightOf, Weighs}
+use Rattle.zk_through.specs.Runs.{ThroughState, Runs, WentOn, IsRefused, IsTold, IsNotTold, IsAhead, IsNotAhead, IsKeptAt, IsRequestOf, WeighsAtMost, IsWeighed, Weighs}
 use Rattle.zk_through.proofs.Steps.{nothing_more, within_on_client, ClientCame}
 use Rattle.zk_through.proofs.Outcomes.{counted, client_other, client_asks, client_lacks}
 use Rattle.zk_through.proofs.Refusals.{refused_early, refused_told}
@@ -73,10 +73,10 @@ module _ (old : ThroughState) (piece : List ℕ) (limit : old.client.limit ≡ o
       left : s'.kept ≡ []
       left = ap (λ (z : StreamState). z.kept) pass ∙ still
 
-      module _ (size : ℕ) (weighs : IsWeightOf old.talk.limits.profile s size)
+      module _ (size : ℕ) (weighs : WeighsAtMost old.talk.limits.profile s size)
           (fits : 0 < size → WhereItStands old.talk (λ v client_rest server_rest. load v.client v.server + left_out old.turns + size ≤ old.talk.limits.waiting)) where
-        only : 0 < old.client.count → (n : ℕ) → IsRequestOf old.talk.limits.profile whole.0 n → n ≡ size
-        only begun n q = weighs.only (omega (arith, begun, ap (λ (z : StreamState). z.count) w.stays)) whole.0 n whole.1 q
+        only : 0 < old.client.count → (n : ℕ) → IsRequestOf old.talk.limits.profile whole.0 n → n ≤ size
+        only begun n q = weighs (omega (arith, begun, ap (λ (z : StreamState). z.count) w.stays)) whole.0 n whole.1 q
 
         pub client_told : (ahead : Option Turn) → turns ≡ after_request ahead old.turns → IfSome ahead (λ turn. IsAhead 8 s (λ p. turn ≡ turn_of (s.count, p))) → IfNone ahead (IsNotAhead 8 s) →
             ((turn : Turn) → ahead ≡ Some turn → IsNoOp old.talk.limits.profile turn.number → ⊥) → WentOn old Client piece used went.Message new
@@ -112,9 +112,9 @@ module _ (old : ThroughState) (piece : List ℕ) (limit : old.client.limit ≡ o
         )
 
     -- there is no room for it
-    pub client_full : (s' : StreamState) (size : ℕ) → TakenBack s used s' → 0 < s.count → Weighs old.talk.limits.profile whole.0 size →
-        WhereItStands old.talk (λ v client_rest server_rest. old.talk.limits.waiting < load v.client v.server + left_out old.turns + size) → WentOn old Client piece 0 went.Full (record old { client = s' })
-    client_full s' size back some weighs full =
+    pub client_full : (s' : StreamState) (weight : ℕ) → TakenBack s used s' → 0 < s.count → Weighs old.talk.limits.profile whole.0 weight →
+        WhereItStands old.talk (λ v client_rest server_rest. old.talk.limits.waiting < load v.client v.server + left_out old.turns + weight) → WentOn old Client piece 0 went.Full (record old { client = s' })
+    client_full s' weight back some weighs full =
         let same : s' ≡ old.client = back old.client.held (take used piece) w.advance.3 (length-take-le used piece w.advance.1) ∙ ap (λ (z : StreamState). record z { held = old.client.held }) w.stays in (
           refl,
           refl,
@@ -122,7 +122,7 @@ module _ (old : ThroughState) (piece : List ℕ) (limit : old.client.limit ≡ o
           record {
             part = used;
             payload = whole.0;
-            size = size;
+            weight = weight;
             whole = is;
             later = later some;
             weighs = weighs;
@@ -134,13 +134,13 @@ module _ (old : ThroughState) (piece : List ℕ) (limit : old.client.limit ≡ o
         )
 
     -- where it is full, the frame weighs something
-    pub client_weighs : (out : Option Turn) (size : ℕ) → IfSome out (λ turn. IsAhead 8 s (λ p. turn ≡ turn_of (s.count, p)) × IsNoOp old.talk.limits.profile turn.number) → IfSome out (λ turn. size ≡ 1) →
-        IfNone out (IsWeightOf old.talk.limits.profile s size) → 0 < size → (0 < s.count) × Weighs old.talk.limits.profile whole.0 size
-    client_weighs (Some turn) size a one none more =
+    pub client_weighs : (out : Option Turn) (room size : ℕ) → IfSome out (λ turn. IsAhead 8 s (λ p. turn ≡ turn_of (s.count, p)) × IsNoOp old.talk.limits.profile turn.number) → IfSome out (λ turn. size ≡ 1) →
+        IfNone out (IsWeighed old.talk.limits.profile s room size) → room < size → (0 < s.count) × Weighs old.talk.limits.profile whole.0 size
+    client_weighs (Some turn) room size a one none more =
         let t = a.0.1 whole.0 whole.1 in
         (a.0.0, inl (t.0, subst (IsNoOp old.talk.limits.profile) (ap (λ (z : Turn). z.number) t.1) a.1, one))
-    client_weighs None size a one asks more =
-        let y = asks.found more in
+    client_weighs None room size a one asks more =
+        let y = (asks.1 more).found (omega (arith, more)) in
         (y.0, inr (y.1 whole.0 whole.1))
 
     pub out_ahead : (ahead out : Option Turn) → IfSome ahead (λ turn. IsAhead 8 s (λ p. turn ≡ turn_of (s.count, p))) → IfSome out (λ turn. (ahead ≡ Some turn) × IsNoOp old.talk.limits.profile turn.number) →
@@ -149,7 +149,7 @@ module _ (old : ThroughState) (piece : List ℕ) (limit : old.client.limit ≡ o
     out_ahead ahead (Some turn) a o = (subst (λ (z : Option Turn). IfSome z (λ t. IsAhead 8 s (λ p. t ≡ turn_of (s.count, p)))) o.0 a, o.1)
 
     -- the talk refused it: it is no request that there is room for
-    pub client_refused : (size : ℕ) (e : Fault) (k : Option Fault) (s' : StreamState) (talk : TalkState) → IsWeightOf old.talk.limits.profile s size →
+    pub client_refused : (size : ℕ) (e : Fault) (k : Option Fault) (s' : StreamState) (talk : TalkState) → WeighsAtMost old.talk.limits.profile s size →
         (0 < size → WhereItStands old.talk (λ v client_rest server_rest. load v.client v.server + left_out old.turns + size ≤ old.talk.limits.waiting)) →
         IsKeptAt Client s used e k → ((p : List ℕ) → s.held ≡ frame p → IsNotTold old.talk Client p e) →
         IsRefused old Client piece e (record old { talk = talk; client = s'; fault = k })
@@ -159,7 +159,7 @@ module _ (old : ThroughState) (piece : List ℕ) (limit : old.client.limit ≡ o
         (λ h c k M r f is_fault some n q.
         let begun : 0 < old.client.count = counted old.client.count (payloads Client c) r.client_count some in
         let begun' : 0 < s.count = omega (arith, begun, ap (λ (z : StreamState). z.count) w.stays) in
-        let same = weighs.only begun' whole.0 n whole.1 q in
+        let same = weighs begun' whole.0 n whole.1 q in
         let room = fits (omega (arith, same, q.5, some_weight q.0 q.1)) (told k) M r.stands.conversation [] [] r.stands (its_good old h c k M r) in
         fault_is_bad old.talk.limits (told k ++ on Client (frame whole.0)) f is_fault
         (with_client r.stands.conversation q.0, [], [], talk_takes old h c k M r piece used whole.0 w.advance.1 w.advance.2 is (omega (arith, whole.2, limit)) begun n q (omega (arith, room, same))))

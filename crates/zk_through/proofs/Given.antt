@@ -55,7 +55,7 @@ given_went Client old piece used went.Full new x = (
   record {
     part = x.3.part;
     payload = x.3.payload;
-    size = x.3.size;
+    weight = x.3.weight;
     whole = x.3.whole;
     later = x.3.later;
     weighs = x.3.weighs;
@@ -70,7 +70,7 @@ given_went Server old piece used went.Full new x = (
   record {
     part = x.3.part;
     payload = x.3.payload;
-    size = x.3.size;
+    weight = x.3.weight;
     whole = x.3.whole;
     later = x.3.later;
     weighs = x.3.weighs;

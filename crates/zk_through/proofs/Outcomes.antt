@@ -32,7 +32,7 @@ fitting a b left left' (suc n) m less same before after = omega (arith, less, sa
 
 module _ (old new : ThroughState) (piece : List ℕ) (used : ℕ) (p : List ℕ) (x : ClientCame old new piece used p) where
   -- the talk is told the frame, which isn't left out
-  module _ (size : ℕ) (only : 0 < old.client.count → (n : ℕ) → IsRequestOf old.talk.limits.profile p n → n ≡ size)
+  module _ (size : ℕ) (only : 0 < old.client.count → (n : ℕ) → IsRequestOf old.talk.limits.profile p n → n ≤ size)
       (fits : 0 < size → WhereItStands old.talk (λ v client_rest server_rest. load v.client v.server + left_out old.turns + size ≤ old.talk.limits.waiting)) where
     told_client : IsTold old.talk Client p new.talk → left_out new.turns ≡ left_out old.turns →
         ((h : History) (c k : Came) (M : List Message) → Runs old h c k M → (IsLeftOut old.talk.limits.profile c (Client, p) → ⊥) × AreLanes old.talk.limits.profile (c ++ (Client, p) ∷ []) new.turns) →

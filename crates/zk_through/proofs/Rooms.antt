@@ -64,7 +64,7 @@ no_weight (Connect hello read_only) first = refl
 no_weight (Ask xid ask) first = absurd first
 
 module _ (t : ThroughState) (h : History) (c k : Came) (M : List Message) (r : Runs t h c k M) (new : TalkState) (same : new.limits ≡ t.talk.limits) (p : List ℕ) where
-  module _ (fits : length p ≤ t.talk.limits.client) (size : ℕ) (only : 0 < t.client.count → (n : ℕ) → IsRequestOf t.talk.limits.profile p n → n ≡ size)
+  module _ (fits : length p ≤ t.talk.limits.client) (size : ℕ) (only : 0 < t.client.count → (n : ℕ) → IsRequestOf t.talk.limits.profile p n → n ≤ size)
       (ch : new.client_held ≡ []) (sh : new.server_held ≡ []) (v : Conversation) (g : Good t.talk.limits (told k ++ on Client (frame p)) v [] []) where
     -- the load is more by what the frame weighs, at most
     pub load_client : (m : Message) → Shows new Client m → Stands new (told k ++ on Client (frame p)) (M ++ m ∷ []) → load v.client v.server ≤ load r.stands.conversation.client r.stands.conversation.server + size

@@ -83,9 +83,17 @@ abbrev pub IsRequestOf : Profile → List ℕ → ℕ → Type 0
 IsRequestOf profile p w = (f : ClientFrame) × IsLater f × IsSent f × IsOfProfile profile f × (client_payload f ≡ p) × (w ≡ weight f)
 
 -- what the client's whole frame weighs: none if it is the first, or no request of the profile
-pub record IsWeightOf (profile : Profile) (s : StreamState) (size : ℕ) : Type 0 where
-  pub found : 0 < size → (0 < s.count) × ((p : List ℕ) → s.held ≡ frame p → IsRequestOf profile p size)
-  pub only : 0 < s.count → (p : List ℕ) (w : ℕ) → s.held ≡ frame p → IsRequestOf profile p w → w ≡ size
+pub record IsWeightOf (profile : Profile) (s : StreamState) (weight : ℕ) : Type 0 where
+  pub found : 0 < weight → (0 < s.count) × ((p : List ℕ) → s.held ≡ frame p → IsRequestOf profile p weight)
+  pub only : 0 < s.count → (p : List ℕ) (w : ℕ) → s.held ≡ frame p → IsRequestOf profile p w → w ≡ weight
+
+-- or no more than this, if it is a request of the profile
+abbrev pub WeighsAtMost : Profile → StreamState → ℕ → Type 0
+WeighsAtMost profile s most = 0 < s.count → (p : List ℕ) (w : ℕ) → s.held ≡ frame p → IsRequestOf profile p w → w ≤ most
+
+-- no more than this, and exactly this if it is more than the room
+abbrev pub IsWeighed : Profile → StreamState → ℕ → ℕ → Type 0
+IsWeighed profile s room weight = WeighsAtMost profile s weight × (room < weight → IsWeightOf profile s weight)
 
 -- a request that is left out weighs 1, and one that the talk gets as there
 abbrev pub Weighs : Profile → List ℕ → ℕ → Type 0
@@ -95,11 +103,11 @@ Weighs profile p w = ((has_turn 8 p ≡ true) × IsForeign profile p × (w ≡ 1
 pub record IsFull (old : ThroughState) (piece : List ℕ) : Type 0 where
   pub part : ℕ
   pub payload : List ℕ
-  pub size : ℕ
+  pub weight : ℕ
   pub whole : old.client.held ++ take part piece ≡ frame payload
   pub later : 0 < old.client.count
-  pub weighs : Weighs old.talk.limits.profile payload size
-  pub full : WhereItRuns old (λ v. old.talk.limits.waiting < load v.client v.server + left_out old.turns + size)
+  pub weighs : Weighs old.talk.limits.profile payload weight
+  pub full : WhereItRuns old (λ v. old.talk.limits.waiting < load v.client v.server + left_out old.turns + weight)
 
 -- what became of the bytes that were used
 abbrev pub WentOn : ThroughState → Side → List ℕ → ℕ → Went → ThroughState → Type 0

@@ -1,11 +1,11 @@
 //! What is known of a frame by its header alone.
-ghost use Rattle.std.specs.Prelude.{◌≡◌, ◌≤◌, ◌<◌, ◌^◌, true, false, Some, IfSome, IfNone};
+ghost use Rattle.std.specs.Prelude.{◌≡◌, ◌≤◌, true, false, Some, IfSome, IfNone};
 ghost use Rattle.zk_frames.specs.Framing.{IsFrame};
 ghost use Rattle.zk_records.specs.Codes.{IsNoOp};
 ghost use Rattle.zk_through.specs.declared.turn.Turn.{Turn};
 ghost use Rattle.zk_through.specs.LeftOut.{is_turn_xid, has_turn, xid_of};
 ghost use Rattle.zk_through.specs.Turns.{turn_of};
-ghost use Rattle.zk_through.specs.Runs.{IsAhead, IsNotAhead, IsWeightOf};
+ghost use Rattle.zk_through.specs.Runs.{IsAhead, IsNotAhead, IsWeighed};
 
 use crate::turn::Turn;
 use zk_asks::{Asked, ClientFrameOf, RequestRef, borrow_ask};
@@ -98,13 +98,12 @@ pub fn lacking(profile: Profile, turn: Option<Turn>) -> Option<Turn>
 }
 
 /// The weight of the client's whole frame as a request that waits: 1 if it is `out`, which is left out; else what it
-/// weighs in the talk. 0 if it is the first frame, or malformed.
-pub fn weight(profile: Profile, out: Option<Turn>, client: &Stream) -> u64
+/// weighs in the talk. 0 if it is the first frame, or malformed. It may be more, if no more than `room`.
+pub fn weight(profile: Profile, out: Option<Turn>, client: &Stream, room: u64) -> u64
     requires whole { IsFrame client.now.limit client.now.held }
     requires small { client.now.limit ≤ 16777216 }
-    ensures fits { result ≤ 2 ^ 32 }
     ensures out { IfSome out (λ turn. result ≡ 1) }
-    ensures ask { IfNone out (IsWeightOf profile client.now result) }
+    ensures ask { IfNone out (IsWeighed profile client.now room result) }
 {
     if out.is_some() {
         return 1;
@@ -112,7 +111,13 @@ pub fn weight(profile: Profile, out: Option<Turn>, client: &Stream) -> u64
     if client.count() == 0 {
         return 0;
     }
-    match borrow_ask(profile, client.payload()) {
+    let payload = client.payload();
+    // A multi's parts are no more than its bytes, so most frames needn't be read for them.
+    let most = 1 + payload.len() as u64;
+    if most <= room {
+        return most;
+    }
+    match borrow_ask(profile, payload) {
         Ok(ClientFrameOf::Ask { ask, .. }) => 1 + u64::from(RequestRef::of(&ask).parts()),
         Ok(ClientFrameOf::Connect { .. }) => 0,
         Err(_) => 0,

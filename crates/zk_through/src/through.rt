@@ -1,5 +1,5 @@
 //! `Through`: a conversation, with what its profile lacks left out.
-ghost use Rattle.std.specs.Prelude.{◌≡◌, ◌≢◌, ◌≤◌, ◌<◌, ◌+◌, ◌^◌, ◌↔◌, ℕ, List, [], length, IsTrue, false, None, Some, Err, OnOk, OnErr, IfOk, IfErr, MatchOption};
+ghost use Rattle.std.specs.Prelude.{◌≡◌, ◌≢◌, ◌≤◌, ◌<◌, ◌+◌, ◌-◌, ℕ, List, [], length, None, Some, Err, OnOk, OnErr, IfOk, IfErr, MatchOption};
 ghost use Rattle.zk_frames.specs.Framing.{frame};
 ghost use Rattle.zk_talk.specs.declared.message.Fault.{Fault};
 ghost use Rattle.zk_talk.specs.declared.message.Ending.TheVariants.{Refused};
@@ -125,15 +125,13 @@ fn weight_waiting(talk: &Talk, turns: &Turns) -> u32
     talk.waiting() + turns.left() as u32
 }
 
-/// Whether a request of this weight would take what waits above `most`; none weighs 0.
-fn is_full(talk: &Talk, turns: &Turns, weight: u64, most: u32) -> bool
-    requires small { weight ≤ 2 ^ 32 }
-    requires room { HaveRoom talk.now.limits.waiting turns.now }
-    ensures full { IsTrue result → (0 < weight) × WhereItStands talk.now (λ v c s. most < load v.client v.server + left_out turns.now + weight) }
-    ensures fits { result ≡ false → 0 < weight → WhereItStands talk.now (λ v c s. load v.client v.server + left_out turns.now + weight ≤ most) }
-    ensures room { result ≡ false → 0 < weight → left_out turns.now + weight ≤ most }
+/// What more may wait, by weight, if no more than `most` may.
+fn room(talk: &Talk, turns: &Turns, most: u32) -> u64
+    requires { HaveRoom talk.now.limits.waiting turns.now }
+    ensures stands { WhereItStands talk.now (λ v c s. result ≡ most - (load v.client v.server + left_out turns.now)) }
+    ensures left { result ≤ most - left_out turns.now }
 {
-    weight > 0 && u64::from(weight_waiting(talk, turns)) + weight > u64::from(most)
+    u64::from(most.saturating_sub(weight_waiting(talk, turns)))
 }
 
 /// 1 if a connect request has no reply, else 0.
@@ -192,8 +190,9 @@ impl Through {
         let ahead = asked(&self.client);
         let profile = self.limits.profile();
         let out = lacking(profile, ahead);
-        let weight = weight(profile, out, &self.client);
-        if is_full(&self.talk, &self.turns, weight, self.limits.waiting()) {
+        let room = room(&self.talk, &self.turns, self.limits.waiting());
+        let weight = weight(profile, out, &self.client, room);
+        if weight > room {
             self.client.take_back(new);
             return Ok(Passed::of(0, Went::Full));
         }
