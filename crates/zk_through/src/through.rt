@@ -14,6 +14,7 @@ ghost use Rattle.zk_talk.specs.Stands.{Stands, WhereItStands, held_on, kept_on};
 ghost use Rattle.zk_talk.specs.Ending.{unwelcomed};
 ghost use Rattle.zk_talk.specs.Viewed.{Leaves, Shows, other_side};
 ghost use Rattle.zk_through.specs.Came.{Came};
+ghost use Rattle.zk_through.specs.LeftOut.{NewestAnswers};
 ghost use Rattle.zk_through.specs.declared.through.Passed.{Passed};
 ghost use Rattle.zk_through.specs.declared.through.Went.{Went};
 ghost use Rattle.zk_through.specs.Turns.{HaveRoom, left_out};
@@ -21,7 +22,7 @@ ghost use Rattle.zk_through.specs.Runs.{WentOn, IsRefused, IsTold, IsNotTold, Is
 
 use crate::ahead::{asked, lacking, replied, weight};
 use crate::turn::Turn;
-use crate::turns::Turns;
+use crate::turns::{Due, Turns, frame_answered};
 use std::alloc::{AllocError, Global};
 use std::marker::Model;
 use zk_jute::ItemFault;
@@ -68,20 +69,22 @@ pub struct Through {
     server: Stream,
     turns: Turns,
     limits: Limits,
+    /// The number of the client's frame that the server's newest frame answers.
+    answered: Option<u64>,
     fault: Option<Fault>,
 }
 
 impl Model for Through {
-    ghost use Rattle.std.specs.Prelude.{◌≡◌, ◌+◌};
+    ghost use Rattle.std.specs.Prelude.{◌≡◌};
     ghost use Rattle.zk_talk.specs.Sound.{IsSide, IsKnown};
-    ghost use Rattle.zk_through.specs.Turns.{AreFewer, HaveRoom};
+    ghost use Rattle.zk_through.specs.Turns.{HaveRoom};
     ghost use Rattle.zk_through.specs.Runs.{ThroughState};
 
     ghost Value = { ThroughState };
 
-    ghost view = { λ t. record { talk = t.talk; client = t.client; server = t.server; turns = t.turns; fault = t.fault } };
+    ghost view = { λ t. record { talk = t.talk; client = t.client; server = t.server; turns = t.turns; answered = t.answered; fault = t.fault } };
 
-    ghost invariant = { λ t. (t.talk.limits ≡ t.limits) × IsSide t.limits.client t.fault t.client × IsSide t.limits.server t.fault t.server × IsKnown t.fault × HaveRoom t.limits.waiting t.turns × AreFewer (t.client.count + 1) (t.server.count + 1) t.turns };
+    ghost invariant = { λ t. (t.talk.limits ≡ t.limits) × IsSide t.limits.client t.fault t.client × IsSide t.limits.server t.fault t.server × IsKnown t.fault × HaveRoom t.limits.waiting t.turns };
 }
 
 /// Gives the talk the side's whole frame, whose last `new` bytes are new. A refusal is kept, at the side's own frame
@@ -122,7 +125,7 @@ fn weight_waiting(talk: &Talk, turns: &Turns) -> u32
     ensures stands { WhereItStands talk.now (λ v c s. result ≡ load v.client v.server + left_out turns.now) }
     ensures left { left_out turns.now ≤ result }
 {
-    talk.waiting() + turns.left() as u32
+    talk.waiting() + turns.left()
 }
 
 /// What more may wait, by weight, if no more than `most` may.
@@ -166,6 +169,7 @@ impl Through {
             server,
             turns,
             limits,
+            answered: None,
             fault: None,
         })
     }
@@ -227,16 +231,18 @@ impl Through {
             return Ok(Passed::of(piece.len(), Went::Within));
         };
         let ahead = replied(&self.server);
-        let due = match self.turns.due(ahead) {
+        let due = match self.turns.due(self.limits.profile(), ahead) {
             Ok(due) => due,
             Err(reason) => {
                 let item = ItemFault::at(0, reason);
                 return Err(refuse(&mut self.fault, side, &self.server, new, item));
             }
         };
-        if let Some(turn) = due {
+        let answered = frame_answered(due, self.server.count());
+        if let Due::Left(turn) = due {
             self.turns.answer(turn.xid);
             self.server.keep(new);
+            self.answered = answered;
             return Ok(Passed::of(new, Went::Answered(turn)));
         }
         match tell(&mut self.talk, &mut self.fault, side, &mut self.server, new) {
@@ -244,6 +250,7 @@ impl Through {
             Err(fault) => return Err(fault),
         }
         self.turns.reply(ahead);
+        self.answered = answered;
         Ok(Passed::of(new, Went::Message))
     }
 
@@ -323,6 +330,16 @@ impl Through {
         self.talk.held(side)
     }
 
+    /// The number of the client's frame that the server's newest whole frame answers, those left out counted: 0 for the
+    /// reply to the connect request. `None` if that is an event, or none came.
+    pub fn answered(&self) -> Option<u64>
+        ensures value { result ≡ self.now.answered }
+        // The k-th reply of a lane answers the lane's k-th request.
+        ensures answers { (h : History) (c k : Came) (M : List Message) → Runs self.now h c k M → NewestAnswers c result }
+    {
+        self.answered
+    }
+
     /// The weight of the requests that wait for their replies: 1 each, those left out too, and 1 more for each part of
     /// a multi.
     pub fn waiting(&self) -> u32
@@ -351,7 +368,7 @@ impl Through {
             let side = Side::Server;
             return Ending::Cut { side, frame, got };
         }
-        let waiting = self.talk.requests() + self.turns.left() as u32;
+        let waiting = self.talk.requests() + self.turns.left();
         let unanswered = waiting + unwelcomed(&self.talk);
         Ending::Whole { unanswered }
     }
@@ -365,6 +382,7 @@ impl Through {
         self.client.renew();
         self.server.renew();
         self.turns.renew();
+        self.answered = None;
         self.fault = None;
     }
 }
