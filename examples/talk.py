@@ -28,6 +28,11 @@ class Step(ctypes.Structure):
     _fields_ = [("used", ctypes.c_size_t), ("status", ctypes.c_uint32), ("whole", ctypes.c_bool), ("fault", Fault)]
 
 
+class Passed(ctypes.Structure):
+    _fields_ = [("used", ctypes.c_size_t), ("status", ctypes.c_uint32), ("went", ctypes.c_uint32),
+                ("xid", ctypes.c_int32), ("operation", ctypes.c_int32), ("fault", Fault), ("frame", ctypes.c_uint64)]
+
+
 class Ending(ctypes.Structure):
     _fields_ = [("status", ctypes.c_uint32), ("kind", ctypes.c_uint32), ("unanswered", ctypes.c_uint32),
                 ("side", ctypes.c_uint32), ("got", ctypes.c_uint32), ("frame", ctypes.c_uint64), ("fault", Fault)]
@@ -36,7 +41,7 @@ class Ending(ctypes.Structure):
 class Message(ctypes.Structure):
     _fields_ = [("status", ctypes.c_uint32), ("kind", ctypes.c_uint32), ("xid", ctypes.c_int32),
                 ("operation", ctypes.c_int32), ("size", ctypes.c_uint32), ("err", ctypes.c_int32),
-                ("zxid", ctypes.c_int64), ("frame", ctypes.c_uint64)]
+                ("zxid", ctypes.c_int64), ("frame", ctypes.c_uint64), ("answers", ctypes.c_uint64)]
 
 
 class Waiting(ctypes.Structure):
@@ -106,6 +111,10 @@ class Library:
             ("zk_talk_finish", Ending, (handle,)),
             ("zk_talk_ending_line", Line, (handle, ctypes.c_char_p, size)),
             ("zk_talk_free", None, (handle,)),
+            ("zk_through_new", number, (handle, number, number, number, number)),
+            ("zk_through_step", Passed, (handle, number, ctypes.c_void_p, size)),
+            ("zk_through_view", Message, (handle, number)),
+            ("zk_through_free", None, (handle,)),
             ("zk_speaker_new", number, (handle, number, number, number, number)),
             ("zk_speaker_renew", number, (handle,)),
             ("zk_speaker_say", Say, (handle, ctypes.c_char_p, size)),

@@ -150,7 +150,8 @@ enum { ZK_CONNECT = 1, ZK_REQUEST = 2, ZK_CONNECTED = 3, ZK_REPLY = 4, ZK_EVENT 
 
 /* What message a frame is. operation is that of a request, or of the request that a reply answers; err and zxid are those
  * of a reply or an event, else 0; frame is the number of the side's frame, from 0. The frame's bytes, its length
- * included, are the last `size` that were used of its side. */
+ * included, are the last `size` that were used of its side. answers is, of a passage's ZK_REPLY, the number of the client's
+ * frame that it answers; else 0, the number of what ZK_CONNECTED answers. */
 struct zk_message {
     uint32_t status;
     uint32_t kind;
@@ -160,6 +161,7 @@ struct zk_message {
     int32_t err;
     int64_t zxid;
     uint64_t frame;
+    uint64_t answers;
 };
 
 /* How many requests wait for their replies, and their weight, which `waiting` of zk_talk_new bounds: 1 each, and 1 more for

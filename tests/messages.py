@@ -4,6 +4,7 @@ tests/library.py calls it. Each recording is given to a talk in the pieces that 
 frame becomes whole, its payload, its fields, its number and the numbers of its header are compared with the bytes that
 were given, as tests/fields.py reads them. A second talk passes over the same pieces: it returns what the first returns,
 and keeps no frame. After each piece what it holds, and what waits, is compared with the bytes and requests that came.
+A passage gets them, too: which of the client's frames each reply answers is compared with the requests that came.
 """
 
 import collections
@@ -12,6 +13,8 @@ import ctypes
 import fields
 
 NO_MESSAGE, MULTI = 69, 14
+MESSAGE, ASKED, ANSWERED, FULL = 1, 2, 3, 4  # what becomes of a passage's bytes
+PINGS, AUTHS, WATCHES, EVENTS = -2, -4, -8, -1  # xids
 KINDS = ("first", "request", "connected", "reply", "event")
 
 
@@ -41,7 +44,7 @@ class Waiting:
         self.lanes = collections.defaultdict(collections.deque)
 
     def message(self, kind, xid, parts):
-        lane = self.lanes[xid if xid in (-2, -4, -8) else 0]
+        lane = self.lanes[xid if xid in (PINGS, AUTHS, WATCHES) else 0]
         if kind == "request":
             lane.append(1 + parts)
         elif kind == "reply":
@@ -111,14 +114,43 @@ def compare_recording(caller, content, cut):
                 yield from compare_counts(library, passing, came, waiting)
 
 
+def compare_passage(caller, content):
+    """Which of the client's frames each reply of a passage answers, and which should."""
+    handle, library = caller.talk.Handle(), caller.library
+    came, frames, lanes = [bytearray(), bytearray()], [0, 0], collections.defaultdict(collections.deque)
+    yield library.zk_through_new(handle, 1 << 22, 1 << 22, 1 << 16, 34), 0
+    for side, piece in caller.talk.pieces(content):
+        while piece:
+            step = library.zk_through_step(handle, side, piece, len(piece))
+            if step.status != 0 or step.went == FULL:
+                library.zk_through_free(handle)
+                return
+            came[side] += piece[:step.used]
+            piece = piece[step.used:]
+            if step.went not in (MESSAGE, ASKED, ANSWERED):
+                continue
+            xid = int.from_bytes(came[side][4:8], "big", signed=True)
+            lane, first = lanes[xid if xid in (PINGS, AUTHS, WATCHES) else 0], frames[side] == 0
+            answers = step.frame if step.went == ANSWERED else library.zk_through_view(handle, side).answers
+            if side == 1:
+                yield answers, 0 if first or xid == EVENTS else lane.popleft()
+            elif not first:
+                lane.append(frames[side])
+            came[side], frames[side] = bytearray(), frames[side] + 1
+    library.zk_through_free(handle)
+
+
 def compare(talk, library, names, recordings):
     """A line for each recording with a message that is returned wrongly."""
     caller = fields.Caller(talk, library, {"none": 0, **names})
     for path in recordings:
-        for cut in (1 << 24, 1):
-            for found, wanted in compare_recording(caller, path.read_bytes(), cut):
+        content = path.read_bytes()
+        for what, compared in (("in its pieces", compare_recording(caller, content, 1 << 24)),
+                               ("in pieces of a byte", compare_recording(caller, content, 1)),
+                               ("by a passage", compare_passage(caller, content))):
+            for found, wanted in compared:
                 if found != wanted:
-                    yield path.stem, False, f"{path.stem}, in pieces of at most {cut}: {found}, not {wanted}"
+                    yield path.stem, False, f"{path.stem}, {what}: {found}, not {wanted}"
                     break
             else:
                 yield path.stem, True, ""

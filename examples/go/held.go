@@ -129,7 +129,7 @@ func shown(view C.struct_zk_message, payload []byte,
 	call func(*C.struct_zk_field, C.size_t) C.struct_zk_read) (*Message, error) {
 	message, err := read(payload, call)
 	if err == nil {
-		message.Frame = uint64(view.frame)
+		message.Frame, message.Answers = uint64(view.frame), uint64(view.answers)
 	}
 	return message, err
 }

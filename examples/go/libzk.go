@@ -73,7 +73,7 @@ type Field struct {
 }
 
 // Message is a message. The operation of a reply is that of its request. Frame is the number of its frame among those of
-// its side in a talk, from 0.
+// its side in a talk, from 0; Answers is that of the client's frame that a passage's reply answers, else 0.
 type Message struct {
 	Kind      Kind
 	Xid       int32
@@ -81,6 +81,7 @@ type Message struct {
 	Err       int32
 	Zxid      int64
 	Frame     uint64
+	Answers   uint64
 	Payload   []byte
 	Fields    []Field
 }
@@ -167,7 +168,7 @@ func read(payload []byte, call func(*C.struct_zk_field, C.size_t) C.struct_zk_re
 		return nil, err
 	}
 	message := &Message{Kind(answer.kind), int32(answer.xid), int32(answer.operation), int32(answer.err),
-		int64(answer.zxid), 0, payload, make([]Field, 0, answer.count)}
+		int64(answer.zxid), 0, 0, payload, make([]Field, 0, answer.count)}
 	for _, field := range room[:answer.count] {
 		place := int(field.place)
 		message.Fields = append(message.Fields, Field{C.GoString(C.zk_field_name(field.name)), FieldKind(field.kind),

@@ -21,12 +21,12 @@ var came = []struct {
 	payload string
 	told    string
 }{
-	{Client, hello, "message 0 0 of frame 0"},
-	{Server, welcome, "message 0 0 of frame 0"},
+	{Client, hello, "message 0 0 of frame 0 answers 0"},
+	{Server, welcome, "message 0 0 of frame 0 answers 0"},
 	{Client, ephemerals, "asked 1 103 of frame 1"},
-	{Client, existsTwo, "message 2 3 of frame 2"},
+	{Client, existsTwo, "message 2 3 of frame 2 answers 0"},
 	{Server, none, "answered 1 103 of frame 1"},
-	{Server, noNodeTwo, "message 2 3 of frame 2"},
+	{Server, noNodeTwo, "message 2 3 of frame 2 answers 2"},
 }
 
 func newThrough(t *testing.T, waiting uint32) Through {
@@ -58,7 +58,7 @@ func told(t *testing.T, p Through, side Side, piece []byte) (found []string, use
 			of = "answered " + of
 		default:
 			it := step.Message
-			of = fmt.Sprintf("message %d %d of frame %d", it.Xid, it.Operation, it.Frame)
+			of = fmt.Sprintf("message %d %d of frame %d answers %d", it.Xid, it.Operation, it.Frame, it.Answers)
 		}
 		found, used = append(found, of), append(used, step.Used)
 	}
@@ -141,7 +141,7 @@ func TestFull(t *testing.T) {
 		{Client, framed(existsTwo)[:9], []string{"within"}, []int{9}},
 		{Client, framed(existsTwo)[9:], []string{"full"}, []int{0}},
 		{Server, framed(none), []string{"answered 1 103 of frame 1"}, []int{24}},
-		{Client, framed(existsTwo)[9:], []string{"message 2 3 of frame 2"}, []int{10}},
+		{Client, framed(existsTwo)[9:], []string{"message 2 3 of frame 2 answers 0"}, []int{10}},
 	} {
 		found, used := told(t, p, row.side, row.piece)
 		if !reflect.DeepEqual(found, row.told) || !reflect.DeepEqual(used, row.used) {

@@ -1,5 +1,5 @@
 -- What calls return, in numbers.
-use Rattle.std.specs.Prelude.{ℕ, ◌-◌, pos, negsuc, false, Result, Ok, Err}
+use Rattle.std.specs.Prelude.{ℕ, ◌-◌, pos, negsuc, false, Option, Some, None, Result, Ok, Err}
 use Rattle.zk_records.specs.Codes.{op_number}
 use Rattle.zk_asks.specs.Rows.{op_of_ask}
 use Rattle.zk_asks.specs.declared.frame.ClientFrameOf.TheVariants.{Connect, Ask}
@@ -51,13 +51,18 @@ ending_answer (Cut side frame got) = record { status = 0; kind = 2; unanswered =
 ending_answer (Refused f) = record { status = 0; kind = 3; unanswered = 0; side = 0; got = 0; frame = 0; fault = fault_numbers f }
 
 abbrev pub no_message : ℕ → MessageAnswer
-no_message status = record { status = status; kind = 0; xid = pos 0; operation = pos 0; size = 0; err = pos 0; zxid = pos 0; frame = 0 }
+no_message status = record { status = status; kind = 0; xid = pos 0; operation = pos 0; size = 0; err = pos 0; zxid = pos 0; frame = 0; answers = 0 }
 
--- a message whose frame has `size` bytes, and is the last of `frames`; the operation of a reply is its request's
-abbrev pub message_answer : ℕ → ℕ → Message → MessageAnswer
-message_answer size frames (FromClient (Connect hello read_only)) =
-    record { status = 0; kind = 1; xid = pos 0; operation = pos 0; size = size; err = pos 0; zxid = pos 0; frame = frames - 1 }
-message_answer size frames (FromClient (Ask xid ask)) =
+abbrev pub or_zero : Option ℕ → ℕ
+or_zero None = 0
+or_zero (Some n) = n
+
+-- a message whose frame has `size` bytes, is the last of `frames`, and answers the client's frame of this number; the
+-- operation of a reply is its request's
+abbrev pub message_answer : ℕ → ℕ → Option ℕ → Message → MessageAnswer
+message_answer size frames answered (FromClient (Connect hello read_only)) =
+    record { status = 0; kind = 1; xid = pos 0; operation = pos 0; size = size; err = pos 0; zxid = pos 0; frame = frames - 1; answers = or_zero answered }
+message_answer size frames answered (FromClient (Ask xid ask)) =
     record {
       status = 0;
       kind = 2;
@@ -67,10 +72,11 @@ message_answer size frames (FromClient (Ask xid ask)) =
       err = pos 0;
       zxid = pos 0;
       frame = frames - 1;
+      answers = or_zero answered;
     }
-message_answer size frames (FromServer (Connected hello read_only)) =
-    record { status = 0; kind = 3; xid = pos 0; operation = pos 0; size = size; err = pos 0; zxid = pos 0; frame = frames - 1 }
-message_answer size frames (FromServer (Answered reply)) =
+message_answer size frames answered (FromServer (Connected hello read_only)) =
+    record { status = 0; kind = 3; xid = pos 0; operation = pos 0; size = size; err = pos 0; zxid = pos 0; frame = frames - 1; answers = or_zero answered }
+message_answer size frames answered (FromServer (Answered reply)) =
     record {
       status = 0;
       kind = 4;
@@ -80,9 +86,10 @@ message_answer size frames (FromServer (Answered reply)) =
       err = err_of reply.outcome;
       zxid = reply.zxid;
       frame = frames - 1;
+      answers = or_zero answered;
     }
-message_answer size frames (FromServer (Event zxid event)) =
-    record { status = 0; kind = 5; xid = negsuc 0; operation = pos 0; size = size; err = pos 0; zxid = zxid; frame = frames - 1 }
+message_answer size frames answered (FromServer (Event zxid event)) =
+    record { status = 0; kind = 5; xid = negsuc 0; operation = pos 0; size = size; err = pos 0; zxid = zxid; frame = frames - 1; answers = or_zero answered }
 
 abbrev pub no_line : ℕ → LineAnswer
 no_line status = record { status = status; length = 0 }

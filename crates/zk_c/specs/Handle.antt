@@ -1,5 +1,5 @@
 -- What the talk behind a handle does.
-use Rattle.std.specs.Prelude.{◌≡◌, ◌≢◌, ℕ, ◌<◌, ◌+◌, Bool, false, List, [], ◌++◌, length, drop, Option, Some, Result, Err, IfOk, IfErr, OnErr}
+use Rattle.std.specs.Prelude.{◌≡◌, ◌≢◌, ℕ, ◌<◌, ◌+◌, Bool, false, List, [], ◌++◌, length, drop, Option, Some, None, Result, Err, IfOk, IfErr, OnErr}
 use Rattle.zk_jute.specs.declared.fault.Reason.TheVariants.{NoMemory}
 use Rattle.zk_talk.specs.declared.message.Side.{Side}
 use Rattle.zk_talk.specs.declared.message.Fault.{Fault}
@@ -117,7 +117,7 @@ size_held side talk = length (held_on side talk) + length (kept_on side talk)
 -- the answer is the message of the frame that the side keeps, which is one
 pub record IsView (talk : TalkState) (side : Side) (answer : MessageAnswer) : Type 0 where
   pub none : kept_on side talk ≡ [] → answer ≡ no_message 69
-  pub some : (m : Message) → Shows talk side m → answer ≡ message_answer (size_held side talk) (frames_on side talk) m
+  pub some : (m : Message) → Shows talk side m → answer ≡ message_answer (size_held side talk) (frames_on side talk) None m
   pub there : (kept_on side talk ≡ [] → ⊥) → (m : Message) × Shows talk side m
 
 -- how many requests wait for their replies after these frames, and what they weigh

@@ -27,7 +27,7 @@ use Rattle.zk_c.specs.Answer.{no_fault, fault_numbers, no_message, message_answe
 use Rattle.zk_c.specs.Read.{no_read, TellsClient, TellsServer}
 use Rattle.zk_lines.specs.Lines.{line}
 use Rattle.zk_c.specs.Handle.{AreNumbers, TellsText, size_held}
-use Rattle.zk_c.specs.Passage.{PassageState, newest_on}
+use Rattle.zk_c.specs.Passage.{PassageState, newest_on, answered_on}
 
 -- a step that wasn't made, with this status
 abbrev pub no_passed : ℕ → PassedAnswer
@@ -106,11 +106,12 @@ pub record Renews (old : PassageState) (after : Option PassageState) : Type 0 wh
 abbrev pub ShowsNone : PassageState → Side → Type 0
 ShowsNone p side = (newest_on side p ≡ true) → kept_on side p.through.talk ≡ []
 
--- the answer is the side's newest message, with the number of its frame among all that came
+-- the answer is the side's newest message, with the number of its frame among all that came, and of the client's frame that
+-- it answers
 pub record IsView (p : PassageState) (side : Side) (answer : MessageAnswer) : Type 0 where
   pub none : ShowsNone p side → answer ≡ no_message 69
   pub some : newest_on side p ≡ true → (m : Message) → Shows p.through.talk side m →
-      answer ≡ message_answer (size_held side p.through.talk) (stream_on side p.through).count m
+      answer ≡ message_answer (size_held side p.through.talk) (stream_on side p.through).count (answered_on side p) m
 
 -- the answer is the line of that message
 pub record IsLine (p : PassageState) (side : Side) (before after : List ℕ) (answer : LineAnswer) : Type 0 where

@@ -2,7 +2,7 @@
 ghost use Rattle.std.specs.Prelude.{◌≡◌, ◌≢◌, pos};
 ghost use Rattle.zk_c.specs.Handle.{TellsText};
 ghost use Rattle.zk_c.specs.Numbers.{expected_of, got_of};
-ghost use Rattle.zk_c.specs.Answer.{no_fault, fault_numbers, no_step, step_answer, no_ending, ending_answer, no_message, message_answer, no_line};
+ghost use Rattle.zk_c.specs.Answer.{no_fault, fault_numbers, no_step, step_answer, no_ending, ending_answer, no_message, or_zero, message_answer, no_line};
 
 use crate::number::{ROOM, WELL, reason_number, side_number};
 use crate::read_answer::err_of;
@@ -86,6 +86,8 @@ pub struct MessageAnswer {
     pub zxid: i64,
     /// The number of the side's frame, from 0.
     pub frame: u64,
+    /// The number of the client's frame that a reply of a passage answers; else 0.
+    pub answers: u64,
 }
 
 /// What a call returns that writes text.
@@ -128,6 +130,16 @@ pub fn no_fault() -> FaultNumbers
         reason: 0,
         expected: 0,
         got: 0,
+    }
+}
+
+/// The number, or 0.
+fn or_zero(number: Option<u64>) -> u64
+    ensures { result ≡ or_zero number }
+{
+    match number {
+        Some(number) => number,
+        None => 0,
     }
 }
 
@@ -247,12 +259,18 @@ impl MessageAnswer {
             err: 0,
             zxid: 0,
             frame: 0,
+            answers: 0,
         }
     }
 
-    /// The message in numbers, with the size of its frame and the frame's number.
-    pub fn of(message: &MessageRef<'_>, size: u32, frames: u64) -> MessageAnswer
-        ensures { result ≡ message_answer size frames message.now }
+    /// The message in numbers, with the size of its frame, the frame's number, and that of the frame that it answers.
+    pub fn of(
+        message: &MessageRef<'_>,
+        size: u32,
+        frames: u64,
+        answered: Option<u64>,
+    ) -> MessageAnswer
+        ensures { result ≡ message_answer size frames answered message.now }
     {
         let (kind, xid, operation, err, zxid) = match message {
             MessageOf::Client(ClientFrameOf::Connect { .. }) => (1, 0, 0, 0, 0),
@@ -275,6 +293,7 @@ impl MessageAnswer {
             err,
             zxid,
             frame: frames.saturating_sub(1),
+            answers: or_zero(answered),
         }
     }
 }

@@ -124,7 +124,8 @@ impl Conversation {
     {
         match self.talk.view(side) {
             Some(message) => {
-                MessageAnswer::of(&message, self.talk.held(side), self.talk.frames(side))
+                let (size, frames) = (self.talk.held(side), self.talk.frames(side));
+                MessageAnswer::of(&message, size, frames, None)
             }
             None => MessageAnswer::none(NO_MESSAGE),
         }

@@ -1,6 +1,6 @@
 //! `Passage`: a conversation that goes on where its profile ends, and whether each side's newest frame is a message.
 ghost use Rattle.std.specs.Prelude.{◌≡◌, IfOk};
-ghost use Rattle.zk_c.specs.Passage.{newest_on};
+ghost use Rattle.zk_c.specs.Passage.{newest_on, answered_on};
 ghost use Rattle.zk_c.specs.Passing.{HasBegun, IsRenewed, IsPassing, IsView, IsLine, IsFields, IsLeftOut, IsFinish, newest};
 
 use crate::answer::{LineAnswer, MessageAnswer};
@@ -97,6 +97,16 @@ impl Passage {
         }
     }
 
+    /// The number of the client's frame that the side's newest frame answers; a client's answers none.
+    fn answered(&self, side: Side) -> Option<u64>
+        ensures { result ≡ answered_on side self.now }
+    {
+        match side {
+            Side::Client => None,
+            Side::Server => self.through.answered(),
+        }
+    }
+
     /// The message of the side's newest whole frame.
     pub fn view(&self, side: Side) -> MessageAnswer
         ensures { IsView self.now side result }
@@ -106,7 +116,8 @@ impl Passage {
         }
         match self.through.view(side) {
             Some(message) => {
-                MessageAnswer::of(&message, self.through.size(side), self.through.frames(side))
+                let (size, frames) = (self.through.size(side), self.through.frames(side));
+                MessageAnswer::of(&message, size, frames, self.answered(side))
             }
             None => MessageAnswer::none(NO_MESSAGE),
         }

@@ -1,13 +1,12 @@
 -- A side with a fault.
-use Rattle.std.proofs.Common.{◌≡◌, ℕ, ℤ, inl, inr, Option, Some, None, sym, ap, ◌∙◌, ◌<◌, subst, arith}
+use Rattle.std.proofs.Common.{◌≡◌, ℕ, ℤ, inl, inr, Option, Some, None, sym, ap, ◌∙◌, arith}
 use Rattle.zk_jute.specs.declared.fault.Reason.{Reason}
 use Rattle.zk_jute.specs.declared.fault.Reason.TheVariants.{NoMemory, Unasked, XidOrder}
-use Rattle.zk_waiting.specs.Lane.{lane_of}
+use Rattle.zk_records.specs.declared.profile.Profile.{Profile}
 use Rattle.zk_talk.specs.declared.message.Fault.{Fault}
 use Rattle.zk_talk.specs.Sound.{IsSide}
 use Rattle.zk_talk.specs.Streams.{StreamState}
-use Rattle.zk_through.specs.declared.turn.Turn.{Turn}
-use Rattle.zk_through.specs.Turns.{LaneState, TurnsState, IsBadTurn, IsDue, IsForTalk, lane_on}
+use Rattle.zk_through.specs.Turns.{TurnsState, IsBadTurn}
 
 some_none : (f : Fault) → Some f ≡ None → ⊥
 some_none f e = cc
@@ -28,10 +27,6 @@ order_known expected got e = cc
 unasked_known : Unasked ≡ NoMemory → ⊥
 unasked_known e = cc
 
-pub bad_known : (t : TurnsState) (xid : ℤ) (reason : Reason) → IsBadTurn t xid reason → reason ≡ NoMemory → ⊥
-bad_known t xid reason (inl b) e = unasked_known (sym b.1 ∙ e)
-bad_known t xid reason (inr b) e = order_known b.0.xid xid (sym b.3 ∙ e)
-
--- the talk gets a reply whose turn isn't that of a request that is left out
-pub for_talk : (t : TurnsState) (ahead : Option ℤ) (xid : ℤ) (s : LaneState) → ahead ≡ Some xid → s ≡ lane_on (lane_of xid) t → s.replies < s.requests → ((turn : Turn) → IsDue s turn → ⊥) → IsForTalk t ahead
-for_talk t ahead xid s e lane fits none = subst (IsForTalk t) (sym e) (subst (λ (z : LaneState). (z.replies < z.requests) × ((turn : Turn) → IsDue z turn → ⊥)) lane (fits, none))
+pub bad_known : (profile : Profile) (t : TurnsState) (xid : ℤ) (reason : Reason) → IsBadTurn profile t xid reason → reason ≡ NoMemory → ⊥
+bad_known profile t xid reason (inl b) e = unasked_known (sym b.1 ∙ e)
+bad_known profile t xid reason (inr b) e = order_known b.0.xid xid (sym b.4 ∙ e)

@@ -3,7 +3,8 @@ use Rattle.std.proofs.Common.{◌≡◌, ℕ, ◌+◌, ◌<◌, ◌≤◌, inl, 
 use Rattle.std.specs.Option.{IfSome, IfNone}
 use Rattle.std.proofs.lemmas.List.{append-nil, length-take-le}
 use Rattle.zk_frames.specs.Framing.{frame, IsBeginning}
-use Rattle.zk_records.specs.Codes.{IsNoOp}
+use Rattle.zk_waiting.specs.declared.lane.Lane.{Lane}
+use Rattle.zk_waiting.specs.declared.lane.Lane.TheVariants.{Ping, Auth, Watches, Plain}
 use Rattle.zk_waiting.specs.Lane.{lane_of}
 use Rattle.zk_talk.specs.declared.message.Side.TheVariants.{Client}
 use Rattle.zk_talk.specs.declared.message.Fault.{Fault}
@@ -17,14 +18,20 @@ use Rattle.zk_through.specs.declared.through.Went.TheVariants as went
 use Rattle.zk_talk.specs.History.{on}
 use Rattle.zk_talk.proofs.Headline.{fault_is_bad}
 use Rattle.zk_through.specs.Came.{payloads, told}
-use Rattle.zk_through.specs.Turns.{TurnsState, turn_of, left_out, with_lane, with_request, with_left, after_request}
-use Rattle.zk_through.specs.Runs.{ThroughState, Runs, WentOn, IsRefused, IsTold, IsNotTold, IsAhead, IsNotAhead, IsKeptAt, IsRequestOf, IsSizeOf, Weighs}
+use Rattle.zk_through.specs.Turns.{TurnsState, IsLacked, turn_of, left_out, with_waits, and_turn, after_request, after_left}
+use Rattle.zk_through.specs.Runs.{ThroughState, Runs, WentOn, IsRefused, IsTold, IsNotTold, IsAhead, IsNotAhead, IsKeptAt, IsRequestOf, WeighsAtMost, IsWeighed, Weighs}
 use Rattle.zk_through.proofs.Steps.{nothing_more, within_on_client, ClientCame}
 use Rattle.zk_through.proofs.Outcomes.{counted, client_other, client_asks, client_lacks}
 use Rattle.zk_through.proofs.Refusals.{refused_early, refused_told}
 use Rattle.zk_through.proofs.Fitting.{some_weight, its_good, talk_takes}
 
-module _ (old : ThroughState) (piece : List ℕ) (limit : old.client.limit ≡ old.talk.limits.client) (none : old.client.kept ≡ []) where
+pub left_same : (l : Lane) (f : List Turn → List Turn) (t : TurnsState) → left_out (with_waits l f t) ≡ left_out t
+left_same Ping f t = refl
+left_same Auth f t = refl
+left_same Watches f t = refl
+left_same Plain f t = refl
+
+module _ (old : ThroughState) (piece : List ℕ) (limit : old.client.limit ≡ old.talk.limits.client) (none : old.client.kept ≡ []) (room : old.turns.room ≡ old.talk.limits.waiting) where
   pub client_within : (s : StreamState) → CameWithin old.client piece s → WentOn old Client piece (length piece) went.Within (record old { client = s })
   client_within s w = (
     refl,
@@ -42,8 +49,8 @@ module _ (old : ThroughState) (piece : List ℕ) (limit : old.client.limit ≡ o
     is : old.client.held ++ take used piece ≡ frame whole.0
     is = sym w.advance.3 ∙ whole.1
 
-    came : (new : ThroughState) → new.talk.limits ≡ old.talk.limits → new.client.held ≡ [] → new.client.count ≡ s.count + 1 → new.client.size ≡ s.size + used → new.server ≡ old.server → new.fault ≡ old.fault → ClientCame old new piece used whole.0
-    came new limits held count size other fault = record {
+    came : (new : ThroughState) → new.talk.limits ≡ old.talk.limits → new.client.held ≡ [] → new.client.count ≡ s.count + 1 → new.client.size ≡ s.size + used → new.server ≡ old.server → new.answered ≡ old.answered → new.fault ≡ old.fault → ClientCame old new piece used whole.0
+    came new limits held count size other answered fault = record {
       some = w.advance.0;
       part = w.advance.1;
       fits = omega (arith, whole.2, limit);
@@ -53,6 +60,7 @@ module _ (old : ThroughState) (piece : List ℕ) (limit : old.client.limit ≡ o
       count = count ∙ ap (λ (z : StreamState). z.count + 1) w.stays;
       size = size ∙ ap (λ (z : StreamState). z.size + used) w.stays;
       other = other;
+      answered = answered;
       fault = fault;
     }
 
@@ -68,53 +76,53 @@ module _ (old : ThroughState) (piece : List ℕ) (limit : old.client.limit ≡ o
       new = record old { talk = talk; client = s'; turns = turns }
 
       passed_on : ClientCame old new piece used whole.0
-      passed_on = came new limits (ap (λ (z : StreamState). z.held) pass) (ap (λ (z : StreamState). z.count) pass) (ap (λ (z : StreamState). z.size) pass) refl refl
+      passed_on = came new limits (ap (λ (z : StreamState). z.held) pass) (ap (λ (z : StreamState). z.count) pass) (ap (λ (z : StreamState). z.size) pass) refl refl refl
 
       left : s'.kept ≡ []
       left = ap (λ (z : StreamState). z.kept) pass ∙ still
 
-      module _ (size : ℕ) (weighs : IsSizeOf old.talk.limits.profile s size)
+      module _ (size : ℕ) (weighs : WeighsAtMost old.talk.limits.profile s size)
           (fits : 0 < size → WhereItStands old.talk (λ v client_rest server_rest. load v.client v.server + left_out old.turns + size ≤ old.talk.limits.waiting)) where
-        only : 0 < old.client.count → (n : ℕ) → IsRequestOf old.talk.limits.profile whole.0 n → n ≡ size
-        only begun n q = weighs.only (omega (arith, begun, ap (λ (z : StreamState). z.count) w.stays)) whole.0 n whole.1 q
+        only : 0 < old.client.count → (n : ℕ) → IsRequestOf old.talk.limits.profile whole.0 n → n ≤ size
+        only begun n q = weighs (omega (arith, begun, ap (λ (z : StreamState). z.count) w.stays)) whole.0 n whole.1 q
 
         pub client_told : (ahead : Option Turn) → turns ≡ after_request ahead old.turns → IfSome ahead (λ turn. IsAhead 8 s (λ p. turn ≡ turn_of (s.count, p))) → IfNone ahead (IsNotAhead 8 s) →
-            ((turn : Turn) → ahead ≡ Some turn → IsNoOp old.talk.limits.profile turn.number → ⊥) → WentOn old Client piece used went.Message new
+            ((turn : Turn) → ahead ≡ Some turn → IsLacked old.talk.limits.profile turn → ⊥) → WentOn old Client piece used went.Message new
         client_told None same some none known = (
           w.advance.1,
           left,
           whole.0,
-          client_other old new piece used whole.0 passed_on size only fits (tells whole.0 whole.1) same (λ later. none (omega (arith, later, ap (λ (z : StreamState). z.count) w.stays)) whole.0 whole.1),
+          client_other old new piece used whole.0 passed_on size only fits (tells whole.0 whole.1) (ap left_out same) same (λ later. none (omega (arith, later, ap (λ (z : StreamState). z.count) w.stays)) whole.0 whole.1),
         )
         client_told (Some turn) more a none known =
             let t = a.1 whole.0 whole.1 in (
               w.advance.1,
               left,
               whole.0,
-              client_asks old new piece used whole.0 passed_on size only fits t.0 (later a.0) (tells whole.0 whole.1) (more ∙ ap (λ (z : Turn). with_lane (lane_of z.xid) with_request old.turns) t.1)
-                  (λ foreign. known turn refl (subst (IsNoOp old.talk.limits.profile) (sym (ap (λ (z : Turn). z.number) t.1)) foreign)),
+              client_asks old new piece used whole.0 passed_on size only fits (tells whole.0 whole.1) (ap left_out more ∙ left_same (lane_of turn.xid) (and_turn old.turns.room turn) old.turns) t.0 (later a.0) room turn
+                  (t.1 ∙ ap (λ (z : StreamState). turn_of (z.count, whole.0)) w.stays) (more ∙ ap (λ (z : Turn). with_waits (lane_of z.xid) (and_turn old.turns.room turn) old.turns) t.1) (λ lacked. known turn refl lacked),
             )
 
     -- it is left out
-    pub client_left : (s' : StreamState) (turns : TurnsState) (turn : Turn) → s' ≡ kept_now s used → turns ≡ with_lane (lane_of turn.xid) (with_left turn) old.turns → IsAhead 8 s (λ p. turn ≡ turn_of (s.count, p)) → IsNoOp old.talk.limits.profile turn.number →
+    pub client_left : (s' : StreamState) (turns : TurnsState) (turn : Turn) → s' ≡ kept_now s used → turns ≡ after_left turn old.turns → IsAhead 8 s (λ p. turn ≡ turn_of (s.count, p)) → IsLacked old.talk.limits.profile turn →
         WhereItStands old.talk (λ v client_rest server_rest. load v.client v.server + left_out old.turns + 1 ≤ old.talk.limits.waiting) → WentOn old Client piece used (went.Asked turn) (record old { client = s'; turns = turns })
-    client_left s' turns turn keep more a foreign fits =
+    client_left s' turns turn keep more a lacked fits =
         let new : ThroughState = record old { client = s'; turns = turns } in
         let t = a.1 whole.0 whole.1 in
         let is_turn : turn ≡ turn_of (old.client.count, whole.0) = t.1 ∙ ap (λ (z : StreamState). turn_of (z.count, whole.0)) w.stays in
-        let c' = came new refl (ap (λ (z : StreamState). z.held) keep) (ap (λ (z : StreamState). z.count) keep) (ap (λ (z : StreamState). z.size) keep) refl refl in (
+        let c' = came new refl (ap (λ (z : StreamState). z.held) keep) (ap (λ (z : StreamState). z.count) keep) (ap (λ (z : StreamState). z.size) keep) refl refl refl in (
           w.advance.1,
           refl,
           whole.0,
           ap (λ (z : StreamState). z.kept) keep ∙ whole.1,
           is_turn,
-          client_lacks old new piece used whole.0 c' t.0 (later a.0) refl turn is_turn (more ∙ ap (λ (z : Turn). with_lane (lane_of z.xid) (with_left turn) old.turns) t.1) (subst (IsNoOp old.talk.limits.profile) (ap (λ (z : Turn). z.number) t.1) foreign) fits,
+          client_lacks old new piece used whole.0 c' t.0 (later a.0) room refl turn is_turn (more ∙ ap (λ (z : Turn). record (with_waits (lane_of z.xid) (and_turn old.turns.room turn) old.turns) { left = old.turns.left + 1 }) t.1) lacked fits,
         )
 
     -- there is no room for it
-    pub client_full : (s' : StreamState) (size : ℕ) → TakenBack s used s' → 0 < s.count → Weighs old.talk.limits.profile whole.0 size →
-        WhereItStands old.talk (λ v client_rest server_rest. old.talk.limits.waiting < load v.client v.server + left_out old.turns + size) → WentOn old Client piece 0 went.Full (record old { client = s' })
-    client_full s' size back some weighs full =
+    pub client_full : (s' : StreamState) (weight : ℕ) → TakenBack s used s' → 0 < s.count → Weighs old.talk.limits.profile whole.0 weight →
+        WhereItStands old.talk (λ v client_rest server_rest. old.talk.limits.waiting < load v.client v.server + left_out old.turns + weight) → WentOn old Client piece 0 went.Full (record old { client = s' })
+    client_full s' weight back some weighs full =
         let same : s' ≡ old.client = back old.client.held (take used piece) w.advance.3 (length-take-le used piece w.advance.1) ∙ ap (λ (z : StreamState). record z { held = old.client.held }) w.stays in (
           refl,
           refl,
@@ -122,7 +130,7 @@ module _ (old : ThroughState) (piece : List ℕ) (limit : old.client.limit ≡ o
           record {
             part = used;
             payload = whole.0;
-            size = size;
+            weight = weight;
             whole = is;
             later = later some;
             weighs = weighs;
@@ -134,22 +142,22 @@ module _ (old : ThroughState) (piece : List ℕ) (limit : old.client.limit ≡ o
         )
 
     -- where it is full, the frame weighs something
-    pub client_weighs : (out : Option Turn) (size : ℕ) → IfSome out (λ turn. IsAhead 8 s (λ p. turn ≡ turn_of (s.count, p)) × IsNoOp old.talk.limits.profile turn.number) → IfSome out (λ turn. size ≡ 1) →
-        IfNone out (IsSizeOf old.talk.limits.profile s size) → 0 < size → (0 < s.count) × Weighs old.talk.limits.profile whole.0 size
-    client_weighs (Some turn) size a one none more =
+    pub client_weighs : (out : Option Turn) (room size : ℕ) → IfSome out (λ turn. IsAhead 8 s (λ p. turn ≡ turn_of (s.count, p)) × IsLacked old.talk.limits.profile turn) → IfSome out (λ turn. size ≡ 1) →
+        IfNone out (IsWeighed old.talk.limits.profile s room size) → room < size → (0 < s.count) × Weighs old.talk.limits.profile whole.0 size
+    client_weighs (Some turn) room size a one none more =
         let t = a.0.1 whole.0 whole.1 in
-        (a.0.0, inl (t.0, subst (IsNoOp old.talk.limits.profile) (ap (λ (z : Turn). z.number) t.1) a.1, one))
-    client_weighs None size a one asks more =
-        let y = asks.found more in
+        (a.0.0, inl (t.0, subst (IsLacked old.talk.limits.profile) t.1 a.1, one))
+    client_weighs None room size a one asks more =
+        let y = (asks.1 more).found (omega (arith, more)) in
         (y.0, inr (y.1 whole.0 whole.1))
 
-    pub out_ahead : (ahead out : Option Turn) → IfSome ahead (λ turn. IsAhead 8 s (λ p. turn ≡ turn_of (s.count, p))) → IfSome out (λ turn. (ahead ≡ Some turn) × IsNoOp old.talk.limits.profile turn.number) →
-        IfSome out (λ turn. IsAhead 8 s (λ p. turn ≡ turn_of (s.count, p)) × IsNoOp old.talk.limits.profile turn.number)
+    pub out_ahead : (ahead out : Option Turn) → IfSome ahead (λ turn. IsAhead 8 s (λ p. turn ≡ turn_of (s.count, p))) → IfSome out (λ turn. (ahead ≡ Some turn) × IsLacked old.talk.limits.profile turn) →
+        IfSome out (λ turn. IsAhead 8 s (λ p. turn ≡ turn_of (s.count, p)) × IsLacked old.talk.limits.profile turn)
     out_ahead ahead None a o = tt
     out_ahead ahead (Some turn) a o = (subst (λ (z : Option Turn). IfSome z (λ t. IsAhead 8 s (λ p. t ≡ turn_of (s.count, p)))) o.0 a, o.1)
 
     -- the talk refused it: it is no request that there is room for
-    pub client_refused : (size : ℕ) (e : Fault) (k : Option Fault) (s' : StreamState) (talk : TalkState) → IsSizeOf old.talk.limits.profile s size →
+    pub client_refused : (size : ℕ) (e : Fault) (k : Option Fault) (s' : StreamState) (talk : TalkState) → WeighsAtMost old.talk.limits.profile s size →
         (0 < size → WhereItStands old.talk (λ v client_rest server_rest. load v.client v.server + left_out old.turns + size ≤ old.talk.limits.waiting)) →
         IsKeptAt Client s used e k → ((p : List ℕ) → s.held ≡ frame p → IsNotTold old.talk Client p e) →
         IsRefused old Client piece e (record old { talk = talk; client = s'; fault = k })
@@ -159,7 +167,7 @@ module _ (old : ThroughState) (piece : List ℕ) (limit : old.client.limit ≡ o
         (λ h c k M r f is_fault some n q.
         let begun : 0 < old.client.count = counted old.client.count (payloads Client c) r.client_count some in
         let begun' : 0 < s.count = omega (arith, begun, ap (λ (z : StreamState). z.count) w.stays) in
-        let same = weighs.only begun' whole.0 n whole.1 q in
+        let same = weighs begun' whole.0 n whole.1 q in
         let room = fits (omega (arith, same, q.5, some_weight q.0 q.1)) (told k) M r.stands.conversation [] [] r.stands (its_good old h c k M r) in
         fault_is_bad old.talk.limits (told k ++ on Client (frame whole.0)) f is_fault
         (with_client r.stands.conversation q.0, [], [], talk_takes old h c k M r piece used whole.0 w.advance.1 w.advance.2 is (omega (arith, whole.2, limit)) begun n q (omega (arith, room, same))))

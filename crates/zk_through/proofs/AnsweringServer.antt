@@ -1,10 +1,10 @@
 -- What a step of the server answers, by what its side became.
-use Rattle.std.proofs.Common.{◌≡◌, ℕ, ◌+◌, ◌<◌, ◌≤◌, ℤ, inl, inr, List, [], ◌++◌, length, take, Option, Some, None, refl, sym, ap, ◌∙◌, subst, arith, true}
+use Rattle.std.proofs.Common.{◌≡◌, ℕ, ◌+◌, ◌<◌, ◌≤◌, ℤ, inl, inr, List, [], ◌++◌, length, take, drop, Option, Some, None, refl, sym, ap, ◌∙◌, subst, arith, true}
+use Rattle.std.specs.Prelude.{slice_get, Ok}
 use Rattle.std.specs.Option.{IfSome, IfNone}
 use Rattle.zk_jute.specs.declared.fault.Reason.{Reason}
 use Rattle.zk_jute.specs.declared.fault.Reason.TheVariants.{XidOrder}
 use Rattle.zk_frames.specs.Framing.{frame, IsBeginning}
-use Rattle.zk_waiting.specs.declared.lane.Lane.{Lane}
 use Rattle.zk_waiting.specs.Lane.{lane_of}
 use Rattle.zk_talk.specs.declared.message.Side.TheVariants.{Server}
 use Rattle.zk_talk.specs.declared.message.Fault.{Fault}
@@ -14,10 +14,13 @@ use Rattle.zk_talk.specs.Streams.{StreamState, passed, kept_now}
 use Rattle.zk_talk.specs.Receiving.{CameWithin, CameWhole, IsStopped as WasStopped}
 use Rattle.zk_through.specs.declared.turn.Turn.{Turn}
 use Rattle.zk_through.specs.declared.through.Went.TheVariants as went
-use Rattle.zk_through.specs.LeftOut.{has_turn, xid_of, lane_in}
-use Rattle.zk_through.specs.Turns.{TurnsState, lane_on, with_lane, with_reply, without_oldest, after_reply, IsDue, IsForTalk, IsBadTurn}
+use Rattle.zk_through.specs.LeftOut.{has_turn, xid_of}
+use Rattle.zk_through.specs.declared.turns.Due.{Due}
+use Rattle.zk_through.specs.declared.turns.Due.TheVariants as dues
+use Rattle.zk_through.specs.Turns.{TurnsState, Judges, IsDue, IsLacked, IsBadTurn, TellsFrame, waits_on, with_waits, after_reply, after_answer, left_out}
 use Rattle.zk_through.specs.Runs.{ThroughState, WentOn, IsRefused, IsTold, IsNotTold, IsAhead, IsNotAhead, IsKeptAt}
 use Rattle.zk_through.proofs.Steps.{within_on_server, ServerCame}
+use Rattle.zk_through.proofs.AnsweringClient.{left_same}
 use Rattle.zk_through.proofs.Outcomes.{server_other, server_answers, server_lacks}
 use Rattle.zk_through.proofs.Refusals.{refused_early, refused_told, refused_unasked, refused_turn}
 
@@ -60,9 +63,9 @@ module _ (old : ThroughState) (piece : List ℕ) (limit : old.server.limit ≡ o
     later some = omega (arith, some, ap (λ (z : StreamState). z.count) w.stays)
 
     -- the talk took the frame
-    module _ (s' : StreamState) (talk : TalkState) (turns : TurnsState) (pass : s' ≡ passed s used) (limits : talk.limits ≡ old.talk.limits) (tells : (p : List ℕ) → s.held ≡ frame p → IsTold old.talk Server p talk) where
+    module _ (s' : StreamState) (talk : TalkState) (turns : TurnsState) (answered : Option ℕ) (pass : s' ≡ passed s used) (limits : talk.limits ≡ old.talk.limits) (tells : (p : List ℕ) → s.held ≡ frame p → IsTold old.talk Server p talk) where
       abbrev pub new : ThroughState
-      new = record old { talk = talk; server = s'; turns = turns }
+      new = record old { talk = talk; server = s'; turns = turns; answered = answered }
 
       passed_on : ServerCame old new piece used whole.0
       passed_on = came new limits (ap (λ (z : StreamState). z.held) pass) (ap (λ (z : StreamState). z.count) pass) (ap (λ (z : StreamState). z.size) pass) refl refl
@@ -70,24 +73,39 @@ module _ (old : ThroughState) (piece : List ℕ) (limit : old.server.limit ≡ o
       left : s'.kept ≡ []
       left = ap (λ (z : StreamState). z.kept) pass ∙ still
 
-      pub server_told : (ahead : Option ℤ) → turns ≡ after_reply ahead old.turns → IfSome ahead (λ xid. IsAhead 16 s (λ q. xid ≡ xid_of q)) → IfNone ahead (IsNotAhead 16 s) → IsForTalk old.turns ahead →
-          WentOn old Server piece used went.Message new
-      server_told None same some none talks = (
+      count : s.count ≡ old.server.count
+      count = ap (λ (z : StreamState). z.count) w.stays
+
+      -- it is no reply
+      pub server_told : IsNotAhead 16 s → TellsFrame dues.Nothing s.count answered → turns ≡ old.turns → WentOn old Server piece used went.Message new
+      server_told none tells_frame same = (
         w.advance.1,
         left,
         whole.0,
-        server_other old new piece used whole.0 passed_on (tells whole.0 whole.1) same (λ later. none (omega (arith, later, ap (λ (z : StreamState). z.count) w.stays)) whole.0 whole.1),
+        server_other old new piece used whole.0 passed_on (tells whole.0 whole.1) (ap left_out same) same (λ later. none (omega (arith, later, count)) whole.0 whole.1)
+            (λ zero. tells_frame.0 (count ∙ zero)) (λ some. tells_frame.1 (λ zero. some (sym count ∙ zero))),
       )
-      server_told (Some xid) more a none talks =
-          let t = a.1 whole.0 whole.1 in
-          let lane : lane_of xid ≡ lane_in whole.0 = ap lane_of t.1 in (
+
+      -- it is the reply to a request that the talk got
+      pub server_replied : (xid : ℤ) (turn : Turn) → IsAhead 16 s (λ q. xid ≡ xid_of q) → IsDue old.turns xid turn → (IsLacked old.talk.limits.profile turn → ⊥) → answered ≡ Some turn.frame → turns ≡ with_waits (lane_of xid) (drop 1) old.turns →
+          WentOn old Server piece used went.Message new
+      server_replied xid turn a is_due known frame less =
+          let t = a.1 whole.0 whole.1 in (
             w.advance.1,
             left,
             whole.0,
-            server_answers old new piece used whole.0 passed_on t.0 (later a.0) (tells whole.0 whole.1) (more ∙ ap (λ (z : Lane). with_lane z with_reply old.turns) lane)
-                (subst (λ (z : Lane). (lane_on z old.turns).replies < (lane_on z old.turns).requests) lane talks.0)
-                (subst (λ (z : Lane). (due : Turn) → IsDue (lane_on z old.turns) due → ⊥) lane talks.1),
+            server_answers old new piece used whole.0 passed_on (tells whole.0 whole.1) (ap left_out less ∙ left_same (lane_of xid) (drop 1) old.turns) t.0 (later a.0) turn (subst (λ z. IsDue old.turns z turn) t.1 is_due) known
+                (less ∙ ap (λ z. with_waits (lane_of z) (drop 1) old.turns) t.1) frame,
           )
+
+      -- the talk gets it, whichever it is
+      pub server_passed : (due : Due) (ahead : Option ℤ) → ((turn : Turn) → due ≡ dues.Left turn → ⊥) → Judges old.talk.limits.profile old.turns ahead (Ok due) → TellsFrame due s.count answered → turns ≡ after_reply ahead old.turns →
+          IfSome ahead (λ xid. IsAhead 16 s (λ q. xid ≡ xid_of q)) → IfNone ahead (IsNotAhead 16 s) → WentOn old Server piece used went.Message new
+      server_passed dues.Nothing ahead not_left j frame less some none =
+          server_told (subst (λ (z : Option ℤ). IfNone z (IsNotAhead 16 s)) j none) frame (less ∙ ap (λ (z : Option ℤ). after_reply z old.turns) j)
+      server_passed (dues.Told turn) ahead not_left j frame less some none =
+          server_replied j.0 turn (subst (λ (z : Option ℤ). IfSome z (λ xid. IsAhead 16 s (λ q. xid ≡ xid_of q))) j.1 some) j.2 j.3 frame (less ∙ ap (λ (z : Option ℤ). after_reply z old.turns) j.1)
+      server_passed (dues.Left turn) ahead not_left j frame less some none = absurd (not_left turn refl)
 
     module _ (xid : ℤ) (a : IsAhead 16 s (λ q. xid ≡ xid_of q)) where
       turn : has_turn 16 whole.0 ≡ true
@@ -97,31 +115,31 @@ module _ (old : ThroughState) (piece : List ℕ) (limit : old.server.limit ≡ o
       xid_is = (a.1 whole.0 whole.1).1
 
       -- it is left out
-      pub server_left : (s' : StreamState) (turns : TurnsState) (due : Turn) → s' ≡ kept_now s used → turns ≡ with_lane (lane_of due.xid) without_oldest old.turns → xid ≡ due.xid → IsDue (lane_on (lane_of due.xid) old.turns) due →
-          WentOn old Server piece used (went.Answered due) (record old { server = s'; turns = turns })
-      server_left s' turns due keep less same is_due =
-          let new : ThroughState = record old { server = s'; turns = turns } in
-          let lane : lane_of due.xid ≡ lane_in whole.0 = ap lane_of (sym same ∙ xid_is) in
+      pub server_left : (s' : StreamState) (turns : TurnsState) (answered : Option ℕ) (due : Turn) → s' ≡ kept_now s used → turns ≡ after_answer due.xid old.turns → xid ≡ due.xid → IsDue old.turns due.xid due → IsLacked old.talk.limits.profile due →
+          answered ≡ Some due.frame → WentOn old Server piece used (went.Answered due) (record old { server = s'; turns = turns; answered = answered })
+      server_left s' turns answered due keep less same is_due lacked frame =
+          let new : ThroughState = record old { server = s'; turns = turns; answered = answered } in
+          let is_xid : due.xid ≡ xid_of whole.0 = sym same ∙ xid_is in
           let c' = came new refl (ap (λ (z : StreamState). z.held) keep) (ap (λ (z : StreamState). z.count) keep) (ap (λ (z : StreamState). z.size) keep) refl refl in (
             w.advance.1,
             refl,
             whole.0,
             ap (λ (z : StreamState). z.kept) keep ∙ whole.1,
-            sym xid_is ∙ same,
+            sym is_xid,
             is_due,
-            server_lacks old new piece used whole.0 c' turn (later a.0) refl due (subst (λ (z : Lane). IsDue (lane_on z old.turns) due) lane is_due) (less ∙ ap (λ (z : Lane). with_lane z without_oldest old.turns) lane) (sym xid_is ∙ same),
+            server_lacks old new piece used whole.0 c' turn (later a.0) refl due (subst (λ z. IsDue old.turns z due) is_xid is_due) lacked (less ∙ ap (λ z. after_answer z old.turns) is_xid) (sym is_xid) frame,
           )
 
       -- none waits for it, or another's turn it is
-      pub server_bad : (e : Fault) (k : Option Fault) (reason : Reason) → IsBadTurn old.turns xid reason → e ≡ fault_of Server s.count (s.size + used) 0 reason → k ≡ Some e → IsRefused old Server piece e (record old { server = s; fault = k })
-      server_bad e k reason (inl over) at kept =
+      pub server_bad : (e : Fault) (k : Option Fault) (reason : Reason) → IsBadTurn old.talk.limits.profile old.turns xid reason → e ≡ fault_of Server s.count (s.size + used) 0 reason → k ≡ Some e → IsRefused old Server piece e (record old { server = s; fault = k })
+      server_bad e k reason (inl none) at kept =
           refused_unasked old (record old { server = s; fault = k }) piece used e w.advance.1 kept whole.0 is turn
-          (subst (λ (z : Lane). (lane_on z old.turns).requests ≤ (lane_on z old.turns).replies) (ap lane_of xid_is) over.0)
-          (at ∙ (λ i. fault_of Server (w.stays i).count ((w.stays i).size + used) 0 (over.1 i)))
+          (subst (λ z. slice_get (waits_on (lane_of z) old.turns) 0 ≡ None) xid_is none.0)
+          (at ∙ (λ i. fault_of Server (w.stays i).count ((w.stays i).size + used) 0 (none.1 i)))
       server_bad e k reason (inr b) at kept =
           refused_turn old (record old { server = s; fault = k }) piece used e w.advance.1 kept whole.0 is turn b.0
-          (subst (λ (z : Lane). IsDue (lane_on z old.turns) b.0) (ap lane_of xid_is) b.1) (λ same. b.2 (same ∙ sym xid_is))
-          (at ∙ (λ i. fault_of Server (w.stays i).count ((w.stays i).size + used) 0 ((b.3 ∙ ap (λ z. XidOrder b.0.xid z) xid_is) i)))
+          (subst (λ z. IsDue old.turns z b.0) xid_is b.1) b.2 (λ same. b.3 (same ∙ sym xid_is))
+          (at ∙ (λ i. fault_of Server (w.stays i).count ((w.stays i).size + used) 0 ((b.4 ∙ ap (λ z. XidOrder b.0.xid z) xid_is) i)))
 
     -- the talk refused it
     pub server_refused : (e : Fault) (k : Option Fault) (s' : StreamState) (talk : TalkState) → IsKeptAt Server s used e k → ((p : List ℕ) → s.held ≡ frame p → IsNotTold old.talk Server p e) →

@@ -10,10 +10,10 @@ use Rattle.zk_frames.proofs.Cuts.{length-frame}
 use Rattle.zk_talk.specs.declared.message.Side.TheVariants.{Client, Server}
 use Rattle.zk_talk.specs.declared.limits.Limits.{Limits}
 use Rattle.zk_talk.specs.Conversation.{Conversation, ClientMay, with_client, load, weight}
-use Rattle.zk_talk.specs.Good.{Good, IsOrder, client_payloads}
+use Rattle.zk_talk.specs.Good.{Good, IsOrder, client_payloads, server_payloads}
 use Rattle.zk_talk.specs.Held.{Message}
 use Rattle.zk_talk.specs.History.{History, side_bytes, on}
-use Rattle.zk_talk.specs.Payloads.{client_payload}
+use Rattle.zk_talk.specs.Payloads.{client_payload, server_payload}
 use Rattle.zk_talk.proofs.Histories.{side_bytes-append, no_bytes}
 use Rattle.zk_talk.proofs.Lists.{by_last, IsPushed}
 use Rattle.zk_talk.proofs.Loads.{load_ask}
@@ -34,6 +34,14 @@ of_client p k = refl
 of_server : (q : List ℕ) (k : Came) → payloads Client ((Server, q) ∷ k) ≡ payloads Client k
 unfolding payloads
 of_server q k = refl
+
+past_client : (p : List ℕ) (k : Came) → payloads Server ((Client, p) ∷ k) ≡ payloads Server k
+unfolding payloads
+past_client p k = refl
+
+some_server : (q : List ℕ) (k : Came) → payloads Server ((Server, q) ∷ k) ≡ [] → ⊥
+unfolding payloads
+some_server q k e = omega (arith, ap length e)
 
 none_on : (bs : List ℕ) → side_bytes Client (on Server bs) ≡ []
 none_on bs = other-on Server bs [] ∙ no_bytes Client
@@ -65,6 +73,18 @@ module _ (profile : Profile) where
   first_kept before ((Server, q) ∷ came) kept (inl a) none empty = of_server q came ∙ first_kept (before ++ (Server, q) ∷ []) came kept a.1 (payloads-other Server before q ∙ none) empty
   first_kept before ((Server, q) ∷ came) kept (inr a) none empty =
       of_server q came ∙ first_kept (before ++ (Server, q) ∷ []) came a.1 a.3 (payloads-other Server before q ∙ none) (sym (of_server q a.1) ∙ ap (payloads Client) (sym a.2) ∙ empty)
+
+  -- of no frames none is kept
+  none_kept : (before came kept : Came) → KeptAfter profile before came kept → payloads Server came ≡ [] → payloads Server kept ≡ []
+  none_kept before [] kept e none = ap (payloads Server) e ∙ no_payloads Server
+  none_kept before ((Client, p) ∷ came) kept (inl a) none = none_kept (before ++ (Client, p) ∷ []) came kept a.1 (sym (past_client p came) ∙ none)
+  none_kept before ((Client, p) ∷ came) kept (inr a) none = ap (payloads Server) a.2 ∙ past_client p a.1 ∙ none_kept (before ++ (Client, p) ∷ []) came a.1 a.3 (sym (past_client p came) ∙ none)
+  none_kept before ((Server, q) ∷ came) kept a none = absurd (some_server q came none)
+
+none_told : (k : Came) → payloads Server k ≡ [] → side_bytes Server (told k) ≡ []
+none_told [] none = no_bytes Server
+none_told ((Client, p) ∷ k) none = side_bytes-append Server (on Client (frame p)) (told k) ∙ (λ i. (other-on Client (frame p) [] ∙ no_bytes Server) i ++ none_told k (sym (past_client p k) ∙ none) i)
+none_told ((Server, q) ∷ k) none = absurd (some_server q k none)
 
 no_frames : (P : List (List ℕ)) → length (frames P) ≡ 0 → P ≡ []
 no_frames [] e = refl
@@ -98,7 +118,7 @@ module _ (t : ThroughState) (h : History) (c k : Came) (M : List Message) (r : R
       subst (λ z. Good t.talk.limits (told k) r.stands.conversation z []) r.alone.0
       (subst (λ z. Good t.talk.limits (told k) r.stands.conversation t.talk.client_held z) r.alone.1 r.stands.good)
 
-  has_begun : 0 < t.client.count → r.stands.conversation.client ≢ []
+  pub has_begun : 0 < t.client.count → r.stands.conversation.client ≢ []
   has_begun some none =
       let empty : length (side_bytes Client (told k)) ≡ 0 = ap length (its_good.whole.client_cut.whole ∙ ap (λ z. frames (client_payloads z) ++ []) none) in
       let given = no_frames (payloads Client k) (ap length (sym (bytes_are k)) ∙ empty) in
@@ -113,6 +133,18 @@ module _ (t : ThroughState) (h : History) (c k : Came) (M : List Message) (r : R
           let came : payloads Client c ≡ [] = nil_from_length (payloads Client c) (omega (arith, e, r.client_count)) in
           let none : length (frames (client_payloads r.stands.conversation.client)) ≡ 0 = omega (arith, ap length (its_good.whole.client_cut.whole ∙ append-nil (frames (client_payloads r.stands.conversation.client))), ap length (bytes_are k), no_more t.talk.limits.profile [] c k r.kept, ap (λ z. length (frames z)) came) in
           absurd (some (nil_from_length r.stands.conversation.client (omega (arith, ap length (no_frames (client_payloads r.stands.conversation.client) none), length-map r.stands.conversation.client client_payload))))
+      go (suc n) e = omega (arith, e)
+
+  pub server_begins : r.stands.conversation.server ≢ [] → 0 < t.server.count
+  server_begins some = go t.server.count refl
+    where
+      go : (n : ℕ) → n ≡ t.server.count → 0 < t.server.count
+      go zero e =
+          let S = r.stands.conversation.server in
+          let came : payloads Server c ≡ [] = nil_from_length (payloads Server c) (omega (arith, e, r.server_count)) in
+          let bytes = none_told k (none_kept t.talk.limits.profile [] c k r.kept came) in
+          let none : length (frames (server_payloads S)) ≡ 0 = ap length (sym (append-nil (frames (server_payloads S))) ∙ sym its_good.whole.server_cut.whole ∙ bytes) in
+          absurd (some (nil_from_length S (omega (arith, ap length (no_frames (server_payloads S) none), length-map S server_payload))))
       go (suc n) e = omega (arith, e)
 
   module _ (piece : List ℕ) (used : ℕ) (p : List ℕ) (part : used ≤ length piece) (small : t.client.size + used < 2 ^ 62) (is : t.client.held ++ take used piece ≡ frame p) (fits : length p ≤ t.talk.limits.client) (some : 0 < t.client.count) where

@@ -1,10 +1,8 @@
 -- Requests and replies of a lane, with one frame more.
-use Rattle.std.proofs.Common.{◌≡◌, ◌≢◌, ℕ, zero, suc, ◌+◌, ◌≤◌, ◌<◌, ◌⊎◌, inl, inr, List, [], ◌∷◌, ◌++◌, length, drop, filter, refl, sym, ap, ◌∙◌, subst, arith, append_assoc, length-append, Bool, true, false, cond, Option, Some, None}
-use Rattle.std.specs.Prelude.{slice_get, negsuc, if◌then◌else◌, nat_le}
+use Rattle.std.proofs.Common.{◌≡◌, ◌≢◌, ℕ, zero, suc, ◌+◌, ◌-◌, ◌≤◌, ◌<◌, ◌⊎◌, inl, inr, List, [], ◌∷◌, ◌++◌, length, map, drop, filter, refl, sym, ap, ◌∙◌, subst, arith, append_assoc, length-append, Bool, true, false, cond, Option, Some, None}
+use Rattle.std.specs.Prelude.{slice_get, if◌then◌else◌}
 use Rattle.std.specs.List.{enumerate_from}
-use Rattle.std.specs.Ordering.{int_eq}
-use Rattle.std.proofs.lemmas.Bool.{false≢true}
-use Rattle.std.proofs.lemmas.List.{append-nil, drop-append-le, length-drop, length_push}
+use Rattle.std.proofs.lemmas.List.{append-nil, drop-append-le, length-drop, length-map, length_push, map-append}
 use Rattle.std.proofs.lemmas.List.Elements.{filter-append}
 use Rattle.std.proofs.lemmas.Option.{slice_get_within}
 use Rattle.zk_records.specs.declared.profile.Profile.{Profile}
@@ -13,12 +11,11 @@ use Rattle.zk_waiting.specs.declared.lane.Lane.TheVariants.{Ping, Auth, Watches,
 use Rattle.zk_waiting.specs.Lane.{same_lane}
 use Rattle.zk_talk.specs.declared.message.Side.{Side}
 use Rattle.zk_talk.specs.declared.message.Side.TheVariants.{Client, Server}
-use Rattle.zk_talk.proofs.Turns.{same_lane-itself}
+use Rattle.zk_talk.proofs.Loads.{lanes_same}
 use Rattle.zk_through.specs.declared.turn.Turn.{Turn}
-use Rattle.zk_through.specs.declared.turns.Left.{Left}
 use Rattle.zk_through.specs.Came.{Came, payloads}
-use Rattle.zk_through.specs.LeftOut.{xid_of, has_turns, is_turn_xid, has_turn, lane_in, is_on, asked, replied, IsForeign, IsLeftOut, KeptAfter}
-use Rattle.zk_through.specs.Turns.{LaneState, TurnsState, turn_of, left_of, AreLeft, IsLane, AreLanes, IsDue, with_request, with_left, with_reply, without_oldest, with_lane, lane_on}
+use Rattle.zk_through.specs.LeftOut.{xid_of, has_turn, lane_in, is_on, asked, replied, IsLeftOut, KeptAfter}
+use Rattle.zk_through.specs.Turns.{TurnsState, turn_of, waits_on, with_waits, IsLane, IsLacked, AreLacked, AreLeft, AreLanes, IsDue, and_turn}
 use Rattle.zk_through.proofs.Frames.{payloads-same, payloads-other}
 
 pub nil_or_some : {X : Type 0} (xs : List X) → (xs ≡ []) ⊎ (0 < length xs)
@@ -118,80 +115,42 @@ pub same_some : (a b : ℕ × List ℕ) → Some a ≡ Some b → a ≡ b
 unfolding value
 same_some a b e = ap (value a) e
 
-first : Left → List Left → Left
-first d [] = d
-first d (l ∷ ls) = l
+turn_value : Turn → Option Turn → Turn
+turn_value d None = d
+turn_value d (Some x) = x
+
+same_turn : (a b : Turn) → Some a ≡ Some b → a ≡ b
+unfolding turn_value
+same_turn a b e = ap (turn_value a) e
 
 cut_at : {X : Type 0} (n : ℕ) (xs : List X) → n < length xs → (x : X) × (slice_get xs n ≡ Some x) × (drop n xs ≡ x ∷ drop (suc n) xs)
 cut_at n [] l = absurd (omega (arith, l))
 cut_at zero (x ∷ xs) l = (x, refl, refl)
 cut_at (suc n) (x ∷ xs) l = cut_at n xs (omega (arith, l))
 
-left_value : Left → Option Left → Left
-left_value d None = d
-left_value d (Some x) = x
+none_first : (turns : List Turn) → slice_get turns 0 ≡ None → length turns ≡ 0
+none_first [] e = refl
+none_first (x ∷ xs) e = absurd (cc)
 
-some_same : (a b : Left) → Some a ≡ Some b → a ≡ b
-unfolding left_value
-some_same a b e = ap (left_value a) e
-
--- the oldest, where its turn has come
-pub due_front : (s : LaneState) (l : Left) → slice_get s.left 0 ≡ Some l → l.place ≡ s.replies → IsDue s l.turn
-due_front s l is place =
-    let k = cut_at 0 s.left (slice_get_within s.left 0 l is) in
-    let same : k.0 ≡ l = some_same k.0 l (sym k.1 ∙ is) in
-    (drop 1 s.left, k.2 ∙ ap (λ z. z ∷ drop 1 s.left) same ∙ ap (λ z. left_of l.turn z ∷ drop 1 s.left) place)
-
-module _ (profile : Profile) where
-  left_more : (n m : ℕ) (xs : List (ℕ × List ℕ)) (left : List Left) (x : ℕ × List ℕ) → m ≡ n + length xs → IsForeign profile x.1 → AreLeft profile n xs left → AreLeft profile n (xs ++ x ∷ []) (left ++ left_of (turn_of x) m ∷ [])
-  left_more n m [] left x e foreign a =
-      let same : m ≡ n = omega (arith, e) in
-      inl (foreign, [], ap (λ z. z ++ left_of (turn_of x) m ∷ []) a ∙ ap (λ z. left_of (turn_of x) z ∷ []) same, refl)
-  left_more n m (y ∷ xs) left x e foreign (inl a) =
-      inl (a.0, a.1 ++ left_of (turn_of x) m ∷ [], ap (λ z. z ++ left_of (turn_of x) m ∷ []) a.2, left_more (suc n) m xs a.1 x (omega (arith, e)) foreign a.3)
-  left_more n m (y ∷ xs) left x e foreign (inr a) = inr (a.0, left_more (suc n) m xs left x (omega (arith, e)) foreign a.1)
-
-  left_same : (n : ℕ) (xs : List (ℕ × List ℕ)) (left : List Left) (x : ℕ × List ℕ) → (IsForeign profile x.1 → ⊥) → AreLeft profile n xs left → AreLeft profile n (xs ++ x ∷ []) left
-  left_same n [] left x known a = inr (known, a)
-  left_same n (y ∷ xs) left x known (inl a) = inl (a.0, a.1, a.2, left_same (suc n) xs a.1 x known a.3)
-  left_same n (y ∷ xs) left x known (inr a) = inr (a.0, left_same (suc n) xs left x known a.1)
-
-  some_wait : (n : ℕ) (xs : List (ℕ × List ℕ)) (l : Left) (rest : List Left) → AreLeft profile n xs (l ∷ rest) → 0 < length xs
-  some_wait n [] l rest a = absurd (omega (arith, ap length a))
-  some_wait n (x ∷ xs) l rest a = omega arith
-
-  not_before : (n : ℕ) (xs : List (ℕ × List ℕ)) (l : Left) (rest : List Left) → AreLeft profile n xs (l ∷ rest) → n ≤ l.place
-  unfolding first
-  not_before n [] l rest a = absurd (omega (arith, ap length a))
-  not_before n (x ∷ xs) l rest (inl a) =
-      let same : l.place ≡ n = ap (λ z. (first l z).place) a.2 in
-      omega (arith, same)
-  not_before n (x ∷ xs) l rest (inr a) = omega (arith, not_before (suc n) xs l rest a.1)
-
-  due_turn : (n : ℕ) (x : ℕ × List ℕ) (ys : List (ℕ × List ℕ)) (turn : Turn) (rest : List Left) → AreLeft profile n (x ∷ ys) (left_of turn n ∷ rest) → IsForeign profile x.1 × (turn ≡ turn_of x) × AreLeft profile (suc n) ys rest
-  unfolding first
-  due_turn n x ys turn rest (inl a) = (a.0, ap (λ z. (first (left_of turn n) z).turn) a.2, subst (AreLeft profile (suc n) ys) (sym (ap (drop 1) a.2)) a.3)
-  due_turn n x ys turn rest (inr a) = absurd (omega (arith, not_before (suc n) ys (left_of turn n) rest a.1))
-
-  talks_turn : (n : ℕ) (x : ℕ × List ℕ) (ys : List (ℕ × List ℕ)) (left : List Left) → AreLeft profile n (x ∷ ys) left → ((turn : Turn) (rest : List Left) → left ≡ left_of turn n ∷ rest → ⊥) → (IsForeign profile x.1 → ⊥) × AreLeft profile (suc n) ys left
-  talks_turn n x ys left (inl a) none = absurd (none (turn_of x) a.1 a.2)
-  talks_turn n x ys left (inr a) none = a
+-- one more, where there is room
+pub with_room : (room : ℕ) (turns : List Turn) (turn : Turn) → length turns < room → and_turn room turn turns ≡ turns ++ turn ∷ []
+with_room room turns turn fits =
+    let none : length (turns ++ turn ∷ []) - room ≡ 0 = omega (arith, fits, length_push turns turn) in
+    ap (λ n. drop n (turns ++ turn ∷ [])) none
 
 -- ---- One lane
-module _ (profile : Profile) (lane : Lane) (s : LaneState) where
-  lane_same : (a b : Came) → asked lane b ≡ asked lane a → replied lane b ≡ replied lane a → IsLane profile lane a s → IsLane profile lane b s
+module _ (lane : Lane) (waits : List Turn) where
+  lane_same : (a b : Came) → asked lane b ≡ asked lane a → replied lane b ≡ replied lane a → IsLane lane a waits → IsLane lane b waits
   lane_same a b e f x = record {
-    requests = x.requests ∙ ap length (sym e);
-    replies = x.replies ∙ sym f;
     paired = omega (arith, x.paired, f, ap length e);
-    left = subst (λ n. AreLeft profile n (drop n (asked lane b)) s.left) (sym f) (subst (λ z. AreLeft profile (replied lane a) (drop (replied lane a) z) s.left) (sym e) x.left);
+    are = x.are ∙ sym (λ i. map turn_of (drop (f i) (e i)));
   }
 
-  module _ (c : Came) (p : List ℕ) (x : IsLane profile lane c s) where
-    pub lane_client : (payloads Client c ≢ [] → is_on lane 8 p ≡ false) → IsLane profile lane (c ++ (Client, p) ∷ []) s
+  module _ (c : Came) (p : List ℕ) (x : IsLane lane c waits) where
+    pub lane_client : (payloads Client c ≢ [] → is_on lane 8 p ≡ false) → IsLane lane (c ++ (Client, p) ∷ []) waits
     lane_client other = lane_same c (c ++ (Client, p) ∷ []) (asked_still lane c p other) (replied_by_client lane c p) x
 
-    pub lane_server : (payloads Server c ≢ [] → is_on lane 16 p ≡ false) → IsLane profile lane (c ++ (Server, p) ∷ []) s
+    pub lane_server : (payloads Server c ≢ [] → is_on lane 16 p ≡ false) → IsLane lane (c ++ (Server, p) ∷ []) waits
     lane_server other = lane_same c (c ++ (Server, p) ∷ []) (asked_by_server lane c p) (replied_still lane c p other) x
 
     module _ (some : payloads Client c ≢ []) (on : is_on lane 8 p ≡ true) where
@@ -204,178 +163,263 @@ module _ (profile : Profile) (lane : Lane) (s : LaneState) where
       more : length (asked lane (c ++ (Client, p) ∷ [])) ≡ length (asked lane c) + 1
       more = ap length asks ∙ length_push (asked lane c) (length (payloads Client c), p)
 
-      of_client : (s' : LaneState) → s'.requests ≡ s.requests + 1 → s'.replies ≡ s.replies → AreLeft profile (replied lane c) (drop (replied lane c) (asked lane c) ++ (length (payloads Client c), p) ∷ []) s'.left → IsLane profile lane (c ++ (Client, p) ∷ []) s'
-      of_client s' e f left =
+      pub lane_request : (turn : Turn) → turn ≡ turn_of (length (payloads Client c), p) → IsLane lane (c ++ (Client, p) ∷ []) (waits ++ turn ∷ [])
+      lane_request turn is =
           let rs = replied_by_client lane c p in
           record {
-            requests = omega (arith, e, x.requests, more);
-            replies = f ∙ x.replies ∙ sym rs;
             paired = omega (arith, rs, x.paired, more);
-            left = subst (λ n. AreLeft profile n (drop n (asked lane (c ++ (Client, p) ∷ []))) s'.left) (sym rs) (subst (λ z. AreLeft profile (replied lane c) z s'.left) (sym rests) left);
+            are =
+                (λ i. x.are i ++ is i ∷ []) ∙ sym (map-append turn_of (drop (replied lane c) (asked lane c)) ((length (payloads Client c), p) ∷ [])) ∙ ap (map turn_of) (sym rests)
+                ∙ ap (λ n. map turn_of (drop n (asked lane (c ++ (Client, p) ∷ [])))) (sym rs);
           }
 
-      pub lane_request : (IsForeign profile p → ⊥) → IsLane profile lane (c ++ (Client, p) ∷ []) (with_request s)
-      lane_request known = of_client (with_request s) refl refl (left_same profile (replied lane c) (drop (replied lane c) (asked lane c)) s.left (length (payloads Client c), p) known x.left)
+  module _ (c : Came) (x : IsLane lane c waits) where
+    waiting : length waits ≡ length (asked lane c) - replied lane c
+    waiting = ap length x.are ∙ length-map (drop (replied lane c) (asked lane c)) turn_of ∙ length-drop (replied lane c) (asked lane c)
 
-      pub lane_left : (turn : Turn) → turn ≡ turn_of (length (payloads Client c), p) → IsForeign profile p → IsLane profile lane (c ++ (Client, p) ∷ []) (with_left turn s)
-      lane_left turn is foreign =
-          let n = replied lane c in
-          let rest = drop n (asked lane c) in
-          let place : s.requests ≡ n + length rest = omega (arith, x.requests, x.paired, length-drop n (asked lane c)) in
-          of_client (with_left turn s) refl refl
-          (subst (λ (t : Turn). AreLeft profile n (rest ++ (length (payloads Client c), p) ∷ []) (s.left ++ left_of t s.requests ∷ [])) (sym is)
-          (left_more profile n s.requests rest s.left (length (payloads Client c), p) place foreign x.left))
+    -- the request that the next reply answers
+    first_of : 0 < length waits → (y : ℕ × List ℕ) × (slice_get (asked lane c) (replied lane c) ≡ Some y) × (waits ≡ turn_of y ∷ map turn_of (drop (suc (replied lane c)) (asked lane c)))
+    first_of some =
+        let k = cut_at (replied lane c) (asked lane c) (omega (arith, some, waiting)) in
+        (k.0, k.1, x.are ∙ ap (map turn_of) k.2)
 
-    module _ (some : payloads Server c ≢ []) (on : is_on lane 16 p ≡ true) where
+    pub oldest_is : (turn : Turn) → slice_get waits 0 ≡ Some turn → (y : ℕ × List ℕ) × (slice_get (asked lane c) (replied lane c) ≡ Some y) × (turn ≡ turn_of y)
+    oldest_is turn e =
+        let k = first_of (slice_get_within waits 0 turn e) in
+        (k.0, k.1, same_turn turn (turn_of k.0) (sym e ∙ ap (λ z. slice_get z 0) k.2))
+
+    pub none_is : slice_get waits 0 ≡ None → length (asked lane c) ≤ replied lane c
+    none_is e = omega (arith, none_first waits e, waiting)
+
+    module _ (p : List ℕ) (some : payloads Server c ≢ []) (on : is_on lane 16 p ≡ true) where
       replies_more : replied lane (c ++ (Server, p) ∷ []) ≡ suc (replied lane c)
       replies_more = replied_more lane c p some true on ∙ plus_one (replied lane c)
 
-      of_server : (s' : LaneState) → s'.requests ≡ s.requests → s'.replies ≡ s.replies + 1 → replied lane c < length (asked lane c) → AreLeft profile (suc (replied lane c)) (drop (suc (replied lane c)) (asked lane c)) s'.left → IsLane profile lane (c ++ (Server, p) ∷ []) s'
-      of_server s' e f fits left =
+      pub lane_reply : 0 < length waits → IsLane lane (c ++ (Server, p) ∷ []) (drop 1 waits)
+      lane_reply more =
           let as' = asked_by_server lane c p in
+          let k = first_of more in
           record {
-            requests = e ∙ x.requests ∙ ap length (sym as');
-            replies = omega (arith, f, x.replies, replies_more);
-            paired = omega (arith, replies_more, fits, ap length as');
-            left = subst (λ n. AreLeft profile n (drop n (asked lane (c ++ (Server, p) ∷ []))) s'.left) (sym replies_more) (subst (λ z. AreLeft profile (suc (replied lane c)) (drop (suc (replied lane c)) z) s'.left) (sym as') left);
+            paired = omega (arith, replies_more, more, waiting, ap length as');
+            are = ap (drop 1) k.2 ∙ ap (λ z. map turn_of (drop (suc (replied lane c)) z)) (sym as') ∙ ap (λ n. map turn_of (drop n (asked lane (c ++ (Server, p) ∷ [])))) (sym replies_more);
           }
 
-      pub lane_reply : s.replies < s.requests → ((turn : Turn) → IsDue s turn → ⊥) → IsLane profile lane (c ++ (Server, p) ∷ []) (with_reply s)
-      lane_reply fits none =
-          let k = cut_at (replied lane c) (asked lane c) (omega (arith, fits, x.requests, x.replies)) in
-          let t = talks_turn profile (replied lane c) k.0 (drop (suc (replied lane c)) (asked lane c)) s.left (subst (λ z. AreLeft profile (replied lane c) z s.left) k.2 x.left)
-          (λ turn rest e. none turn (rest, e ∙ ap (λ z. left_of turn z ∷ rest) (sym x.replies))) in
-          of_server (with_reply s) refl refl (omega (arith, fits, x.requests, x.replies)) t.1
+-- ---- How many are left out
+module _ (profile : Profile) (turn : Turn) where
+  lacked_same : (turns : List Turn) (n : ℕ) → (IsLacked profile turn → ⊥) → AreLacked profile turns n → AreLacked profile (turns ++ turn ∷ []) n
+  lacked_same [] n known a = inr (known, a)
+  lacked_same (y ∷ ys) n known (inl a) = inl (a.0, a.1, a.2, lacked_same ys a.1 known a.3)
+  lacked_same (y ∷ ys) n known (inr a) = inr (a.0, lacked_same ys n known a.1)
 
-      pub lane_answer : (turn : Turn) → IsDue s turn → IsLane profile lane (c ++ (Server, p) ∷ []) (without_oldest s)
-      lane_answer turn due =
-          let n = replied lane c in
-          let at = subst (AreLeft profile n (drop n (asked lane c))) (due.1 ∙ ap (λ z. left_of turn z ∷ due.0) x.replies) x.left in
-          let some' = some_wait profile n (drop n (asked lane c)) (left_of turn n) due.0 at in
-          let fits : n < length (asked lane c) = omega (arith, some', length-drop n (asked lane c)) in
-          let k = cut_at n (asked lane c) fits in
-          let t = due_turn profile n k.0 (drop (suc n) (asked lane c)) turn due.0 (subst (λ z. AreLeft profile n z (left_of turn n ∷ due.0)) k.2 at) in
-          of_server (without_oldest s) refl refl fits (subst (AreLeft profile (suc n) (drop (suc n) (asked lane c))) (sym (ap (drop 1) due.1)) t.2)
+  lacked_more : (turns : List Turn) (n : ℕ) → IsLacked profile turn → AreLacked profile turns n → AreLacked profile (turns ++ turn ∷ []) (suc n)
+  lacked_more [] n lacked a = inl (lacked, n, refl, a)
+  lacked_more (y ∷ ys) n lacked (inl a) = inl (a.0, suc a.1, ap suc a.2, lacked_more ys a.1 lacked a.3)
+  lacked_more (y ∷ ys) n lacked (inr a) = inr (a.0, lacked_more ys n lacked a.1)
 
-  module _ (c : Came) (x : IsLane profile lane c s) where
-    -- the request that the next reply answers, where it is left out
-    pub due_is : (turn : Turn) → IsDue s turn → (y : ℕ × List ℕ) × (slice_get (asked lane c) (replied lane c) ≡ Some y) × IsForeign profile y.1 × (turn ≡ turn_of y)
-    due_is turn due =
-        let n = replied lane c in
-        let at = subst (AreLeft profile n (drop n (asked lane c))) (due.1 ∙ ap (λ z. left_of turn z ∷ due.0) x.replies) x.left in
-        let some' = some_wait profile n (drop n (asked lane c)) (left_of turn n) due.0 at in
-        let fits : n < length (asked lane c) = omega (arith, some', length-drop n (asked lane c)) in
-        let k = cut_at n (asked lane c) fits in
-        let t = due_turn profile n k.0 (drop (suc n) (asked lane c)) turn due.0 (subst (λ z. AreLeft profile n z (left_of turn n ∷ due.0)) k.2 at) in
-        (k.0, k.1, t.0, t.1)
+  lacked_drop : (turns : List Turn) (n : ℕ) → slice_get turns 0 ≡ Some turn → (IsLacked profile turn → ⊥) → AreLacked profile turns n → AreLacked profile (drop 1 turns) n
+  lacked_drop [] n e known a = absurd (cc)
+  lacked_drop (y ∷ ys) n e known (inl a) = absurd (known (subst (IsLacked profile) (same_turn y turn e) a.0))
+  lacked_drop (y ∷ ys) n e known (inr a) = a.1
 
-    -- where none is due, the talk got the request that the next reply answers
-    pub none_due : s.replies < s.requests → ((turn : Turn) → IsDue s turn → ⊥) → (y : ℕ × List ℕ) → slice_get (asked lane c) (replied lane c) ≡ Some y → IsForeign profile y.1 → ⊥
-    none_due fits none y is foreign =
-        let n = replied lane c in
-        let k = cut_at n (asked lane c) (omega (arith, fits, x.requests, x.replies)) in
-        let t = talks_turn profile n k.0 (drop (suc n) (asked lane c)) s.left (subst (λ z. AreLeft profile n z s.left) k.2 x.left)
-        (λ turn rest e. none turn (rest, e ∙ ap (λ z. left_of turn z ∷ rest) (sym x.replies))) in
-        t.0 (subst (λ (z : ℕ × List ℕ). IsForeign profile z.1) (same_some y k.0 (sym is ∙ k.1)) foreign)
+  lacked_less : (turns : List Turn) (n : ℕ) → slice_get turns 0 ≡ Some turn → IsLacked profile turn → AreLacked profile turns n → (m : ℕ) × (n ≡ suc m) × AreLacked profile (drop 1 turns) m
+  lacked_less [] n e lacked a = absurd (cc)
+  lacked_less (y ∷ ys) n e lacked (inl a) = (a.1, a.2, a.3)
+  lacked_less (y ∷ ys) n e lacked (inr a) = absurd (a.0 (subst (IsLacked profile) (sym (same_turn y turn e)) lacked))
 
--- ---- Both lanes
-and_true : (a b : Bool) → (if a then b else false) ≡ true → b ≡ true
-and_true true b e = e
-and_true false b e = absurd (false≢true e)
+-- ---- The lanes, with one changed
+changed : (k l : Lane) (f : List Turn → List Turn) (t : TurnsState) → waits_on k (with_waits l f t) ≡ cond (same_lane k l) (f (waits_on k t)) (waits_on k t)
+changed Ping Ping f t = refl
+changed Ping Auth f t = refl
+changed Ping Watches f t = refl
+changed Ping Plain f t = refl
+changed Auth Ping f t = refl
+changed Auth Auth f t = refl
+changed Auth Watches f t = refl
+changed Auth Plain f t = refl
+changed Watches Ping f t = refl
+changed Watches Auth f t = refl
+changed Watches Watches f t = refl
+changed Watches Plain f t = refl
+changed Plain Ping f t = refl
+changed Plain Auth f t = refl
+changed Plain Watches f t = refl
+changed Plain Plain f t = refl
 
-but_true : (a b : Bool) → (if a then false else b) ≡ true → b ≡ true
-but_true true b e = absurd (false≢true e)
-but_true false b e = e
+left_stays : (l : Lane) (f : List Turn → List Turn) (t : TurnsState) → with_waits l f t ≡ record (with_waits l f t) { left = t.left }
+left_stays Ping f t = refl
+left_stays Auth f t = refl
+left_stays Watches f t = refl
+left_stays Plain f t = refl
 
+-- the count beside the lanes is of no weight for them
+waits_still : (k l : Lane) (f : List Turn → List Turn) (t : TurnsState) (n : ℕ) → waits_on k (record (with_waits l f t) { left = n }) ≡ waits_on k (with_waits l f t)
+waits_still Ping l f t n = refl
+waits_still Auth l f t n = refl
+waits_still Watches l f t n = refl
+waits_still Plain l f t n = refl
+
+abbrev left_on : (profile : Profile) (t : TurnsState) → AreLeft profile t → Lane → ℕ
+left_on profile t a Ping = a.ping
+left_on profile t a Auth = a.auth
+left_on profile t a Watches = a.watches
+left_on profile t a Plain = a.plain
+
+are_on : (profile : Profile) (t : TurnsState) (a : AreLeft profile t) (l : Lane) → AreLacked profile (waits_on l t) (left_on profile t a l)
+are_on profile t a Ping = a.pings
+are_on profile t a Auth = a.auths
+are_on profile t a Watches = a.of_watches
+are_on profile t a Plain = a.of_plain
+
+left_with : (profile : Profile) (l : Lane) (f : List Turn → List Turn) (t : TurnsState) (a : AreLeft profile t) (left n : ℕ) → AreLacked profile (f (waits_on l t)) n → left + left_on profile t a l ≡ t.left + n →
+    AreLeft profile (record (with_waits l f t) { left = left })
+left_with profile Ping f t a left n x e = record {
+  ping = n;
+  auth = a.auth;
+  watches = a.watches;
+  plain = a.plain;
+  pings = x;
+  auths = a.auths;
+  of_watches = a.of_watches;
+  of_plain = a.of_plain;
+  all = omega (arith, a.all, e);
+}
+left_with profile Auth f t a left n x e = record {
+  ping = a.ping;
+  auth = n;
+  watches = a.watches;
+  plain = a.plain;
+  pings = a.pings;
+  auths = x;
+  of_watches = a.of_watches;
+  of_plain = a.of_plain;
+  all = omega (arith, a.all, e);
+}
+left_with profile Watches f t a left n x e = record {
+  ping = a.ping;
+  auth = a.auth;
+  watches = n;
+  plain = a.plain;
+  pings = a.pings;
+  auths = a.auths;
+  of_watches = x;
+  of_plain = a.of_plain;
+  all = omega (arith, a.all, e);
+}
+left_with profile Plain f t a left n x e = record {
+  ping = a.ping;
+  auth = a.auth;
+  watches = a.watches;
+  plain = n;
+  pings = a.pings;
+  auths = a.auths;
+  of_watches = a.of_watches;
+  of_plain = x;
+  all = omega (arith, a.all, e);
+}
+
+-- ---- The frame's lane
 on_none : (lane : Lane) (size : ℕ) (p : List ℕ) → has_turn size p ≡ false → is_on lane size p ≡ false
 unfolding is_on
 on_none lane size p e = ap (λ z. if z then same_lane lane (lane_in p) else false) e
 
 module _ (size : ℕ) (p : List ℕ) (turn : has_turn size p ≡ true) where
-  pub on_lane : (lane : Lane) → is_on lane size p ≡ same_lane lane (lane_in p)
+  on_lane : (lane : Lane) → is_on lane size p ≡ same_lane lane (lane_in p)
   unfolding is_on
   on_lane lane = ap (λ z. if z then same_lane lane (lane_in p) else false) turn
 
-  turn_lane : has_turns (lane_in p) ≡ true
-  unfolding has_turn is_turn_xid
-  turn_lane = but_true (int_eq (xid_of p) (negsuc 0)) (has_turns (lane_in p)) (and_true (nat_le size (length p)) (is_turn_xid (xid_of p)) turn)
+  each_lane : (c c' : Came) (t : TurnsState) (f : List Turn → List Turn)
+      (moves : (k : Lane) → k ≡ lane_in p → is_on k size p ≡ true → IsLane k c (waits_on k t) → IsLane k c' (f (waits_on k t)))
+      (stays : (k : Lane) → is_on k size p ≡ false → IsLane k c (waits_on k t) → IsLane k c' (waits_on k t)) →
+      ((k : Lane) → IsLane k c (waits_on k t)) → (k : Lane) → IsLane k c' (waits_on k (with_waits (lane_in p) f t))
+  each_lane c c' t f moves stays b k = go (same_lane k (lane_in p)) refl
+    where
+      now : (d : Bool) → same_lane k (lane_in p) ≡ d → waits_on k (with_waits (lane_in p) f t) ≡ cond d (f (waits_on k t)) (waits_on k t)
+      now d e = changed k (lane_in p) f t ∙ ap (λ z. cond z (f (waits_on k t)) (waits_on k t)) e
 
-  module _ (profile : Profile) (c c' : Came) (t : TurnsState) (f : LaneState → LaneState)
-      (moves : IsLane profile (lane_in p) c (lane_on (lane_in p) t) → IsLane profile (lane_in p) c' (f (lane_on (lane_in p) t)))
-      (stays : (lane : Lane) (s : LaneState) → is_on lane size p ≡ false → IsLane profile lane c s → IsLane profile lane c' s) where
-    move : (l : Lane) → lane_in p ≡ l → IsLane profile l c (lane_on l t) → IsLane profile l c' (f (lane_on l t))
-    move l e = subst (λ (z : Lane). IsLane profile z c (lane_on z t) → IsLane profile z c' (f (lane_on z t))) e moves
-
-    by_lane : (l : Lane) → lane_in p ≡ l → has_turns l ≡ true → AreLanes profile c t → AreLanes profile c' (with_lane l f t)
-    by_lane Plain e h b = (move Plain e b.0, stays Watches t.watches (on_lane Watches ∙ ap (same_lane Watches) e) b.1)
-    by_lane Watches e h b = (stays Plain t.plain (on_lane Plain ∙ ap (same_lane Plain) e) b.0, move Watches e b.1)
-    by_lane Ping e h b = absurd (false≢true h)
-    by_lane Auth e h b = absurd (false≢true h)
-
-    pub lanes : AreLanes profile c t → AreLanes profile c' (with_lane (lane_in p) f t)
-    lanes b = by_lane (lane_in p) refl turn_lane b
-
-  on_itself : is_on (lane_in p) size p ≡ true
-  on_itself = on_lane (lane_in p) ∙ same_lane-itself (lane_in p)
-
-  module _ (profile : Profile) (c : Came) (t : TurnsState) where
-    of_lane : (l : Lane) → has_turns l ≡ true → AreLanes profile c t → IsLane profile l c (lane_on l t)
-    of_lane Plain h b = b.0
-    of_lane Watches h b = b.1
-    of_lane Ping h b = absurd (false≢true h)
-    of_lane Auth h b = absurd (false≢true h)
-
-    pub its_lane : AreLanes profile c t → IsLane profile (lane_in p) c (lane_on (lane_in p) t)
-    its_lane b = of_lane (lane_in p) turn_lane b
+      go : (d : Bool) → same_lane k (lane_in p) ≡ d → IsLane k c' (waits_on k (with_waits (lane_in p) f t))
+      go true e = subst (IsLane k c') (sym (now true e)) (moves k (lanes_same k (lane_in p) e) (on_lane k ∙ e) (b k))
+      go false e = subst (IsLane k c') (sym (now false e)) (stays k (on_lane k ∙ e) (b k))
 
 module _ (profile : Profile) (c : Came) (t : TurnsState) (p : List ℕ) (b : AreLanes profile c t) where
   pub lanes_client : (payloads Client c ≢ [] → has_turn 8 p ≡ false) → AreLanes profile (c ++ (Client, p) ∷ []) t
-  lanes_client other = (
-    lane_client profile Plain t.plain c p b.0 (λ some. on_none Plain 8 p (other some)),
-    lane_client profile Watches t.watches c p b.1 (λ some. on_none Watches 8 p (other some)),
-  )
+  lanes_client other = record { lane = λ k. lane_client k (waits_on k t) c p (b.lane k) (λ some. on_none k 8 p (other some)); left = b.left }
 
   pub lanes_server : (payloads Server c ≢ [] → has_turn 16 p ≡ false) → AreLanes profile (c ++ (Server, p) ∷ []) t
-  lanes_server other = (
-    lane_server profile Plain t.plain c p b.0 (λ some. on_none Plain 16 p (other some)),
-    lane_server profile Watches t.watches c p b.1 (λ some. on_none Watches 16 p (other some)),
-  )
+  lanes_server other = record { lane = λ k. lane_server k (waits_on k t) c p (b.lane k) (λ some. on_none k 16 p (other some)); left = b.left }
 
-  module _ (some : payloads Client c ≢ []) (turn : has_turn 8 p ≡ true) where
-    pub lanes_request : (IsForeign profile p → ⊥) → AreLanes profile (c ++ (Client, p) ∷ []) (with_lane (lane_in p) with_request t)
-    lanes_request known =
-        lanes 8 p turn profile c (c ++ (Client, p) ∷ []) t with_request
-        (λ x. lane_request profile (lane_in p) (lane_on (lane_in p) t) c p x some (on_itself 8 p turn) known)
-        (λ lane s off x. lane_client profile lane s c p x (λ more. off)) b
+  module _ (some : payloads Client c ≢ []) (turn : has_turn 8 p ≡ true) (asks : Turn) (is : asks ≡ turn_of (length (payloads Client c), p)) (fits : (k : Lane) → length (waits_on k t) < t.room) where
+    pushed : (k : Lane) → IsLane k (c ++ (Client, p) ∷ []) (waits_on k (with_waits (lane_in p) (and_turn t.room asks) t))
+    pushed =
+        each_lane 8 p turn c (c ++ (Client, p) ∷ []) t (and_turn t.room asks)
+        (λ k same on x. subst (IsLane k (c ++ (Client, p) ∷ [])) (sym (with_room t.room (waits_on k t) asks (fits k))) (lane_request k (waits_on k t) c p x some on asks is))
+        (λ k off x. lane_client k (waits_on k t) c p x (λ more. off)) b.lane
 
-    pub lanes_left : (asks : Turn) → asks ≡ turn_of (length (payloads Client c), p) → IsForeign profile p → AreLanes profile (c ++ (Client, p) ∷ []) (with_lane (lane_in p) (with_left asks) t)
-    lanes_left asks is foreign =
-        lanes 8 p turn profile c (c ++ (Client, p) ∷ []) t (with_left asks)
-        (λ x. lane_left profile (lane_in p) (lane_on (lane_in p) t) c p x some (on_itself 8 p turn) asks is foreign)
-        (λ lane s off x. lane_client profile lane s c p x (λ more. off)) b
+    push_is : and_turn t.room asks (waits_on (lane_in p) t) ≡ waits_on (lane_in p) t ++ asks ∷ []
+    push_is = with_room t.room (waits_on (lane_in p) t) asks (fits (lane_in p))
 
-  module _ (some : payloads Server c ≢ []) (turn : has_turn 16 p ≡ true) where
-    pub lanes_reply : (lane_on (lane_in p) t).replies < (lane_on (lane_in p) t).requests → ((due : Turn) → IsDue (lane_on (lane_in p) t) due → ⊥) → AreLanes profile (c ++ (Server, p) ∷ []) (with_lane (lane_in p) with_reply t)
-    lanes_reply fits none =
-        lanes 16 p turn profile c (c ++ (Server, p) ∷ []) t with_reply
-        (λ x. lane_reply profile (lane_in p) (lane_on (lane_in p) t) c p x some (on_itself 16 p turn) fits none)
-        (λ lane s off x. lane_server profile lane s c p x (λ more. off)) b
+    pub lanes_request : (IsLacked profile asks → ⊥) → AreLanes profile (c ++ (Client, p) ∷ []) (with_waits (lane_in p) (and_turn t.room asks) t)
+    lanes_request known = record {
+      lane = pushed;
+      left =
+          let l = lane_in p in
+          let n = left_on profile t b.left l in
+          let x = subst (λ z. AreLacked profile z n) (sym push_is) (lacked_same profile asks (waits_on l t) n known (are_on profile t b.left l)) in
+          subst (AreLeft profile) (sym (left_stays l (and_turn t.room asks) t)) (left_with profile l (and_turn t.room asks) t b.left t.left n x refl);
+    }
 
-    pub lanes_answer : (due : Turn) → IsDue (lane_on (lane_in p) t) due → AreLanes profile (c ++ (Server, p) ∷ []) (with_lane (lane_in p) without_oldest t)
-    lanes_answer due is =
-        lanes 16 p turn profile c (c ++ (Server, p) ∷ []) t without_oldest
-        (λ x. lane_answer profile (lane_in p) (lane_on (lane_in p) t) c p x some (on_itself 16 p turn) due is)
-        (λ lane s off x. lane_server profile lane s c p x (λ more. off)) b
+    pub lanes_left : IsLacked profile asks → AreLanes profile (c ++ (Client, p) ∷ []) (record (with_waits (lane_in p) (and_turn t.room asks) t) { left = t.left + 1 })
+    lanes_left lacked = record {
+      lane = λ k. subst (IsLane k (c ++ (Client, p) ∷ [])) (sym (waits_still k (lane_in p) (and_turn t.room asks) t (t.left + 1))) (pushed k);
+      left =
+          let l = lane_in p in
+          let n = left_on profile t b.left l in
+          let x = subst (λ z. AreLacked profile z (suc n)) (sym push_is) (lacked_more profile asks (waits_on l t) n lacked (are_on profile t b.left l)) in
+          left_with profile l (and_turn t.room asks) t b.left (t.left + 1) (suc n) x (omega arith);
+    }
 
   module _ (turn : has_turn 16 p ≡ true) where
-    -- the request that is left out and that the reply answers
-    pub turn_is : (due : Turn) → IsDue (lane_on (lane_in p) t) due → (y : ℕ × List ℕ) × (slice_get (asked (lane_in p) c) (replied (lane_in p) c) ≡ Some y) × IsForeign profile y.1 × (due ≡ turn_of y)
-    turn_is due is = due_is profile (lane_in p) (lane_on (lane_in p) t) c (its_lane 16 p turn profile c t b) due is
+    -- the request that the reply is to answer
+    pub turn_is : (due : Turn) → IsDue t (xid_of p) due → (y : ℕ × List ℕ) × (slice_get (asked (lane_in p) c) (replied (lane_in p) c) ≡ Some y) × (due ≡ turn_of y)
+    turn_is due is = oldest_is (lane_in p) (waits_on (lane_in p) t) c (b.lane (lane_in p)) due is
 
-    pub talks_is : (lane_on (lane_in p) t).replies < (lane_on (lane_in p) t).requests → ((due : Turn) → IsDue (lane_on (lane_in p) t) due → ⊥) → (y : ℕ × List ℕ) → slice_get (asked (lane_in p) c) (replied (lane_in p) c) ≡ Some y → IsForeign profile y.1 → ⊥
-    talks_is = none_due profile (lane_in p) (lane_on (lane_in p) t) c (its_lane 16 p turn profile c t b)
+    pub none_due : slice_get (waits_on (lane_in p) t) 0 ≡ None → length (asked (lane_in p) c) ≤ replied (lane_in p) c
+    none_due is = none_is (lane_in p) (waits_on (lane_in p) t) c (b.lane (lane_in p)) is
 
-    pub over_is : (lane_on (lane_in p) t).requests ≤ (lane_on (lane_in p) t).replies → length (asked (lane_in p) c) ≤ replied (lane_in p) c
-    over_is over =
-        let x = its_lane 16 p turn profile c t b in
-        omega (arith, over, x.requests, x.replies)
+    module _ (some : payloads Server c ≢ []) (due : Turn) (is : IsDue t (xid_of p) due) where
+      popped : (k : Lane) → IsLane k (c ++ (Server, p) ∷ []) (waits_on k (with_waits (lane_in p) (drop 1) t))
+      popped =
+          each_lane 16 p turn c (c ++ (Server, p) ∷ []) t (drop 1)
+          (λ k same on x. lane_reply k (waits_on k t) c x p some on (subst (λ (z : Lane). 0 < length (waits_on z t)) (sym same) (slice_get_within (waits_on (lane_in p) t) 0 due is)))
+          (λ k off x. lane_server k (waits_on k t) c p x (λ more. off)) b.lane
+
+      pub lanes_reply : (IsLacked profile due → ⊥) → AreLanes profile (c ++ (Server, p) ∷ []) (with_waits (lane_in p) (drop 1) t)
+      lanes_reply known = record {
+        lane = popped;
+        left =
+            let l = lane_in p in
+            let n = left_on profile t b.left l in
+            let x = lacked_drop profile due (waits_on l t) n is known (are_on profile t b.left l) in
+            subst (AreLeft profile) (sym (left_stays l (drop 1) t)) (left_with profile l (drop 1) t b.left t.left n x refl);
+      }
+
+      -- one of those that are left out
+      pub some_left : IsLacked profile due → 0 < t.left
+      some_left lacked =
+          let l = lane_in p in
+          let x = lacked_less profile due (waits_on l t) (left_on profile t b.left l) is lacked (are_on profile t b.left l) in
+          omega (arith, x.1, no_more l)
+        where
+          no_more : (l : Lane) → left_on profile t b.left l ≤ t.left
+          no_more Ping = omega (arith, b.left.all)
+          no_more Auth = omega (arith, b.left.all)
+          no_more Watches = omega (arith, b.left.all)
+          no_more Plain = omega (arith, b.left.all)
+
+      pub lanes_answer : IsLacked profile due → AreLanes profile (c ++ (Server, p) ∷ []) (record (with_waits (lane_in p) (drop 1) t) { left = t.left - 1 })
+      lanes_answer lacked = record {
+        lane = λ k. subst (IsLane k (c ++ (Server, p) ∷ [])) (sym (waits_still k (lane_in p) (drop 1) t (t.left - 1))) (popped k);
+        left =
+            let l = lane_in p in
+            let x = lacked_less profile due (waits_on l t) (left_on profile t b.left l) is lacked (are_on profile t b.left l) in
+            left_with profile l (drop 1) t b.left (t.left - 1) x.0 x.2 (omega (arith, x.1, some_left lacked));
+      }

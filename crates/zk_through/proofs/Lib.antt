@@ -3,6 +3,8 @@ mod Alone
 mod Carried
 mod Weights
 mod Frames
+mod Newest
+mod Counts
 mod Telling
 mod Lanes
 mod Steps

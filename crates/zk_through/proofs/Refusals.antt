@@ -1,5 +1,6 @@
 -- Why a side's frame is refused.
-use Rattle.std.proofs.Common.{◌≡◌, ◌≢◌, ℕ, ◌+◌, ◌≤◌, List, ◌++◌, length, take, Some, refl, sym, ap, ◌∙◌, subst, arith, true}
+use Rattle.std.proofs.Common.{◌≡◌, ◌≢◌, ℕ, ◌+◌, ◌≤◌, List, ◌++◌, length, take, Some, None, refl, sym, ap, ◌∙◌, subst, arith, true}
+use Rattle.std.specs.Prelude.{slice_get}
 use Rattle.zk_jute.specs.declared.fault.Reason.{Reason}
 use Rattle.zk_jute.specs.declared.fault.Reason.TheVariants.{Unasked, XidOrder}
 use Rattle.zk_frames.specs.Framing.{frame, IsBadLength}
@@ -16,10 +17,10 @@ use Rattle.zk_talk.specs.Receiving.{IsStopped as WasStopped}
 use Rattle.zk_through.specs.declared.turn.Turn.{Turn}
 use Rattle.zk_through.specs.Came.{Came, payloads, told}
 use Rattle.zk_through.specs.LeftOut.{has_turn, lane_in, xid_of}
-use Rattle.zk_through.specs.Turns.{IsDue, lane_on}
+use Rattle.zk_through.specs.Turns.{IsDue, IsLacked, waits_on}
 use Rattle.zk_through.specs.Runs.{ThroughState, Runs, IsWhy, IsRefused, IsNotTold, IsNoRequest, stream_on}
 use Rattle.zk_through.specs.Runs.IsWhy.{stream_end, length_range, unasked, other_turn, told_so}
-use Rattle.zk_through.proofs.Lanes.{turn_is, over_is}
+use Rattle.zk_through.proofs.Lanes.{turn_is, none_due}
 
 count_on : (side : Side) (t : ThroughState) (h : History) (c k : Came) (M : List Message) → Runs t h c k M → (stream_on side t).count ≡ length (payloads side c)
 count_on Client t h c k M r = r.client_count
@@ -69,15 +70,15 @@ refused_early side old new piece e s same w kept =
 
 -- ---- A reply that none waits for
 module _ (old new : ThroughState) (piece : List ℕ) (used : ℕ) (e : Fault) (part : used ≤ length piece) (kept : new.fault ≡ Some e) (q : List ℕ) (is : old.server.held ++ take used piece ≡ frame q) (turn : has_turn 16 q ≡ true) where
-  pub refused_unasked : (lane_on (lane_in q) old.turns).requests ≤ (lane_on (lane_in q) old.turns).replies → e ≡ fault_of Server old.server.count (old.server.size + used) 0 Unasked → IsRefused old Server piece e new
-  refused_unasked over at =
+  pub refused_unasked : slice_get (waits_on (lane_in q) old.turns) 0 ≡ None → e ≡ fault_of Server old.server.count (old.server.size + used) 0 Unasked → IsRefused old Server piece e new
+  refused_unasked none at =
       refused_at Server old new piece used e part kept (exactly Server old.server.count (old.server.size + used) 0 Unasked e at)
-      (λ h c k M r. unasked refl q is turn (over_is old.talk.limits.profile c old.turns q r.lanes turn over) (ap (λ (z : Fault). z.place) at) (ap (λ (z : Fault). z.reason) at))
+      (λ h c k M r. unasked refl q is turn (none_due old.talk.limits.profile c old.turns q r.lanes turn none) (ap (λ (z : Fault). z.place) at) (ap (λ (z : Fault). z.reason) at))
 
-  pub refused_turn : (due : Turn) → IsDue (lane_on (lane_in q) old.turns) due → due.xid ≢ xid_of q → e ≡ fault_of Server old.server.count (old.server.size + used) 0 (XidOrder due.xid (xid_of q)) → IsRefused old Server piece e new
-  refused_turn due is_due other at =
+  pub refused_turn : (due : Turn) → IsDue old.turns (xid_of q) due → IsLacked old.talk.limits.profile due → due.xid ≢ xid_of q → e ≡ fault_of Server old.server.count (old.server.size + used) 0 (XidOrder due.xid (xid_of q)) → IsRefused old Server piece e new
+  refused_turn due is_due lacked other at =
       refused_at Server old new piece used e part kept (exactly Server old.server.count (old.server.size + used) 0 (XidOrder due.xid (xid_of q)) e at)
       (λ h c k M r.
       let y = turn_is old.talk.limits.profile c old.turns q r.lanes turn due is_due in
-      let xid : due.xid ≡ xid_of y.0.1 = ap (λ (z : Turn). z.xid) y.3 in
-      other_turn refl q is turn y.0 y.1 y.2 (λ same. other (xid ∙ same)) (ap (λ (z : Fault). z.place) at) (ap (λ (z : Fault). z.reason) at ∙ ap (λ z. XidOrder z (xid_of q)) xid))
+      let xid : due.xid ≡ xid_of y.0.1 = ap (λ (z : Turn). z.xid) y.2 in
+      other_turn refl q is turn y.0 y.1 (subst (IsLacked old.talk.limits.profile) y.2 lacked) (λ same. other (xid ∙ same)) (ap (λ (z : Fault). z.place) at) (ap (λ (z : Fault). z.reason) at ∙ ap (λ z. XidOrder z (xid_of q)) xid))

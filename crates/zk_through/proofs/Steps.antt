@@ -1,11 +1,12 @@
 -- What a conversation comes to with one piece more.
-use Rattle.std.proofs.Common.{◌≡◌, ℕ, ◌+◌, ◌<◌, ◌≤◌, inl, List, [], ◌∷◌, ◌++◌, length, take, drop, refl, sym, ap, ◌∙◌, subst, arith, length-append, None}
+use Rattle.std.proofs.Common.{◌≡◌, ℕ, ◌+◌, ◌<◌, ◌≤◌, inl, List, [], ◌∷◌, ◌++◌, length, take, map, drop, refl, sym, ap, ◌∙◌, subst, arith, length-append, None}
 use Rattle.std.proofs.Common.{filter}
 use Rattle.std.proofs.lemmas.List.{append-nil, length_push, length-take-le, nil_from_length}
 use Rattle.std.specs.List.{enumerate_from}
 use Rattle.zk_frames.specs.Framing.{frame, IsBeginning, IsCut}
 use Rattle.zk_waiting.specs.declared.lane.Lane.{Lane}
-use Rattle.zk_waiting.specs.declared.lane.Lane.TheVariants.{Watches, Plain}
+use Rattle.zk_waiting.specs.declared.lane.Lane.TheVariants.{Ping, Auth, Watches, Plain}
+use Rattle.zk_waiting.specs.Waiting.{count_of}
 use Rattle.zk_talk.specs.declared.message.Side.TheVariants.{Client, Server}
 use Rattle.zk_talk.specs.declared.limits.Limits.{Limits}
 use Rattle.zk_talk.specs.Held.{Message}
@@ -19,9 +20,10 @@ use Rattle.zk_talk.proofs.Histories.{no_bytes}
 use Rattle.zk_talk.proofs.Lists.{both_empty}
 use Rattle.zk_talk.proofs.Standing.{bytes-on, other-on}
 use Rattle.zk_through.specs.Came.{Came, payloads, AreCut, AreFrames, told}
-use Rattle.zk_through.specs.LeftOut.{is_on, asked, replied, Kept}
-use Rattle.zk_through.specs.Turns.{AreLeft, IsLane, AreLanes, no_turns, left_out}
+use Rattle.zk_through.specs.LeftOut.{is_on, asked, replied, Kept, AnswersAfter, NewestAnswers}
+use Rattle.zk_through.specs.Turns.{IsLane, AreLanes, waits_on, turn_of, no_turns, left_out, number_of_turns}
 use Rattle.zk_through.specs.Runs.{ThroughState, Runs, GoesOn}
+use Rattle.zk_through.proofs.Newest.{newest_none, newest_client, newest_server}
 use Rattle.zk_through.proofs.Frames.{no_payloads, payloads-same, payloads-other, within_client, within_server, whole_client, whole_server}
 
 pub nothing_more : (t : ThroughState) (h : History) (c k : Came) (M : List Message) → Runs t h c k M → Runs t h (c ++ []) (k ++ []) (M ++ [])
@@ -41,6 +43,8 @@ module _ (old : ThroughState) (piece : List ℕ) where
         stands = r.stands;
         alone = r.alone;
         lanes = r.lanes;
+        few = r.few;
+        answered = r.answered;
         room = r.room;
         client_count = ap (λ (z : StreamState). z.count) e ∙ r.client_count;
         server_count = r.server_count;
@@ -61,6 +65,8 @@ module _ (old : ThroughState) (piece : List ℕ) where
         stands = r.stands;
         alone = r.alone;
         lanes = r.lanes;
+        few = r.few;
+        answered = r.answered;
         room = r.room;
         client_count = r.client_count;
         server_count = ap (λ (z : StreamState). z.count) e ∙ r.server_count;
@@ -82,6 +88,7 @@ pub record ClientCame (old new : ThroughState) (piece : List ℕ) (used : ℕ) (
   pub count : new.client.count ≡ old.client.count + 1
   pub size : new.client.size ≡ old.client.size + used
   pub other : new.server ≡ old.server
+  pub answered : new.answered ≡ old.answered
   pub fault : new.fault ≡ old.fault
 
 module _ (old new : ThroughState) (piece : List ℕ) (used : ℕ) (p : List ℕ) (x : ClientCame old new piece used p) where
@@ -89,8 +96,9 @@ module _ (old new : ThroughState) (piece : List ℕ) (used : ℕ) (p : List ℕ)
       Kept old.talk.limits.profile (c ++ (Client, p) ∷ []) k' → Stands new.talk (told k') M' → (new.talk.client_held ≡ []) × (new.talk.server_held ≡ []) →
       AreLanes old.talk.limits.profile (c ++ (Client, p) ∷ []) new.turns →
       ((v : Conversation) → Good old.talk.limits (told k') v [] [] → load v.client v.server + left_out new.turns ≤ old.talk.limits.waiting) →
+      number_of_turns new.turns ≤ count_of new.talk.waiting + left_out new.turns →
       Runs new (h ++ on Client (take used piece)) (c ++ (Client, p) ∷ []) k' M'
-  client_came h c k M r k' M' kept stands alone lanes room =
+  client_came h c k M r k' M' kept stands alone lanes room few =
       let t = take used piece in
       let n = length-take-le used piece x.part in
       let frames' = whole_client old.talk.limits c t h old.client.held old.server.held p r.frames (omega (arith, n, x.some)) x.fits x.is in
@@ -102,6 +110,8 @@ module _ (old new : ThroughState) (piece : List ℕ) (used : ℕ) (p : List ℕ)
         stands = stands;
         alone = alone;
         lanes = subst (λ (l : Limits). AreLanes l.profile (c ++ (Client, p) ∷ []) new.turns) (sym x.limits) lanes;
+        few = few;
+        answered = subst (NewestAnswers (c ++ (Client, p) ∷ [])) (sym x.answered) (newest_client c old.answered p r.answered);
         room = subst (λ (l : Limits). (v : Conversation) → Good l (told k') v [] [] → load v.client v.server + left_out new.turns ≤ l.waiting) (sym x.limits) room;
         client_count = omega (arith, x.count, r.client_count, ap length (payloads-same Client c p), length_push (payloads Client c) p);
         server_count = ap (λ (z : StreamState). z.count) x.other ∙ r.server_count ∙ ap length (sym (payloads-other Client c p));
@@ -128,8 +138,9 @@ module _ (old new : ThroughState) (piece : List ℕ) (used : ℕ) (p : List ℕ)
       Kept old.talk.limits.profile (c ++ (Server, p) ∷ []) k' → Stands new.talk (told k') M' → (new.talk.client_held ≡ []) × (new.talk.server_held ≡ []) →
       AreLanes old.talk.limits.profile (c ++ (Server, p) ∷ []) new.turns →
       ((v : Conversation) → Good old.talk.limits (told k') v [] [] → load v.client v.server + left_out new.turns ≤ old.talk.limits.waiting) →
+      number_of_turns new.turns ≤ count_of new.talk.waiting + left_out new.turns → AnswersAfter c p new.answered →
       Runs new (h ++ on Server (take used piece)) (c ++ (Server, p) ∷ []) k' M'
-  server_came h c k M r k' M' kept stands alone lanes room =
+  server_came h c k M r k' M' kept stands alone lanes room few answers =
       let t = take used piece in
       let n = length-take-le used piece x.part in
       let frames' = whole_server old.talk.limits c t h old.client.held old.server.held p r.frames (omega (arith, n, x.some)) x.fits x.is in
@@ -141,6 +152,8 @@ module _ (old new : ThroughState) (piece : List ℕ) (used : ℕ) (p : List ℕ)
         stands = stands;
         alone = alone;
         lanes = subst (λ (l : Limits). AreLanes l.profile (c ++ (Server, p) ∷ []) new.turns) (sym x.limits) lanes;
+        few = few;
+        answered = newest_server c new.answered p answers;
         room = subst (λ (l : Limits). (v : Conversation) → Good l (told k') v [] [] → load v.client v.server + left_out new.turns ≤ l.waiting) (sym x.limits) room;
         client_count = ap (λ (z : StreamState). z.count) x.other ∙ r.client_count ∙ ap length (sym (payloads-other Server c p));
         server_count = omega (arith, x.count, r.server_count, ap length (payloads-same Server c p), length_push (payloads Server c) p);
@@ -163,20 +176,27 @@ module _ (talk : TalkState) (client server : StreamState) (stands : Stands talk 
     server = subst (λ z. IsCut talk.limits.server (side_bytes Server []) z []) (sym (no_payloads Server)) (record { whole = no_bytes Server; within = tt; beginning = inl (omega arith) });
   }
 
-  no_lane : (lane : Lane) (room : ℕ) → IsLane talk.limits.profile lane [] (no_turns room)
-  no_lane lane room =
+  no_lane : (lane : Lane) → IsLane lane [] []
+  no_lane lane =
       let asks : asked lane [] ≡ [] = ap (λ z. filter (λ (x : ℕ × List ℕ). is_on lane 8 x.1) (drop 1 (enumerate_from 0 z))) (no_payloads Client) in
       let rs : replied lane [] ≡ 0 = ap (λ z. length (filter (is_on lane 16) (drop 1 z))) (no_payloads Server) in
-      record {
-        requests = sym (ap length asks);
-        replies = sym rs;
-        paired = omega (arith, rs);
-        left = subst (λ n. AreLeft talk.limits.profile n (drop n (asked lane [])) []) (sym rs) (subst (λ z. AreLeft talk.limits.profile 0 z []) (sym asks) refl);
-      }
+      record { paired = omega (arith, rs); are = sym (λ i. map turn_of (drop (rs i) (asks i))) }
 
-  pub runs_start : (plain watches : ℕ) → client.held ≡ [] → server.held ≡ [] → client.count ≡ 0 → server.count ≡ 0 → client.size ≡ 0 → server.size ≡ 0 →
-      Runs (record { talk = talk; client = client; server = server; turns = record { plain = no_turns plain; watches = no_turns watches }; fault = None }) [] [] [] []
-  runs_start plain watches ch sh cc' sc cs ss = record {
+  no_lanes : (room : ℕ) → AreLanes talk.limits.profile [] (no_turns room)
+  no_lanes room = record {
+    lane = λ l. each l;
+    left = record { ping = 0; auth = 0; watches = 0; plain = 0; pings = refl; auths = refl; of_watches = refl; of_plain = refl; all = refl };
+  }
+    where
+      each : (l : Lane) → IsLane l [] (waits_on l (no_turns room))
+      each Ping = no_lane Ping
+      each Auth = no_lane Auth
+      each Watches = no_lane Watches
+      each Plain = no_lane Plain
+
+  pub runs_start : (room : ℕ) → client.held ≡ [] → server.held ≡ [] → client.count ≡ 0 → server.count ≡ 0 → client.size ≡ 0 → server.size ≡ 0 →
+      Runs (record { talk = talk; client = client; server = server; turns = no_turns room; answered = None; fault = None }) [] [] [] []
+  runs_start room ch sh cc' sc cs ss = record {
     frames = subst (λ z. AreFrames talk.limits [] [] z server.held) (sym ch) (subst (λ z. AreFrames talk.limits [] [] [] z) (sym sh) (record {
       cut = start_cut;
       fronts = λ front rest e. ([], [], refl, [], [], subst (λ z. AreCut talk.limits z [] [] []) (sym (both_empty front rest (sym e)).0) start_cut);
@@ -184,7 +204,9 @@ module _ (talk : TalkState) (client server : StreamState) (stands : Stands talk 
     kept = refl;
     stands = stands;
     alone = (no_client, no_server);
-    lanes = (no_lane Plain plain, no_lane Watches watches);
+    lanes = no_lanes room;
+    few = omega arith;
+    answered = newest_none;
     room = λ v g. omega (arith, load_here talk.limits [] v [] [] g);
     client_count = cc' ∙ sym (ap length (no_payloads Client));
     server_count = sc ∙ sym (ap length (no_payloads Server));

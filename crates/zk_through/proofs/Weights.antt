@@ -3,7 +3,7 @@ use Rattle.std.proofs.Common.{Result, Ok, Err, ◌≡◌, ℕ, ◌+◌, ◌<◌,
 use Rattle.zk_records.specs.declared.profile.Profile.{Profile}
 use Rattle.zk_asks.specs.Held.{Ask as Asked}
 use Rattle.zk_asks.specs.Held.{ClientFrame}
-use Rattle.zk_asks.specs.declared.frame.ClientFrameOf.TheVariants.{Ask}
+use Rattle.zk_asks.specs.declared.frame.ClientFrameOf.TheVariants.{Connect, Ask}
 use Rattle.zk_asks.specs.Frames.{IsLater, IsSent, IsOfProfile, ops_of_ask}
 use Rattle.zk_asks.specs.Frames as asks
 use Rattle.zk_frames.specs.Framing.{frame, IsFrame}
@@ -12,7 +12,7 @@ use Rattle.zk_talk.specs.Conversation.{weight}
 use Rattle.zk_talk.specs.Payloads.{client_payload}
 use Rattle.zk_talk.specs.Streams.{StreamState}
 use Rattle.zk_talk.proofs.Payloads.{few_parts}
-use Rattle.zk_through.specs.Runs.{IsSizeOf}
+use Rattle.zk_through.specs.Runs.{IsWeightOf, IsWeighed}
 use Rattle.zk_through.proofs.Carried.{carried}
 
 payload_of : (f : ClientFrame) → client_payload f ≡ asks.payload f
@@ -31,7 +31,7 @@ module _ (s : StreamState) (payload : List ℕ) (f : ClientFrame) (xid : ℤ) (a
   are_few small whole = omega (arith, small, few_parts xid ask, ap length its_payload, ap length is, ap length whole.1, whole.2, length-frame payload, length-frame whole.0)
 
   pub weighs_so : (profile : Profile) (w : ℕ) → 0 < s.count → IsOfProfile profile f → IsSent f → w ≡ 1 + length (ops_of_ask ask) →
-      ((g : ClientFrame) → IsLater g → IsOfProfile profile g → IsSent g → payload ≡ asks.payload g → f ≡ g) → IsSizeOf profile s w
+      ((g : ClientFrame) → IsLater g → IsOfProfile profile g → IsSent g → payload ≡ asks.payload g → f ≡ g) → IsWeightOf profile s w
   weighs_so profile w some of sent e one = record {
     found = λ more. (some, λ p at. (Ask xid ask, tt, subst IsSent form sent, subst (IsOfProfile profile) form of, sym its_payload ∙ carried payload p (sym is ∙ at), e));
     only = λ begun p n at q.
@@ -39,12 +39,29 @@ module _ (s : StreamState) (payload : List ℕ) (f : ClientFrame) (xid : ℤ) (a
         q.5 ∙ ap weight (sym same ∙ form) ∙ sym e;
   }
 
+-- no request weighs more than its payload has bytes, and 1
+at_most : (f : ClientFrame) → IsLater f → weight f ≤ 1 + length (client_payload f)
+at_most (Connect hello read_only) later = absurd later
+at_most (Ask xid ask) later = omega (arith, few_parts xid ask)
+
+pub payload_weighs : (profile : Profile) (s : StreamState) (payload : List ℕ) (room most : ℕ) → s.held ≡ frame payload → most ≡ 1 + length payload → most ≤ room → IsWeighed profile s room most
+payload_weighs profile s payload room most is e fits = (
+  λ begun p w at q. omega (arith, at_most q.0 q.1, q.5, ap length q.4, ap length (carried payload p (sym is ∙ at)), e),
+  λ more. absurd (omega (arith, more, fits)),
+)
+
+pub weighs_itself : (profile : Profile) (s : StreamState) (room w : ℕ) → IsWeightOf profile s w → IsWeighed profile s room w
+weighs_itself profile s room w x = ((λ begun p n at q. omega (arith, x.only begun p n at q)), λ more. x)
+
+pub small_payload : (s : StreamState) (payload : List ℕ) → s.held ≡ frame payload → s.limit ≤ 16777216 → IsFrame s.limit s.held → length payload ≤ 16777216
+small_payload s payload is small whole = omega (arith, small, ap length is, ap length whole.1, whole.2, length-frame payload, length-frame whole.0)
+
 -- the first frame, and one that is malformed, weigh nothing
-pub first_weighs : (profile : Profile) (s : StreamState) → s.count ≡ 0 → IsSizeOf profile s 0
+pub first_weighs : (profile : Profile) (s : StreamState) → s.count ≡ 0 → IsWeightOf profile s 0
 first_weighs profile s first = record { found = λ more. absurd (omega (arith, more)); only = λ begun p n at q. absurd (omega (arith, begun, first)) }
 
 pub none_weighs : (profile : Profile) (s : StreamState) (payload : List ℕ) → s.held ≡ frame payload →
-    ((g : ClientFrame) → IsLater g → IsOfProfile profile g → IsSent g → payload ≡ asks.payload g → ⊥) → IsSizeOf profile s 0
+    ((g : ClientFrame) → IsLater g → IsOfProfile profile g → IsSent g → payload ≡ asks.payload g → ⊥) → IsWeightOf profile s 0
 none_weighs profile s payload is none = record {
   found = λ more. absurd (omega (arith, more));
   only = λ begun p n at q. absurd (none q.0 q.1 q.3 q.2 (carried payload p (sym is ∙ at) ∙ sym q.4 ∙ payload_of q.0));

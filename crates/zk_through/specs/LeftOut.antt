@@ -1,5 +1,5 @@
 -- Which frames are left out: requests of operations that the profile lacks, and the replies to them.
-use Rattle.std.specs.Prelude.{◌≡◌, ◌≢◌, ℕ, ◌⊎◌, ℤ, negsuc, List, [], ◌∷◌, ◌++◌, length, drop, filter, Bool, true, false, if◌then◌else◌, nat_le, Some, slice_get}
+use Rattle.std.specs.Prelude.{◌≡◌, ◌≢◌, ℕ, ◌⊎◌, ℤ, negsuc, List, [], ◌∷◌, ◌++◌, length, drop, filter, Bool, true, false, if◌then◌else◌, nat_le, Some, Option, None, slice_get}
 use Rattle.std.specs.List.{enumerate_from}
 use Rattle.std.specs.Ordering.{int_eq}
 use Rattle.zk_jute.specs.Faults.{first_int}
@@ -20,15 +20,15 @@ abbrev pub number_of : List ℕ → ℤ
 number_of p = first_int (drop 4 p)
 
 -- the lanes of which requests may be left out
-abbrev pub has_turns : Lane → Bool
-has_turns Ping = false
-has_turns Auth = false
-has_turns Watches = true
-has_turns Plain = true
+abbrev pub may_be_out : Lane → Bool
+may_be_out Ping = false
+may_be_out Auth = false
+may_be_out Watches = true
+may_be_out Plain = true
 
--- the xid is of such a lane, and isn't an event's
+-- the xid isn't an event's
 unfoldable pub is_turn_xid : ℤ → Bool
-is_turn_xid xid = if int_eq xid (negsuc 0) then false else has_turns (lane_of xid)
+is_turn_xid xid = if int_eq xid (negsuc 0) then false else true
 
 -- a header of this many bytes is whole, and its xid is such a one
 unfoldable pub has_turn : ℕ → List ℕ → Bool
@@ -38,7 +38,7 @@ has_turn size p = if nat_le size (length p) then is_turn_xid (xid_of p) else fal
 abbrev pub lane_in : List ℕ → Lane
 lane_in p = lane_of (xid_of p)
 
--- a header of this many bytes is whole, and its xid is such a one of this lane
+-- and it is of this lane
 unfoldable pub is_on : Lane → ℕ → List ℕ → Bool
 is_on lane size p = if has_turn size p then same_lane lane (lane_in p) else false
 
@@ -50,9 +50,9 @@ asked lane came = filter (λ (x : ℕ × List ℕ). is_on lane 8 x.1) (drop 1 (e
 abbrev pub replied : Lane → Came → ℕ
 replied lane came = length (filter (is_on lane 16) (drop 1 (payloads Server came)))
 
--- the request's operation is none of the profile's
+-- the request is of such a lane, and its operation is none of the profile's
 abbrev pub IsForeign : Profile → List ℕ → Type 0
-IsForeign profile p = IsNoOp profile (number_of p)
+IsForeign profile p = (may_be_out (lane_in p) ≡ true) × IsNoOp profile (number_of p)
 
 -- the reply is to answer this request, if it has the request's xid
 abbrev pub IsTurnOf : Came → List ℕ → ℕ × List ℕ → Type 0
@@ -77,3 +77,17 @@ Kept profile came kept = KeptAfter profile [] came kept
 -- no frame of these is left out
 abbrev pub HasNoneOut : Profile → Came → Type 0
 HasNoneOut profile came = (before : Came) (x : Side × List ℕ) (after : Came) → came ≡ before ++ x ∷ after → IsLeftOut profile before x → ⊥
+
+-- The number of the client's frame that the server's frame, after these, answers. The first answers the connect request, and
+-- a reply the request whose turn it is; an event answers none.
+abbrev pub AnswersAfter : Came → List ℕ → Option ℕ → Type 0
+AnswersAfter before q None = (payloads Server before ≢ []) × (has_turn 16 q ≡ false)
+AnswersAfter before q (Some n) =
+    ((payloads Server before ≡ []) × (n ≡ 0)) ⊎
+    ((payloads Server before ≢ []) × (has_turn 16 q ≡ true) × (x : ℕ × List ℕ) × IsTurnOf before q x × (n ≡ x.0))
+
+-- that of the newest of the server's frames; none if none came
+pub record NewestAnswers (came : Came) (n : Option ℕ) : Type 0 where
+  pub none : payloads Server came ≡ [] → n ≡ None
+  pub some : (before : Came) (q : List ℕ) (after : Came) → came ≡ before ++ (Server, q) ∷ after → payloads Server after ≡ [] →
+      AnswersAfter before q n

@@ -6,7 +6,6 @@ use Rattle.zk_records.specs.declared.profile.Profile.{Profile}
 use Rattle.zk_asks.specs.Held.{ClientFrame}
 use Rattle.zk_asks.specs.Frames.{IsLater, IsSent, IsOfProfile}
 use Rattle.zk_frames.specs.Framing.{frame, IsBadLength}
-use Rattle.zk_waiting.specs.Lane.{lane_of}
 use Rattle.zk_talk.specs.declared.message.Side.{Side}
 use Rattle.zk_talk.specs.declared.message.Side.TheVariants.{Client, Server}
 use Rattle.zk_talk.specs.declared.message.Fault.{Fault}
@@ -23,18 +22,21 @@ use Rattle.zk_talk.specs.Ending.{IsEnding}
 use Rattle.zk_talk.specs.Stands.{TalkState, Stands}
 use Rattle.zk_talk.specs.Streams.{StreamState}
 use Rattle.zk_talk.specs.Viewed.{Shows, Leaves}
+use Rattle.zk_waiting.specs.Waiting.{count_of}
 use Rattle.zk_through.specs.declared.through.Went.{Went}
 use Rattle.zk_through.specs.declared.through.Went.TheVariants as went
 use Rattle.zk_through.specs.Came.{Came, payloads, AreFrames, told}
-use Rattle.zk_through.specs.LeftOut.{xid_of, has_turn, lane_in, asked, replied, IsForeign, IsTurnOf, Kept}
-use Rattle.zk_through.specs.Turns.{TurnsState, AreLanes, IsDue, turn_of, lane_on, left_out}
+use Rattle.zk_through.specs.LeftOut.{xid_of, has_turn, lane_in, asked, replied, IsForeign, IsTurnOf, Kept, NewestAnswers}
+use Rattle.zk_through.specs.Turns.{TurnsState, AreLanes, IsDue, turn_of, left_out, number_of_turns}
 
--- the talk; each side's frame, with how many came; and the requests that are left out and wait
+-- the talk; each side's frame, with how many came; the requests that wait; and the number of the client's frame that the
+-- server's newest frame answers
 pub record ThroughState : Type 0 where
   pub talk : TalkState
   pub client : StreamState
   pub server : StreamState
   pub turns : TurnsState
+  pub answered : Option ℕ
   pub fault : Option Fault
 
 -- The history's frames are `came`, and the talk was given `given`, of which the messages are.
@@ -44,6 +46,8 @@ pub record Runs (t : ThroughState) (h : History) (came given : Came) (messages :
   pub stands : Stands t.talk (told given) messages
   pub alone : (t.talk.client_held ≡ []) × (t.talk.server_held ≡ [])
   pub lanes : AreLanes t.talk.limits.profile came t.turns
+  pub few : number_of_turns t.turns ≤ count_of t.talk.waiting + left_out t.turns
+  pub answered : NewestAnswers came t.answered
   pub room : (v : Conversation) → Good t.talk.limits (told given) v [] [] → load v.client v.server + left_out t.turns ≤ t.talk.limits.waiting
   pub client_count : t.client.count ≡ length (payloads Client came)
   pub server_count : t.server.count ≡ length (payloads Server came)
@@ -83,9 +87,17 @@ abbrev pub IsRequestOf : Profile → List ℕ → ℕ → Type 0
 IsRequestOf profile p w = (f : ClientFrame) × IsLater f × IsSent f × IsOfProfile profile f × (client_payload f ≡ p) × (w ≡ weight f)
 
 -- what the client's whole frame weighs: none if it is the first, or no request of the profile
-pub record IsSizeOf (profile : Profile) (s : StreamState) (size : ℕ) : Type 0 where
-  pub found : 0 < size → (0 < s.count) × ((p : List ℕ) → s.held ≡ frame p → IsRequestOf profile p size)
-  pub only : 0 < s.count → (p : List ℕ) (w : ℕ) → s.held ≡ frame p → IsRequestOf profile p w → w ≡ size
+pub record IsWeightOf (profile : Profile) (s : StreamState) (weight : ℕ) : Type 0 where
+  pub found : 0 < weight → (0 < s.count) × ((p : List ℕ) → s.held ≡ frame p → IsRequestOf profile p weight)
+  pub only : 0 < s.count → (p : List ℕ) (w : ℕ) → s.held ≡ frame p → IsRequestOf profile p w → w ≡ weight
+
+-- or no more than this, if it is a request of the profile
+abbrev pub WeighsAtMost : Profile → StreamState → ℕ → Type 0
+WeighsAtMost profile s most = 0 < s.count → (p : List ℕ) (w : ℕ) → s.held ≡ frame p → IsRequestOf profile p w → w ≤ most
+
+-- no more than this, and exactly this if it is more than the room
+abbrev pub IsWeighed : Profile → StreamState → ℕ → ℕ → Type 0
+IsWeighed profile s room weight = WeighsAtMost profile s weight × (room < weight → IsWeightOf profile s weight)
 
 -- a request that is left out weighs 1, and one that the talk gets as there
 abbrev pub Weighs : Profile → List ℕ → ℕ → Type 0
@@ -95,11 +107,11 @@ Weighs profile p w = ((has_turn 8 p ≡ true) × IsForeign profile p × (w ≡ 1
 pub record IsFull (old : ThroughState) (piece : List ℕ) : Type 0 where
   pub part : ℕ
   pub payload : List ℕ
-  pub size : ℕ
+  pub weight : ℕ
   pub whole : old.client.held ++ take part piece ≡ frame payload
   pub later : 0 < old.client.count
-  pub weighs : Weighs old.talk.limits.profile payload size
-  pub full : WhereItRuns old (λ v. old.talk.limits.waiting < load v.client v.server + left_out old.turns + size)
+  pub weighs : Weighs old.talk.limits.profile payload weight
+  pub full : WhereItRuns old (λ v. old.talk.limits.waiting < load v.client v.server + left_out old.turns + weight)
 
 -- what became of the bytes that were used
 abbrev pub WentOn : ThroughState → Side → List ℕ → ℕ → Went → ThroughState → Type 0
@@ -111,7 +123,7 @@ WentOn old side piece used (went.Asked turn) new =
     GoesOn old side (take used piece) ((side, p) ∷ []) [] [] new
 WentOn old side piece used (went.Answered turn) new =
     (used ≤ length piece) × (side ≡ Server) × (q : List ℕ) × (left_on side new ≡ frame q) × (xid_of q ≡ turn.xid) ×
-    IsDue (lane_on (lane_of turn.xid) old.turns) turn × GoesOn old side (take used piece) ((side, q) ∷ []) [] [] new
+    IsDue old.turns turn.xid turn × GoesOn old side (take used piece) ((side, q) ∷ []) [] [] new
 WentOn old side piece used went.Full new =
     (used ≡ 0) × (side ≡ Client) × (left_on side new ≡ []) × IsFull old piece × GoesOn old side [] [] [] [] new
 

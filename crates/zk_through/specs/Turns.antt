@@ -1,124 +1,137 @@
--- The requests that are left out and wait for their replies, by lanes.
-use Rattle.std.specs.Prelude.{◌≡◌, ◌≢◌, ℕ, suc, ◌+◌, ◌≤◌, ◌<◌, ◌⊎◌, ℤ, List, [], ◌∷◌, ◌++◌, length, drop, Option, Some, None, Result, Ok, Err}
+-- The requests that wait for their replies, by lanes.
+use Rattle.std.specs.Prelude.{◌≡◌, ◌≢◌, ℕ, suc, ◌+◌, ◌-◌, ◌≤◌, ◌⊎◌, ℤ, List, [], ◌∷◌, ◌++◌, length, map, drop, slice_get, true, Option, Some, None, Result, Ok, Err}
+use Rattle.circular_buffer.specs.Buffer.{keep_last}
 use Rattle.zk_jute.specs.declared.fault.Reason.{Reason}
 use Rattle.zk_jute.specs.declared.fault.Reason.TheVariants.{Unasked, XidOrder}
 use Rattle.zk_records.specs.declared.profile.Profile.{Profile}
+use Rattle.zk_records.specs.Codes.{IsNoOp}
 use Rattle.zk_waiting.specs.declared.lane.Lane.{Lane}
-use Rattle.zk_waiting.specs.declared.lane.Lane.TheVariants.{Plain, Watches}
+use Rattle.zk_waiting.specs.declared.lane.Lane.TheVariants.{Ping, Auth, Watches, Plain}
 use Rattle.zk_waiting.specs.Lane.{lane_of}
 use Rattle.zk_through.specs.declared.turn.Turn.{Turn}
-use Rattle.zk_through.specs.declared.turns.Left.{Left}
+use Rattle.zk_through.specs.declared.turns.Due.{Due}
+use Rattle.zk_through.specs.declared.turns.Due.TheVariants as dues
 use Rattle.zk_through.specs.Came.{Came}
-use Rattle.zk_through.specs.LeftOut.{xid_of, number_of, asked, replied, IsForeign}
+use Rattle.zk_through.specs.LeftOut.{xid_of, number_of, may_be_out, asked, replied}
 
--- A lane: how many of its requests and replies came; the requests that are left out and wait, the oldest first; for how
--- many of these there is room.
-pub record LaneState : Type 0 where
-  pub requests : ℕ
-  pub replies : ℕ
-  pub left : List Left
-  pub room : ℕ
-
--- the lanes of which requests may be left out
+-- the requests of each lane that wait, the oldest first; how many of all are left out; for how many a lane has room
 pub record TurnsState : Type 0 where
-  pub plain : LaneState
-  pub watches : LaneState
+  pub ping : List Turn
+  pub auth : List Turn
+  pub watches : List Turn
+  pub plain : List Turn
+  pub left : ℕ
+  pub room : ℕ
 
 -- a request, by its header and the number of its frame
 abbrev pub turn_of : ℕ × List ℕ → Turn
 turn_of x = record { xid = xid_of x.1; number = number_of x.1; frame = x.0 }
 
--- a request that is left out, and its place in its lane
-abbrev pub left_of : Turn → ℕ → Left
-left_of turn place = record { turn = turn; place = place }
+abbrev pub waits_on : Lane → TurnsState → List Turn
+waits_on Ping t = t.ping
+waits_on Auth t = t.auth
+waits_on Watches t = t.watches
+waits_on Plain t = t.plain
 
--- `left` are those of these requests that the profile lacks; the first request has this place in its lane
-abbrev pub AreLeft : Profile → ℕ → List (ℕ × List ℕ) → List Left → Type 0
-AreLeft profile place [] left = left ≡ []
-AreLeft profile place (x ∷ xs) left =
-    (IsForeign profile x.1 × (rest : List Left) × (left ≡ left_of (turn_of x) place ∷ rest) × AreLeft profile (suc place) xs rest) ⊎
-    ((IsForeign profile x.1 → ⊥) × AreLeft profile (suc place) xs left)
+-- the lanes, with what waits in this one changed so
+abbrev pub with_waits : Lane → (List Turn → List Turn) → TurnsState → TurnsState
+with_waits Ping f t = record t { ping = f t.ping }
+with_waits Auth f t = record t { auth = f t.auth }
+with_waits Watches f t = record t { watches = f t.watches }
+with_waits Plain f t = record t { plain = f t.plain }
 
--- what is known of the lane after these frames
-pub record IsLane (profile : Profile) (lane : Lane) (came : Came) (s : LaneState) : Type 0 where
-  pub requests : s.requests ≡ length (asked lane came)
-  pub replies : s.replies ≡ replied lane came
+-- the number of the requests that wait
+abbrev pub number_of_turns : TurnsState → ℕ
+number_of_turns t = length t.ping + length t.auth + length t.watches + length t.plain
+
+-- what waits in the lane after these frames: its requests without the first ones, as many as its replies
+pub record IsLane (lane : Lane) (came : Came) (waits : List Turn) : Type 0 where
   pub paired : replied lane came ≤ length (asked lane came)
-  pub left : AreLeft profile (replied lane came) (drop (replied lane came) (asked lane came)) s.left
+  pub are : waits ≡ map turn_of (drop (replied lane came) (asked lane came))
 
--- what is known of both lanes after these frames
-abbrev pub AreLanes : Profile → Came → TurnsState → Type 0
-AreLanes profile came t = IsLane profile Plain came t.plain × IsLane profile Watches came t.watches
+-- the request is left out, by its header alone
+abbrev pub IsLacked : Profile → Turn → Type 0
+IsLacked profile turn = (may_be_out (lane_of turn.xid) ≡ true) × IsNoOp profile turn.number
 
--- no requests and no replies, and this room
-abbrev pub no_turns : ℕ → LaneState
-no_turns room = record { requests = 0; replies = 0; left = []; room = room }
+-- so many of these requests are left out
+abbrev pub AreLacked : Profile → List Turn → ℕ → Type 0
+AreLacked profile [] n = n ≡ 0
+AreLacked profile (turn ∷ turns) n =
+    (IsLacked profile turn × (m : ℕ) × (n ≡ suc m) × AreLacked profile turns m) ⊎ ((IsLacked profile turn → ⊥) × AreLacked profile turns n)
 
--- a request more, which the talk gets
-abbrev pub with_request : LaneState → LaneState
-with_request s = record s { requests = s.requests + 1 }
+-- how many are left out, by lanes
+pub record AreLeft (profile : Profile) (t : TurnsState) : Type 0 where
+  pub ping : ℕ
+  pub auth : ℕ
+  pub watches : ℕ
+  pub plain : ℕ
+  pub pings : AreLacked profile t.ping ping
+  pub auths : AreLacked profile t.auth auth
+  pub of_watches : AreLacked profile t.watches watches
+  pub of_plain : AreLacked profile t.plain plain
+  pub all : t.left ≡ ping + auth + watches + plain
 
--- or which is left out
-abbrev pub with_left : Turn → LaneState → LaneState
-with_left turn s = record s { requests = s.requests + 1; left = s.left ++ left_of turn s.requests ∷ [] }
+-- what is known of the lanes after these frames
+pub record AreLanes (profile : Profile) (came : Came) (t : TurnsState) : Type 0 where
+  pub lane : (lane : Lane) → IsLane lane came (waits_on lane t)
+  pub left : AreLeft profile t
 
--- a reply more, which the talk gets
-abbrev pub with_reply : LaneState → LaneState
-with_reply s = record s { replies = s.replies + 1 }
+-- no requests, and this room
+abbrev pub no_turns : ℕ → TurnsState
+no_turns room = record { ping = []; auth = []; watches = []; plain = []; left = 0; room = room }
 
--- or which answers the oldest request that is left out
-abbrev pub without_oldest : LaneState → LaneState
-without_oldest s = record s { replies = s.replies + 1; left = drop 1 s.left }
+-- a request more, where there is room
+abbrev pub and_turn : ℕ → Turn → List Turn → List Turn
+and_turn room turn turns = keep_last room (turns ++ turn ∷ [])
 
-abbrev pub lane_on : Lane → TurnsState → LaneState
-lane_on Watches t = t.watches
-lane_on _ t = t.plain
-
--- the lanes, with this one changed so
-abbrev pub with_lane : Lane → (LaneState → LaneState) → TurnsState → TurnsState
-with_lane Watches f t = record t { watches = f t.watches }
-with_lane _ f t = record t { plain = f t.plain }
+abbrev pub with_turn : Turn → TurnsState → TurnsState
+with_turn turn t = with_waits (lane_of turn.xid) (and_turn t.room turn) t
 
 -- how many requests that are left out wait
 abbrev pub left_out : TurnsState → ℕ
-left_out t = length t.plain.left + length t.watches.left
+left_out t = t.left
 
--- fewer requests and fewer replies than these came in each lane
-abbrev pub AreFewer : ℕ → ℕ → TurnsState → Type 0
-AreFewer n m t = (t.plain.requests < n) × (t.watches.requests < n) × (t.plain.replies < m) × (t.watches.replies < m)
-
--- each lane has this room
+-- a lane has this room, and no more are left out
 abbrev pub HaveRoom : ℕ → TurnsState → Type 0
-HaveRoom n t = (t.plain.room ≡ n) × (t.watches.room ≡ n)
-
--- the request that the lane's next reply answers is left out, and is this one
-abbrev pub IsDue : LaneState → Turn → Type 0
-IsDue s turn = (rest : List Left) × (s.left ≡ left_of turn s.replies ∷ rest)
+HaveRoom n t = (t.room ≡ n) × (t.left ≤ n)
 
 -- the talk gets the request, if it is one of a lane
 abbrev pub after_request : Option Turn → TurnsState → TurnsState
 after_request None t = t
-after_request (Some turn) t = with_lane (lane_of turn.xid) with_request t
+after_request (Some turn) t = with_turn turn t
+
+-- it is left out
+abbrev pub after_left : Turn → TurnsState → TurnsState
+after_left turn t = record (with_turn turn t) { left = t.left + 1 }
 
 -- the talk gets the reply with this xid, if it is one of a lane
 abbrev pub after_reply : Option ℤ → TurnsState → TurnsState
 after_reply None t = t
-after_reply (Some xid) t = with_lane (lane_of xid) with_reply t
+after_reply (Some xid) t = with_waits (lane_of xid) (drop 1) t
 
--- the talk gets the reply with this xid: one of no lane, or one that answers a request which the talk got
-abbrev pub IsForTalk : TurnsState → Option ℤ → Type 0
-IsForTalk t None = Unit {0}
-IsForTalk t (Some xid) = ((lane_on (lane_of xid) t).replies < (lane_on (lane_of xid) t).requests) ×
-    ((turn : Turn) → IsDue (lane_on (lane_of xid) t) turn → ⊥)
+-- it is left out
+abbrev pub after_answer : ℤ → TurnsState → TurnsState
+after_answer xid t = record (with_waits (lane_of xid) (drop 1) t) { left = t.left - 1 }
+
+-- the reply with this xid is to answer this request
+abbrev pub IsDue : TurnsState → ℤ → Turn → Type 0
+IsDue t xid turn = slice_get (waits_on (lane_of xid) t) 0 ≡ Some turn
 
 -- why the reply with this xid is refused: nothing of its lane waits, or it is the turn of a request that is left out
-abbrev pub IsBadTurn : TurnsState → ℤ → Reason → Type 0
-IsBadTurn t xid reason =
-    (((lane_on (lane_of xid) t).requests ≤ (lane_on (lane_of xid) t).replies) × (reason ≡ Unasked)) ⊎
-    ((turn : Turn) × IsDue (lane_on (lane_of xid) t) turn × (turn.xid ≢ xid) × (reason ≡ XidOrder turn.xid xid))
+abbrev pub IsBadTurn : Profile → TurnsState → ℤ → Reason → Type 0
+IsBadTurn profile t xid reason =
+    ((slice_get (waits_on (lane_of xid) t) 0 ≡ None) × (reason ≡ Unasked)) ⊎
+    ((turn : Turn) × IsDue t xid turn × IsLacked profile turn × (turn.xid ≢ xid) × (reason ≡ XidOrder turn.xid xid))
 
--- whom the reply with this xid answers: a request that the talk got, or one that is left out; or why it is refused
-abbrev pub Judges : TurnsState → Option ℤ → Result (Option Turn) Reason → Type 0
-Judges t xid (Ok None) = IsForTalk t xid
-Judges t xid (Ok (Some turn)) = (xid ≡ Some turn.xid) × IsDue (lane_on (lane_of turn.xid) t) turn
-Judges t xid (Err reason) = (x : ℤ) × (xid ≡ Some x) × IsBadTurn t x reason
+-- whom the frame answers: a request that the talk got, or one that is left out; or why it is refused
+abbrev pub Judges : Profile → TurnsState → Option ℤ → Result Due Reason → Type 0
+Judges profile t xid (Ok dues.Nothing) = xid ≡ None
+Judges profile t xid (Ok (dues.Told turn)) = (x : ℤ) × (xid ≡ Some x) × IsDue t x turn × (IsLacked profile turn → ⊥)
+Judges profile t xid (Ok (dues.Left turn)) = (xid ≡ Some turn.xid) × IsDue t turn.xid turn × IsLacked profile turn
+Judges profile t xid (Err reason) = (x : ℤ) × (xid ≡ Some x) × IsBadTurn profile t x reason
+
+-- the number of the client's frame that the server's frame answers, after so many others
+abbrev pub TellsFrame : Due → ℕ → Option ℕ → Type 0
+TellsFrame dues.Nothing frames n = (frames ≡ 0 → n ≡ Some 0) × (frames ≢ 0 → n ≡ None)
+TellsFrame (dues.Told turn) frames n = n ≡ Some turn.frame
+TellsFrame (dues.Left turn) frames n = n ≡ Some turn.frame

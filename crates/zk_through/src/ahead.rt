@@ -1,30 +1,29 @@
 //! What is known of a frame by its header alone.
-ghost use Rattle.std.specs.Prelude.{◌≡◌, ◌≤◌, ◌<◌, ◌^◌, true, false, Some, IfSome, IfNone};
+ghost use Rattle.std.specs.Prelude.{◌≡◌, ◌≤◌, true, false, Some, IfSome, IfNone};
 ghost use Rattle.zk_frames.specs.Framing.{IsFrame};
-ghost use Rattle.zk_records.specs.Codes.{IsNoOp};
 ghost use Rattle.zk_through.specs.declared.turn.Turn.{Turn};
 ghost use Rattle.zk_through.specs.LeftOut.{is_turn_xid, has_turn, xid_of};
-ghost use Rattle.zk_through.specs.Turns.{turn_of};
-ghost use Rattle.zk_through.specs.Runs.{IsAhead, IsNotAhead, IsSizeOf};
+ghost use Rattle.zk_through.specs.Turns.{turn_of, IsLacked};
+ghost use Rattle.zk_through.specs.Runs.{IsAhead, IsNotAhead, IsWeighed};
 
-use crate::turn::Turn;
+use crate::turn::{Turn, is_lacked};
 use zk_asks::{Asked, ClientFrameOf, RequestRef, borrow_ask};
 use zk_jute::int_at;
-use zk_records::{Profile, op_of};
+use zk_records::Profile;
 use zk_talk::Stream;
 
-/// Whether requests under `xid` may be left out: it is not an event's, a ping's or an auth's.
-#[tactic(auto, unfolding(crate::specs::LeftOut::is_turn_xid, zk_waiting::specs::Lane::lane_of))]
+/// Whether requests and replies may have the xid: it isn't an event's.
+#[tactic(auto, unfolding(crate::specs::LeftOut::is_turn_xid))]
 fn is_turn_xid(xid: i32) -> bool
     ensures { result ≡ is_turn_xid xid }
 {
     match xid {
-        -1 | -2 | -4 => false,
+        -1 => false,
         _ => true,
     }
 }
 
-/// The request of a client's later frame of this number, if its header is whole and it is under such an xid.
+/// The request of a client's later frame of this number, if its header is whole and has such an xid.
 #[tactic(auto, unfolding(crate::specs::LeftOut::has_turn))]
 fn request_ahead(frame: u64, payload: &[u8]) -> Option<Turn>
     ensures some { IfSome result (λ turn. (has_turn 8 payload.now ≡ true) × (turn ≡ turn_of (frame, payload.now))) }
@@ -43,7 +42,7 @@ fn request_ahead(frame: u64, payload: &[u8]) -> Option<Turn>
     }
 }
 
-/// The xid of a server's later frame, if its header is whole and the xid is such a one.
+/// The xid of a server's later frame, if its header is whole and has such an xid.
 #[tactic(auto, unfolding(crate::specs::LeftOut::has_turn))]
 fn reply_ahead(payload: &[u8]) -> Option<i32>
     ensures some { IfSome result (λ xid. (has_turn 16 payload.now ≡ true) × (xid ≡ xid_of payload.now)) }
@@ -58,7 +57,7 @@ fn reply_ahead(payload: &[u8]) -> Option<i32>
     if is_turn_xid(xid) { Some(xid) } else { None }
 }
 
-/// The request of the client's whole frame, if that is a later one, its header is whole and its xid is such a one.
+/// The request of the client's whole frame, if that is a later one, its header is whole and has such an xid.
 pub fn asked(client: &Stream) -> Option<Turn>
     requires { IsFrame client.now.limit client.now.held }
     ensures some { IfSome result (λ turn. IsAhead 8 client.now (λ p. turn ≡ turn_of (client.now.count, p))) }
@@ -71,7 +70,7 @@ pub fn asked(client: &Stream) -> Option<Turn>
     request_ahead(frame, client.payload())
 }
 
-/// The xid of the server's whole frame, if that is a later one, its header is whole and the xid is such a one.
+/// The xid of the server's whole frame, if that is a later one, its header is whole and has such an xid.
 pub fn replied(server: &Stream) -> Option<i32>
     requires { IsFrame server.now.limit server.now.held }
     ensures some { IfSome result (λ xid. IsAhead 16 server.now (λ p. xid ≡ xid_of p)) }
@@ -83,28 +82,28 @@ pub fn replied(server: &Stream) -> Option<i32>
     reply_ahead(server.payload())
 }
 
-/// The request, if no operation of `profile` has its number.
+/// The request, if it is left out.
 pub fn lacking(profile: Profile, turn: Option<Turn>) -> Option<Turn>
-    ensures some { IfSome result (λ t. (turn ≡ Some t) × IsNoOp profile t.number) }
-    ensures none { IfNone result ((t : Turn) → turn ≡ Some t → IsNoOp profile t.number → ⊥) }
+    ensures some { IfSome result (λ t. (turn ≡ Some t) × IsLacked profile t) }
+    ensures none { IfNone result ((t : Turn) → turn ≡ Some t → IsLacked profile t → ⊥) }
 {
     let Some(turn) = turn else {
         return None;
     };
-    match op_of(profile, turn.number) {
-        Some(_) => None,
-        None => Some(turn),
+    if is_lacked(profile, turn) {
+        Some(turn)
+    } else {
+        None
     }
 }
 
 /// The weight of the client's whole frame as a request that waits: 1 if it is `out`, which is left out; else what it
-/// weighs in the talk. 0 if it is the first frame, or malformed.
-pub fn weight(profile: Profile, out: Option<Turn>, client: &Stream) -> u64
+/// weighs in the talk. 0 if it is the first frame, or malformed. It may be more, if no more than `room`.
+pub fn weight(profile: Profile, out: Option<Turn>, client: &Stream, room: u64) -> u64
     requires whole { IsFrame client.now.limit client.now.held }
     requires small { client.now.limit ≤ 16777216 }
-    ensures fits { result ≤ 2 ^ 32 }
     ensures out { IfSome out (λ turn. result ≡ 1) }
-    ensures ask { IfNone out (IsSizeOf profile client.now result) }
+    ensures ask { IfNone out (IsWeighed profile client.now room result) }
 {
     if out.is_some() {
         return 1;
@@ -112,7 +111,13 @@ pub fn weight(profile: Profile, out: Option<Turn>, client: &Stream) -> u64
     if client.count() == 0 {
         return 0;
     }
-    match borrow_ask(profile, client.payload()) {
+    let payload = client.payload();
+    // A multi's parts are no more than its bytes, so most frames needn't be read for them.
+    let most = 1 + payload.len() as u64;
+    if most <= room {
+        return most;
+    }
+    match borrow_ask(profile, payload) {
         Ok(ClientFrameOf::Ask { ask, .. }) => 1 + u64::from(RequestRef::of(&ask).parts()),
         Ok(ClientFrameOf::Connect { .. }) => 0,
         Err(_) => 0,

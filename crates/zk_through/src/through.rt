@@ -1,5 +1,5 @@
 //! `Through`: a conversation, with what its profile lacks left out.
-ghost use Rattle.std.specs.Prelude.{◌≡◌, ◌≢◌, ◌≤◌, ◌<◌, ◌+◌, ◌^◌, ◌↔◌, ℕ, List, [], length, IsTrue, false, None, Some, Err, OnOk, OnErr, IfOk, IfErr, MatchOption};
+ghost use Rattle.std.specs.Prelude.{◌≡◌, ◌≢◌, ◌≤◌, ◌<◌, ◌+◌, ◌-◌, ℕ, List, [], length, None, Some, Err, OnOk, OnErr, IfOk, IfErr, MatchOption};
 ghost use Rattle.zk_frames.specs.Framing.{frame};
 ghost use Rattle.zk_talk.specs.declared.message.Fault.{Fault};
 ghost use Rattle.zk_talk.specs.declared.message.Ending.TheVariants.{Refused};
@@ -14,6 +14,7 @@ ghost use Rattle.zk_talk.specs.Stands.{Stands, WhereItStands, held_on, kept_on};
 ghost use Rattle.zk_talk.specs.Ending.{unwelcomed};
 ghost use Rattle.zk_talk.specs.Viewed.{Leaves, Shows, other_side};
 ghost use Rattle.zk_through.specs.Came.{Came};
+ghost use Rattle.zk_through.specs.LeftOut.{NewestAnswers};
 ghost use Rattle.zk_through.specs.declared.through.Passed.{Passed};
 ghost use Rattle.zk_through.specs.declared.through.Went.{Went};
 ghost use Rattle.zk_through.specs.Turns.{HaveRoom, left_out};
@@ -21,7 +22,7 @@ ghost use Rattle.zk_through.specs.Runs.{WentOn, IsRefused, IsTold, IsNotTold, Is
 
 use crate::ahead::{asked, lacking, replied, weight};
 use crate::turn::Turn;
-use crate::turns::Turns;
+use crate::turns::{Due, Turns, frame_answered};
 use std::alloc::{AllocError, Global};
 use std::marker::Model;
 use zk_jute::ItemFault;
@@ -68,21 +69,22 @@ pub struct Through {
     server: Stream,
     turns: Turns,
     limits: Limits,
+    /// The number of the client's frame that the server's newest frame answers.
+    answered: Option<u64>,
     fault: Option<Fault>,
 }
 
 impl Model for Through {
     ghost use Rattle.std.specs.Prelude.{◌≡◌};
     ghost use Rattle.zk_talk.specs.Sound.{IsSide, IsKnown};
-    ghost use Rattle.std.specs.Prelude.{◌+◌};
-    ghost use Rattle.zk_through.specs.Turns.{AreFewer, HaveRoom};
+    ghost use Rattle.zk_through.specs.Turns.{HaveRoom};
     ghost use Rattle.zk_through.specs.Runs.{ThroughState};
 
     ghost Value = { ThroughState };
 
-    ghost view = { λ t. record { talk = t.talk; client = t.client; server = t.server; turns = t.turns; fault = t.fault } };
+    ghost view = { λ t. record { talk = t.talk; client = t.client; server = t.server; turns = t.turns; answered = t.answered; fault = t.fault } };
 
-    ghost invariant = { λ t. (t.talk.limits ≡ t.limits) × IsSide t.limits.client t.fault t.client × IsSide t.limits.server t.fault t.server × IsKnown t.fault × HaveRoom t.limits.waiting t.turns × AreFewer (t.client.count + 1) (t.server.count + 1) t.turns };
+    ghost invariant = { λ t. (t.talk.limits ≡ t.limits) × IsSide t.limits.client t.fault t.client × IsSide t.limits.server t.fault t.server × IsKnown t.fault × HaveRoom t.limits.waiting t.turns };
 }
 
 /// Gives the talk the side's whole frame, whose last `new` bytes are new. A refusal is kept, at the side's own frame
@@ -118,23 +120,21 @@ fn tell(
 }
 
 /// The weight of the requests that wait, those that are left out too.
-fn weight_of(talk: &Talk, turns: &Turns) -> u32
+fn weight_waiting(talk: &Talk, turns: &Turns) -> u32
     requires { HaveRoom talk.now.limits.waiting turns.now }
     ensures stands { WhereItStands talk.now (λ v c s. result ≡ load v.client v.server + left_out turns.now) }
     ensures left { left_out turns.now ≤ result }
 {
-    talk.waiting() + turns.left() as u32
+    talk.waiting() + turns.left()
 }
 
-/// Whether a request of this weight would take what waits above `most`; none weighs 0.
-fn is_full(talk: &Talk, turns: &Turns, weight: u64, most: u32) -> bool
-    requires small { weight ≤ 2 ^ 32 }
-    requires room { HaveRoom talk.now.limits.waiting turns.now }
-    ensures full { IsTrue result → (0 < weight) × WhereItStands talk.now (λ v c s. most < load v.client v.server + left_out turns.now + weight) }
-    ensures fits { result ≡ false → 0 < weight → WhereItStands talk.now (λ v c s. load v.client v.server + left_out turns.now + weight ≤ most) }
-    ensures room { result ≡ false → 0 < weight → left_out turns.now + weight ≤ most }
+/// What more may wait, by weight, if no more than `most` may.
+fn room(talk: &Talk, turns: &Turns, most: u32) -> u64
+    requires { HaveRoom talk.now.limits.waiting turns.now }
+    ensures stands { WhereItStands talk.now (λ v c s. result ≡ most - (load v.client v.server + left_out turns.now)) }
+    ensures left { result ≤ most - left_out turns.now }
 {
-    weight > 0 && u64::from(weight_of(talk, turns)) + weight > u64::from(most)
+    u64::from(most.saturating_sub(weight_waiting(talk, turns)))
 }
 
 /// 1 if a connect request has no reply, else 0.
@@ -169,6 +169,7 @@ impl Through {
             server,
             turns,
             limits,
+            answered: None,
             fault: None,
         })
     }
@@ -193,8 +194,9 @@ impl Through {
         let ahead = asked(&self.client);
         let profile = self.limits.profile();
         let out = lacking(profile, ahead);
-        let weight = weight(profile, out, &self.client);
-        if is_full(&self.talk, &self.turns, weight, self.limits.waiting()) {
+        let room = room(&self.talk, &self.turns, self.limits.waiting());
+        let weight = weight(profile, out, &self.client, room);
+        if weight > room {
             self.client.take_back(new);
             return Ok(Passed::of(0, Went::Full));
         }
@@ -229,16 +231,18 @@ impl Through {
             return Ok(Passed::of(piece.len(), Went::Within));
         };
         let ahead = replied(&self.server);
-        let due = match self.turns.due(ahead) {
+        let due = match self.turns.due(self.limits.profile(), ahead) {
             Ok(due) => due,
             Err(reason) => {
                 let item = ItemFault::at(0, reason);
                 return Err(refuse(&mut self.fault, side, &self.server, new, item));
             }
         };
-        if let Some(turn) = due {
+        let answered = frame_answered(due, self.server.count());
+        if let Due::Left(turn) = due {
             self.turns.answer(turn.xid);
             self.server.keep(new);
+            self.answered = answered;
             return Ok(Passed::of(new, Went::Answered(turn)));
         }
         match tell(&mut self.talk, &mut self.fault, side, &mut self.server, new) {
@@ -246,6 +250,7 @@ impl Through {
             Err(fault) => return Err(fault),
         }
         self.turns.reply(ahead);
+        self.answered = answered;
         Ok(Passed::of(new, Went::Message))
     }
 
@@ -325,6 +330,16 @@ impl Through {
         self.talk.held(side)
     }
 
+    /// The number of the client's frame that the server's newest whole frame answers, those left out counted: 0 for the
+    /// reply to the connect request. `None` if that is an event, or none came.
+    pub fn answered(&self) -> Option<u64>
+        ensures value { result ≡ self.now.answered }
+        // The k-th reply of a lane answers the lane's k-th request.
+        ensures answers { (h : History) (c k : Came) (M : List Message) → Runs self.now h c k M → NewestAnswers c result }
+    {
+        self.answered
+    }
+
     /// The weight of the requests that wait for their replies: 1 each, those left out too, and 1 more for each part of
     /// a multi.
     pub fn waiting(&self) -> u32
@@ -332,7 +347,7 @@ impl Through {
         ensures left { left_out self.now.turns ≤ result }
         ensures most { WhereItRuns self.now (λ v. result ≤ self.now.talk.limits.waiting) }
     {
-        weight_of(&self.talk, &self.turns)
+        weight_waiting(&self.talk, &self.turns)
     }
 
     /// How the bytes so far end, those left out too.
@@ -353,7 +368,7 @@ impl Through {
             let side = Side::Server;
             return Ending::Cut { side, frame, got };
         }
-        let waiting = self.talk.requests() + self.turns.left() as u32;
+        let waiting = self.talk.requests() + self.turns.left();
         let unanswered = waiting + unwelcomed(&self.talk);
         Ending::Whole { unanswered }
     }
@@ -367,6 +382,7 @@ impl Through {
         self.client.renew();
         self.server.renew();
         self.turns.renew();
+        self.answered = None;
         self.fault = None;
     }
 }

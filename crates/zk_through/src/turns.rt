@@ -1,224 +1,168 @@
-//! `Turns`: how many requests and replies of a lane came, and which requests are left out and wait.
-ghost use Rattle.std.specs.Prelude.{◌≡◌, ◌≤◌, ◌<◌, ◌+◌, ◌^◌, length, MatchBool, IfOk, IfSome, IfNone};
+//! `Turns`: which requests wait for their replies, by lanes, and how many of them are left out.
+ghost use Rattle.std.specs.Prelude.{◌≡◌, ◌<◌, ◌+◌, ◌-◌, ◌^◌, drop, slice_get, IfOk};
 ghost use Rattle.zk_waiting.specs.Lane.{lane_of};
-ghost use Rattle.zk_through.specs.declared.turn.Turn.{Turn};
-ghost use Rattle.zk_through.specs.Turns.{AreFewer, IsDue, Judges, no_turns, with_request, with_left, with_reply, without_oldest, with_lane, lane_on, left_out, after_request, after_reply, IsForTalk};
+ghost use Rattle.zk_through.specs.Turns.{Judges, TellsFrame, no_turns, and_turn, waits_on, with_waits, after_request, after_left, after_reply, after_answer};
 
-use crate::turn::Turn;
+use crate::turn::{Turn, is_lacked};
 use circular_buffer::HeapCircularBuffer;
 use std::alloc::{AllocError, Global};
 use std::marker::Model;
 use zk_jute::Reason;
+use zk_records::Profile;
 use zk_waiting::{Lane, lane_of};
 
-/// A request that is left out, and how many of its lane came before it.
+/// Which request a server's frame is to answer.
 #[derive(Clone, Copy)]
-pub struct Left {
-    pub turn: Turn,
-    pub place: u64,
+pub enum Due {
+    /// None: the frame is no reply.
+    Nothing,
+    /// One that the talk got.
+    Told(Turn),
+    /// One that is left out, with the frame's xid.
+    Left(Turn),
 }
 
-/// The requests of one lane.
-#[derive(Drop)]
-struct LaneTurns {
-    requests: u64,
-    replies: u64,
-    left: HeapCircularBuffer<Left>,
-}
-
-impl Model for LaneTurns {
-    ghost use Rattle.zk_through.specs.Turns.{LaneState};
-
-    ghost Value = { LaneState };
-
-    ghost view = { λ t. record { requests = t.requests; replies = t.replies; left = t.left.items; room = t.left.capacity } };
-}
-
-impl LaneTurns {
-    /// No requests, and room for `room` that are left out, which is allocated now.
-    fn new(alloc: Global, room: u32) -> Result<Self, AllocError>
-        ensures { IfOk result (λ t. t ≡ no_turns room) }
-    {
-        let left = HeapCircularBuffer::with_capacity(alloc, room as usize)?;
-        Ok(LaneTurns {
-            requests: 0,
-            replies: 0,
-            left,
-        })
-    }
-
-    /// The lane as `new` makes it. Allocates nothing.
-    fn renew(&mut self)
-        ensures { self.new ≡ no_turns self.old.room }
-    {
-        self.requests = 0;
-        self.replies = 0;
-        self.left.clear();
-    }
-
-    /// Counts a request that the talk gets.
-    fn ask(&mut self)
-        requires { self.old.requests < 2 ^ 62 }
-        ensures { self.new ≡ with_request self.old }
-    {
-        self.requests += 1;
-    }
-
-    /// Counts the request `turn`, which is left out, and lets it wait.
-    fn leave(&mut self, turn: Turn)
-        requires count { self.old.requests < 2 ^ 62 }
-        requires room { length self.old.left < self.old.room }
-        ensures { self.new ≡ with_left turn self.old }
-    {
-        let place = self.requests;
-        match self.left.try_push_back(Left { turn, place }) {
-            Ok(()) => {}
-            Err(_full) => unreachable!(),
-        }
-        self.requests += 1;
-    }
-
-    /// Whether no request waits.
-    fn is_over(&self) -> bool
-        ensures { MatchBool result (self.now.requests ≤ self.now.replies) (self.now.replies < self.now.requests) }
-    {
-        self.requests <= self.replies
-    }
-
-    /// The request that the next reply answers, if it is left out.
-    fn due(&self) -> Option<Turn>
-        ensures some { IfSome result (λ turn. IsDue self.now turn) }
-        ensures none { IfNone result ((turn : Turn) → IsDue self.now turn → ⊥) }
-    {
-        match self.left.front() {
-            None => None,
-            Some(left) => {
-                if left.place == self.replies {
-                    Some(left.turn)
-                } else {
-                    None
-                }
-            }
-        }
-    }
-
-    /// Counts a reply that the talk gets.
-    fn reply(&mut self)
-        requires { self.old.replies < 2 ^ 62 }
-        ensures { self.new ≡ with_reply self.old }
-    {
-        self.replies += 1;
-    }
-
-    /// Counts the reply to the oldest request that is left out, and drops the request.
-    fn answer(&mut self)
-        requires { self.old.replies < 2 ^ 62 }
-        ensures { self.new ≡ without_oldest self.old }
-    {
-        self.replies += 1;
-        self.left.pop_front();
-    }
-
-    /// The number of requests that are left out and wait.
-    fn len(&self) -> usize
-        ensures value { result ≡ length self.now.left }
-        ensures within { result ≤ self.now.room }
-    {
-        self.left.len()
+/// The number of the client's frame that the server's frame answers, after `frames` others: the first answers the
+/// connect request.
+pub fn frame_answered(due: Due, frames: u64) -> Option<u64>
+    ensures { TellsFrame due frames result }
+{
+    match due {
+        Due::Told(turn) | Due::Left(turn) => Some(turn.frame),
+        Due::Nothing if frames == 0 => Some(0),
+        Due::Nothing => None,
     }
 }
 
-/// The requests of the lanes of which some may be left out: the plain one, and that of setWatches.
+/// The requests that wait, by lanes, the oldest first. A lane has room for all that may wait.
 #[derive(Drop)]
 pub struct Turns {
-    plain: LaneTurns,
-    watches: LaneTurns,
+    ping: HeapCircularBuffer<Turn>,
+    auth: HeapCircularBuffer<Turn>,
+    watches: HeapCircularBuffer<Turn>,
+    plain: HeapCircularBuffer<Turn>,
+    /// How many of them are left out.
+    left: u32,
 }
 
 impl Model for Turns {
+    ghost use Rattle.std.specs.Prelude.{◌≡◌};
     ghost use Rattle.zk_through.specs.Turns.{TurnsState};
 
     ghost Value = { TurnsState };
 
-    ghost view = { λ t. record { plain = t.plain; watches = t.watches } };
+    ghost view = { λ t. record { ping = t.ping.items; auth = t.auth.items; watches = t.watches.items; plain = t.plain.items; left = t.left; room = t.plain.capacity } };
+
+    ghost invariant = { λ t. (t.ping.capacity ≡ t.plain.capacity) × (t.auth.capacity ≡ t.plain.capacity) × (t.watches.capacity ≡ t.plain.capacity) };
 }
 
 impl Turns {
-    /// No requests, and room for `room` that are left out in each lane, which is allocated now.
+    /// No requests, and room for `room` in each lane, which is allocated now.
     pub fn new(alloc: Global, room: u32) -> Result<Self, AllocError>
-        ensures { IfOk result (λ t. t ≡ record { plain = no_turns room; watches = no_turns room }) }
+        ensures { IfOk result (λ t. t ≡ no_turns room) }
     {
-        let plain = LaneTurns::new(alloc, room)?;
-        let watches = LaneTurns::new(alloc, room)?;
-        Ok(Turns { plain, watches })
+        let ping = HeapCircularBuffer::with_capacity(alloc, room as usize)?;
+        let auth = HeapCircularBuffer::with_capacity(alloc, room as usize)?;
+        let watches = HeapCircularBuffer::with_capacity(alloc, room as usize)?;
+        let plain = HeapCircularBuffer::with_capacity(alloc, room as usize)?;
+        Ok(Turns {
+            ping,
+            auth,
+            watches,
+            plain,
+            left: 0,
+        })
     }
 
     /// The lanes as `new` makes them. Allocates nothing.
     pub fn renew(&mut self)
-        ensures { self.new ≡ record { plain = no_turns self.old.plain.room; watches = no_turns self.old.watches.room } }
+        ensures { self.new ≡ no_turns self.old.room }
     {
-        self.plain.renew();
-        self.watches.renew();
+        self.ping.clear();
+        self.auth.clear();
+        self.watches.clear();
+        self.plain.clear();
+        self.left = 0;
     }
 
-    /// Counts the request `turn`, if it is one of a lane; the talk gets it.
-    pub fn ask(&mut self, turn: Option<Turn>)
-        requires { AreFewer (2 ^ 62) (2 ^ 62) self.old }
-        ensures { self.new ≡ after_request turn self.old }
+    /// Lets the request wait, the newest of its lane; a full lane loses its oldest.
+    fn push(&mut self, turn: Turn)
+        ensures now { self.new ≡ with_waits (lane_of turn.xid) (and_turn self.old.room turn) self.old }
+        ensures same { (self.new.left ≡ self.old.left) × (self.new.room ≡ self.old.room) }
     {
-        let Some(turn) = turn else {
-            return;
+        match lane_of(turn.xid) {
+            Lane::Ping => self.ping.push_back(turn),
+            Lane::Auth => self.auth.push_back(turn),
+            Lane::Watches => self.watches.push_back(turn),
+            Lane::Plain => self.plain.push_back(turn),
         };
-        match lane_of(turn.xid) {
-            Lane::Watches => self.watches.ask(),
-            Lane::Ping | Lane::Auth | Lane::Plain => self.plain.ask(),
+    }
+
+    /// Drops the oldest request of the lane.
+    fn pop(&mut self, lane: Lane)
+        ensures now { self.new ≡ with_waits lane (drop 1) self.old }
+        ensures same { (self.new.left ≡ self.old.left) × (self.new.room ≡ self.old.room) }
+    {
+        match lane {
+            Lane::Ping => self.ping.pop_front(),
+            Lane::Auth => self.auth.pop_front(),
+            Lane::Watches => self.watches.pop_front(),
+            Lane::Plain => self.plain.pop_front(),
+        };
+    }
+
+    /// The oldest request of the lane.
+    fn oldest(&self, lane: Lane) -> Option<Turn>
+        ensures { result ≡ slice_get (waits_on lane self.now) 0 }
+    {
+        match lane {
+            Lane::Ping => self.ping.front().copied(),
+            Lane::Auth => self.auth.front().copied(),
+            Lane::Watches => self.watches.front().copied(),
+            Lane::Plain => self.plain.front().copied(),
         }
     }
 
-    /// Counts the request `turn`, which is left out, and lets it wait.
+    /// Lets the request wait, if it is one of a lane; the talk gets it.
+    pub fn ask(&mut self, turn: Option<Turn>)
+        ensures now { self.new ≡ after_request turn self.old }
+        ensures same { (self.new.left ≡ self.old.left) × (self.new.room ≡ self.old.room) }
+    {
+        if let Some(turn) = turn {
+            self.push(turn);
+        }
+    }
+
+    /// Lets the request wait, which is left out.
     pub fn leave(&mut self, turn: Turn)
-        requires count { AreFewer (2 ^ 62) (2 ^ 62) self.old }
-        requires room { (length self.old.plain.left < self.old.plain.room) × (length self.old.watches.left < self.old.watches.room) }
-        ensures { self.new ≡ with_lane (lane_of turn.xid) (with_left turn) self.old }
+        requires { self.old.left < 2 ^ 31 }
+        ensures now { self.new ≡ after_left turn self.old }
+        ensures left { (self.new.left ≡ self.old.left + 1) × (self.new.room ≡ self.old.room) }
     {
-        match lane_of(turn.xid) {
-            Lane::Watches => self.watches.leave(turn),
-            Lane::Ping | Lane::Auth | Lane::Plain => self.plain.leave(turn),
-        }
+        self.push(turn);
+        self.left += 1;
     }
 
-    /// The lane of `xid`.
-    fn lane(&self, xid: i32) -> &LaneTurns
-        ensures { result.now ≡ lane_on (lane_of xid) self.now }
-    {
-        match lane_of(xid) {
-            Lane::Watches => &self.watches,
-            Lane::Ping | Lane::Auth | Lane::Plain => &self.plain,
-        }
-    }
-
-    /// The request that is left out and that the reply with this xid answers; `None` if the xid is of no lane, or the
-    /// request is one that the talk got.
+    /// The request that the server's frame with this xid is to answer; with no xid it is no reply.
     ///
     /// # Errors
     ///
     /// `Unasked` if nothing of the lane waits; `XidOrder` if it is the turn of a request that is left out, with another
     /// xid.
-    pub fn due(&self, xid: Option<i32>) -> Result<Option<Turn>, Reason>
-        ensures { Judges self.now xid result }
+    pub fn due(&self, profile: Profile, xid: Option<i32>) -> Result<Due, Reason>
+        ensures { Judges profile self.now xid result }
     {
         let Some(xid) = xid else {
-            return Ok(None);
+            return Ok(Due::Nothing);
         };
-        let lane = self.lane(xid);
-        if lane.is_over() {
+        let Some(turn) = self.oldest(lane_of(xid)) else {
             return Err(Reason::Unasked);
-        }
-        let Some(turn) = lane.due() else {
-            return Ok(None);
         };
+        if !is_lacked(profile, turn) {
+            return Ok(Due::Told(turn));
+        }
         if turn.xid == xid {
-            Ok(Some(turn))
+            Ok(Due::Left(turn))
         } else {
             let expected = turn.xid;
             let got = xid;
@@ -226,37 +170,29 @@ impl Turns {
         }
     }
 
-    /// Counts the reply with this xid, if it is one of a lane; the talk gets it.
+    /// Drops the request that the reply with this xid answers, if it is one of a lane; the talk gets the reply.
     pub fn reply(&mut self, xid: Option<i32>)
-        requires { AreFewer (2 ^ 62) (2 ^ 62) self.old }
-        ensures { self.new ≡ after_reply xid self.old }
+        ensures now { self.new ≡ after_reply xid self.old }
+        ensures same { (self.new.left ≡ self.old.left) × (self.new.room ≡ self.old.room) }
     {
-        let Some(xid) = xid else {
-            return;
-        };
-        match lane_of(xid) {
-            Lane::Watches => self.watches.reply(),
-            Lane::Ping | Lane::Auth | Lane::Plain => self.plain.reply(),
+        if let Some(xid) = xid {
+            self.pop(lane_of(xid));
         }
     }
 
-    /// Counts the reply to the lane's oldest request that is left out, and drops the request.
+    /// Drops the request that the reply with this xid answers, which is left out.
     pub fn answer(&mut self, xid: i32)
-        requires { AreFewer (2 ^ 62) (2 ^ 62) self.old }
-        ensures { self.new ≡ with_lane (lane_of xid) without_oldest self.old }
+        ensures now { self.new ≡ after_answer xid self.old }
+        ensures left { (self.new.left ≡ self.old.left - 1) × (self.new.room ≡ self.old.room) }
     {
-        match lane_of(xid) {
-            Lane::Watches => self.watches.answer(),
-            Lane::Ping | Lane::Auth | Lane::Plain => self.plain.answer(),
-        }
+        self.pop(lane_of(xid));
+        self.left = self.left.saturating_sub(1);
     }
 
     /// The number of requests that are left out and wait.
-    pub fn left(&self) -> usize
-        requires { self.now.plain.room + self.now.watches.room < 2 ^ 32 }
-        ensures value { result ≡ left_out self.now }
-        ensures within { result ≤ self.now.plain.room + self.now.watches.room }
+    pub fn left(&self) -> u32
+        ensures { result ≡ self.now.left }
     {
-        self.plain.len() + self.watches.len()
+        self.left
     }
 }

@@ -32,7 +32,7 @@ class Passed(ctypes.Structure):
 
 class Message(ctypes.Structure):
     _fields_ = [("status", U32), ("kind", U32), ("xid", I32), ("operation", I32), ("size", U32), ("err", I32),
-                ("zxid", I64), ("frame", U64)]
+                ("zxid", I64), ("frame", U64), ("answers", U64)]
 
 
 class Ending(ctypes.Structure):

@@ -58,7 +58,8 @@ class Field(NamedTuple):
 @dataclass(frozen=True)
 class Message:
     """A message. The operation of a reply is that of its request. `frame` is the number of its frame among those of its
-    side, from 0, and `line` its line, if the talk has lines; both are None for a payload by itself."""
+    side, from 0, and `line` its line, if the talk has lines; both are None for a payload by itself. `answers` is the
+    number of the client's frame that a passage's reply answers, else None."""
     kind: Kind
     xid: int
     operation: str
@@ -68,6 +69,7 @@ class Message:
     payload: bytes
     frame: Optional[int] = None
     line: Optional[str] = None
+    answers: Optional[int] = None
 
     def __getitem__(self, name: str) -> Value:
         """The value of the first field of this name."""
@@ -149,7 +151,8 @@ def message_of(view: _calls.Message, read: Callable[..., _calls.Read], payload: 
     """The message that a handle shows."""
     _, fields = fields_of(read, lambda: payload)
     operation = OPERATIONS.get(view.operation, "")
-    return Message(Kind(view.kind), view.xid, operation, view.err, view.zxid, fields, payload, view.frame, line)
+    return Message(Kind(view.kind), view.xid, operation, view.err, view.zxid, fields, payload, view.frame, line,
+                   view.answers or None)
 
 
 def written(write: Callable[..., _calls.Line], room: int = 4096) -> bytes:

@@ -25,12 +25,12 @@ class Passages(unittest.TestCase):
         if message is None:
             return passed.went, passed.xid, passed.operation, passed.payload, passed.frame
         self.assertEqual((passed.went, *passed[3:]), (Went.MESSAGE, None, None, None, None))
-        return message.kind, message.xid, message.operation, message.payload, message.frame
+        return message.kind, message.xid, message.operation, message.payload, message.frame, message.answers
 
     def test_pairs_are_left_out(self):
-        wanted = [(Kind.CONNECT, 0, "", HELLO, 0), (Kind.CONNECTED, 0, "", WELCOME, 0),
-                  (Went.ASKED, 1, 103, EPHEMERALS, 1), (Kind.REQUEST, 2, "exists", self.SECOND, 2),
-                  (Went.ANSWERED, 1, 103, NONE, 1), (Kind.REPLY, 2, "exists", self.SECOND_NO_NODE, 2)]
+        wanted = [(Kind.CONNECT, 0, "", HELLO, 0, None), (Kind.CONNECTED, 0, "", WELCOME, 0, None),
+                  (Went.ASKED, 1, 103, EPHEMERALS, 1), (Kind.REQUEST, 2, "exists", self.SECOND, 2, None),
+                  (Went.ANSWERED, 1, 103, NONE, 1), (Kind.REPLY, 2, "exists", self.SECOND_NO_NODE, 2, 2)]
         with Through() as through:
             for cut in (1, 7, 1000):
                 found = []
@@ -68,7 +68,7 @@ class Passages(unittest.TestCase):
                 self.assertEqual(through.feed(Side.CLIENT, frame(self.SECOND)[9:]), [Passed(Went.FULL, 0)])
             self.assertEqual([passed.went for passed in through.feed(Side.SERVER, frame(NONE))], [Went.ANSWERED])
             (last,) = through.feed(Side.CLIENT, frame(self.SECOND)[9:])
-            self.assertEqual((last.used, self.told(last)), (10, (Kind.REQUEST, 2, "exists", self.SECOND, 2)))
+            self.assertEqual((last.used, self.told(last)), (10, (Kind.REQUEST, 2, "exists", self.SECOND, 2, None)))
 
     def test_a_reply_before_its_turn(self):
         with Through() as through:

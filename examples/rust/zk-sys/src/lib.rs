@@ -82,6 +82,7 @@ pub struct zk_message {
     pub err: i32,
     pub zxid: i64,
     pub frame: u64,
+    pub answers: u64,
 }
 
 #[repr(C)]

@@ -39,7 +39,8 @@ pub struct Field<'p> {
 }
 
 /// A message. The operation of a reply is that of its request; `err` and `zxid` are those of a reply or an event;
-/// `frame` is the number of its frame among those of its side in a talk, from 0.
+/// `frame` is the number of its frame among those of its side in a talk, from 0; `answers` is that of the client's frame
+/// that a passage's reply answers, else 0.
 #[derive(Clone, Copy, Debug)]
 pub struct Message<'p> {
     pub kind: Kind,
@@ -48,6 +49,7 @@ pub struct Message<'p> {
     pub err: i32,
     pub zxid: i64,
     pub frame: u64,
+    pub answers: u64,
     pub payload: &'p [u8],
     fields: &'p [zk_field],
 }
@@ -90,6 +92,7 @@ impl<'p> Message<'p> {
             err,
             zxid,
             frame: 0,
+            answers: 0,
             payload,
             fields,
         }

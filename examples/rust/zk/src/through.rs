@@ -123,6 +123,7 @@ impl Through {
                     zk_sys::zk_through_fields(handle, side, out, room)
                 })?;
                 message.frame = view.frame;
+                message.answers = view.answers;
                 Ok(Went::Message(message))
             }
             ASKED | ANSWERED => {

@@ -53,8 +53,9 @@ fn told(went: Went) -> String {
             operation,
             payload,
             frame,
+            answers,
             ..
-        }) => format!("message {xid} {operation} {} frame {frame}", payload.len()),
+        }) => format!("message {xid} {operation} {} frame {frame} answers {answers}", payload.len()),
     }
 }
 
@@ -83,12 +84,12 @@ fn lines() {
 #[test]
 fn pairs_are_left_out() {
     let wanted = [
-        "message 0 0 45 frame 0",
-        "message 0 0 37 frame 0",
+        "message 0 0 45 frame 0 answers 0",
+        "message 0 0 37 frame 0 answers 0",
         "asked 1 103 14 frame 1",
-        "message 2 3 15 frame 2",
+        "message 2 3 15 frame 2 answers 0",
         "answered 1 103 20 frame 1",
-        "message 2 3 16 frame 2",
+        "message 2 3 16 frame 2 answers 2",
     ];
     let mut through = passage(65_536);
     for cut in [1, 7, 1000] {
@@ -144,7 +145,7 @@ fn full() {
     );
     assert_eq!(
         step(&mut through, Side::Client, &exists[9..], 10),
-        "message 2 3 15 frame 2"
+        "message 2 3 15 frame 2 answers 0"
     );
 }
 

@@ -1,14 +1,13 @@
-use Rattle.std.proofs.Common.{◌≡◌, ◌∙◌, [], refl, sym, ap, subst, Option, Some, arith}
+use Rattle.std.proofs.Common.{◌≡◌, ◌∙◌, [], sym, ap, subst, Option, Some, arith}
 use Rattle.std.specs.Option.{IfSome, IfNone}
 use Rattle.zk_records.specs.declared.profile.Profile.{Profile}
-use Rattle.zk_records.specs.Codes.{IsNoOp}
 use Rattle.zk_talk.specs.declared.limits.Limits.{Limits}
 use Rattle.zk_talk.specs.declared.message.Side.TheVariants.{Client}
 use Rattle.zk_talk.proofs.Answering.{received}
 use Rattle.zk_through.specs.contracts.through.Through.{the_view}
 use Rattle.zk_through.specs.declared.turn.Turn.{Turn}
-use Rattle.zk_through.specs.Turns.{turn_of}
-use Rattle.zk_through.specs.Runs.{ThroughState, IsAhead, IsSizeOf}
+use Rattle.zk_through.specs.Turns.{turn_of, IsLacked}
+use Rattle.zk_through.specs.Runs.{ThroughState, IsAhead, IsWeighed}
 use Rattle.zk_through.proofs.AnsweringClient.{client_within, client_stopped, client_told, client_left, client_full, client_refused, client_weighs, out_ahead}
 use Rattle.zk_through.proofs.through.Through.client_step.Goals as goal
 
@@ -17,75 +16,81 @@ returns-in_default-clause-ok c =
     let T = the_view c.self.inside in
     let limit : T.client.limit ≡ T.talk.limits.client = c.self.invariant.1.same ∙ ap (λ (l : Limits). l.client) (sym c.self.invariant.0) in
     let none : T.client.kept ≡ [] = ap (λ (t : ThroughState). t.client.kept) c.self.view_is ∙ c.requires.given_up in
+    let room : T.turns.room ≡ T.talk.limits.waiting = c.self.invariant.4.0 ∙ ap (λ (l : Limits). l.waiting) (sym c.self.invariant.0) in
     let w = received Client _ _ _ _ _ c.in_default.is c.in-Ok.ensures.received in
-    rw (← c.self.view_is, c.of.ensures, w.1) (client_within T c.args.piece.now limit none c.receive.new.stream w.0)
+    rw (← c.self.view_is, c.of.ensures, w.1) (client_within T c.args.piece.now limit none room c.receive.new.stream w.0)
 
 pub returns-in-Err-clause-err : goal.returns-in-Err-clause-err
 returns-in-Err-clause-err c =
     let T = the_view c.self.inside in
     let limit : T.client.limit ≡ T.talk.limits.client = c.self.invariant.1.same ∙ ap (λ (l : Limits). l.client) (sym c.self.invariant.0) in
     let none : T.client.kept ≡ [] = ap (λ (t : ThroughState). t.client.kept) c.self.view_is ∙ c.requires.given_up in
+    let room : T.turns.room ≡ T.talk.limits.waiting = c.self.invariant.4.0 ∙ ap (λ (l : Limits). l.waiting) (sym c.self.invariant.0) in
     let w = c.in-Err.ensures.received in
-    rw (← c.self.view_is) (client_stopped T c.args.piece.now limit none c.in-Err.fault c.receive.new.stream c.receive.new.kept w.0 w.1)
+    rw (← c.self.view_is) (client_stopped T c.args.piece.now limit none room c.in-Err.fault c.receive.new.stream c.receive.new.kept w.0 w.1)
 
-pub returns-then-is_full-clause-ok : goal.returns-then-is_full-clause-ok
-returns-then-is_full-clause-ok c =
+pub returns-then-weight-room-clause-ok : goal.returns-then-weight-room-clause-ok
+returns-then-weight-room-clause-ok c =
     let T = the_view c.self.inside in
     let limit : T.client.limit ≡ T.talk.limits.client = c.self.invariant.1.same ∙ ap (λ (l : Limits). l.client) (sym c.self.invariant.0) in
     let none : T.client.kept ≡ [] = ap (λ (t : ThroughState). t.client.kept) c.self.view_is ∙ c.requires.given_up in
+    let room : T.turns.room ≡ T.talk.limits.waiting = c.self.invariant.4.0 ∙ ap (λ (l : Limits). l.waiting) (sym c.self.invariant.0) in
     let w = received Client _ _ _ _ _ c.in-Some.is c.in-Ok.ensures.received in
     let profile : c.profile-profile.result ≡ T.talk.limits.profile = c.profile-profile.ensures ∙ ap (λ (l : Limits). l.profile) (sym c.self.invariant.0) in
     let out = c.lacking-out.ensures.some in
-    let lacks = subst (λ (z : Profile). IfSome c.lacking-out.result (λ turn. (c.asked-ahead.result ≡ Some turn) × IsNoOp z turn.number)) profile out in
-    let outs = out_ahead T c.args.piece.now limit none c.in-Some.new c.receive.new.stream w.0 c.asked-ahead.result c.lacking-out.result c.asked-ahead.ensures.some lacks in
-    let more = c.if-is_full.ensures.full refl in
-    let asks = subst (λ (z : Profile). IfNone c.lacking-out.result (IsSizeOf z c.receive.new.stream c.weight-weight.result)) profile c.weight-weight.ensures.ask in
-    let y = client_weighs T c.args.piece.now limit none c.in-Some.new c.receive.new.stream w.0 c.lacking-out.result c.weight-weight.result outs c.weight-weight.ensures.out asks more.0 in
+    let lacks = subst (λ (z : Profile). IfSome c.lacking-out.result (λ turn. (c.asked-ahead.result ≡ Some turn) × IsLacked z turn)) profile out in
+    let outs = out_ahead T c.args.piece.now limit none room c.in-Some.new c.receive.new.stream w.0 c.asked-ahead.result c.lacking-out.result c.asked-ahead.ensures.some lacks in
+    let more = c.if-weight-room.true in
+    let asks = subst (λ (z : Profile). IfNone c.lacking-out.result (IsWeighed z c.receive.new.stream c.room-room.result c.weight-weight.result)) profile c.weight-weight.ensures.ask in
+    let y = client_weighs T c.args.piece.now limit none room c.in-Some.new c.receive.new.stream w.0 c.lacking-out.result c.room-room.result c.weight-weight.result outs c.weight-weight.ensures.out asks more in
     let most : c.waiting.result ≡ T.talk.limits.waiting = c.waiting.ensures ∙ ap (λ (l : Limits). l.waiting) (sym c.self.invariant.0) in
-    rw (← c.self.view_is, c.of-then-is_full.ensures, w.1) (client_full T c.args.piece.now limit none c.in-Some.new c.receive.new.stream w.0 c.take_back.new.self c.weight-weight.result c.take_back.ensures y.0 y.1
-    (λ h M v cr sr st g. omega (arith, more.1 h M v cr sr st g, most)))
+    rw (← c.self.view_is, c.of-then-weight-room.ensures, w.1) (client_full T c.args.piece.now limit none room c.in-Some.new c.receive.new.stream w.0 c.take_back.new.self c.weight-weight.result c.take_back.ensures y.0 y.1
+    (λ h M v cr sr st g. omega (arith, more, c.room-room.ensures.stands h M v cr sr st g, most)))
 
 pub returns-in-Some-out-clause-ok : goal.returns-in-Some-out-clause-ok
 returns-in-Some-out-clause-ok c =
     let T = the_view c.self.inside in
     let limit : T.client.limit ≡ T.talk.limits.client = c.self.invariant.1.same ∙ ap (λ (l : Limits). l.client) (sym c.self.invariant.0) in
     let none : T.client.kept ≡ [] = ap (λ (t : ThroughState). t.client.kept) c.self.view_is ∙ c.requires.given_up in
+    let room : T.turns.room ≡ T.talk.limits.waiting = c.self.invariant.4.0 ∙ ap (λ (l : Limits). l.waiting) (sym c.self.invariant.0) in
     let w = received Client _ _ _ _ _ c.in-Some.is c.in-Ok.ensures.received in
     let profile : c.profile-profile.result ≡ T.talk.limits.profile = c.profile-profile.ensures ∙ ap (λ (l : Limits). l.profile) (sym c.self.invariant.0) in
     let out = c.lacking-out.ensures.some in
-    let lacks = subst (λ (z : Profile). IfSome c.lacking-out.result (λ turn. (c.asked-ahead.result ≡ Some turn) × IsNoOp z turn.number)) profile out in
-    let outs = out_ahead T c.args.piece.now limit none c.in-Some.new c.receive.new.stream w.0 c.asked-ahead.result c.lacking-out.result c.asked-ahead.ensures.some lacks in
+    let lacks = subst (λ (z : Profile). IfSome c.lacking-out.result (λ turn. (c.asked-ahead.result ≡ Some turn) × IsLacked z turn)) profile out in
+    let outs = out_ahead T c.args.piece.now limit none room c.in-Some.new c.receive.new.stream w.0 c.asked-ahead.result c.lacking-out.result c.asked-ahead.ensures.some lacks in
     let turn = c.in-Some-out.turn in
-    let a = subst (λ (z : Option Turn). IfSome z (λ t. IsAhead 8 c.receive.new.stream (λ p. t ≡ turn_of (c.receive.new.stream.count, p)) × IsNoOp T.talk.limits.profile t.number)) c.in-Some-out.is outs in
+    let a = subst (λ (z : Option Turn). IfSome z (λ t. IsAhead 8 c.receive.new.stream (λ p. t ≡ turn_of (c.receive.new.stream.count, p)) × IsLacked T.talk.limits.profile t)) c.in-Some-out.is outs in
     let most : c.waiting.result ≡ T.talk.limits.waiting = c.waiting.ensures ∙ ap (λ (l : Limits). l.waiting) (sym c.self.invariant.0) in
     let one : c.weight-weight.result ≡ 1 = subst (λ (z : Option Turn). IfSome z (λ t. c.weight-weight.result ≡ 1)) c.in-Some-out.is c.weight-weight.ensures.out in
-    rw (← c.self.view_is, c.of-in-Some-out.ensures, w.1) (client_left T c.args.piece.now limit none c.in-Some.new c.receive.new.stream w.0 c.keep.new.self c.leave.new.self turn c.keep.ensures c.leave.ensures a.0 a.1
-    (λ h M v cr sr st g. omega (arith, c.if-is_full.ensures.fits refl (omega (arith, one)) h M v cr sr st g, most, one)))
+    rw (← c.self.view_is, c.of-in-Some-out.ensures, w.1) (client_left T c.args.piece.now limit none room c.in-Some.new c.receive.new.stream w.0 c.keep.new.self c.leave.new.self turn c.keep.ensures c.leave.ensures.now a.0 a.1
+    (λ h M v cr sr st g. omega (arith, c.if-weight-room.false, c.room-room.ensures.stands h M v cr sr st g, most, one)))
 
 pub returns-in-Err-tell-clause-err : goal.returns-in-Err-tell-clause-err
 returns-in-Err-tell-clause-err c =
     let T = the_view c.self.inside in
     let limit : T.client.limit ≡ T.talk.limits.client = c.self.invariant.1.same ∙ ap (λ (l : Limits). l.client) (sym c.self.invariant.0) in
     let none : T.client.kept ≡ [] = ap (λ (t : ThroughState). t.client.kept) c.self.view_is ∙ c.requires.given_up in
+    let room : T.turns.room ≡ T.talk.limits.waiting = c.self.invariant.4.0 ∙ ap (λ (l : Limits). l.waiting) (sym c.self.invariant.0) in
     let w = received Client _ _ _ _ _ c.in-Some.is c.in-Ok.ensures.received in
     let t = c.in-Err-tell.ensures in
     let profile : c.profile-profile.result ≡ T.talk.limits.profile = c.profile-profile.ensures ∙ ap (λ (l : Limits). l.profile) (sym c.self.invariant.0) in
-    let asks = subst (λ (z : Option Turn). IfNone z (IsSizeOf c.profile-profile.result c.receive.new.stream c.weight-weight.result)) c.in_default-out.is c.weight-weight.ensures.ask in
-    let size = subst (λ (z : Profile). IsSizeOf z c.receive.new.stream c.weight-weight.result) profile asks in
+    let asks = subst (λ (z : Option Turn). IfNone z (IsWeighed c.profile-profile.result c.receive.new.stream c.room-room.result c.weight-weight.result)) c.in_default-out.is c.weight-weight.ensures.ask in
+    let size = (subst (λ (z : Profile). IsWeighed z c.receive.new.stream c.room-room.result c.weight-weight.result) profile asks).0 in
     let most : c.waiting.result ≡ T.talk.limits.waiting = c.waiting.ensures ∙ ap (λ (l : Limits). l.waiting) (sym c.self.invariant.0) in
-    rw (← c.self.view_is) (client_refused T c.args.piece.now limit none c.in-Some.new c.receive.new.stream w.0 c.weight-weight.result c.in-Err-tell.fault c.tell.new.kept c.tell.new.stream c.tell.new.talk size
-    (λ more h M v cr sr st g. omega (arith, c.if-is_full.ensures.fits refl more h M v cr sr st g, most)) t.told t.err)
+    rw (← c.self.view_is) (client_refused T c.args.piece.now limit none room c.in-Some.new c.receive.new.stream w.0 c.weight-weight.result c.in-Err-tell.fault c.tell.new.kept c.tell.new.stream c.tell.new.talk size
+    (λ more h M v cr sr st g. omega (arith, more, c.if-weight-room.false, c.room-room.ensures.stands h M v cr sr st g, most)) t.told t.err)
 
 pub returns-clause-ok : goal.returns-clause-ok
 returns-clause-ok c =
     let T = the_view c.self.inside in
     let limit : T.client.limit ≡ T.talk.limits.client = c.self.invariant.1.same ∙ ap (λ (l : Limits). l.client) (sym c.self.invariant.0) in
     let none : T.client.kept ≡ [] = ap (λ (t : ThroughState). t.client.kept) c.self.view_is ∙ c.requires.given_up in
+    let room : T.turns.room ≡ T.talk.limits.waiting = c.self.invariant.4.0 ∙ ap (λ (l : Limits). l.waiting) (sym c.self.invariant.0) in
     let w = received Client _ _ _ _ _ c.in-Some.is c.in-Ok.ensures.received in
     let t = c.in-Ok-tell.ensures in
     let profile : c.profile-profile.result ≡ T.talk.limits.profile = c.profile-profile.ensures ∙ ap (λ (l : Limits). l.profile) (sym c.self.invariant.0) in
-    let asks = subst (λ (z : Option Turn). IfNone z (IsSizeOf c.profile-profile.result c.receive.new.stream c.weight-weight.result)) c.in_default-out.is c.weight-weight.ensures.ask in
-    let size = subst (λ (z : Profile). IsSizeOf z c.receive.new.stream c.weight-weight.result) profile asks in
+    let asks = subst (λ (z : Option Turn). IfNone z (IsWeighed c.profile-profile.result c.receive.new.stream c.room-room.result c.weight-weight.result)) c.in_default-out.is c.weight-weight.ensures.ask in
+    let size = (subst (λ (z : Profile). IsWeighed z c.receive.new.stream c.room-room.result c.weight-weight.result) profile asks).0 in
     let most : c.waiting.result ≡ T.talk.limits.waiting = c.waiting.ensures ∙ ap (λ (l : Limits). l.waiting) (sym c.self.invariant.0) in
-    rw (← c.self.view_is, c.of-2.ensures, t.passed.1, w.1) (client_told T c.args.piece.now limit none c.in-Some.new c.receive.new.stream w.0 c.tell.new.stream c.tell.new.talk c.ask.new.self t.passed.0 t.limits t.ok c.weight-weight.result size (λ more h M v cr sr st g. omega (arith, c.if-is_full.ensures.fits refl more h M v cr sr st g, most)) c.asked-ahead.result c.ask.ensures c.asked-ahead.ensures.some c.asked-ahead.ensures.none
-    (λ turn e foreign. c.in_default-out.ensures.none turn e (subst (λ (z : Profile). IsNoOp z turn.number) (sym profile) foreign)))
+    rw (← c.self.view_is, c.of-2.ensures, t.passed.1, w.1) (client_told T c.args.piece.now limit none room c.in-Some.new c.receive.new.stream w.0 c.tell.new.stream c.tell.new.talk c.ask.new.self t.passed.0 t.limits t.ok c.weight-weight.result size (λ more h M v cr sr st g. omega (arith, more, c.if-weight-room.false, c.room-room.ensures.stands h M v cr sr st g, most)) c.asked-ahead.result c.ask.ensures.now c.asked-ahead.ensures.some c.asked-ahead.ensures.none
+    (λ turn e foreign. c.in_default-out.ensures.none turn e (subst (λ (z : Profile). IsLacked z turn) (sym profile) foreign)))

@@ -1,19 +1,20 @@
-use Rattle.std.proofs.Common.{rules, ◌≡◌, ◌∙◌, ◌+◌, ℤ, [], refl, sym, ap, subst, Option, Ok, w32, SFits}
+use Rattle.std.proofs.Common.{rules, ◌≡◌, ◌∙◌, ◌+◌, ℤ, [], refl, sym, ap, subst, Option, Ok, Err, w32, SFits}
 use Rattle.std.specs.Option.{IfSome}
 use Rattle.std.proofs.lemmas.Int.{to_z-of_z}
 use Rattle.zk_jute.specs.declared.fault.ItemFault.{ItemFault}
-use Rattle.zk_waiting.specs.Lane.{lane_of}
+use Rattle.zk_records.specs.declared.profile.Profile.{Profile}
 use Rattle.zk_talk.specs.declared.limits.Limits.{Limits}
 use Rattle.zk_talk.specs.declared.message.Side.TheVariants.{Server}
 use Rattle.zk_talk.specs.Fault.{fault_of}
 use Rattle.zk_talk.proofs.Answering.{received}
 use Rattle.zk_through.specs.contracts.through.Through.{the_view}
-use Rattle.zk_through.specs.declared.turn.Turn.{Turn}
 use Rattle.zk_through.specs.LeftOut.{xid_of}
-use Rattle.zk_through.specs.Turns.{Judges, with_lane, without_oldest}
+use Rattle.zk_through.specs.declared.turns.Due.{Due}
+use Rattle.zk_through.specs.declared.turns.Due.TheVariants as dues
+use Rattle.zk_through.specs.Turns.{Judges, TellsFrame, after_answer}
 use Rattle.zk_through.specs.Runs.{ThroughState, IsAhead}
 use Rattle.zk_through.proofs.Answering.{bad_known}
-use Rattle.zk_through.proofs.AnsweringServer.{server_within, server_stopped, server_told, server_left, server_bad, server_refused}
+use Rattle.zk_through.proofs.AnsweringServer.{server_within, server_stopped, server_passed, server_left, server_bad, server_refused}
 use Rattle.zk_through.proofs.through.Through.server_step.Goals as goal
 
 pub returns-in_default-clause-ok : goal.returns-in_default-clause-ok
@@ -38,24 +39,27 @@ returns-in-Err-due-clause-err c =
     let limit : T.server.limit ≡ T.talk.limits.server = c.self.invariant.2.same ∙ ap (λ (l : Limits). l.server) (sym c.self.invariant.0) in
     let none : T.server.kept ≡ [] = ap (λ (t : ThroughState). t.server.kept) c.self.view_is ∙ c.requires.given_up in
     let w = received Server _ _ _ _ _ c.in-Some.is c.in-Ok.ensures.received in
-    let bad = c.in-Err-due.ensures in
+    let profile : c.profile.result ≡ T.talk.limits.profile = c.profile.ensures ∙ ap (λ (l : Limits). l.profile) (sym c.self.invariant.0) in
+    let bad = subst (λ (z : Profile). Judges z c.self.inside.turns c.replied-ahead.result (Err c.in-Err-due.reason)) profile c.in-Err-due.ensures in
     let a = subst (λ (z : Option ℤ). IfSome z (λ xid. IsAhead 16 c.receive.new.stream (λ q. xid ≡ xid_of q))) bad.1 c.replied-ahead.ensures.some in
-    let told = c.refuse.ensures.told (λ e. bad_known c.self.inside.turns bad.0 c.in-Err-due.reason bad.2 (sym (ap (λ (z : ItemFault). z.reason) c.at-item.ensures) ∙ e)) in
+    let told = c.refuse.ensures.told (λ e. bad_known T.talk.limits.profile c.self.inside.turns bad.0 c.in-Err-due.reason bad.2 (sym (ap (λ (z : ItemFault). z.reason) c.at-item.ensures) ∙ e)) in
     rw (← c.self.view_is) (server_bad T c.args.piece.now limit none c.in-Some.new c.receive.new.stream w.0 bad.0 a c.refuse.result c.refuse.new.kept c.in-Err-due.reason bad.2
     (told.0 ∙ (λ i. fault_of Server c.receive.new.stream.count (c.receive.new.stream.size + c.in-Some.new) (c.at-item.ensures i).place (c.at-item.ensures i).reason)) told.1)
 
-pub returns-in-Some-due-clause-ok : goal.returns-in-Some-due-clause-ok
-returns-in-Some-due-clause-ok c =
+pub returns-in-Left-clause-ok : goal.returns-in-Left-clause-ok
+returns-in-Left-clause-ok c =
     let T = the_view c.self.inside in
     let limit : T.server.limit ≡ T.talk.limits.server = c.self.invariant.2.same ∙ ap (λ (l : Limits). l.server) (sym c.self.invariant.0) in
     let none : T.server.kept ≡ [] = ap (λ (t : ThroughState). t.server.kept) c.self.view_is ∙ c.requires.given_up in
     let w = received Server _ _ _ _ _ c.in-Some.is c.in-Ok.ensures.received in
-    let turn = c.in-Some-due.turn in
-    let d = subst (λ (z : Option Turn). Judges c.self.inside.turns c.replied-ahead.result (Ok z)) c.in-Some-due.is c.in-Ok-due.ensures in
+    let turn = c.in-Left.turn in
+    let profile : c.profile.result ≡ T.talk.limits.profile = c.profile.ensures ∙ ap (λ (l : Limits). l.profile) (sym c.self.invariant.0) in
+    let d = subst (λ (z : Profile). Judges z c.self.inside.turns c.replied-ahead.result (Ok (dues.Left turn))) profile (subst (λ (z : Due). Judges c.profile.result c.self.inside.turns c.replied-ahead.result (Ok z)) c.in-Left.is c.in-Ok-due.ensures) in
+    let frame = subst (λ (z : Due). TellsFrame z c.receive.new.stream.count c.frame_answered-answered.result) c.in-Left.is (subst (λ n. TellsFrame c.in-Ok-due.due n c.frame_answered-answered.result) c.count.ensures c.frame_answered-answered.ensures) in
     let a = subst (λ (z : Option ℤ). IfSome z (λ xid. IsAhead 16 c.receive.new.stream (λ q. xid ≡ xid_of q))) d.0 c.replied-ahead.ensures.some in
     let fits : SFits w32 turn.xid = search rules in
-    let less = c.answer.ensures ∙ ap (λ (z : ℤ). with_lane (lane_of z) without_oldest c.self.inside.turns) (to_z-of_z w32 turn.xid fits) in
-    rw (← c.self.view_is, c.of-in-Some-due.ensures, w.1) (server_left T c.args.piece.now limit none c.in-Some.new c.receive.new.stream w.0 turn.xid a c.keep.new.self c.answer.new.self turn c.keep.ensures less refl d.1)
+    let less = c.answer.ensures.now ∙ ap (λ (z : ℤ). after_answer z c.self.inside.turns) (to_z-of_z w32 turn.xid fits) in
+    rw (← c.self.view_is, c.of-in-Left.ensures, w.1) (server_left T c.args.piece.now limit none c.in-Some.new c.receive.new.stream w.0 turn.xid a c.keep.new.self c.answer.new.self c.frame_answered-answered.result turn c.keep.ensures less refl d.1 d.2 frame)
 
 pub returns-in-Err-tell-clause-err : goal.returns-in-Err-tell-clause-err
 returns-in-Err-tell-clause-err c =
@@ -73,5 +77,7 @@ returns-clause-ok c =
     let none : T.server.kept ≡ [] = ap (λ (t : ThroughState). t.server.kept) c.self.view_is ∙ c.requires.given_up in
     let w = received Server _ _ _ _ _ c.in-Some.is c.in-Ok.ensures.received in
     let t = c.in-Ok-tell.ensures in
-    let d = subst (λ (z : Option Turn). Judges c.self.inside.turns c.replied-ahead.result (Ok z)) c.in_default-due.is c.in-Ok-due.ensures in
-    rw (← c.self.view_is, c.of-2.ensures, t.passed.1, w.1) (server_told T c.args.piece.now limit none c.in-Some.new c.receive.new.stream w.0 c.tell.new.stream c.tell.new.talk c.reply.new.self t.passed.0 t.limits t.ok c.replied-ahead.result c.reply.ensures c.replied-ahead.ensures.some c.replied-ahead.ensures.none d)
+    let profile : c.profile.result ≡ T.talk.limits.profile = c.profile.ensures ∙ ap (λ (l : Limits). l.profile) (sym c.self.invariant.0) in
+    let d = subst (λ (z : Profile). Judges z c.self.inside.turns c.replied-ahead.result (Ok c.in-Ok-due.due)) profile c.in-Ok-due.ensures in
+    let frame = subst (λ n. TellsFrame c.in-Ok-due.due n c.frame_answered-answered.result) c.count.ensures c.frame_answered-answered.ensures in
+    rw (← c.self.view_is, c.of-2.ensures, t.passed.1, w.1) (server_passed T c.args.piece.now limit none c.in-Some.new c.receive.new.stream w.0 c.tell.new.stream c.tell.new.talk c.reply.new.self c.frame_answered-answered.result t.passed.0 t.limits t.ok c.in-Ok-due.due c.replied-ahead.result c.in_default-due.not-Left d frame c.reply.ensures.now c.replied-ahead.ensures.some c.replied-ahead.ensures.none)
