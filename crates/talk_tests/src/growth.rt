@@ -11,8 +11,8 @@ use std::test::Fail;
 use zk_jute::Reason;
 use zk_lines::{LineFault, LineReason, ending_line, line_of, line_of_ref, read_line};
 use zk_talk::{
-    Ended, Ending, Fault, Limits, Message, MessageRef, SayFault, Side, Speaker, Taken, Talk,
-    read_all,
+    Ended, Ending, Fault, Limits, Message, MessageRef, PayloadFault, SayFault, Side, Speaker,
+    Taken, Talk, read_all,
 };
 
 fn talk(alloc: Global, limits: Limits) -> Result<Talk, AllocError> {
@@ -35,6 +35,20 @@ fn said(speaker: &mut Speaker, message: &Message, out: &mut Vec<u8>) -> Result<(
         SayFault::NoMemory => speaker.say(message, out),
         _ => Err(fault),
     })
+}
+
+fn said_payload(
+    speaker: &mut Speaker,
+    side: Side,
+    payload: &[u8],
+    out: &mut Vec<u8>,
+) -> Result<(), PayloadFault> {
+    speaker
+        .say_payload(side, payload, out)
+        .or_else(|fault| match fault {
+            PayloadFault::Say(SayFault::NoMemory) => speaker.say_payload(side, payload, out),
+            _ => Err(fault),
+        })
 }
 
 fn line(alloc: Global, message: &Message) -> Result<Vec<u8>, AllocError> {
@@ -90,12 +104,13 @@ fn line_again(alloc: Global, shown: &[u8]) -> Result<Vec<u8>, AllocError> {
     }
 }
 
-/// A conversation that is read by `take` and by `step`, and said again.
+/// A conversation that is read by `take` and by `step`, and said again by its messages and by its payloads.
 #[derive(Drop)]
 struct Reading {
     taking: Talk,
     stepping: Talk,
     speaker: Speaker,
+    payloads: Speaker,
 }
 
 fn begun(alloc: Global, limits: Limits) -> Result<Reading, AllocError> {
@@ -103,13 +118,15 @@ fn begun(alloc: Global, limits: Limits) -> Result<Reading, AllocError> {
         taking: talk(alloc, limits)?,
         stepping: talk(alloc, limits)?,
         speaker: speaker(alloc, limits)?,
+        payloads: speaker(alloc, limits)?,
     })
 }
 
-/// The bytes that were said, and the lines of the messages.
+/// The bytes that were said by messages, and by payloads, and the lines of the messages.
 #[derive(Drop)]
 struct Told {
     bytes: Vec<u8>,
+    payloads: Vec<u8>,
     lines: Vec<u8>,
 }
 
@@ -190,6 +207,14 @@ fn refused_too(rt: &impl Abort, talk: &mut Talk, side: Side, piece: &[u8], fault
     assert_eq!(rt; refused, Some(fault));
 }
 
+/// Says the payload that the step kept, if it did.
+fn said_too(talk: &Talk, side: Side, speaker: &mut Speaker, out: &mut Vec<u8>) -> Result<(), Fail> {
+    match talk.payload(side) {
+        Some(payload) => Ok(said_payload(speaker, side, payload, out)?),
+        None => Ok(()),
+    }
+}
+
 /// Says what was taken, steps through it, and returns its line, and how much was used.
 fn heard(
     rt: &impl Abort,
@@ -203,6 +228,12 @@ fn heard(
     let used = taken.used;
     let line = taken_line(alloc, &mut reading.speaker, taken.message, &mut told.bytes)?;
     steps_too(rt, alloc, &mut reading.stepping, side, piece, (used, &line))?;
+    said_too(
+        &reading.stepping,
+        side,
+        &mut reading.payloads,
+        &mut told.payloads,
+    )?;
     if line.len() > 0 {
         append(&mut told.lines, &line)?;
         append(&mut told.lines, b"\n")?;
@@ -269,10 +300,12 @@ fn asked(
 ) -> Result<Told, Fail> {
     let mut told = Told {
         bytes: Vec::new(alloc),
+        payloads: Vec::new(alloc),
         lines: Vec::new(alloc),
     };
     let mut reading = begun(alloc, limits)?;
     hear_all(rt, alloc, &mut reading, &mut told, pieces)?;
+    assert_eq!(rt; told.payloads, told.bytes);
     Ok(told)
 }
 
