@@ -167,3 +167,47 @@ fn full_is_weighed_as_the_talk_weighs(rt: HostRuntime) -> Result<(), Fail> {
     goes(&rt, rt.alloc(), 3, WEIGHED)?;
     goes(&rt, rt.alloc(), 2, TOO_HEAVY)
 }
+
+/// The number of the client's frame that the server's newest frame answers, after each of these frames. The client's are
+/// getEphemerals (1), exists (2), a ping (3), setWatches2 (4), setWatches (5), an auth (6), and exists again (7, 8).
+const ANSWERS: &str = "\
+C 0000000e0000000100000067000000022f61 = Some(0)
+C 0000000f0000000200000003000000022f6101 = Some(0)
+C 00000008fffffffe0000000b = Some(0)
+C 00000024fffffff80000006900000000000000050000000000000000000000000000000000000000 = Some(0)
+C 0000001cfffffff8000000650000000000000005000000000000000000000000 = Some(0)
+C 0000001dfffffffc000000640000000000000006646967657374 = Some(0)
+C 00000003613a62 = Some(0)
+S 00000010fffffffe000000000000000500000000 = Some(3)
+S 00000010fffffff8000000000000000500000000 = Some(4)
+S 0000001effffffffffffffffffffffff000000000000000300000003000000022f61 = None
+S 000000140000000100000000000000050000000000000000 = Some(1)
+C 0000000f0000000300000003000000022f6101 = Some(1)
+S 00000010fffffff8000000000000000500000000 = Some(5)
+S 00000010fffffffc000000000000000000000000 = Some(6)
+S 000000100000000200000000 = Some(6)
+S 00000005ffffff9b = Some(2)
+C 0000000f0000000400000003000000022f6101 = Some(2)
+S 00000010000000030000000000000005ffffff9b = Some(7)
+S 00000010000000040000000000000005ffffff9b = Some(8)";
+
+#[test]
+fn replies_answer_frames(rt: HostRuntime) -> Result<(), Fail> {
+    let limits = Limits::new(4_194_304, 4_194_304, 65_536).ok_or("no limits")?;
+    let mut through = Through::new(rt.alloc(), limits)?;
+    for _ in 0..2 {
+        assert!(&rt; through.answered().is_none());
+        for row in CONNECTED.lines() {
+            let (asked, _) = row.split_once(" = ").ok_or("no row")?;
+            told(rt.alloc(), &mut through, asked)?;
+        }
+        for row in ANSWERS.lines() {
+            let (asked, want) = row.split_once(" = ").ok_or("no row")?;
+            let step = told(rt.alloc(), &mut through, asked)?;
+            let found = format!(in rt.alloc(); "{:?}", through.answered())?;
+            assert!(&rt; found.as_str() == want, "{asked} = {found}, {step}");
+        }
+        through.renew();
+    }
+    Ok(())
+}

@@ -16,6 +16,9 @@
 //!
 //! What is left out is known by its header alone: its body is not read, and `Through::payload` gives its bytes.
 //!
+//! Replies of one lane answer its requests in order: `Through::answered` is the number of the client's frame that the
+//! server's newest answers.
+//!
 //! Memory is allocated once, by `Through::new`. The crate rests on `zk_jute`, `zk_records`, `zk_asks`, `zk_answers`,
 //! `zk_frames`, `zk_waiting`, `zk_talk` and `circular_buffer`.
 #![tactic(auto)]

@@ -184,10 +184,7 @@ impl Through {
         ensures other { LeavesSide Server self.old self.new }
     {
         let side = Side::Client;
-        let received = match receive(&mut self.fault, side, &mut self.client, piece) {
-            Ok(received) => received,
-            Err(fault) => return Err(fault),
-        };
+        let received = receive(&mut self.fault, side, &mut self.client, piece)?;
         let Some(new) = received else {
             return Ok(Passed::of(piece.len(), Went::Within));
         };
@@ -205,10 +202,7 @@ impl Through {
             self.client.keep(new);
             return Ok(Passed::of(new, Went::Asked(turn)));
         }
-        match tell(&mut self.talk, &mut self.fault, side, &mut self.client, new) {
-            Ok(()) => {}
-            Err(fault) => return Err(fault),
-        }
+        tell(&mut self.talk, &mut self.fault, side, &mut self.client, new)?;
         self.turns.ask(ahead);
         Ok(Passed::of(new, Went::Message))
     }
@@ -223,10 +217,7 @@ impl Through {
         ensures other { LeavesSide Client self.old self.new }
     {
         let side = Side::Server;
-        let received = match receive(&mut self.fault, side, &mut self.server, piece) {
-            Ok(received) => received,
-            Err(fault) => return Err(fault),
-        };
+        let received = receive(&mut self.fault, side, &mut self.server, piece)?;
         let Some(new) = received else {
             return Ok(Passed::of(piece.len(), Went::Within));
         };
@@ -245,10 +236,7 @@ impl Through {
             self.answered = answered;
             return Ok(Passed::of(new, Went::Answered(turn)));
         }
-        match tell(&mut self.talk, &mut self.fault, side, &mut self.server, new) {
-            Ok(()) => {}
-            Err(fault) => return Err(fault),
-        }
+        tell(&mut self.talk, &mut self.fault, side, &mut self.server, new)?;
         self.turns.reply(ahead);
         self.answered = answered;
         Ok(Passed::of(new, Went::Message))

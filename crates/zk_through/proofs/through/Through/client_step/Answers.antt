@@ -1,6 +1,7 @@
 use Rattle.std.proofs.Common.{◌≡◌, ◌∙◌, [], sym, ap, subst, Option, Some, arith}
 use Rattle.std.specs.Option.{IfSome, IfNone}
 use Rattle.zk_records.specs.declared.profile.Profile.{Profile}
+use Rattle.std.proofs.lemmas.Result.{err_from_is_err_and}
 use Rattle.zk_talk.specs.declared.limits.Limits.{Limits}
 use Rattle.zk_talk.specs.declared.message.Side.TheVariants.{Client}
 use Rattle.zk_talk.proofs.Answering.{received}
@@ -17,17 +18,18 @@ returns-in_default-clause-ok c =
     let limit : T.client.limit ≡ T.talk.limits.client = c.self.invariant.1.same ∙ ap (λ (l : Limits). l.client) (sym c.self.invariant.0) in
     let none : T.client.kept ≡ [] = ap (λ (t : ThroughState). t.client.kept) c.self.view_is ∙ c.requires.given_up in
     let room : T.turns.room ≡ T.talk.limits.waiting = c.self.invariant.4.0 ∙ ap (λ (l : Limits). l.waiting) (sym c.self.invariant.0) in
-    let w = received Client _ _ _ _ _ c.in_default.is c.in-Ok.ensures.received in
+    let w = received Client _ _ _ _ _ c.in_default.is c.in_ok-received.ensures.received in
     rw (← c.self.view_is, c.of.ensures, w.1) (client_within T c.args.piece.now limit none room c.receive.new.stream w.0)
 
-pub returns-in-Err-clause-err : goal.returns-in-Err-clause-err
-returns-in-Err-clause-err c =
+pub returns-in_err-received-clause-err : goal.returns-in_err-received-clause-err
+returns-in_err-received-clause-err c =
     let T = the_view c.self.inside in
     let limit : T.client.limit ≡ T.talk.limits.client = c.self.invariant.1.same ∙ ap (λ (l : Limits). l.client) (sym c.self.invariant.0) in
     let none : T.client.kept ≡ [] = ap (λ (t : ThroughState). t.client.kept) c.self.view_is ∙ c.requires.given_up in
     let room : T.turns.room ≡ T.talk.limits.waiting = c.self.invariant.4.0 ∙ ap (λ (l : Limits). l.waiting) (sym c.self.invariant.0) in
-    let w = c.in-Err.ensures.received in
-    rw (← c.self.view_is) (client_stopped T c.args.piece.now limit none room c.in-Err.fault c.receive.new.stream c.receive.new.kept w.0 w.1)
+    let w = c.in_err-received.ensures.received in
+    let p = err_from_is_err_and c.from_residual.result c.from_residual.ensures.1 in
+    rw (p.1, p.2, ← c.self.view_is) (client_stopped T c.args.piece.now limit none room c.in_err-received.field-0.0 c.receive.new.stream c.receive.new.kept w.0 w.1)
 
 pub returns-then-weight-room-clause-ok : goal.returns-then-weight-room-clause-ok
 returns-then-weight-room-clause-ok c =
@@ -35,7 +37,7 @@ returns-then-weight-room-clause-ok c =
     let limit : T.client.limit ≡ T.talk.limits.client = c.self.invariant.1.same ∙ ap (λ (l : Limits). l.client) (sym c.self.invariant.0) in
     let none : T.client.kept ≡ [] = ap (λ (t : ThroughState). t.client.kept) c.self.view_is ∙ c.requires.given_up in
     let room : T.turns.room ≡ T.talk.limits.waiting = c.self.invariant.4.0 ∙ ap (λ (l : Limits). l.waiting) (sym c.self.invariant.0) in
-    let w = received Client _ _ _ _ _ c.in-Some.is c.in-Ok.ensures.received in
+    let w = received Client _ _ _ _ _ c.in-Some.is c.in_ok-received.ensures.received in
     let profile : c.profile-profile.result ≡ T.talk.limits.profile = c.profile-profile.ensures ∙ ap (λ (l : Limits). l.profile) (sym c.self.invariant.0) in
     let out = c.lacking-out.ensures.some in
     let lacks = subst (λ (z : Profile). IfSome c.lacking-out.result (λ turn. (c.asked-ahead.result ≡ Some turn) × IsLacked z turn)) profile out in
@@ -53,7 +55,7 @@ returns-in-Some-out-clause-ok c =
     let limit : T.client.limit ≡ T.talk.limits.client = c.self.invariant.1.same ∙ ap (λ (l : Limits). l.client) (sym c.self.invariant.0) in
     let none : T.client.kept ≡ [] = ap (λ (t : ThroughState). t.client.kept) c.self.view_is ∙ c.requires.given_up in
     let room : T.turns.room ≡ T.talk.limits.waiting = c.self.invariant.4.0 ∙ ap (λ (l : Limits). l.waiting) (sym c.self.invariant.0) in
-    let w = received Client _ _ _ _ _ c.in-Some.is c.in-Ok.ensures.received in
+    let w = received Client _ _ _ _ _ c.in-Some.is c.in_ok-received.ensures.received in
     let profile : c.profile-profile.result ≡ T.talk.limits.profile = c.profile-profile.ensures ∙ ap (λ (l : Limits). l.profile) (sym c.self.invariant.0) in
     let out = c.lacking-out.ensures.some in
     let lacks = subst (λ (z : Profile). IfSome c.lacking-out.result (λ turn. (c.asked-ahead.result ≡ Some turn) × IsLacked z turn)) profile out in
@@ -65,19 +67,20 @@ returns-in-Some-out-clause-ok c =
     rw (← c.self.view_is, c.of-in-Some-out.ensures, w.1) (client_left T c.args.piece.now limit none room c.in-Some.new c.receive.new.stream w.0 c.keep.new.self c.leave.new.self turn c.keep.ensures c.leave.ensures.now a.0 a.1
     (λ h M v cr sr st g. omega (arith, c.if-weight-room.false, c.room-room.ensures.stands h M v cr sr st g, most, one)))
 
-pub returns-in-Err-tell-clause-err : goal.returns-in-Err-tell-clause-err
-returns-in-Err-tell-clause-err c =
+pub returns-in_err-tell-clause-err : goal.returns-in_err-tell-clause-err
+returns-in_err-tell-clause-err c =
     let T = the_view c.self.inside in
     let limit : T.client.limit ≡ T.talk.limits.client = c.self.invariant.1.same ∙ ap (λ (l : Limits). l.client) (sym c.self.invariant.0) in
     let none : T.client.kept ≡ [] = ap (λ (t : ThroughState). t.client.kept) c.self.view_is ∙ c.requires.given_up in
     let room : T.turns.room ≡ T.talk.limits.waiting = c.self.invariant.4.0 ∙ ap (λ (l : Limits). l.waiting) (sym c.self.invariant.0) in
-    let w = received Client _ _ _ _ _ c.in-Some.is c.in-Ok.ensures.received in
-    let t = c.in-Err-tell.ensures in
+    let w = received Client _ _ _ _ _ c.in-Some.is c.in_ok-received.ensures.received in
+    let t = c.in_err-tell.ensures in
+    let p = err_from_is_err_and c.from_residual-in_err-tell.result c.from_residual-in_err-tell.ensures.1 in
     let profile : c.profile-profile.result ≡ T.talk.limits.profile = c.profile-profile.ensures ∙ ap (λ (l : Limits). l.profile) (sym c.self.invariant.0) in
     let asks = subst (λ (z : Option Turn). IfNone z (IsWeighed c.profile-profile.result c.receive.new.stream c.room-room.result c.weight-weight.result)) c.in_default-out.is c.weight-weight.ensures.ask in
     let size = (subst (λ (z : Profile). IsWeighed z c.receive.new.stream c.room-room.result c.weight-weight.result) profile asks).0 in
     let most : c.waiting.result ≡ T.talk.limits.waiting = c.waiting.ensures ∙ ap (λ (l : Limits). l.waiting) (sym c.self.invariant.0) in
-    rw (← c.self.view_is) (client_refused T c.args.piece.now limit none room c.in-Some.new c.receive.new.stream w.0 c.weight-weight.result c.in-Err-tell.fault c.tell.new.kept c.tell.new.stream c.tell.new.talk size
+    rw (p.1, p.2, ← c.self.view_is) (client_refused T c.args.piece.now limit none room c.in-Some.new c.receive.new.stream w.0 c.weight-weight.result c.in_err-tell.field-0.0 c.tell.new.kept c.tell.new.stream c.tell.new.talk size
     (λ more h M v cr sr st g. omega (arith, more, c.if-weight-room.false, c.room-room.ensures.stands h M v cr sr st g, most)) t.told t.err)
 
 pub returns-clause-ok : goal.returns-clause-ok
@@ -86,8 +89,8 @@ returns-clause-ok c =
     let limit : T.client.limit ≡ T.talk.limits.client = c.self.invariant.1.same ∙ ap (λ (l : Limits). l.client) (sym c.self.invariant.0) in
     let none : T.client.kept ≡ [] = ap (λ (t : ThroughState). t.client.kept) c.self.view_is ∙ c.requires.given_up in
     let room : T.turns.room ≡ T.talk.limits.waiting = c.self.invariant.4.0 ∙ ap (λ (l : Limits). l.waiting) (sym c.self.invariant.0) in
-    let w = received Client _ _ _ _ _ c.in-Some.is c.in-Ok.ensures.received in
-    let t = c.in-Ok-tell.ensures in
+    let w = received Client _ _ _ _ _ c.in-Some.is c.in_ok-received.ensures.received in
+    let t = c.in_ok-tell.ensures in
     let profile : c.profile-profile.result ≡ T.talk.limits.profile = c.profile-profile.ensures ∙ ap (λ (l : Limits). l.profile) (sym c.self.invariant.0) in
     let asks = subst (λ (z : Option Turn). IfNone z (IsWeighed c.profile-profile.result c.receive.new.stream c.room-room.result c.weight-weight.result)) c.in_default-out.is c.weight-weight.ensures.ask in
     let size = (subst (λ (z : Profile). IsWeighed z c.receive.new.stream c.room-room.result c.weight-weight.result) profile asks).0 in

@@ -3,6 +3,7 @@ use Rattle.std.specs.Option.{IfSome}
 use Rattle.std.proofs.lemmas.Int.{to_z-of_z}
 use Rattle.zk_jute.specs.declared.fault.ItemFault.{ItemFault}
 use Rattle.zk_records.specs.declared.profile.Profile.{Profile}
+use Rattle.std.proofs.lemmas.Result.{err_from_is_err_and}
 use Rattle.zk_talk.specs.declared.limits.Limits.{Limits}
 use Rattle.zk_talk.specs.declared.message.Side.TheVariants.{Server}
 use Rattle.zk_talk.specs.Fault.{fault_of}
@@ -22,28 +23,29 @@ returns-in_default-clause-ok c =
     let T = the_view c.self.inside in
     let limit : T.server.limit ≡ T.talk.limits.server = c.self.invariant.2.same ∙ ap (λ (l : Limits). l.server) (sym c.self.invariant.0) in
     let none : T.server.kept ≡ [] = ap (λ (t : ThroughState). t.server.kept) c.self.view_is ∙ c.requires.given_up in
-    let w = received Server _ _ _ _ _ c.in_default.is c.in-Ok.ensures.received in
+    let w = received Server _ _ _ _ _ c.in_default.is c.in_ok-received.ensures.received in
     rw (← c.self.view_is, c.of.ensures, w.1) (server_within T c.args.piece.now limit none c.receive.new.stream w.0)
+
+pub returns-in_err-received-clause-err : goal.returns-in_err-received-clause-err
+returns-in_err-received-clause-err c =
+    let T = the_view c.self.inside in
+    let limit : T.server.limit ≡ T.talk.limits.server = c.self.invariant.2.same ∙ ap (λ (l : Limits). l.server) (sym c.self.invariant.0) in
+    let none : T.server.kept ≡ [] = ap (λ (t : ThroughState). t.server.kept) c.self.view_is ∙ c.requires.given_up in
+    let w = c.in_err-received.ensures.received in
+    let p = err_from_is_err_and c.from_residual.result c.from_residual.ensures.1 in
+    rw (p.1, p.2, ← c.self.view_is) (server_stopped T c.args.piece.now limit none c.in_err-received.field-0.0 c.receive.new.stream c.receive.new.kept w.0 w.1)
 
 pub returns-in-Err-clause-err : goal.returns-in-Err-clause-err
 returns-in-Err-clause-err c =
     let T = the_view c.self.inside in
     let limit : T.server.limit ≡ T.talk.limits.server = c.self.invariant.2.same ∙ ap (λ (l : Limits). l.server) (sym c.self.invariant.0) in
     let none : T.server.kept ≡ [] = ap (λ (t : ThroughState). t.server.kept) c.self.view_is ∙ c.requires.given_up in
-    let w = c.in-Err.ensures.received in
-    rw (← c.self.view_is) (server_stopped T c.args.piece.now limit none c.in-Err.fault c.receive.new.stream c.receive.new.kept w.0 w.1)
-
-pub returns-in-Err-due-clause-err : goal.returns-in-Err-due-clause-err
-returns-in-Err-due-clause-err c =
-    let T = the_view c.self.inside in
-    let limit : T.server.limit ≡ T.talk.limits.server = c.self.invariant.2.same ∙ ap (λ (l : Limits). l.server) (sym c.self.invariant.0) in
-    let none : T.server.kept ≡ [] = ap (λ (t : ThroughState). t.server.kept) c.self.view_is ∙ c.requires.given_up in
-    let w = received Server _ _ _ _ _ c.in-Some.is c.in-Ok.ensures.received in
+    let w = received Server _ _ _ _ _ c.in-Some.is c.in_ok-received.ensures.received in
     let profile : c.profile.result ≡ T.talk.limits.profile = c.profile.ensures ∙ ap (λ (l : Limits). l.profile) (sym c.self.invariant.0) in
-    let bad = subst (λ (z : Profile). Judges z c.self.inside.turns c.replied-ahead.result (Err c.in-Err-due.reason)) profile c.in-Err-due.ensures in
+    let bad = subst (λ (z : Profile). Judges z c.self.inside.turns c.replied-ahead.result (Err c.in-Err.reason)) profile c.in-Err.ensures in
     let a = subst (λ (z : Option ℤ). IfSome z (λ xid. IsAhead 16 c.receive.new.stream (λ q. xid ≡ xid_of q))) bad.1 c.replied-ahead.ensures.some in
-    let told = c.refuse.ensures.told (λ e. bad_known T.talk.limits.profile c.self.inside.turns bad.0 c.in-Err-due.reason bad.2 (sym (ap (λ (z : ItemFault). z.reason) c.at-item.ensures) ∙ e)) in
-    rw (← c.self.view_is) (server_bad T c.args.piece.now limit none c.in-Some.new c.receive.new.stream w.0 bad.0 a c.refuse.result c.refuse.new.kept c.in-Err-due.reason bad.2
+    let told = c.refuse.ensures.told (λ e. bad_known T.talk.limits.profile c.self.inside.turns bad.0 c.in-Err.reason bad.2 (sym (ap (λ (z : ItemFault). z.reason) c.at-item.ensures) ∙ e)) in
+    rw (← c.self.view_is) (server_bad T c.args.piece.now limit none c.in-Some.new c.receive.new.stream w.0 bad.0 a c.refuse.result c.refuse.new.kept c.in-Err.reason bad.2
     (told.0 ∙ (λ i. fault_of Server c.receive.new.stream.count (c.receive.new.stream.size + c.in-Some.new) (c.at-item.ensures i).place (c.at-item.ensures i).reason)) told.1)
 
 pub returns-in-Left-clause-ok : goal.returns-in-Left-clause-ok
@@ -51,33 +53,34 @@ returns-in-Left-clause-ok c =
     let T = the_view c.self.inside in
     let limit : T.server.limit ≡ T.talk.limits.server = c.self.invariant.2.same ∙ ap (λ (l : Limits). l.server) (sym c.self.invariant.0) in
     let none : T.server.kept ≡ [] = ap (λ (t : ThroughState). t.server.kept) c.self.view_is ∙ c.requires.given_up in
-    let w = received Server _ _ _ _ _ c.in-Some.is c.in-Ok.ensures.received in
+    let w = received Server _ _ _ _ _ c.in-Some.is c.in_ok-received.ensures.received in
     let turn = c.in-Left.turn in
     let profile : c.profile.result ≡ T.talk.limits.profile = c.profile.ensures ∙ ap (λ (l : Limits). l.profile) (sym c.self.invariant.0) in
-    let d = subst (λ (z : Profile). Judges z c.self.inside.turns c.replied-ahead.result (Ok (dues.Left turn))) profile (subst (λ (z : Due). Judges c.profile.result c.self.inside.turns c.replied-ahead.result (Ok z)) c.in-Left.is c.in-Ok-due.ensures) in
-    let frame = subst (λ (z : Due). TellsFrame z c.receive.new.stream.count c.frame_answered-answered.result) c.in-Left.is (subst (λ n. TellsFrame c.in-Ok-due.due n c.frame_answered-answered.result) c.count.ensures c.frame_answered-answered.ensures) in
+    let d = subst (λ (z : Profile). Judges z c.self.inside.turns c.replied-ahead.result (Ok (dues.Left turn))) profile (subst (λ (z : Due). Judges c.profile.result c.self.inside.turns c.replied-ahead.result (Ok z)) c.in-Left.is c.in-Ok.ensures) in
+    let frame = subst (λ (z : Due). TellsFrame z c.receive.new.stream.count c.frame_answered-answered.result) c.in-Left.is (subst (λ n. TellsFrame c.in-Ok.due n c.frame_answered-answered.result) c.count.ensures c.frame_answered-answered.ensures) in
     let a = subst (λ (z : Option ℤ). IfSome z (λ xid. IsAhead 16 c.receive.new.stream (λ q. xid ≡ xid_of q))) d.0 c.replied-ahead.ensures.some in
     let fits : SFits w32 turn.xid = search rules in
     let less = c.answer.ensures.now ∙ ap (λ (z : ℤ). after_answer z c.self.inside.turns) (to_z-of_z w32 turn.xid fits) in
     rw (← c.self.view_is, c.of-in-Left.ensures, w.1) (server_left T c.args.piece.now limit none c.in-Some.new c.receive.new.stream w.0 turn.xid a c.keep.new.self c.answer.new.self c.frame_answered-answered.result turn c.keep.ensures less refl d.1 d.2 frame)
 
-pub returns-in-Err-tell-clause-err : goal.returns-in-Err-tell-clause-err
-returns-in-Err-tell-clause-err c =
+pub returns-in_err-tell-clause-err : goal.returns-in_err-tell-clause-err
+returns-in_err-tell-clause-err c =
     let T = the_view c.self.inside in
     let limit : T.server.limit ≡ T.talk.limits.server = c.self.invariant.2.same ∙ ap (λ (l : Limits). l.server) (sym c.self.invariant.0) in
     let none : T.server.kept ≡ [] = ap (λ (t : ThroughState). t.server.kept) c.self.view_is ∙ c.requires.given_up in
-    let w = received Server _ _ _ _ _ c.in-Some.is c.in-Ok.ensures.received in
-    let t = c.in-Err-tell.ensures in
-    rw (← c.self.view_is) (server_refused T c.args.piece.now limit none c.in-Some.new c.receive.new.stream w.0 c.in-Err-tell.fault c.tell.new.kept c.tell.new.stream c.tell.new.talk t.told t.err)
+    let w = received Server _ _ _ _ _ c.in-Some.is c.in_ok-received.ensures.received in
+    let t = c.in_err-tell.ensures in
+    let p = err_from_is_err_and c.from_residual-in_err-tell.result c.from_residual-in_err-tell.ensures.1 in
+    rw (p.1, p.2, ← c.self.view_is) (server_refused T c.args.piece.now limit none c.in-Some.new c.receive.new.stream w.0 c.in_err-tell.field-0.0 c.tell.new.kept c.tell.new.stream c.tell.new.talk t.told t.err)
 
 pub returns-clause-ok : goal.returns-clause-ok
 returns-clause-ok c =
     let T = the_view c.self.inside in
     let limit : T.server.limit ≡ T.talk.limits.server = c.self.invariant.2.same ∙ ap (λ (l : Limits). l.server) (sym c.self.invariant.0) in
     let none : T.server.kept ≡ [] = ap (λ (t : ThroughState). t.server.kept) c.self.view_is ∙ c.requires.given_up in
-    let w = received Server _ _ _ _ _ c.in-Some.is c.in-Ok.ensures.received in
-    let t = c.in-Ok-tell.ensures in
+    let w = received Server _ _ _ _ _ c.in-Some.is c.in_ok-received.ensures.received in
+    let t = c.in_ok-tell.ensures in
     let profile : c.profile.result ≡ T.talk.limits.profile = c.profile.ensures ∙ ap (λ (l : Limits). l.profile) (sym c.self.invariant.0) in
-    let d = subst (λ (z : Profile). Judges z c.self.inside.turns c.replied-ahead.result (Ok c.in-Ok-due.due)) profile c.in-Ok-due.ensures in
-    let frame = subst (λ n. TellsFrame c.in-Ok-due.due n c.frame_answered-answered.result) c.count.ensures c.frame_answered-answered.ensures in
-    rw (← c.self.view_is, c.of-2.ensures, t.passed.1, w.1) (server_passed T c.args.piece.now limit none c.in-Some.new c.receive.new.stream w.0 c.tell.new.stream c.tell.new.talk c.reply.new.self c.frame_answered-answered.result t.passed.0 t.limits t.ok c.in-Ok-due.due c.replied-ahead.result c.in_default-due.not-Left d frame c.reply.ensures.now c.replied-ahead.ensures.some c.replied-ahead.ensures.none)
+    let d = subst (λ (z : Profile). Judges z c.self.inside.turns c.replied-ahead.result (Ok c.in-Ok.due)) profile c.in-Ok.ensures in
+    let frame = subst (λ n. TellsFrame c.in-Ok.due n c.frame_answered-answered.result) c.count.ensures c.frame_answered-answered.ensures in
+    rw (← c.self.view_is, c.of-2.ensures, t.passed.1, w.1) (server_passed T c.args.piece.now limit none c.in-Some.new c.receive.new.stream w.0 c.tell.new.stream c.tell.new.talk c.reply.new.self c.frame_answered-answered.result t.passed.0 t.limits t.ok c.in-Ok.due c.replied-ahead.result c.in_default-due.not-Left d frame c.reply.ensures.now c.replied-ahead.ensures.some c.replied-ahead.ensures.none)
