@@ -107,7 +107,7 @@ lower_pairs (h ∷ l ∷ rest) bytes i all e =
       ok_is a b e = cc
 
 -- what is decoded of lower-case digits is written so again
-lower_again : (run bytes : List ℕ) → AllByRecursion (λ b. in_hex b ≡ true) run → decode_of run ≡ Ok bytes → (run ≡ encode_lower bytes) × AllByRecursion (λ b. b < 256) bytes
+pub lower_again : (run bytes : List ℕ) → AllByRecursion (λ b. in_hex b ≡ true) run → decode_of run ≡ Ok bytes → (run ≡ encode_lower bytes) × AllByRecursion (λ b. b < 256) bytes
 lower_again run bytes h e = pick (length run % 2 == 1) e where
   pick : (t : Bool) → cond t (Err OddLength) (decode_pairs 0 run) ≡ Ok bytes → (run ≡ encode_lower bytes) × AllByRecursion (λ b. b < 256) bytes
   pick true e = absurd cc

@@ -13,3 +13,4 @@ pub mod Texts
 pub mod Blobs
 pub mod Joined
 pub mod Codes
+pub mod Copies

@@ -2,7 +2,7 @@
 use Rattle.std.proofs.Common.{◌≡◌, ℕ, zero, suc, ◌<◌, List, [], ◌∷◌, ◌++◌, length, Option, Some, None, Bool, true, refl, sym, subst, ap, ◌∙◌, append_assoc, arith}
 use Rattle.std.specs.List.{flat_map, AllByRecursion}
 use Rattle.zk_items.specs.Form.{Read, ◌>>=◌}
-use Rattle.zk_items.specs.Many.{many_at, then_more, with_first}
+use Rattle.zk_items.specs.Many.{many_at, then_more, with_first, with_front}
 use Rattle.zk_items.proofs.Forms.{bind_some, some_is}
 
 module _ {X : Type 0} (at : List ℕ → Read (Option X)) (spell : X → List ℕ) (fits : X → Type 0) (close : ℕ) (after : List ℕ → Bool)
@@ -48,13 +48,13 @@ module _ {X : Type 0} (at : List ℕ → Read (Option X)) (spell : X → List �
 
 -- ---- the loop that reads one after another
 
--- with items in front
-abbrev pub with_front : {X : Type 0} → List X → Read (List X) → Read (List X)
-with_front front read = read >>= λ q. Some (front ++ q.0, q.1)
-
 front_of_first : {X : Type 0} (front : List X) (x : X) (read : Read (List X)) → with_front front (with_first x read) ≡ with_front (front ++ (x ∷ [])) read
 front_of_first front x None = refl
 front_of_first front x (Some q) = ap (λ (xs : List _). Some (xs, q.1)) (sym (append_assoc front (x ∷ []) q.0))
+
+pub none_in_front : {X : Type 0} (front : List X) (read : Read (List X)) → with_front front read ≡ None → read ≡ None
+none_in_front front None e = refl
+none_in_front front (Some q) e = absurd cc
 
 pub no_front : {X : Type 0} (read : Read (List X)) → with_front [] read ≡ read
 no_front None = refl

@@ -102,9 +102,13 @@ symbol_at (c ∷ rest) = if c == 34 then Some (None, rest) else if c == 92 then 
 abbrev pub checked : List ℕ × List ℕ → Read Text
 checked x = if is_utf8 x.0 then Some (nullable.Full x.0, x.1) else None
 
+-- the bytes of a text, up to the sign after it
+abbrev pub chars_at : List ℕ → Read Text
+chars_at bytes = many_at symbol_at (length bytes) bytes >>= checked
+
 unfoldable pub text_at : List ℕ → Read Text
 text_at [] = None
-text_at (c ∷ rest) = if c == 126 then Some (nullable.Null, rest) else if c == 34 then many_at symbol_at (length rest) rest >>= checked else None
+text_at (c ∷ rest) = if c == 126 then Some (nullable.Null, rest) else if c == 34 then chars_at rest else None
 
 abbrev pub text : Form Text
 text = record { fits = text_fits; spell = text_spell; at = text_at }

@@ -34,6 +34,7 @@
 mod append;
 mod class;
 mod code;
+mod copy;
 mod decimal;
 mod digits;
 mod escape;
@@ -50,6 +51,7 @@ mod write;
 pub use code::{
     put_error_code, put_event_code, read_error_code, read_event_code, read_failure_code,
 };
+pub use copy::set_count;
 pub use fault::{LineFault, LineReason, line_reason_name};
 pub use laws::item_laws;
 pub use reader::Reader;

@@ -1,10 +1,10 @@
 //! `Reader`: a line, read from left to right, item by item.
 ghost use Rattle.std.specs.Prelude.{◌≡◌, ◌↔◌, ◌*◌, ◌<◌, ◌≤◌, IsTrue, [], length, take, drop, MatchBool, IfErr, Some, None};
 ghost use Rattle.std.specs.List.{AllByRecursion, flat_map, prefix_len};
-ghost use Rattle.zk_items.specs.Form.{Gives, GivesSeen, Passes, word_at};
+ghost use Rattle.zk_items.specs.Form.{Gives, Keeps, Passes, word_at};
 ghost use Rattle.zk_items.specs.Leaf.{in_name, in_word, is_plain, num_at, bit_at, ro_at, text_at, blob_at, symbol_at, symbol_spell};
 ghost use Rattle.zk_items.specs.Codes.{is_next};
-ghost use Rattle.zk_items.specs.Many.{many_at};
+ghost use Rattle.zk_items.specs.Many.{GivesMore, many_at};
 
 use crate::append::append_front;
 use crate::decimal::{int_ahead, long_ahead};
@@ -29,7 +29,7 @@ const RUN: usize = 9;
 pub struct Reader<'a> {
     alloc: Global,
     whole: usize,
-    ahead: &'a [u8],
+    pub(crate) ahead: &'a [u8],
 }
 
 impl<'a> Model for Reader<'a> {
@@ -286,11 +286,11 @@ impl<'a> Reader<'a> {
         self.ahead = &self.ahead[count..];
     }
 
-    /// Reads the bytes of a text, up to the sign after it; else returns `fault`.
-    fn inside(&mut self, fault: LineFault) -> Result<Vec<u8>, LineFault>
-        ensures { GivesSeen (λ v. v.items) result self.new (many_at symbol_at (length self.old) self.old) }
+    /// Reads the bytes of a text, up to the sign after it, and appends them; else returns `fault`.
+    pub(crate) fn inside(&mut self, fault: LineFault, bytes: &mut Vec<u8>) -> Result<(), LineFault>
+        ensures read { GivesMore result self.new bytes.old.items bytes.new.items (many_at symbol_at (length self.old) self.old) }
+        ensures keeps { Keeps bytes.old.items bytes.new.items }
     {
-        let mut bytes = Vec::new(self.alloc);
         while let Some(first) = self.ahead.first() {
             if is_plain(*first) {
                 bytes.extend_from_slice(self.plain())?;
@@ -299,13 +299,13 @@ impl<'a> Reader<'a> {
             if *first == b'\\' && self.ahead.len() >= RUN {
                 let (block, count) = self.escapes();
                 if count > 0 {
-                    append_front(&mut bytes, block.as_array(), count)?;
+                    append_front(bytes, block.as_array(), count)?;
                     self.pass(3 * count);
                     continue;
                 }
             }
             match self.symbol(fault) {
-                Ok(None) => return Ok(bytes),
+                Ok(None) => return Ok(()),
                 Ok(Some(byte)) => bytes.push(byte)?,
                 Err(e) => return Err(e),
             }
@@ -326,7 +326,8 @@ impl<'a> Reader<'a> {
             }
             Some((b'"', rest)) => {
                 self.ahead = rest;
-                let bytes = self.inside(fault)?;
+                let mut bytes = Vec::new(self.alloc);
+                self.inside(fault, &mut bytes)?;
                 match text_of(bytes) {
                     Some(text) => Ok(Text::Full(Chars::new(text))),
                     None => Err(fault),

@@ -1,8 +1,9 @@
 //! The bytes that lower-case hexadecimal digits spell, read thirty-two digits at a time.
-ghost use Rattle.std.specs.Prelude.{◌≡◌, ◌+◌, ◌*◌, ◌<◌, ◌≤◌, ◌++◌, ◌⊎◌, IfOk, IfErr, Ok, Err, length, map, take, drop, true};
+ghost use Rattle.std.specs.Prelude.{◌≡◌, ◌+◌, ◌*◌, ◌<◌, ◌≤◌, ◌++◌, ◌⊎◌, IfOk, IfErr, OnSome, Ok, Err, length, map, take, drop, true};
 ghost use Rattle.std.specs.List.{AllByRecursion};
 ghost use Rattle.hex.specs.Hex.{encode_lower, decode_of};
 ghost use Rattle.hex.specs.declared.error.FromHexError.TheVariants.{OutOfMemory};
+ghost use Rattle.zk_items.specs.Form.{Keeps};
 ghost use Rattle.zk_items.specs.Leaf.{in_hex, hex_digit};
 
 use hex::FromHexError;
@@ -75,4 +76,33 @@ pub fn bytes_of(alloc: Global, digits: &[u8]) -> Result<Vec<u8>, FromHexError>
     let mut bytes = vec![in alloc; 0u8; digits.len() / 2]?;
     read_blocks(bytes.as_mut_slice(), digits);
     Ok(bytes)
+}
+
+/// Reads digits into `room`.
+fn read_digits(room: &mut [u8], digits: &[u8]) -> Option<()>
+    requires hex { AllByRecursion (λ c. in_hex c ≡ true) digits.now }
+    requires room { 2 * length room.old ≡ length digits.now }
+    ensures { OnSome result (encode_lower room.new ≡ digits.now) }
+{
+    if room.len() < 16 {
+        return hex::decode_to_slice(digits, room).ok();
+    }
+    read_blocks(room, digits);
+    Some(())
+}
+
+/// Appends the bytes that lower-case digits spell. `None`: undecided; what `out` began with it begins with.
+// Stands for `bytes_of`. Memory is asked for once, and the bytes are read in place.
+pub fn append_bytes(out: &mut Vec<u8>, digits: &[u8]) -> Option<()>
+    requires { AllByRecursion (λ c. in_hex c ≡ true) digits.now }
+    ensures appended { OnSome result (out.new.items ≡ out.old.items ++ drop (length out.old.items) out.new.items) }
+    ensures read { OnSome result (encode_lower (drop (length out.old.items) out.new.items) ≡ digits.now) }
+    ensures keeps { Keeps out.old.items out.new.items }
+{
+    if digits.len() % 2 != 0 {
+        return None;
+    }
+    let start = out.len();
+    out.resize(start.checked_add(digits.len() / 2)?, 0).ok()?;
+    read_digits(&mut out[start..], digits)
 }

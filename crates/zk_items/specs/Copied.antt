@@ -1,0 +1,11 @@
+-- What is read of a line, and appended as bytes.
+use Rattle.std.specs.Prelude.{◌≡◌, ℕ, List, ◌++◌, Some}
+use Rattle.zk_jute.specs.Item.{Item, bytes_of, HaveBytes}
+use Rattle.zk_items.specs.Form.{Read}
+
+-- the items of the value that is read of the line have bytes, and these are appended
+pub record Copied {X : Type 0} (at : List ℕ → Read X) (items : X → List Item) (line rest old new : List ℕ) : Type 0 where
+  pub value : X
+  pub read : at line ≡ Some (value, rest)
+  pub have : HaveBytes (items value)
+  pub appended : new ≡ old ++ bytes_of (items value)
