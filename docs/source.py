@@ -155,7 +155,7 @@ def names_in_lines():
     """By the name of a field in zk_records, the one that zk_lines has in a line."""
     words = dict(re.findall(r'Word::(\w+) => b" (\w+)="', body(text_of("zk_lines", "word"), "fn word_bytes")))
     rows = " ".join(re.findall(r"\$then!\((.*?)\)\n", text_of("zk_lines", "request", "ask", "answer", "body"), re.S))
-    pairs = [*re.findall(r"\b([A-Z]\w*) ([a-z]\w*)(?=[,)]|$)", rows), ("ReadOnly", "read_only"),
+    pairs = [*re.findall(r"\b([A-Z]\w*) ([a-z]\w*)(?=:)", rows), ("ReadOnly", "read_only"),
              *((word, name) for name, word in re.findall(r"\b[A-Z]\w* ([a-z]\w*) ([A-Z]\w*)", rows))]
     return some([(name, words[word]) for word, name in pairs if word in words], "words of fields")
 

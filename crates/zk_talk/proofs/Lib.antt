@@ -43,3 +43,5 @@ pub mod Refusing
 pub mod Viewing
 pub mod Settling
 pub mod Deciding
+pub mod Alike
+pub mod SayingWritten

@@ -1,5 +1,6 @@
 -- What a speaker knows of a payload that it says or refuses.
 use Rattle.std.proofs.Common.{◌≡◌, ◌≢◌, ℕ, ◌≤◌, ◌<◌, ◌⊎◌, inl, inr, List, [], ◌∷◌, length, refl, sym, ◌∙◌, subst, arith, Bool, true, false, MatchBool, IsTrue}
+use Rattle.std.specs.Int.{from_bool}
 use Rattle.zk_jute.specs.declared.fault.ItemFault.{ItemFault}
 use Rattle.zk_jute.specs.Item.{Fit}
 use Rattle.zk_records.specs.declared.profile.Profile.{Profile}
@@ -25,7 +26,7 @@ use Rattle.zk_talk.specs.Conversation.{Conversation, ClientMay, ServerMay, IsAns
 use Rattle.zk_talk.specs.Fault.IsClientFault.{connect_fault, ask_fault}
 use Rattle.zk_talk.specs.Describes.{Describes}
 use Rattle.zk_talk.specs.Judged.{IsInTurn, IsTurnFault, HasRoomFor, IsRemembered, HasAsk, IsForgotten}
-use Rattle.zk_talk.specs.Said.{SpeakerState, Heard, HasSpoken, MayAsk, MaySay, IsClientRefusal, IsServerRefusal, conversation_of}
+use Rattle.zk_talk.specs.Said.{SpeakerState, Heard, HasSpoken, MayAsk, MaySay, SaysClient, SaysServer, IsClientRefusal, IsServerRefusal, conversation_of}
 use Rattle.zk_talk.specs.Said.IsClientRefusal.{too_long, queue_full}
 use Rattle.zk_talk.specs.Said.IsServerRefusal.{long_connected, long_event, long_reply}
 use Rattle.zk_talk.specs.SaidPayload.{HasPayload, IsClientPayloadRefusal, IsPayloadRefusal, SaysPayload, RefusesPayload, StandsPayload, CannotSay, HearsFault, SaysClientPayload, RefusesClientPayload, StandsClientPayload, SaysServerPayload, RefusesServerPayload, StandsServerPayload}
@@ -45,6 +46,11 @@ use Rattle.zk_talk.proofs.Speaking.{ok_client, ok_server}
 pub not_true : (b : Bool) → b ≡ false → IsTrue b → ⊥
 not_true true e t = absurd (cc)
 not_true false e t = absurd (cc)
+
+-- the number of frames by which a side's turn is told
+pub spoken_frames : (spoken : Bool) (n : ℕ) → n ≡ from_bool spoken → MatchBool spoken (n ≡ 1) (n ≡ 0)
+spoken_frames true n e = e
+spoken_frames false n e = e
 
 filled : {X : Type 0} (xs : List X) (y : X) (ys : List X) → xs ≡ y ∷ ys → xs ≢ []
 filled [] y ys e n = absurd (cc)
@@ -91,9 +97,12 @@ module _ (limits : Limits) (asked : Bool) (n : ℕ) (k : MatchBool asked (n ≡ 
     may : MayAsk limits f
     may = (sent.0, of_profile limits.profile n f turn asked k)
 
+    pub client_frame_said : (x : Lanes) → w.max ≡ limits.waiting → length p ≤ limits.client → IsRemembered f w x → SaysClient limits asked w f x
+    client_frame_said x room small put =
+        λ welcomed v heard. client_said limits asked welcomed w v heard f (first_of asked) (kind_of limits.profile n f turn asked k) (turn_of asked) x room may (fit_client limits.client f p sent is small) put
+
     pub client_payload_said : (x : Lanes) → w.max ≡ limits.waiting → length p ≤ limits.client → IsRemembered f w x → SaysClientPayload limits asked w p x
-    client_payload_said x room small put =
-        (f, is, λ welcomed v heard. client_said limits asked welcomed w v heard f (first_of asked) (kind_of limits.profile n f turn asked k) (turn_of asked) x room may (fit_client limits.client f p sent is small) put)
+    client_payload_said x room small put = (f, is, client_frame_said x room small put)
 
     pub client_payload_stands : length p ≤ limits.client → StandsClientPayload limits asked w p
     client_payload_stands small =
@@ -151,20 +160,19 @@ module _ (limits : Limits) (asked welcomed : Bool) (w : Lanes) (p : List ℕ) wh
     pub server_payload_stands : length p ≤ limits.server → StandsServerPayload limits asked welcomed w p
     server_payload_stands small = (s, is, λ v heard. (may v heard, subst (λ z. length z ≤ limits.server) (sym is) small))
 
-    pub server_payload_said : (x : Lanes) → HasAsk s w → length p ≤ limits.server → IsForgotten s w x → SaysServerPayload limits asked welcomed w p x
-    server_payload_said x has small left = (
-      s,
-      is,
-      λ v heard. (
-        (may v heard, subst (λ z. length z ≤ limits.server) (sym is) small),
-        record {
-          client = heard.client;
-          server = λ e. not_empty v.server s [] e;
-          may = EachAfter-push (ServerMay v.client) v.server s heard.may (may v heard);
-          queues = λ lane. forgotten (length v.client) (length v.server) w x v (described asked welcomed w v heard) s has left lane;
-        },
-      ),
+    pub server_frame_said : (x : Lanes) → HasAsk s w → length p ≤ limits.server → IsForgotten s w x → SaysServer limits asked welcomed w s x
+    server_frame_said x has small left = λ v heard. (
+      (may v heard, subst (λ z. length z ≤ limits.server) (sym is) small),
+      record {
+        client = heard.client;
+        server = λ e. not_empty v.server s [] e;
+        may = EachAfter-push (ServerMay v.client) v.server s heard.may (may v heard);
+        queues = λ lane. forgotten (length v.client) (length v.server) w x v (described asked welcomed w v heard) s has left lane;
+      },
     )
+
+    pub server_payload_said : (x : Lanes) → HasAsk s w → length p ≤ limits.server → IsForgotten s w x → SaysServerPayload limits asked welcomed w p x
+    server_payload_said x has small left = (s, is, server_frame_said x has small left)
 
     pub server_payload_long : limits.server < length p → RefusesServerPayload limits asked welcomed w p (Say TooLong)
     server_payload_long over = λ v heard. (s, is, may v heard, long_server limits v s (may v heard) (unfit_server limits.server s p is over))

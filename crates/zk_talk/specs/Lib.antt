@@ -23,3 +23,4 @@ pub mod Answer
 pub mod Said
 pub mod SayNames
 pub mod SaidPayload
+pub mod Written

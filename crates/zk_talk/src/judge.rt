@@ -1,5 +1,5 @@
 //! Whether a payload may come next, and what waits after it.
-ghost use Rattle.std.specs.Prelude.{◌≡◌, ◌≢◌, ◌<◌, ◌^◌, ◌↔◌, ℕ, List, length, IsOk, IfOk, IfErr, IfSome, IfNone, OnOk, IsTrue, MatchBool, false, Some};
+ghost use Rattle.std.specs.Prelude.{◌≡◌, ◌≢◌, ◌<◌, ◌^◌, ◌↔◌, ℕ, ℤ, List, length, IsOk, IfOk, IfErr, IfSome, IfNone, OnOk, IsTrue, MatchBool, false, Some};
 ghost use Rattle.zk_jute.specs.declared.fault.Reason.TheVariants.{NoMemory};
 ghost use Rattle.zk_asks.specs.Codes.{event_xid};
 ghost use Rattle.zk_asks.specs.Held as asks;
@@ -8,6 +8,7 @@ ghost use Rattle.zk_answers.specs.Faults.{IsHead};
 ghost use Rattle.zk_answers.specs.Held as answered;
 ghost use Rattle.zk_answers.specs.Frames as answers;
 ghost use Rattle.zk_waiting.specs.Lane.{lane_of};
+ghost use Rattle.zk_waiting.specs.Waiting.{IsDropped};
 ghost use Rattle.zk_talk.specs.Payloads.{client_payload, server_payload};
 ghost use Rattle.zk_talk.specs.Conversation.{Conversation, ServerMay};
 ghost use Rattle.zk_talk.specs.Describes.{Describes};
@@ -265,6 +266,48 @@ pub fn forget_front(count: u64, waiting: &mut Awaited, payload: &[u8]) -> Option
     let op = front_answer(&head, waiting, payload)?;
     waiting.drop_oldest(lane);
     Some(Some(op))
+}
+
+fn is_same(a: Op, b: Op) -> bool
+    ensures { IsTrue result → a ≡ b }
+{
+    a == b
+}
+
+/// Drops the request of the operation `op` that `payload` replies to, if it may come after the server's first; false:
+/// undecided, and nothing changed. No fault and no frame is made.
+pub fn forget_answer(op: Op, waiting: &mut Awaited, payload: &[u8]) -> bool
+    ensures max { waiting.new.max ≡ waiting.old.max }
+    ensures found { IsTrue result → (xid : ℤ) × (r : answered.Reply) × IsDueReply xid payload.now op waiting.old r × IsDropped (lane_of xid) waiting.old waiting.new }
+    ensures same { result ≡ false → waiting.new ≡ waiting.old }
+{
+    let Ok(head) = reply_head(payload) else {
+        return false;
+    };
+    if head.xid == -1 {
+        return false;
+    }
+    let Some(answered) = front_answer(&head, waiting, payload) else {
+        return false;
+    };
+    if !is_same(answered, op) {
+        return false;
+    }
+    waiting.drop_oldest(lane_of(head.xid));
+    true
+}
+
+/// Whether `payload` is an event; false: undecided. No fault and no frame is made.
+pub fn is_event_alone(payload: &[u8]) -> bool
+    ensures { IsTrue result → (s : answered.ServerFrame) × answers.IsEvent s × answers.IsSent s × (payload.now ≡ answers.payload s) }
+{
+    let Ok(head) = reply_head(payload) else {
+        return false;
+    };
+    if head.xid != -1 {
+        return false;
+    }
+    is_event(&head, payload)
 }
 
 /// Drops the request that `frame` replies to.

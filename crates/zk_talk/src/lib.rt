@@ -64,11 +64,12 @@ mod speaker;
 mod stream;
 mod talk;
 mod view;
+mod written;
 
 pub use fronts::front_comes_first;
 pub use laws::history_laws;
 pub use limits::Limits;
-pub use message::{Ended, Ending, Fault, Message, MessageOf, MessageRef, Side};
+pub use message::{Ended, Ending, Fault, Kind, Message, MessageOf, MessageRef, Side};
 pub use payload::PayloadFault;
 pub use read::read_all;
 pub use received::{receive, refuse};

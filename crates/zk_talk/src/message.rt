@@ -1,4 +1,4 @@
-//! `Message`, `Fault`, `Ending`: what a conversation is made of, and how it ends.
+//! `Message`, `Kind`, `Fault`, `Ending`: what a conversation is made of, and how it ends.
 ghost use Rattle.std.specs.Prelude.{◌≡◌, IfOk};
 
 use std::alloc::{AllocError, Global};
@@ -8,7 +8,7 @@ use thiserror::Error;
 use zk_answers::{ServerFrame, ServerRef};
 use zk_asks::{ClientFrame, ClientRef};
 use zk_jute::Reason;
-use zk_records::Own;
+use zk_records::{Op, Own};
 
 /// The side that sends.
 #[derive(Clone, Copy, Debug, PartialEq, Eq)]
@@ -54,6 +54,38 @@ impl MessageRef<'_> {
         match self {
             MessageOf::Client(frame) => Ok(MessageOf::Client(frame.own(alloc)?)),
             MessageOf::Server(frame) => Ok(MessageOf::Server(frame.own(alloc)?)),
+        }
+    }
+}
+
+/// The kind of a message, which the bytes of its payload alone may not show.
+#[derive(Clone, Copy, Debug, PartialEq, Eq)]
+pub enum Kind {
+    /// The connect request.
+    Connect,
+    /// Another request.
+    Ask,
+    /// The reply to the connect request.
+    Connected,
+    /// The reply to a request of this operation.
+    Answered(Op),
+    /// An event.
+    Event,
+}
+
+impl Kind {
+    ghost use Rattle.std.specs.Prelude.{◌≡◌};
+    ghost use Rattle.zk_talk.specs.Held.{Message};
+    ghost use Rattle.zk_talk.specs.Said.{side_of};
+    ghost use Rattle.zk_talk.specs.Written.{kind_of};
+
+    /// The side that sends messages of the kind.
+    pub fn side(self) -> Side
+        ensures { (m : Message) → kind_of m ≡ self → side_of m ≡ result }
+    {
+        match self {
+            Kind::Connect | Kind::Ask => Side::Client,
+            Kind::Connected | Kind::Answered(_) | Kind::Event => Side::Server,
         }
     }
 }

@@ -1,5 +1,5 @@
 //! `say_client_payload`, `say_server_payload`, `PayloadFault`: whether one payload more may be said, and its frame.
-ghost use Rattle.std.specs.Prelude.{◌≡◌, ◌<◌, ◌^◌, ◌++◌, ◌⊎◌, length, OnOk, OnErr, IfErr, MatchBool};
+ghost use Rattle.std.specs.Prelude.{◌≡◌, ◌<◌, ◌^◌, ◌++◌, ◌⊎◌, length, OnOk, OnErr, IfErr};
 ghost use Rattle.zk_frames.specs.Framing.{frame};
 ghost use Rattle.zk_talk.specs.declared.limits.Limits.{Limits};
 ghost use Rattle.zk_talk.specs.declared.say.SayFault.TheVariants.{NoMemory};
@@ -37,13 +37,6 @@ impl Display for PayloadFault {
 
 impl Error for PayloadFault {}
 
-/// A number of frames of a side: 1 if it has spoken, else 0.
-fn frames_of(spoken: bool) -> u64
-    ensures { MatchBool spoken (result ≡ 1) (result ≡ 0) }
-{
-    if spoken { 1 } else { 0 }
-}
-
 /// Appends the frame of `payload`.
 fn put_frame(payload: &[u8], out: &mut Vec<u8>) -> Result<(), AllocError>
     requires { length payload.now < 2 ^ 31 }
@@ -79,7 +72,7 @@ pub fn say_client_payload(
     // Memory is needed only for what may come, within its limit.
     ensures lacks { IfErr result (λ e. e ≡ Say NoMemory → StandsClientPayload limits asked waiting.old payload.now) }
 {
-    let frame = match seen_client(limits.profile(), frames_of(asked), payload) {
+    let frame = match seen_client(limits.profile(), u64::from(asked), payload) {
         Ok(frame) => frame,
         Err(item) => return Err(PayloadFault::Item(item)),
     };

@@ -1,5 +1,5 @@
 //! `Speaker`: messages to bytes, as long as they are a conversation.
-ghost use Rattle.std.specs.Prelude.{◌≡◌, ◌≢◌, ◌++◌, ◌⊎◌, ◌∷◌, [], List, false, OnOk, OnErr, IfOk, IfErr};
+ghost use Rattle.std.specs.Prelude.{◌≡◌, ◌≢◌, ◌+◌, ◌≤◌, ◌++◌, ◌⊎◌, ◌∷◌, [], List, length, take, drop, false, IsTrue, OnOk, OnErr, IfOk, IfErr};
 ghost use Rattle.zk_frames.specs.Framing.{frame};
 ghost use Rattle.zk_talk.specs.Held.{Message};
 ghost use Rattle.zk_talk.specs.declared.say.SayFault.TheVariants.{NoMemory};
@@ -7,11 +7,13 @@ ghost use Rattle.zk_talk.specs.Ending.{unanswered};
 ghost use Rattle.zk_talk.specs.declared.payload.PayloadFault.TheVariants.{Say};
 ghost use Rattle.zk_talk.specs.Said.{Says, MaySay, MayStand, IsSayFault, payload_of, conversation_of};
 ghost use Rattle.zk_talk.specs.SaidPayload.{SaysPayload, RefusesPayload, StandsPayload, CannotSay};
+ghost use Rattle.zk_talk.specs.Written.{SaysWritten};
 
 use crate::limits::Limits;
-use crate::message::{Message, Side};
+use crate::message::{Kind, Message, Side};
 use crate::payload::{PayloadFault, say_client_payload, say_server_payload};
 use crate::say::{SayFault, say_client, say_server};
+use crate::written::{await_written, forget_written, put_in_length};
 use std::alloc::{AllocError, Global};
 use std::marker::Model;
 use zk_waiting::Awaited;
@@ -169,6 +171,57 @@ impl Speaker {
             }
         }
         Ok(())
+    }
+
+    /// Judges the message of this kind and payload, and says it, but for its bytes; false: undecided, or it can't be said, and
+    /// nothing changed.
+    fn judge_written(&mut self, kind: Kind, payload: &[u8]) -> bool
+        ensures limits { self.new.limits ≡ self.old.limits }
+        ensures small { IsTrue result → length payload.now ≤ 16777216 }
+        ensures said { IsTrue result → SaysWritten self.old kind payload.now self.new }
+        ensures same { result ≡ false → self.new ≡ self.old }
+    {
+        match kind.side() {
+            Side::Client => {
+                if !await_written(self.limits, self.asked, kind, &mut self.waiting, payload) {
+                    return false;
+                }
+                self.asked = true;
+            }
+            Side::Server => {
+                if !forget_written(
+                    self.limits,
+                    self.asked,
+                    self.welcomed,
+                    kind,
+                    &mut self.waiting,
+                    payload,
+                ) {
+                    return false;
+                }
+                self.welcomed = true;
+            }
+        }
+        true
+    }
+
+    /// Says the message of this kind whose payload is `out[start + 4..]`, as `say` does: the payload's length is put into
+    /// the four bytes at `start`. False: undecided, or it can't be said; the speaker and `out` are then unchanged. Allocates
+    /// nothing.
+    // Stands for `say` of the message, which isn't made.
+    pub fn say_written(&mut self, kind: Kind, start: usize, out: &mut Vec<u8>) -> bool
+        requires { start + 4 ≤ length out.old.items }
+        ensures limits { self.new.limits ≡ self.old.limits }
+        ensures bytes { IsTrue result → out.new.items ≡ take start out.old.items ++ frame (drop (start + 4) out.old.items) }
+        // A message of the kind that has the payload may be said, and was said.
+        ensures said { IsTrue result → SaysWritten self.old kind (drop (start + 4) out.old.items) self.new }
+        ensures same { result ≡ false → (self.new ≡ self.old) × (out.new.items ≡ out.old.items) }
+    {
+        if !self.judge_written(kind, &out[start + 4..]) {
+            return false;
+        }
+        put_in_length(start, out.as_mut_slice());
+        true
     }
 
     /// The number of the client's messages without a reply, the connect request included.
