@@ -187,6 +187,9 @@ outcome_sound op bytes x rest e = pick (word_at (word_of words.Err) bytes) refl 
       let word = word_of words.Err in
       subst (IsOutcome op bytes rest) m.1 (refl, (word_sound word bytes behind is ∙ ap (λ (r : List ℕ). word ++ r) m.2.0 ∙ sym (append_assoc word (failure_code.spell m.0) rest), m.2.1))
 
+pub outcome_op : (op : Op) (bytes rest : List ℕ) (x : Outcome) → answers.outcome_at op bytes ≡ Some (x, rest) → op_of_outcome x ≡ op
+outcome_op op bytes rest x e = (outcome_sound op bytes x rest e).0
+
 -- ---- replies
 
 zxid_is : IsField (field words.Zxid long)

@@ -21,11 +21,11 @@ use Rattle.zk_items.proofs.Forms.{IsField, and_is}
 use Rattle.zk_items.proofs.Numbers.{int_is}
 use Rattle.zk_lines.proofs.Words.{field_is}
 use Rattle.zk_lines.specs.Asks as asks
-use Rattle.zk_lines.specs.Rows.{Content, form_of, remake}
+use Rattle.zk_lines.specs.Rows.{Content, form_of, remake, row_at}
 use Rattle.zk_lines.proofs.Named.{IsNames, IsFound, names_of}
 use Rattle.zk_lines.proofs.Held.{parted}
 use Rattle.zk_lines.proofs.Shown.{Shown}
-use Rattle.zk_lines.proofs.Rows.{IsRow, IsTable, IsMade, ◌with◌, field_of, row_of_record, row_of_series, nothing_is, table_is, table_held, named_shown}
+use Rattle.zk_lines.proofs.Rows.{IsRow, IsTable, IsMade, ◌with◌, field_of, row_of_record, row_of_series, nothing_is, table_is, table_held, table_sound, named_shown}
 use Rattle.zk_lines.proofs.Items.{int_item, long_item, bit_item, ro_item, text_item, blob_item, texts_item, path_field, blob_field, acl_field, version_field, zxid_field}
 
 -- ---- records
@@ -87,6 +87,10 @@ part_made _ x = (refl, refl)
 part_table : IsTable asks.part_line_of asks.part_written op_of_part record_of
 part_table = record { each = asks.by_part; made = part_made; rows = part_rows }
 
+-- what is read of a row is of its operation
+pub part_op : (op : PartOp) (bytes rest : List ℕ) (p : Part) → row_at (asks.part_line_of op) bytes ≡ Some (p, rest) → op_of_part p ≡ op
+part_op op bytes rest p e = (table_sound part_table op bytes p rest e).0
+
 part_is : Lawful asks.part_form
 part_is = table_is part_table part_names
 
@@ -128,6 +132,9 @@ ask_made _ x = (refl, refl)
 
 ask_table : IsTable asks.line_of asks.ask_written op_of_ask body_items
 ask_table = record { each = asks.by_line; made = ask_made; rows = ask_rows }
+
+pub ask_op : (op : Op) (bytes rest : List ℕ) (a : Ask) → row_at (asks.line_of op) bytes ≡ Some (a, rest) → op_of_ask a ≡ op
+ask_op op bytes rest a e = (table_sound ask_table op bytes a rest e).0
 
 ask_is : Lawful asks.ask_form
 ask_is = table_is ask_table op_names

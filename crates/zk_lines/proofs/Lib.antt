@@ -8,9 +8,14 @@ pub mod Held
 pub mod Shown
 pub mod Rows
 pub mod Items
+pub mod Appended
+pub mod Counted
 pub mod Asks
 pub mod Answers
 pub mod Lines
+pub mod CopiedAsks
+pub mod CopiedAnswers
+pub mod CopiedLines
 pub mod LawsHeld
 pub mod LawsShown
 pub mod LawsEndings

@@ -43,9 +43,13 @@ abbrev pub list_fits : {X : Type 0} → (X → Type 0) → Vector X → Type 0
 list_fits fits nullable.Null = Unit {0}
 list_fits fits (nullable.Full xs) = AllByRecursion fits xs
 
+-- the items between brackets, after the first of these
+abbrev pub full_at : {X : Type 0} → (List ℕ → Read X) → List ℕ → Read (Vector X)
+full_at at bytes = read_map nullable.Full (series_at 44 93 at bytes)
+
 unfoldable pub list_at : {X : Type 0} → (List ℕ → Read X) → List ℕ → Read (Vector X)
 list_at at bytes = if_passed (word_at (codes "~") bytes)
-    (λ rest. Some (nullable.Null, rest)) (word_at (codes "[") bytes >>= λ rest. read_map nullable.Full (series_at 44 93 at rest))
+    (λ rest. Some (nullable.Null, rest)) (word_at (codes "[") bytes >>= full_at at)
 
 abbrev pub list_of : {X : Type 0} → Form X → Form (Vector X)
 list_of f = record { fits = list_fits f.fits; spell = list_spell f.spell; at = list_at f.at }

@@ -25,7 +25,7 @@ use zk_items::{
 use zk_records::{ConnectResponseOf, Op, WatcherEventOf, op_name};
 
 /// Reads the number of an error, which isn't 0.
-fn read_failure(line: &mut Reader<'_>) -> Result<Failure, LineFault>
+pub fn read_failure(line: &mut Reader<'_>) -> Result<Failure, LineFault>
     ensures { Gives result line.new (failure_code.at line.old) }
 {
     let fault = line.fault(LineReason::Number);
@@ -139,12 +139,17 @@ impl<'a> Put for ReplyRef<'a> {
 }
 
 /// `connected_fields!(then, with)` is `then!(with: ..)` with the fields of the connect response in order, each after its
-/// word.
+/// word and with its owned type.
 macro_rules! connected_fields {
     ($then:ident, $($with:tt)+) => {
-        $then!($($with)+: Version protocol_version, Timeout time_out, Session session_id, Passwd passwd)
+        $then!(
+            $($with)+:
+            Version protocol_version: i32, Timeout time_out: i32, Session session_id: i64, Passwd passwd: Blob
+        )
     };
 }
+
+pub(crate) use connected_fields;
 
 fn read_connected<B: Item>(
     line: &mut Reader<'_>,
@@ -170,6 +175,16 @@ fn put_connected<B: Put>(
     put_field(out, Word::ReadOnly, read_only)
 }
 
+/// `event_fields!(then, with)` is `then!(with: ..)` with an event's fields after its type, each after its word and with its
+/// owned type.
+macro_rules! event_fields {
+    ($then:ident, $($with:tt)+) => {
+        $then!($($with)+: State state: i32, Path path: Text)
+    };
+}
+
+pub(crate) use event_fields;
+
 fn read_event<T: Item>(line: &mut Reader<'_>) -> Result<(i64, WatcherEventOf<T>), LineFault>
     ensures { Gives result line.new ((answers.event_of T.form).at line.old) }
 {
@@ -194,7 +209,7 @@ fn put_event<T: Put>(
     put_field(out, Word::Zxid, zxid)?;
     put_word(out, Word::Kind)?;
     put_event_code(out, event.kind)?;
-    put_fields!(out, event: State state, Path path)
+    event_fields!(put_fields, out, event)
 }
 
 /// Reads the server's message, after `S `.

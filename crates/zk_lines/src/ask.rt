@@ -29,25 +29,27 @@ pub const PARTS: Signs = Signs {
     behind: b'}',
 };
 
-/// `part_rows!(then, with)` is `then!(with: ..)` with the operations that a part may have.
+/// `part_rows!(then, with)` is `then!(with: ..)` with the operations that a part may have, each with its owned record.
 macro_rules! part_rows {
     ($then:ident, $($with:tt)+) => {
-        $then!($($with)+: Create, Delete, SetData, Check)
+        $then!($($with)+: Create CreateAsk, Delete DeleteAsk, SetData SetDataAsk, Check CheckAsk)
     };
 }
 
-/// `read_part_of!(line, op: Create, Delete)` reads the part, which is of one of these operations.
+pub(crate) use part_rows;
+
+/// `read_part_of!(line, op: Create CreateAsk, Delete DeleteAsk)` reads the part, which is of one of these operations.
 macro_rules! read_part_of {
-    ($line:ident, $op:ident: $($part:ident),+) => {
+    ($line:ident, $op:ident: $($part:ident $record:ident),+) => {
         Ok(match $op {
             $(PartOp::$part => Part::$part(Item::read($line)?),)+
         })
     };
 }
 
-/// `put_part_of!(out, part: Create, Delete)` appends a part's name and its record.
+/// `put_part_of!(out, part: Create CreateAsk, Delete DeleteAsk)` appends a part's name and its record.
 macro_rules! put_part_of {
-    ($out:ident, $part:ident: $($row:ident),+) => {{
+    ($out:ident, $part:ident: $($row:ident $record:ident),+) => {{
         $out.extend_from_slice(part_name($part.op()).as_bytes())?;
         match $part {
             $(PartOf::$row(ask) => ask.put($out),)+
@@ -123,34 +125,40 @@ impl<'a> Put for PartList<'a> {
     }
 }
 
-/// `ask_rows!(then, with)` is `then!(with: .. | ..)` with the operations whose requests hold a record or parts, and those
-/// whose requests hold nothing.
+/// `ask_rows!(then, with)` is `then!(with: .. | ..)` with the operations whose requests hold a record, each with its owned
+/// record, and those whose requests hold nothing. A multi has its parts.
 macro_rules! ask_rows {
     ($then:ident, $($with:tt)+) => {
         $then!(
             $($with)+:
-            Create, Delete, Exists, GetData, SetData, GetAcl, SetAcl, GetChildren, Sync,
-            GetChildren2, Multi, Create2, Auth, SetWatches | Ping, CloseSession
+            Create CreateAsk, Delete DeleteAsk, Exists WatchAsk, GetData WatchAsk,
+            SetData SetDataAsk, GetAcl PathAsk, SetAcl SetAclAsk, GetChildren WatchAsk,
+            Sync PathAsk, GetChildren2 WatchAsk, Create2 CreateAsk, Auth AuthAsk,
+            SetWatches SetWatchesAsk | Ping, CloseSession
         )
     };
 }
 
-/// `read_ask_of!(line, op: Create, Delete | Ping)` reads the request, which is of one of these operations.
+pub(crate) use ask_rows;
+
+/// `read_ask_of!(line, op: Create CreateAsk | Ping)` reads the request, which is of one of these operations, or a multi.
 macro_rules! read_ask_of {
-    ($line:ident, $op:ident: $($held:ident),+ | $($bare:ident),+) => {
+    ($line:ident, $op:ident: $($held:ident $record:ident),+ | $($bare:ident),+) => {
         Ok(match $op {
             $(Op::$held => Ask::$held(Item::read($line)?),)+
             $(Op::$bare => Ask::$bare,)+
+            Op::Multi => Ask::Multi(Item::read($line)?),
         })
     };
 }
 
-/// `put_ask_of!(out, ask: Create, Delete | Ping)` appends what follows a request's name.
+/// `put_ask_of!(out, ask: Create CreateAsk | Ping)` appends what follows a request's name.
 macro_rules! put_ask_of {
-    ($out:ident, $ask:ident: $($held:ident),+ | $($bare:ident),+) => {
+    ($out:ident, $ask:ident: $($held:ident $record:ident),+ | $($bare:ident),+) => {
         match $ask {
             $(AskOf::$held(ask) => ask.put($out),)+
             $(AskOf::$bare => Ok(()),)+
+            AskOf::Multi(parts) => parts.put($out),
         }
     };
 }
@@ -210,12 +218,18 @@ impl Item for Ask {
 }
 
 /// `connect_fields!(then, with)` is `then!(with: ..)` with the fields of the connect request in order, each after its
-/// word.
+/// word and with its owned type.
 macro_rules! connect_fields {
     ($then:ident, $($with:tt)+) => {
-        $then!($($with)+: Version protocol_version, Zxid last_zxid_seen, Timeout time_out, Session session_id, Passwd passwd)
+        $then!(
+            $($with)+:
+            Version protocol_version: i32, Zxid last_zxid_seen: i64, Timeout time_out: i32, Session session_id: i64,
+            Passwd passwd: Blob
+        )
     };
 }
+
+pub(crate) use connect_fields;
 
 /// Reads the connect request.
 fn read_connect<B: Item>(

@@ -1,22 +1,27 @@
 //! The results of a multi in a line: written and read.
-ghost use Rattle.std.specs.Prelude.{◌≡◌, ◌++◌, OnOk};
+ghost use Rattle.std.specs.Prelude.{◌≡◌, ◌++◌, OnOk, OnSome};
+ghost use Rattle.zk_answers.specs.Results as results;
+ghost use Rattle.zk_items.specs.Copied.{Copied};
 ghost use Rattle.zk_items.specs.Form.{Gives, Keeps};
 ghost use Rattle.zk_items.specs.Codes.{error_code};
 ghost use Rattle.zk_lines.specs.Words.{word_of};
 ghost use Rattle.zk_lines.specs.declared.word.Word.TheVariants.{Err};
+ghost use Rattle.zk_lines.specs.declared.done.DoneName.TheVariants.{Fail};
 ghost use Rattle.zk_lines.specs.Answers as answers;
 ghost use Rattle.zk_lines.specs.Rows.{row_at};
 
 use crate::ask::PARTS;
+use crate::copies::{Copies, append, append_header, copy_field};
 use crate::item::{Item, read_field};
-use crate::list::{Left, put_series, read_series};
+use crate::list::{Left, copy_series, put_series, read_series};
 use crate::name::done_named;
 use crate::put::{Put, put_field};
 use crate::word::{Word, put_word, read_word};
 use std::alloc::AllocError;
 use zk_answers::{DoneItems, DoneList, PartDone, PartDoneOf, PartDoneRef};
 use zk_items::{LineFault, LineReason, Reader, put_error_code, read_error_code};
-use zk_jute::Items;
+use zk_jute::{Items, Text};
+use zk_records::{PartOp, Stat, part_number};
 
 /// The name that a result of a multi begins with.
 #[derive(Clone, Copy, Debug, PartialEq, Eq)]
@@ -147,12 +152,66 @@ impl Item for PartDone {
     }
 }
 
+/// Reads the error of a part, and appends its result.
+fn copy_failed(line: &mut Reader<'_>, out: &mut Vec<u8>) -> Option<()>
+    ensures copied { OnSome result (Copied (row_at (answers.done_line_of Fail)) results.done_items line.old line.new out.old.items out.new.items) }
+    ensures keeps { Keeps out.old.items out.new.items }
+{
+    let Ok(()) = read_word(line, Word::Err) else {
+        return None;
+    };
+    let Ok(number) = read_error_code(line) else {
+        return None;
+    };
+    append_header(out, -1, false, number)?;
+    append(out, &number)
+}
+
+/// Reads the result after the name `name`, and appends its bytes.
+fn copy_done(line: &mut Reader<'_>, name: DoneName, out: &mut Vec<u8>) -> Option<()>
+    ensures copied { OnSome result (Copied (row_at (answers.done_line_of name)) results.done_items line.old line.new out.old.items out.new.items) }
+    ensures keeps { Keeps out.old.items out.new.items }
+{
+    match name {
+        DoneName::Create => {
+            append_header(out, part_number(PartOp::Create), false, 0)?;
+            copy_field::<Text>(line, Word::Path, out)
+        }
+        DoneName::Delete => append_header(out, part_number(PartOp::Delete), false, 0),
+        DoneName::SetData => {
+            append_header(out, part_number(PartOp::SetData), false, 0)?;
+            copy_field::<Stat>(line, Word::Stat, out)
+        }
+        DoneName::Check => append_header(out, part_number(PartOp::Check), false, 0),
+        DoneName::Fail => copy_failed(line, out),
+    }
+}
+
+impl Copies for PartDone {
+    fn copy(line: &mut Reader<'_>, out: &mut Vec<u8>) -> Option<()> {
+        let name = done_named(line.name())?;
+        copy_done(line, name, out)
+    }
+}
+
 /// Reads the results of a multi.
 pub fn read_multi(line: &mut Reader<'_>) -> Result<Items<PartDone>, LineFault>
     ensures { Gives result line.new (answers.multi.at line.old) }
 {
     read_word(line, Word::Parts)?;
     read_series(line, PARTS)
+}
+
+/// Reads the results of a multi, and appends their bytes and the header after them.
+pub fn copy_multi(line: &mut Reader<'_>, out: &mut Vec<u8>) -> Option<()>
+    ensures copied { OnSome result (Copied answers.multi.at results.multi_items line.old line.new out.old.items out.new.items) }
+    ensures keeps { Keeps out.old.items out.new.items }
+{
+    let Ok(()) = read_word(line, Word::Parts) else {
+        return None;
+    };
+    copy_series::<PartDone>(line, PARTS, out)?;
+    append_header(out, -1, true, -1)
 }
 
 impl Put for Items<PartDone> {

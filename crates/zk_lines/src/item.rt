@@ -24,9 +24,10 @@ pub fn read_field<T: Item>(line: &mut Reader<'_>, word: Word) -> Result<T, LineF
     T::read(line)
 }
 
-/// `read_fields!(line, Record: Path path, Version version)` reads the fields of a record in order, each after its word.
+/// `read_fields!(line, Record: Path path: Text, Version version: i32)` reads the fields of a record in order, each after
+/// its word.
 macro_rules! read_fields {
-    ($line:ident, $record:ident: $($word:ident $field:ident),+) => {{
+    ($line:ident, $record:ident: $($word:ident $field:ident: $item:ty),+) => {{
         $(let $field = read_field($line, Word::$word)?;)+
         $record { $($field),+ }
     }};

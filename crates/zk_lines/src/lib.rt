@@ -32,6 +32,10 @@
 mod answer;
 mod ask;
 mod body;
+mod copies;
+mod copy;
+mod copy_answer;
+mod copy_ask;
 mod done;
 mod ending;
 mod item;
@@ -44,6 +48,7 @@ mod record;
 mod request;
 mod word;
 
+pub use copy::copy_line;
 pub use ending::ending_line;
 pub use laws::{ending_laws, line_laws};
 pub use line::{line_of, line_of_ref, put_line, put_line_ref, read_line};

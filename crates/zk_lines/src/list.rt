@@ -1,18 +1,21 @@
 //! Lists of items in a line: written, owned or borrowed, and read.
-ghost use Rattle.std.specs.Prelude.{◌≡◌, ◌++◌, ◌∷◌, [], List, length, OnOk};
+ghost use Rattle.std.specs.Prelude.{◌≡◌, ◌+◌, ◌++◌, ◌∷◌, [], List, length, IfSome, OnOk, OnSome};
 ghost use Rattle.std.specs.Iterator.{YieldsFirst};
 ghost use Rattle.std.specs.Slice.Iter.{iter_rest};
 ghost use Rattle.std.specs.List.{flat_map, AllByRecursion};
+ghost use Rattle.zk_jute.specs.Values.{list_items};
+ghost use Rattle.zk_items.specs.Copied.{Copied};
 ghost use Rattle.zk_items.specs.Form.{Gives, GivesSeen, Keeps};
-ghost use Rattle.zk_lines.specs.Series.{element_at, series_at, list_of, series_spell};
+ghost use Rattle.zk_lines.specs.Series.{element_at, series_at, full_at, list_of, series_spell};
 ghost use Rattle.zk_items.specs.Many.{many_at, with_first};
 
+use crate::copies::{Copies, append};
 use crate::item::Item;
 use crate::put::Put;
 use std::alloc::{AllocError, Global};
 use std::marker::Model;
 use std::slice::Iter;
-use zk_items::{LineFault, LineReason, Reader};
+use zk_items::{LineFault, LineReason, Reader, set_count};
 use zk_jute::{Element, Elements, Items, KnownPayload, List, Series, Stands};
 
 /// The sign between the items, and the sign after the last.
@@ -62,6 +65,53 @@ pub fn read_series<T: Item>(line: &mut Reader<'_>, signs: Signs) -> Result<Items
     }
     let first = T::read(line)?;
     Ok(Items::new(elements(line, signs, first)?))
+}
+
+/// Reads the items after the first, and appends their bytes; returns how many there are, with the first.
+fn copy_others<T: Copies>(line: &mut Reader<'_>, signs: Signs, out: &mut Vec<u8>) -> Option<usize>
+    ensures copied { IfSome result (λ n. (c : Copied (λ bytes. many_at (element_at signs.between signs.behind T.form.at) (length bytes) bytes) (flat_map T.items) line.old line.new out.old.items out.new.items) × (n ≡ length c.value + 1)) }
+    ensures keeps { Keeps out.old.items out.new.items }
+{
+    let turns = line.left();
+    for turn in 0..turns {
+        if line.passes(&[signs.behind]) {
+            return Some(turn + 1);
+        }
+        let Ok(()) = line.front(&[signs.between]) else {
+            return None;
+        };
+        T::copy(line, out)?;
+    }
+    None
+}
+
+/// Reads items, with a sign between two and one after the last, and appends their bytes; returns how many there are.
+/// `None`: undecided; what `out` began with it begins with.
+// Stands for `read_series`.
+pub fn copy_series<T: Copies>(
+    line: &mut Reader<'_>,
+    signs: Signs,
+    out: &mut Vec<u8>,
+) -> Option<usize>
+    ensures copied { IfSome result (λ n. (c : Copied (series_at signs.between signs.behind T.form.at) (flat_map T.items) line.old line.new out.old.items out.new.items) × (n ≡ length c.value)) }
+    ensures keeps { Keeps out.old.items out.new.items }
+{
+    if line.passes(&[signs.behind]) {
+        return Some(0);
+    }
+    T::copy(line, out)?;
+    copy_others::<T>(line, signs, out)
+}
+
+/// Reads items between brackets, after the first of these, and appends their count and their bytes.
+fn copy_counted<T: Copies>(line: &mut Reader<'_>, out: &mut Vec<u8>) -> Option<()>
+    ensures copied { OnSome result (Copied (full_at T.form.at) (list_items T.items) line.old line.new out.old.items out.new.items) }
+    ensures keeps { Keeps out.old.items out.new.items }
+{
+    let start = out.len();
+    append(out, &0_i32)?;
+    let count = copy_series::<T>(line, COMMAS, out)?;
+    set_count(out, start, count)
 }
 
 /// The items that are left of a list, owned or borrowed.
@@ -185,6 +235,18 @@ impl<T: Item> Item for List<T> {
         }
         line.front(b"[")?;
         Ok(List::Full(read_series(line, COMMAS)?))
+    }
+}
+
+impl<T: Copies> Copies for List<T> {
+    fn copy(line: &mut Reader<'_>, out: &mut Vec<u8>) -> Option<()> {
+        if line.passes(b"~") {
+            return append(out, &-1_i32);
+        }
+        let Ok(()) = line.front(b"[") else {
+            return None;
+        };
+        copy_counted::<T>(line, out)
     }
 }
 

@@ -33,12 +33,13 @@ pub fn put_field<T: Put>(out: &mut Vec<u8>, word: Word, value: &T) -> Result<(),
     value.put(out)
 }
 
-/// `put_fields!(out, record: Path path, Version version)` appends these fields of a record in order, each after its word.
+/// `put_fields!(out, record: Path path: Text, Version version: i32)` appends these fields of a record in order, each after
+/// its word.
 macro_rules! put_fields {
-    ($out:ident, $record:ident: $word:ident $field:ident) => {
+    ($out:ident, $record:ident: $word:ident $field:ident: $item:ty) => {
         put_field($out, Word::$word, &$record.$field)
     };
-    ($out:ident, $record:ident: $word:ident $field:ident, $($rest:tt)+) => {{
+    ($out:ident, $record:ident: $word:ident $field:ident: $item:ty, $($rest:tt)+) => {{
         put_field($out, Word::$word, &$record.$field)?;
         put_fields!($out, $record: $($rest)+)
     }};

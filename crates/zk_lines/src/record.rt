@@ -4,12 +4,14 @@ ghost use Rattle.zk_items.specs.Form.{Gives, Keeps};
 ghost use Rattle.zk_items.specs.Leaf.{int};
 ghost use Rattle.zk_lines.specs.Records as records;
 
+use crate::copies::{Copies, copy_field};
 use crate::item::{Item, read_field};
 use crate::put::{Put, put_field};
 use crate::word::{Word, read_word};
 use std::alloc::AllocError;
 use zk_items::{LineFault, Reader, int_before, long_before, put_int};
-use zk_records::{AclOf, IdOf, Stat};
+use zk_jute::Text;
+use zk_records::{Acl, AclOf, IdOf, Stat};
 
 /// Appends an entry of an access list: its bits, and its two texts, each after a colon.
 fn put_entry<T: Put>(out: &mut Vec<u8>, perms: i32, scheme: &T, ident: &T) -> Result<(), AllocError>
@@ -41,6 +43,15 @@ impl<T: Item> Item for AclOf<IdOf<T>> {
             perms,
             who: IdOf { scheme, ident },
         })
+    }
+}
+
+impl Copies for Acl {
+    fn copy(line: &mut Reader<'_>, out: &mut Vec<u8>) -> Option<()> {
+        i32::copy(line, out)?;
+        copy_field::<Text>(line, Word::Colon, out)?;
+        copy_field::<Text>(line, Word::Colon, out)?;
+        Some(())
     }
 }
 

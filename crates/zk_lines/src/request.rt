@@ -1,45 +1,48 @@
-//! The records of requests in a line: a row of fields for each, by which it is written and read.
+//! The records of requests in a line: a row of fields for each, by which it is written, read, and read into bytes.
 ghost use Rattle.zk_lines.specs.Asks as asks;
 
+use crate::copies::{Copies, copy_field, copy_fields};
 use crate::item::{Item, read_field, read_fields};
 use crate::put::{Put, put_field, put_fields};
 use crate::word::Word;
 use std::alloc::AllocError;
 use zk_items::{LineFault, Reader};
+use zk_jute::{Blob, List, Text};
 use zk_records::{
-    AuthAskOf, CheckAskOf, CreateAskOf, DeleteAskOf, PathAskOf, SetAclAskOf, SetDataAskOf,
-    SetWatchesAskOf, WatchAskOf,
+    Acl, AuthAsk, AuthAskOf, CheckAsk, CheckAskOf, CreateAsk, CreateAskOf, DeleteAsk, DeleteAskOf,
+    PathAsk, PathAskOf, SetAclAsk, SetAclAskOf, SetDataAsk, SetDataAskOf, SetWatchesAsk,
+    SetWatchesAskOf, WatchAsk, WatchAskOf,
 };
 
 /// `fields_of!(create, then, with)` is `then!(with: ..)` with the fields of `CreateAsk` in
-/// order, each after its word.
+/// order, each after its word and with its owned type.
 macro_rules! fields_of {
     (create, $then:ident, $($with:tt)+) => {
-        $then!($($with)+: Path path, Blob blob, Acl acl, Flags flags)
+        $then!($($with)+: Path path: Text, Blob blob: Blob, Acl acl: List<Acl>, Flags flags: i32)
     };
     (delete, $then:ident, $($with:tt)+) => {
-        $then!($($with)+: Path path, Version version)
+        $then!($($with)+: Path path: Text, Version version: i32)
     };
     (watch, $then:ident, $($with:tt)+) => {
-        $then!($($with)+: Path path, Watch watch)
+        $then!($($with)+: Path path: Text, Watch watch: bool)
     };
     (set_data, $then:ident, $($with:tt)+) => {
-        $then!($($with)+: Path path, Blob blob, Version version)
+        $then!($($with)+: Path path: Text, Blob blob: Blob, Version version: i32)
     };
     (path, $then:ident, $($with:tt)+) => {
-        $then!($($with)+: Path path)
+        $then!($($with)+: Path path: Text)
     };
     (set_acl, $then:ident, $($with:tt)+) => {
-        $then!($($with)+: Path path, Acl acl, Version version)
+        $then!($($with)+: Path path: Text, Acl acl: List<Acl>, Version version: i32)
     };
     (auth, $then:ident, $($with:tt)+) => {
-        $then!($($with)+: Kind kind, Scheme scheme, Auth auth)
+        $then!($($with)+: Kind kind: i32, Scheme scheme: Text, Auth auth: Blob)
     };
     (set_watches, $then:ident, $($with:tt)+) => {
-        $then!($($with)+: Zxid zxid, DataWatches data_watches, ExistWatches exist_watches, ChildWatches child_watches)
+        $then!($($with)+: Zxid zxid: i64, DataWatches data_watches: List<Text>, ExistWatches exist_watches: List<Text>, ChildWatches child_watches: List<Text>)
     };
     (check, $then:ident, $($with:tt)+) => {
-        $then!($($with)+: Path path, Version version)
+        $then!($($with)+: Path path: Text, Version version: i32)
     };
 }
 
@@ -57,6 +60,13 @@ impl<T: Item, B: Item, A: Item> Item for CreateAskOf<T, B, A> {
     }
 }
 
+impl Copies for CreateAsk {
+    fn copy(line: &mut Reader<'_>, out: &mut Vec<u8>) -> Option<()> {
+        fields_of!(create, copy_fields, line, out);
+        Some(())
+    }
+}
+
 impl<T: Put> Put for DeleteAskOf<T> {
     ghost form = { asks.delete_of T.form };
 
@@ -68,6 +78,13 @@ impl<T: Put> Put for DeleteAskOf<T> {
 impl<T: Item> Item for DeleteAskOf<T> {
     fn read(line: &mut Reader<'_>) -> Result<Self, LineFault> {
         Ok(fields_of!(delete, read_fields, line, DeleteAskOf))
+    }
+}
+
+impl Copies for DeleteAsk {
+    fn copy(line: &mut Reader<'_>, out: &mut Vec<u8>) -> Option<()> {
+        fields_of!(delete, copy_fields, line, out);
+        Some(())
     }
 }
 
@@ -85,6 +102,13 @@ impl<T: Item> Item for WatchAskOf<T> {
     }
 }
 
+impl Copies for WatchAsk {
+    fn copy(line: &mut Reader<'_>, out: &mut Vec<u8>) -> Option<()> {
+        fields_of!(watch, copy_fields, line, out);
+        Some(())
+    }
+}
+
 impl<T: Put, B: Put> Put for SetDataAskOf<T, B> {
     ghost form = { asks.set_data_of T.form B.form };
 
@@ -96,6 +120,13 @@ impl<T: Put, B: Put> Put for SetDataAskOf<T, B> {
 impl<T: Item, B: Item> Item for SetDataAskOf<T, B> {
     fn read(line: &mut Reader<'_>) -> Result<Self, LineFault> {
         Ok(fields_of!(set_data, read_fields, line, SetDataAskOf))
+    }
+}
+
+impl Copies for SetDataAsk {
+    fn copy(line: &mut Reader<'_>, out: &mut Vec<u8>) -> Option<()> {
+        fields_of!(set_data, copy_fields, line, out);
+        Some(())
     }
 }
 
@@ -113,6 +144,13 @@ impl<T: Item> Item for PathAskOf<T> {
     }
 }
 
+impl Copies for PathAsk {
+    fn copy(line: &mut Reader<'_>, out: &mut Vec<u8>) -> Option<()> {
+        fields_of!(path, copy_fields, line, out);
+        Some(())
+    }
+}
+
 impl<T: Put, A: Put> Put for SetAclAskOf<T, A> {
     ghost form = { asks.set_acl_of T.form A.form };
 
@@ -124,6 +162,13 @@ impl<T: Put, A: Put> Put for SetAclAskOf<T, A> {
 impl<T: Item, A: Item> Item for SetAclAskOf<T, A> {
     fn read(line: &mut Reader<'_>) -> Result<Self, LineFault> {
         Ok(fields_of!(set_acl, read_fields, line, SetAclAskOf))
+    }
+}
+
+impl Copies for SetAclAsk {
+    fn copy(line: &mut Reader<'_>, out: &mut Vec<u8>) -> Option<()> {
+        fields_of!(set_acl, copy_fields, line, out);
+        Some(())
     }
 }
 
@@ -141,6 +186,13 @@ impl<T: Item, B: Item> Item for AuthAskOf<T, B> {
     }
 }
 
+impl Copies for AuthAsk {
+    fn copy(line: &mut Reader<'_>, out: &mut Vec<u8>) -> Option<()> {
+        fields_of!(auth, copy_fields, line, out);
+        Some(())
+    }
+}
+
 impl<L: Put> Put for SetWatchesAskOf<L> {
     ghost form = { asks.set_watches_of L.form };
 
@@ -155,6 +207,13 @@ impl<L: Item> Item for SetWatchesAskOf<L> {
     }
 }
 
+impl Copies for SetWatchesAsk {
+    fn copy(line: &mut Reader<'_>, out: &mut Vec<u8>) -> Option<()> {
+        fields_of!(set_watches, copy_fields, line, out);
+        Some(())
+    }
+}
+
 impl<T: Put> Put for CheckAskOf<T> {
     ghost form = { asks.check_of T.form };
 
@@ -166,5 +225,12 @@ impl<T: Put> Put for CheckAskOf<T> {
 impl<T: Item> Item for CheckAskOf<T> {
     fn read(line: &mut Reader<'_>) -> Result<Self, LineFault> {
         Ok(fields_of!(check, read_fields, line, CheckAskOf))
+    }
+}
+
+impl Copies for CheckAsk {
+    fn copy(line: &mut Reader<'_>, out: &mut Vec<u8>) -> Option<()> {
+        fields_of!(check, copy_fields, line, out);
+        Some(())
     }
 }

@@ -1,8 +1,8 @@
 use Rattle.std.proofs.Common.{◌+◌, ◌-◌, sym, ◌∙◌, arith, ap, List, Some}
 use Rattle.std.proofs.lemmas.List.{append-nil}
 use Rattle.zk_lines.specs.Series.{element_at}
-use Rattle.zk_items.specs.Many.{many_at}
-use Rattle.zk_items.proofs.Many.{step_some, step_end, step_none, with_front}
+use Rattle.zk_items.specs.Many.{many_at, with_front}
+use Rattle.zk_items.proofs.Many.{step_some, step_end, step_none}
 use Rattle.zk_lines.proofs.list.elements.Goals as goal
 
 pub loop-turn-preserved : goal.loop-turn-preserved

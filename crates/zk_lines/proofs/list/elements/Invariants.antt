@@ -1,7 +1,6 @@
 use Rattle.std.proofs.Common.{◌≡◌, ◌-◌, length}
 use Rattle.zk_lines.specs.Series.{element_at}
-use Rattle.zk_items.specs.Many.{many_at, with_first}
-use Rattle.zk_items.proofs.Many.{with_front}
+use Rattle.zk_items.specs.Many.{many_at, with_first, with_front}
 use Rattle.zk_lines.proofs.list.elements.Given as goal
 
 abbrev pub invariant-loop-turn : goal.invariant-loop-turn

@@ -1,0 +1,75 @@
+-- The replies and the events of a line are read into bytes.
+use Rattle.std.proofs.Common.{◌≡◌, ℕ, ℤ, List, [], ◌∷◌, ◌++◌, take, drop, Option, Some, None, refl, ap, ◌∙◌}
+use Rattle.std.specs.Prelude.{pos, negsuc}
+use Rattle.std.specs.List.{flat_map, prefix_len}
+use Rattle.zk_jute.specs.Item.{Item, AnInt, ALong, bytes_of, HaveBytes}
+use Rattle.zk_jute.specs.Wired as wired
+use Rattle.zk_jute.specs.Wired.{int, long, ustring}
+use Rattle.zk_records.specs.declared.op.Op.{Op}
+use Rattle.zk_asks.specs.Parts.{end_header, marked}
+use Rattle.zk_answers.specs.Held.{Outcome, Reply}
+use Rattle.zk_answers.specs.declared.frame.OutcomeOf.TheVariants as outcome
+use Rattle.zk_answers.specs.declared.frame.ServerFrameOf.TheVariants as server
+use Rattle.zk_answers.specs.Frames.{err_of, rest_items, op_of_outcome, op_of_reply, reply_items, frame_items}
+use Rattle.zk_answers.specs.Results.{done_items, multi_items}
+use Rattle.zk_answers.specs.Rows.{body_items}
+use Rattle.zk_items.specs.Form.{Read, ◌>>=◌, read_map, word_at}
+use Rattle.zk_items.specs.Codes.{failure_code, event_code}
+use Rattle.zk_items.specs.Leaf as leaf
+use Rattle.zk_items.specs.Leaf.{in_name, num_at}
+use Rattle.zk_items.specs.Copied.{Copied}
+use Rattle.zk_lines.specs.Answers as answers
+use Rattle.zk_lines.specs.Asks.{op_named}
+use Rattle.zk_lines.specs.Rows.{row_at}
+use Rattle.zk_lines.specs.Series.{if_passed, series_at}
+use Rattle.zk_lines.specs.Words.{word_of, field_at}
+use Rattle.zk_lines.specs.declared.word.Word.TheVariants as words
+use Rattle.zk_lines.proofs.Answers.{outcome_op}
+use Rattle.zk_lines.proofs.Appended.{◌then◌, value_copied, read_alone, field_copied, made, retold, headed, tailed, named_copied}
+
+-- ---- an outcome, and the number of its error in front
+
+abbrev pub outcome_items : Outcome → List Item
+outcome_items o = AnInt (err_of o) ∷ rest_items o
+
+-- by what comes after the word
+abbrev by_error : Op → Option (List ℕ) → List ℕ → Read Outcome
+by_error op o line = if_passed o (λ rest. read_map (outcome.Failed op) (failure_code.at rest)) (read_map outcome.Done (row_at (answers.line_of op) line))
+
+pub failure_copied : (op : Op) (line mid rest old new : List ℕ) (e : ℤ) → word_at (word_of words.Err) line ≡ Some mid → failure_code.at mid ≡ Some (e, rest) → HaveBytes (AnInt e ∷ []) → new ≡ old ++ bytes_of (AnInt e ∷ [])
+    → Copied (answers.outcome_at op) outcome_items line rest old new
+failure_copied op line mid rest old new e word read have appended =
+    value_copied (outcome.Failed op e) (ap (λ (o : Option (List ℕ)). by_error op o line) word ∙ ap (read_map (outcome.Failed op)) read) have appended
+
+pub done_copied : (op : Op) (line rest old mid new : List ℕ) → word_at (word_of words.Err) line ≡ None → HaveBytes (AnInt (pos 0) ∷ []) → mid ≡ old ++ bytes_of (AnInt (pos 0) ∷ [])
+    → Copied (row_at (answers.line_of op)) body_items line rest mid new → Copied (answers.outcome_at op) outcome_items line rest old new
+done_copied op line rest old mid new none have zero c =
+    let h = headed (AnInt (pos 0) ∷ []) have zero c in
+    record {
+      value = outcome.Done c.value;
+      read = ap (λ (o : Option (List ℕ)). by_error op o line) none ∙ ap (read_map outcome.Done) c.read;
+      have = h.have;
+      appended = h.appended;
+    }
+
+-- ---- a reply
+
+pub reply_copied : (line behind ahead name mid last rest old first zxid new : List ℕ) (xid : ℤ) (op : Op) → num_at 31 line ≡ Some (xid, behind) → word_at (word_of words.Blank) behind ≡ Some ahead
+    → name ≡ take (prefix_len in_name ahead) ahead → mid ≡ drop (prefix_len in_name ahead) ahead → op_named name ≡ Some op → HaveBytes (AnInt xid ∷ []) → first ≡ old ++ bytes_of (AnInt xid ∷ [])
+    → Copied (field_at words.Zxid leaf.long.at) wired.long.items mid last first zxid → Copied (answers.outcome_at op) outcome_items last rest zxid new
+    → (c : Copied answers.reply.at reply_items line rest old new) × (op_of_reply c.value ≡ op)
+reply_copied line behind ahead name mid last rest old first zxid new xid op number blank n m key have head z o =
+    let named = named_copied {line = ahead} op_named answers.outcome_bodies.at op n m key (headed (AnInt xid ∷ []) have head (z then o)) in
+    let whole = read_alone {at = num_at 31} {line = line} old xid number then field_copied words.Blank blank named in
+    let items : Reply → List Item = λ r. AnInt xid ∷ ALong r.zxid ∷ outcome_items r.outcome in
+    let reply : Copied answers.reply.at items line rest old new = made items _ (λ _ _. (_, refl, refl)) whole in
+    (retold reply_items reply refl, outcome_op op last rest o.value o.read)
+
+-- ---- an event
+
+pub event_copied : (line l m n o rest old a b c d e new : List ℕ) (kind : ℤ) → HaveBytes (AnInt (negsuc 0) ∷ []) → a ≡ old ++ bytes_of (AnInt (negsuc 0) ∷ []) → Copied (field_at words.Zxid leaf.long.at) wired.long.items line l a b
+    → HaveBytes (AnInt (pos 0) ∷ []) → c ≡ b ++ bytes_of (AnInt (pos 0) ∷ []) → word_at (word_of words.Kind) l ≡ Some m → event_code.at m ≡ Some (kind, n) → HaveBytes (AnInt kind ∷ []) → d ≡ c ++ bytes_of (AnInt kind ∷ [])
+    → Copied (field_at words.State leaf.int.at) wired.int.items n o d e → Copied (field_at words.Path leaf.text.at) wired.ustring.items o rest e new → Copied answers.event.at (λ p. frame_items (server.Event p.0 p.1)) line rest old new
+event_copied line l m n o rest old a b c d e new kind xid_fits xid zxid err_fits err word code kind_fits kinds state path =
+    made (λ p. frame_items (server.Event p.0 p.1)) _ (λ _ _. (_, refl, refl))
+    (headed (AnInt (negsuc 0) ∷ []) xid_fits xid (zxid then headed (AnInt (pos 0) ∷ []) err_fits err (field_copied words.Kind word (value_copied {items = wired.int.items} kind code kind_fits kinds) then state then path)))

@@ -1,0 +1,6 @@
+use Rattle.zk_items.proofs.Kept.{on_some}
+use Rattle.zk_lines.proofs.Appended.{field_copied}
+use Rattle.zk_lines.proofs.copies.copy_field.Goals as goal
+
+pub returns-clause-copied : goal.returns-clause-copied
+returns-clause-copied g c = on_some c.copy.result (λ k. field_copied c.args.word c.in-Ok.ensures k) c.copy.ensures.copied

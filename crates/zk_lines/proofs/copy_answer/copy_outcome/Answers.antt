@@ -1,0 +1,39 @@
+use Rattle.std.proofs.Common.{◌≡◌, ◌∷◌, [], ◌++◌, List, ℕ, ℤ, sym, ap, subst, ◌∙◌, w32, to_z, of_z}
+use Rattle.zk_jute.specs.Item.{AnInt, bytes_of, HaveBytes}
+use Rattle.zk_answers.specs.Rows.{body_items}
+use Rattle.zk_items.specs.Copied.{Copied}
+use Rattle.zk_items.specs.Form.{word_at}
+use Rattle.zk_items.specs.Codes.{error_name}
+use Rattle.zk_items.proofs.Codes.{other_code_is}
+use Rattle.zk_items.proofs.Kept.{on_some}
+use Rattle.zk_lines.proofs.Appended.{as_int}
+use Rattle.zk_lines.specs.Answers as answers
+use Rattle.zk_lines.specs.Rows.{row_at}
+use Rattle.zk_lines.proofs.CopiedAnswers.{failure_copied, done_copied}
+use Rattle.zk_lines.proofs.copy_answer.copy_outcome.Goals as goal
+
+pub returns-then-passes-clause-copied : goal.returns-then-passes-clause-copied
+returns-then-passes-clause-copied c =
+    let line = c.args.line.now in
+    let old = c.args.out.now.items in
+    let new = c.append.new.out.items in
+    let word = ap (λ (w : List ℕ). word_at w line) (sym c.word_bytes.ensures) ∙ rw c.if-passes.true at c.passes.ensures in
+    on_some c.append.result
+    (λ h. let One : ℤ → Type 0 = λ n. HaveBytes (AnInt n ∷ []) × (new ≡ old ++ bytes_of (AnInt n ∷ [])) in
+    let fit = (other_code_is error_name).sound c.passes.new.self c.in-Ok.failure c.read_failure.new.line c.in-Ok.ensures in
+    let n = as_int One c.in-Ok.failure fit.1.0 (subst (λ (n : ℤ). One (to_z w32 (of_z w32 n))) c.number.ensures.value h) in
+    failure_copied c.args.op line c.passes.new.self c.read_failure.new.line old new c.in-Ok.failure word c.in-Ok.ensures n.0 n.1)
+    c.append.ensures.appended
+
+pub returns-clause-copied : goal.returns-clause-copied
+returns-clause-copied c =
+    let line = c.args.line.now in
+    let old = c.args.out.now.items in
+    let new = c.copy_body.new.out.items in
+    let other = rw c.if-passes.false at c.passes.ensures in
+    let none = ap (λ (w : List ℕ). word_at w line) (sym c.word_bytes.ensures) ∙ other.0 in
+    let zero = c.in_ok-append.ensures.appended in
+    on_some c.copy_body.result
+    (λ k. done_copied c.args.op line c.copy_body.new.line old c.append-2.new.out.items new none zero.0 zero.1
+    (subst (λ (l : List ℕ). Copied (row_at (answers.line_of c.args.op)) body_items l c.copy_body.new.line c.append-2.new.out.items new) other.1 k))
+    c.copy_body.ensures.copied

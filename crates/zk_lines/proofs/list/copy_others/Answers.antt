@@ -1,0 +1,36 @@
+use Rattle.std.proofs.Common.{◌≡◌, ◌∷◌, [], sym, ap, ◌∙◌, arith}
+use Rattle.zk_items.specs.Form.{word_at}
+use Rattle.zk_lines.specs.Series.{element_at}
+use Rattle.zk_lines.proofs.Counted.{none_yet, one_more, all_read, element_some, element_none}
+use Rattle.zk_lines.proofs.list.copy_others.Goals as goal
+
+pub loop-turn-init : goal.loop-turn-init
+loop-turn-init g c = record {
+  begun = none_yet (element_at c.args.signs.between c.args.signs.behind g.T.Put.form.at) g.T.Spell.items c.args.line.now c.args.out.now.items c.left-turns.result;
+  keeps = λ front is. is;
+}
+
+pub loop-turn-preserved : goal.loop-turn-preserved
+loop-turn-preserved g c =
+    let l = c.loop-turn in
+    let at = g.T.Put.form.at in
+    let sep = c.args.signs.between in
+    let close = c.args.signs.behind in
+    let other = rw c.if-passes.false at c.passes.ensures in
+    let read = c.in_ok-copy.ensures.copied in
+    let word = ap (word_at (sep ∷ [])) (sym other.1) ∙ c.in-Ok.ensures.read in
+    let element = element_some sep close at l.line c.front.new.self c.copy.new.line read.value other.0 word read.read in
+    record {
+      begun = one_more (element_at sep close at) g.T.Spell.items c.args.line.now l.line c.front.new.self c.copy.new.line c.args.out.now.items l.out.items c.copy.new.out.items c.left-turns.result l.turn (omega arith) l.invariant.begun read element;
+      keeps = λ front is. c.in_ok-copy.ensures.keeps front (l.invariant.keeps front is);
+    }
+
+pub returns-then-passes-clause-copied : goal.returns-then-passes-clause-copied
+returns-then-passes-clause-copied g c =
+    let l = c.loop-turn in
+    let at = g.T.Put.form.at in
+    let sep = c.args.signs.between in
+    let close = c.args.signs.behind in
+    let word = rw c.if-passes.true at c.passes.ensures in
+    all_read (element_at sep close at) g.T.Spell.items c.args.line.now l.line c.passes.new.self c.args.out.now.items l.out.items c.left-turns.result l.turn (omega arith) (sym c.left-turns.ensures) l.invariant.begun
+    (element_none sep close at l.line c.passes.new.self word)

@@ -1,0 +1,17 @@
+use Rattle.zk_lines.proofs.Appended.{if_some}
+use Rattle.std.proofs.Common.{subst}
+use Rattle.zk_items.specs.Copied.{Copied}
+use Rattle.zk_lines.proofs.Counted.{series_empty, series_more}
+use Rattle.zk_lines.proofs.list.copy_series.Goals as goal
+
+pub returns-then-passes-clause-copied : goal.returns-then-passes-clause-copied
+returns-then-passes-clause-copied g c =
+    series_empty c.args.signs.between c.args.signs.behind g.T.Put.form.at g.T.Spell.items c.args.line.now c.passes.new.self c.args.out.now.items (rw c.if-passes.true at c.passes.ensures)
+
+pub returns-clause-copied : goal.returns-clause-copied
+returns-clause-copied g c =
+    let other = rw c.if-passes.false at c.passes.ensures in
+    let first = subst (λ l. Copied g.T.Put.form.at g.T.Spell.items l c.copy.new.line c.args.out.now.items c.copy.new.out.items) other.1 c.in_ok-copy.ensures.copied in
+    if_some c.copy_others.result
+    (λ n others. series_more c.args.signs.between c.args.signs.behind g.T.Put.form.at g.T.Spell.items c.args.line.now c.copy.new.line c.copy_others.new.line c.args.out.now.items c.copy.new.out.items c.copy_others.new.out.items n other.0 first others)
+    c.copy_others.ensures.copied

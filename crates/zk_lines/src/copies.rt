@@ -1,0 +1,118 @@
+//! `Copies`: an item of a line, read into its bytes; and a field, a word and such an item.
+ghost use Rattle.std.specs.Prelude.{◌≡◌, ◌++◌, OnSome};
+ghost use Rattle.zk_jute.specs.Item.{bytes_of, HaveBytes};
+ghost use Rattle.zk_asks.specs.Parts.{marked};
+ghost use Rattle.zk_items.specs.Copied.{Copied};
+ghost use Rattle.zk_items.specs.Form.{Keeps};
+ghost use Rattle.zk_lines.specs.Words.{field_at};
+
+use crate::item::Item;
+use crate::word::{Word, read_word};
+use zk_items::Reader;
+use zk_jute::{Blob, Spell, Text};
+use zk_records::{MultiHeader, Stat};
+
+/// A value of a line whose bytes are appended as it is read.
+// No value is made that asks for memory.
+pub trait Copies: Item + Spell {
+    /// Reads the item that is next, and appends its bytes. `None`: undecided; what `out` began with it begins with.
+    fn copy(line: &mut Reader<'_>, out: &mut Vec<u8>) -> Option<()>
+        ensures copied { OnSome result (Copied Self.form.at Self.items line.old line.new out.old.items out.new.items) }
+        ensures keeps { Keeps out.old.items out.new.items };
+}
+
+/// Reads a field, `word` and then the value, and appends the value's bytes. `None`: undecided.
+#[inline(always)]
+pub fn copy_field<T: Copies>(line: &mut Reader<'_>, word: Word, out: &mut Vec<u8>) -> Option<()>
+    ensures copied { OnSome result (Copied (field_at word T.form.at) T.items line.old line.new out.old.items out.new.items) }
+    ensures keeps { Keeps out.old.items out.new.items }
+{
+    let Ok(()) = read_word(line, word) else {
+        return None;
+    };
+    T::copy(line, out)
+}
+
+/// `copy_fields!(line, out: Path path: Text, Version version: i32)` reads these fields of a record in order, each after
+/// its word, and appends their bytes.
+macro_rules! copy_fields {
+    ($line:ident, $out:ident: $($word:ident $field:ident: $item:ty),+) => {{
+        $(copy_field::<$item>($line, Word::$word, $out)?;)+
+    }};
+}
+
+pub(crate) use copy_fields;
+
+/// Appends the bytes of `value`.
+pub fn append<T: Spell>(out: &mut Vec<u8>, value: &T) -> Option<()>
+    requires { HaveBytes (T.items value.now) }
+    ensures appended { OnSome result (HaveBytes (T.items value.now) × (out.new.items ≡ out.old.items ++ bytes_of (T.items value.now))) }
+    ensures keeps { Keeps out.old.items out.new.items }
+{
+    value.put(out).ok()
+}
+
+/// Appends the header of a multi that comes before a part or a result, or after the last.
+pub fn append_header(out: &mut Vec<u8>, kind: i32, done: bool, err: i32) -> Option<()>
+    ensures appended { OnSome result (HaveBytes (marked (record { kind = kind; done = done; err = err })) × (out.new.items ≡ out.old.items ++ bytes_of (marked (record { kind = kind; done = done; err = err })))) }
+    ensures keeps { Keeps out.old.items out.new.items }
+{
+    append(out, &MultiHeader { kind, done, err })
+}
+
+impl Copies for i32 {
+    fn copy(line: &mut Reader<'_>, out: &mut Vec<u8>) -> Option<()> {
+        let Ok(number) = line.int() else {
+            return None;
+        };
+        append(out, &number)
+    }
+}
+
+impl Copies for i64 {
+    fn copy(line: &mut Reader<'_>, out: &mut Vec<u8>) -> Option<()> {
+        let Ok(number) = line.long() else {
+            return None;
+        };
+        append(out, &number)
+    }
+}
+
+impl Copies for bool {
+    fn copy(line: &mut Reader<'_>, out: &mut Vec<u8>) -> Option<()> {
+        let Ok(bit) = line.bit() else {
+            return None;
+        };
+        append(out, &bit)
+    }
+}
+
+impl Copies for Option<bool> {
+    fn copy(line: &mut Reader<'_>, out: &mut Vec<u8>) -> Option<()> {
+        let Ok(bit) = line.read_only() else {
+            return None;
+        };
+        append(out, &bit)
+    }
+}
+
+impl Copies for Text {
+    fn copy(line: &mut Reader<'_>, out: &mut Vec<u8>) -> Option<()> {
+        line.copy_text(out)
+    }
+}
+
+impl Copies for Blob {
+    fn copy(line: &mut Reader<'_>, out: &mut Vec<u8>) -> Option<()> {
+        line.copy_blob(out)
+    }
+}
+
+impl Copies for Stat {
+    fn copy(line: &mut Reader<'_>, out: &mut Vec<u8>) -> Option<()> {
+        let Ok(stat) = Stat::read(line) else {
+            return None;
+        };
+        append(out, &stat)
+    }
+}

@@ -1,0 +1,129 @@
+//! A client's line, read into the bytes of its message's payload.
+ghost use Rattle.std.specs.Prelude.{◌≡◌, IfSome, OnSome};
+ghost use Rattle.zk_asks.specs.declared.frame.ClientFrameOf.TheVariants as client;
+ghost use Rattle.zk_asks.specs.Frames.{frame_items};
+ghost use Rattle.zk_asks.specs.Parts.{multi_items, record_of};
+ghost use Rattle.zk_asks.specs.Rows.{body_items};
+ghost use Rattle.zk_items.specs.Copied.{Copied};
+ghost use Rattle.zk_items.specs.Form.{Keeps};
+ghost use Rattle.zk_talk.specs.Written.{kind_of};
+ghost use Rattle.zk_talk.specs.declared.message.MessageOf.TheVariants.{Client};
+ghost use Rattle.zk_lines.specs.Asks as asks;
+ghost use Rattle.zk_lines.specs.Lines.{client_at};
+ghost use Rattle.zk_lines.specs.Rows.{row_at};
+
+use crate::ask::{PARTS, ask_rows, connect_fields, part_rows};
+use crate::copies::{Copies, append, append_header, copy_field, copy_fields};
+use crate::list::copy_series;
+use crate::name::{op_named, part_named};
+use crate::word::{Word, read_word};
+use zk_asks::Part;
+use zk_items::Reader;
+use zk_jute::Blob;
+use zk_records::{
+    AuthAsk, CheckAsk, CreateAsk, DeleteAsk, Op, PartOp, PathAsk, SetAclAsk, SetDataAsk,
+    SetWatchesAsk, WatchAsk, op_number, part_number,
+};
+use zk_talk::Kind;
+
+/// `copy_part_of!(line, op, out: Create CreateAsk, Delete DeleteAsk)` reads the record of the part, which is of one of
+/// these operations, and appends its bytes.
+macro_rules! copy_part_of {
+    ($line:ident, $op:ident, $out:ident: $($part:ident $record:ident),+) => {
+        match $op {
+            $(PartOp::$part => $record::copy($line, $out),)+
+        }
+    };
+}
+
+/// Reads the record of a part of the operation `op`, and appends its bytes.
+fn copy_part(line: &mut Reader<'_>, op: PartOp, out: &mut Vec<u8>) -> Option<()>
+    ensures copied { OnSome result (Copied (row_at (asks.part_line_of op)) record_of line.old line.new out.old.items out.new.items) }
+    ensures keeps { Keeps out.old.items out.new.items }
+{
+    part_rows!(copy_part_of, line, op, out)
+}
+
+impl Copies for Part {
+    fn copy(line: &mut Reader<'_>, out: &mut Vec<u8>) -> Option<()> {
+        let op = part_named(line.name())?;
+        append_header(out, part_number(op), false, -1)?;
+        copy_part(line, op, out)
+    }
+}
+
+/// Reads the parts of a multi, and appends their bytes and the header after them.
+fn copy_multi(line: &mut Reader<'_>, out: &mut Vec<u8>) -> Option<()>
+    ensures copied { OnSome result (Copied asks.multi.at multi_items line.old line.new out.old.items out.new.items) }
+    ensures keeps { Keeps out.old.items out.new.items }
+{
+    let Ok(()) = read_word(line, Word::Parts) else {
+        return None;
+    };
+    copy_series::<Part>(line, PARTS, out)?;
+    append_header(out, -1, true, -1)
+}
+
+/// `copy_ask_of!(line, op, out: Create CreateAsk | Ping)` reads the record of the request, which is of one of these
+/// operations, or a multi, and appends its bytes.
+macro_rules! copy_ask_of {
+    ($line:ident, $op:ident, $out:ident: $($held:ident $record:ident),+ | $($bare:ident),+) => {
+        match $op {
+            $(Op::$held => $record::copy($line, $out),)+
+            $(Op::$bare => Some(()),)+
+            Op::Multi => copy_multi($line, $out),
+        }
+    };
+}
+
+/// Reads the record of a request of the operation `op`, and appends its bytes.
+fn copy_body(line: &mut Reader<'_>, op: Op, out: &mut Vec<u8>) -> Option<()>
+    ensures copied { OnSome result (Copied (row_at (asks.line_of op)) body_items line.old line.new out.old.items out.new.items) }
+    ensures keeps { Keeps out.old.items out.new.items }
+{
+    ask_rows!(copy_ask_of, line, op, out)
+}
+
+/// Reads the connect request, and appends its bytes.
+fn copy_connect(line: &mut Reader<'_>, out: &mut Vec<u8>) -> Option<()>
+    ensures copied { OnSome result (Copied asks.connect.at (λ p. frame_items (client.Connect p.0 p.1)) line.old line.new out.old.items out.new.items) }
+    ensures keeps { Keeps out.old.items out.new.items }
+{
+    connect_fields!(copy_fields, line, out);
+    copy_field::<Option<bool>>(line, Word::ReadOnly, out)?;
+    Some(())
+}
+
+/// Reads a request, and appends its bytes.
+fn copy_request(line: &mut Reader<'_>, out: &mut Vec<u8>) -> Option<()>
+    ensures copied { OnSome result (Copied asks.request.at (λ p. frame_items (client.Ask p.0 p.1)) line.old line.new out.old.items out.new.items) }
+    ensures keeps { Keeps out.old.items out.new.items }
+{
+    let Ok(xid) = line.int() else {
+        return None;
+    };
+    let Ok(()) = read_word(line, Word::Blank) else {
+        return None;
+    };
+    let op = op_named(line.name())?;
+    append(out, &xid)?;
+    append(out, &op_number(op))?;
+    copy_body(line, op, out)
+}
+
+/// Reads the client's message, after `C `, and appends its bytes.
+pub fn copy_client(line: &mut Reader<'_>, out: &mut Vec<u8>) -> Option<Kind>
+    ensures copied { IfSome result (λ kind. (c : Copied client_at frame_items line.old line.new out.old.items out.new.items) × (kind_of (Client c.value) ≡ kind)) }
+    ensures keeps { Keeps out.old.items out.new.items }
+{
+    if line.letters() == b"connect".as_slice() {
+        let Ok(()) = line.front(b"connect") else {
+            return None;
+        };
+        copy_connect(line, out)?;
+        Some(Kind::Connect)
+    } else {
+        copy_request(line, out)?;
+        Some(Kind::Ask)
+    }
+}
