@@ -1,13 +1,13 @@
 -- The requests of a line are read into bytes.
 use Rattle.std.proofs.Common.{◌≡◌, ℕ, ℤ, List, [], ◌++◌, take, drop, Some, refl, ap, sym, ◌∷◌, ◌∙◌}
-use Rattle.std.specs.List.{flat_map, prefix_len}
+use Rattle.std.specs.List.{prefix_len}
 use Rattle.zk_jute.specs.Item.{AnInt, bytes_of, HaveBytes}
 use Rattle.zk_records.specs.Codes.{op_number}
 use Rattle.zk_records.specs.declared.op.Op.{Op}
 use Rattle.zk_records.specs.declared.op.PartOp.{PartOp}
 use Rattle.zk_asks.specs.Forms.{header_items}
 use Rattle.zk_asks.specs.Frames.{frame_items}
-use Rattle.zk_asks.specs.Parts.{record_of, part_items, part_header, end_header, marked, multi_items}
+use Rattle.zk_asks.specs.Parts.{record_of, part_items, part_header, marked}
 use Rattle.zk_asks.specs.Rows.{body_items}
 use Rattle.zk_asks.specs.declared.frame.ClientFrameOf.TheVariants as client
 use Rattle.zk_items.specs.Form.{word_at}
@@ -15,10 +15,9 @@ use Rattle.zk_items.specs.Leaf.{in_name, num_at}
 use Rattle.zk_items.specs.Copied.{Copied}
 use Rattle.zk_lines.specs.Asks as asks
 use Rattle.zk_lines.specs.Rows.{row_at}
-use Rattle.zk_lines.specs.Series.{series_at}
 use Rattle.zk_lines.specs.Words.{word_of}
 use Rattle.zk_lines.specs.declared.word.Word.TheVariants as words
-use Rattle.zk_lines.proofs.Appended.{◌then◌, read_alone, field_copied, retold, headed, tailed, named_copied}
+use Rattle.zk_lines.proofs.Appended.{◌then◌, read_alone, field_copied, retold, headed, named_copied}
 use Rattle.zk_lines.proofs.Asks.{part_op, ask_op}
 
 -- a part: its name, for which its header is appended, and its record
@@ -27,11 +26,6 @@ pub part_copied : (line name mid rest old first new : List ℕ) (op : PartOp) �
 part_copied line name mid rest old first new op n m key have head c =
     retold {line = line} part_items (named_copied {line = line} asks.part_named (λ k bytes. row_at (asks.part_line_of k) bytes) op n m key (headed (marked (part_header op)) have head c))
     (ap (λ (k : PartOp). marked (part_header k) ++ record_of c.value) (part_op op mid rest c.value c.read))
-
--- the parts, and the header after them
-pub parts_copied : (line mid rest old last new : List ℕ) → word_at (word_of words.Parts) line ≡ Some mid → HaveBytes (marked end_header) → new ≡ last ++ bytes_of (marked end_header)
-    → Copied (series_at 59 125 asks.part_form.at) (flat_map part_items) mid rest old last → Copied asks.multi.at multi_items line rest old new
-parts_copied line mid rest old last new word have end c = field_copied words.Parts word (tailed (marked end_header) have end c)
 
 -- the xid and the name of a request, for which its header is appended, and its record
 pub request_copied : (line behind ahead name mid rest old first second new : List ℕ) (xid kind : ℤ) (op : Op) → num_at 31 line ≡ Some (xid, behind) → word_at (word_of words.Blank) behind ≡ Some ahead

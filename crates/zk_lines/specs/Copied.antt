@@ -1,10 +1,34 @@
 -- What is read of a line into the bytes of its message's payload.
-use Rattle.std.specs.Prelude.{◌≡◌, ℕ, List, ◌++◌, Option, Some}
-use Rattle.zk_jute.specs.Item.{bytes_of, HaveBytes}
+use Rattle.std.specs.Prelude.{◌≡◌, ℕ, List, ◌+◌, ◌++◌, length, Option, Some}
+use Rattle.std.specs.List.{flat_map}
+use Rattle.zk_jute.specs.Item.{Item, bytes_of, HaveBytes}
+use Rattle.zk_records.specs.Records.{stat}
+use Rattle.zk_records.specs.declared.stat.Stat.{Stat}
+use Rattle.zk_items.specs.Copied.{Copied}
+use Rattle.zk_items.specs.Form.{Read}
+use Rattle.zk_items.specs.Many.{many_at}
 use Rattle.zk_talk.specs.Held.{Message}
 use Rattle.zk_talk.specs.declared.message.Kind.{Kind}
 use Rattle.zk_talk.specs.Written.{IsWritten, items_of, kind_of}
 use Rattle.zk_lines.specs.Lines.{Fits, line}
+use Rattle.zk_lines.specs.Series.{element_at, series_at}
+
+-- these items have bytes, which are appended
+abbrev pub Appended : List Item → List ℕ → List ℕ → Type 0
+Appended items old new = HaveBytes items × (new ≡ old ++ bytes_of items)
+
+-- the items of a value and of the Stat after it
+abbrev pub with_stat : {X : Type 0} → (X → List Item) → X × Stat → List Item
+with_stat items p = items p.0 ++ stat.items p.1
+
+-- the values of a series are read, and the bytes of their items are appended; there are so many
+abbrev pub CopiedSeries : {X : Type 0} → ℕ → ℕ → (List ℕ → Read X) → (X → List Item) → ℕ → List ℕ → List ℕ → List ℕ → List ℕ → Type 0
+CopiedSeries sep close at items n line rest old new = (c : Copied (series_at sep close at) (flat_map items) line rest old new) × (n ≡ length c.value)
+
+-- those after the first, which counts too
+abbrev pub CopiedOthers : {X : Type 0} → ℕ → ℕ → (List ℕ → Read X) → (X → List Item) → ℕ → List ℕ → List ℕ → List ℕ → List ℕ → Type 0
+CopiedOthers sep close at items n line rest old new =
+    (c : Copied (λ bytes. many_at (element_at sep close at) (length bytes) bytes) (flat_map items) line rest old new) × (n ≡ length c.value + 1)
 
 -- a message of this kind is read, and the bytes of its items are appended
 pub record CopiedMessage (read : Option Message) (kind : Kind) (old new : List ℕ) : Type 0 where

@@ -5,6 +5,8 @@ use Rattle.zk_jute.specs.Held.{Vector}
 use Rattle.zk_jute.specs.declared.value.Nullable.TheVariants as nullable
 use Rattle.zk_items.specs.Many.{many_at, with_first}
 use Rattle.zk_items.specs.Form.{Form, Read, ◌>>=◌, read_map, word_at}
+use Rattle.zk_lines.specs.Words.{field_at}
+use Rattle.zk_lines.specs.declared.word.Word.TheVariants as words
 
 -- the items joined by a sign, and the sign after them
 abbrev pub series_spell : {X : Type 0} → ℕ → ℕ → (X → List ℕ) → List X → List ℕ
@@ -32,6 +34,10 @@ series sep close f = record {
   spell = series_spell sep close f.spell;
   at = series_at sep close f.at;
 }
+
+-- the parts or the results of a multi: after their word, between semicolons, up to a brace
+abbrev pub multi_at : {X : Type 0} → (List ℕ → Read X) → List ℕ → Read (List X)
+multi_at at = field_at words.Parts (series_at 59 125 at)
 
 -- ---- list of X: null, or items joined by commas between brackets
 

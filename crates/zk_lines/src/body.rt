@@ -1,22 +1,22 @@
 //! The bodies of replies in a line: written and read, by operation.
 ghost use Rattle.std.specs.Prelude.{◌≡◌, ◌++◌, OnOk, OnSome};
-ghost use Rattle.zk_records.specs.Records.{stat};
 ghost use Rattle.zk_answers.specs.Rows.{body_items};
 ghost use Rattle.zk_items.specs.Copied.{Copied};
 ghost use Rattle.zk_items.specs.Form.{Gives, Keeps};
+ghost use Rattle.zk_lines.specs.Copied.{with_stat};
 ghost use Rattle.zk_lines.specs.Words.{word_of};
 ghost use Rattle.zk_lines.specs.declared.word.Word.TheVariants as words;
 ghost use Rattle.zk_lines.specs.Records as records;
 ghost use Rattle.zk_lines.specs.Answers as answers;
 ghost use Rattle.zk_lines.specs.Rows.{only_written, row_at};
 
-use crate::copies::{Copies, copy_field};
-use crate::done::{copy_multi, read_multi};
+use crate::copies::{Copies, copy_field, copy_multi};
+use crate::done::read_multi;
 use crate::item::{Item, read_field};
 use crate::put::{Put, put_field};
 use crate::word::Word;
 use std::alloc::AllocError;
-use zk_answers::{Body, BodyOf, BodyRef};
+use zk_answers::{Body, BodyOf, BodyRef, PartDone};
 use zk_items::{LineFault, Reader};
 use zk_jute::{Blob, List, Text};
 use zk_records::{Acl, Op, Stat};
@@ -45,10 +45,15 @@ macro_rules! body_rows {
     };
 }
 
-/// `read_body_of!(line, op: Create path Path: Text | GetData blob Blob: Blob | Ping)` reads the body of a reply to one of these
-/// operations, or to a multi.
+/// `read_body_of!(line, op: Create path Path: Text | GetData blob Blob: Blob | Ping)` reads the body of a reply to one of
+/// these operations, or to a multi.
 macro_rules! read_body_of {
-    ($line:ident, $op:ident: $($one:ident $only:ident $word:ident: $item:ty),+ | $($both:ident $first:ident $behind:ident: $front:ty),+ | $($bare:ident),+) => {
+    (
+        $line:ident, $op:ident:
+        $($one:ident $only:ident $word:ident: $item:ty),+
+        | $($both:ident $first:ident $behind:ident: $front:ty),+
+        | $($bare:ident),+
+    ) => {
         Ok(match $op {
             $(Op::$one => Body::$one { $only: read_field($line, Word::$word)? },)+
             $(Op::$both => {
@@ -61,10 +66,15 @@ macro_rules! read_body_of {
     };
 }
 
-/// `put_body_of!(out, body: Create path Path: Text | GetData blob Blob: Blob | Ping)` appends the body of a reply to one of these
-/// operations, or to a multi.
+/// `put_body_of!(out, body: Create path Path: Text | GetData blob Blob: Blob | Ping)` appends the body of a reply to one
+/// of these operations, or to a multi.
 macro_rules! put_body_of {
-    ($out:ident, $body:ident: $($one:ident $only:ident $word:ident: $item:ty),+ | $($both:ident $first:ident $behind:ident: $front:ty),+ | $($bare:ident),+) => {
+    (
+        $out:ident, $body:ident:
+        $($one:ident $only:ident $word:ident: $item:ty),+
+        | $($both:ident $first:ident $behind:ident: $front:ty),+
+        | $($bare:ident),+
+    ) => {
         match $body {
             $(BodyOf::$one { $only } => put_field($out, Word::$word, $only),)+
             $(BodyOf::$both { $first, stat } => put_with_stat($out, Word::$behind, $first, stat),)+
@@ -84,19 +94,24 @@ pub fn read_body(line: &mut Reader<'_>, op: Op) -> Result<Body, LineFault>
 /// `copy_body_of!(line, op, out: Create path Path: Text | GetData blob Blob: Blob | Ping)` reads the body of a reply to one
 /// of these operations, or to a multi, and appends its bytes.
 macro_rules! copy_body_of {
-    ($line:ident, $op:ident, $out:ident: $($one:ident $only:ident $word:ident: $item:ty),+ | $($both:ident $first:ident $behind:ident: $front:ty),+ | $($bare:ident),+) => {
+    (
+        $line:ident, $op:ident, $out:ident:
+        $($one:ident $only:ident $word:ident: $item:ty),+
+        | $($both:ident $first:ident $behind:ident: $front:ty),+
+        | $($bare:ident),+
+    ) => {
         match $op {
             $(Op::$one => copy_field::<$item>($line, Word::$word, $out),)+
             $(Op::$both => copy_with_stat::<$front>($line, Word::$behind, $out),)+
             $(Op::$bare => Some(()),)+
-            Op::Multi => copy_multi($line, $out),
+            Op::Multi => copy_multi::<PartDone>($line, $out),
         }
     };
 }
 
 /// Reads the field after `word`, and the `Stat` after it, and appends their bytes.
 fn copy_with_stat<T: Copies>(line: &mut Reader<'_>, word: Word, out: &mut Vec<u8>) -> Option<()>
-    ensures copied { OnSome result (Copied (answers.with_stat_at word T.form.at) (λ p. T.items p.0 ++ stat.items p.1) line.old line.new out.old.items out.new.items) }
+    ensures copied { OnSome result (Copied (answers.with_stat_at word T.form.at) (with_stat T.items) line.old line.new out.old.items out.new.items) }
     ensures keeps { Keeps out.old.items out.new.items }
 {
     copy_field::<T>(line, word, out)?;

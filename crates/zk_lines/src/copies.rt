@@ -1,12 +1,17 @@
 //! `Copies`: an item of a line, read into its bytes; and a field, a word and such an item.
-ghost use Rattle.std.specs.Prelude.{◌≡◌, ◌++◌, OnSome};
-ghost use Rattle.zk_jute.specs.Item.{bytes_of, HaveBytes};
-ghost use Rattle.zk_asks.specs.Parts.{marked};
+ghost use Rattle.std.specs.Prelude.{◌++◌, OnSome};
+ghost use Rattle.std.specs.List.{flat_map};
+ghost use Rattle.zk_jute.specs.Item.{HaveBytes};
+ghost use Rattle.zk_asks.specs.Parts.{end_header, marked};
 ghost use Rattle.zk_items.specs.Copied.{Copied};
 ghost use Rattle.zk_items.specs.Form.{Keeps};
+ghost use Rattle.zk_lines.specs.Copied.{Appended};
+ghost use Rattle.zk_lines.specs.Series.{multi_at};
 ghost use Rattle.zk_lines.specs.Words.{field_at};
 
+use crate::ask::PARTS;
 use crate::item::Item;
+use crate::list::copy_series;
 use crate::word::{Word, read_word};
 use zk_items::Reader;
 use zk_jute::{Blob, Spell, Text};
@@ -46,7 +51,7 @@ pub(crate) use copy_fields;
 /// Appends the bytes of `value`.
 pub fn append<T: Spell>(out: &mut Vec<u8>, value: &T) -> Option<()>
     requires { HaveBytes (T.items value.now) }
-    ensures appended { OnSome result (HaveBytes (T.items value.now) × (out.new.items ≡ out.old.items ++ bytes_of (T.items value.now))) }
+    ensures appended { OnSome result (Appended (T.items value.now) out.old.items out.new.items) }
     ensures keeps { Keeps out.old.items out.new.items }
 {
     value.put(out).ok()
@@ -54,10 +59,22 @@ pub fn append<T: Spell>(out: &mut Vec<u8>, value: &T) -> Option<()>
 
 /// Appends the header of a multi that comes before a part or a result, or after the last.
 pub fn append_header(out: &mut Vec<u8>, kind: i32, done: bool, err: i32) -> Option<()>
-    ensures appended { OnSome result (HaveBytes (marked (record { kind = kind; done = done; err = err })) × (out.new.items ≡ out.old.items ++ bytes_of (marked (record { kind = kind; done = done; err = err })))) }
+    ensures appended { OnSome result (Appended (marked (record { kind = kind; done = done; err = err })) out.old.items out.new.items) }
     ensures keeps { Keeps out.old.items out.new.items }
 {
     append(out, &MultiHeader { kind, done, err })
+}
+
+/// Reads the parts or the results of a multi, and appends their bytes and the header after them.
+pub fn copy_multi<T: Copies>(line: &mut Reader<'_>, out: &mut Vec<u8>) -> Option<()>
+    ensures copied { OnSome result (Copied (multi_at T.form.at) (λ xs. flat_map T.items xs ++ marked end_header) line.old line.new out.old.items out.new.items) }
+    ensures keeps { Keeps out.old.items out.new.items }
+{
+    let Ok(()) = read_word(line, Word::Parts) else {
+        return None;
+    };
+    copy_series::<T>(line, PARTS, out)?;
+    append_header(out, -1, true, -1)
 }
 
 impl Copies for i32 {

@@ -1,35 +1,19 @@
 //! `copy_line`: a line, read into the bytes of its message's payload.
-ghost use Rattle.std.specs.Prelude.{◌≡◌, IfNone, IfSome};
+ghost use Rattle.std.specs.Prelude.{◌≡◌, [], IfNone, IfSome};
 ghost use Rattle.zk_items.specs.Form.{Keeps};
-ghost use Rattle.zk_talk.specs.declared.message.MessageOf.TheVariants as message;
 ghost use Rattle.zk_lines.specs.Copied.{CopiedMessage, IsCopied};
-ghost use Rattle.zk_lines.specs.Lines.{client_at, server_at, message_at, whole, said};
+ghost use Rattle.zk_lines.specs.Lines.{message_at};
 
 use crate::copy_answer::copy_server;
 use crate::copy_ask::copy_client;
 use zk_items::Reader;
 use zk_talk::Kind;
 
-fn whole_client(line: &mut Reader<'_>, out: &mut Vec<u8>) -> Option<Kind>
-    ensures copied { IfSome result (λ kind. CopiedMessage (said message.Client (whole (client_at line.old))) kind out.old.items out.new.items) }
-    ensures keeps { Keeps out.old.items out.new.items }
+/// `kind`, where nothing is left of the line.
+fn at_end(line: &Reader<'_>, kind: Kind) -> Option<Kind>
+    ensures { IfSome result (λ k. (k ≡ kind) × (line.now ≡ [])) }
 {
-    let kind = copy_client(line, out)?;
-    if !line.is_done() {
-        return None;
-    }
-    Some(kind)
-}
-
-fn whole_server(line: &mut Reader<'_>, out: &mut Vec<u8>) -> Option<Kind>
-    ensures copied { IfSome result (λ kind. CopiedMessage (said message.Server (whole (server_at line.old))) kind out.old.items out.new.items) }
-    ensures keeps { Keeps out.old.items out.new.items }
-{
-    let kind = copy_server(line, out)?;
-    if !line.is_done() {
-        return None;
-    }
-    Some(kind)
+    if line.is_done() { Some(kind) } else { None }
 }
 
 /// Reads the message, whose side comes first, and appends its payload.
@@ -38,12 +22,14 @@ fn copy_message(line: &mut Reader<'_>, out: &mut Vec<u8>) -> Option<Kind>
     ensures keeps { Keeps out.old.items out.new.items }
 {
     if line.passes(b"C ") {
-        return whole_client(line, out);
+        let kind = copy_client(line, out)?;
+        return at_end(line, kind);
     }
     let Ok(()) = line.front(b"S ") else {
         return None;
     };
-    whole_server(line, out)
+    let kind = copy_server(line, out)?;
+    at_end(line, kind)
 }
 
 /// Appends the payload of the message whose line `bytes` are, without line feed, and returns the message's kind.

@@ -2,7 +2,7 @@
 ghost use Rattle.std.specs.Prelude.{◌≡◌, IfSome, OnSome};
 ghost use Rattle.zk_asks.specs.declared.frame.ClientFrameOf.TheVariants as client;
 ghost use Rattle.zk_asks.specs.Frames.{frame_items};
-ghost use Rattle.zk_asks.specs.Parts.{multi_items, record_of};
+ghost use Rattle.zk_asks.specs.Parts.{record_of};
 ghost use Rattle.zk_asks.specs.Rows.{body_items};
 ghost use Rattle.zk_items.specs.Copied.{Copied};
 ghost use Rattle.zk_items.specs.Form.{Keeps};
@@ -12,9 +12,8 @@ ghost use Rattle.zk_lines.specs.Asks as asks;
 ghost use Rattle.zk_lines.specs.Lines.{client_at};
 ghost use Rattle.zk_lines.specs.Rows.{row_at};
 
-use crate::ask::{PARTS, ask_rows, connect_fields, part_rows};
-use crate::copies::{Copies, append, append_header, copy_field, copy_fields};
-use crate::list::copy_series;
+use crate::ask::{ask_rows, connect_fields, part_rows};
+use crate::copies::{Copies, append, append_header, copy_field, copy_fields, copy_multi};
 use crate::name::{op_named, part_named};
 use crate::word::{Word, read_word};
 use zk_asks::Part;
@@ -52,18 +51,6 @@ impl Copies for Part {
     }
 }
 
-/// Reads the parts of a multi, and appends their bytes and the header after them.
-fn copy_multi(line: &mut Reader<'_>, out: &mut Vec<u8>) -> Option<()>
-    ensures copied { OnSome result (Copied asks.multi.at multi_items line.old line.new out.old.items out.new.items) }
-    ensures keeps { Keeps out.old.items out.new.items }
-{
-    let Ok(()) = read_word(line, Word::Parts) else {
-        return None;
-    };
-    copy_series::<Part>(line, PARTS, out)?;
-    append_header(out, -1, true, -1)
-}
-
 /// `copy_ask_of!(line, op, out: Create CreateAsk | Ping)` reads the record of the request, which is of one of these
 /// operations, or a multi, and appends its bytes.
 macro_rules! copy_ask_of {
@@ -71,7 +58,7 @@ macro_rules! copy_ask_of {
         match $op {
             $(Op::$held => $record::copy($line, $out),)+
             $(Op::$bare => Some(()),)+
-            Op::Multi => copy_multi($line, $out),
+            Op::Multi => copy_multi::<Part>($line, $out),
         }
     };
 }

@@ -13,7 +13,7 @@ ghost use Rattle.zk_lines.specs.Rows.{row_at};
 use crate::ask::PARTS;
 use crate::copies::{Copies, append, append_header, copy_field};
 use crate::item::{Item, read_field};
-use crate::list::{Left, copy_series, put_series, read_series};
+use crate::list::{Left, put_series, read_series};
 use crate::name::done_named;
 use crate::put::{Put, put_field};
 use crate::word::{Word, put_word, read_word};
@@ -200,18 +200,6 @@ pub fn read_multi(line: &mut Reader<'_>) -> Result<Items<PartDone>, LineFault>
 {
     read_word(line, Word::Parts)?;
     read_series(line, PARTS)
-}
-
-/// Reads the results of a multi, and appends their bytes and the header after them.
-pub fn copy_multi(line: &mut Reader<'_>, out: &mut Vec<u8>) -> Option<()>
-    ensures copied { OnSome result (Copied answers.multi.at results.multi_items line.old line.new out.old.items out.new.items) }
-    ensures keeps { Keeps out.old.items out.new.items }
-{
-    let Ok(()) = read_word(line, Word::Parts) else {
-        return None;
-    };
-    copy_series::<PartDone>(line, PARTS, out)?;
-    append_header(out, -1, true, -1)
 }
 
 impl Put for Items<PartDone> {

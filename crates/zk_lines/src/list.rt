@@ -6,6 +6,7 @@ ghost use Rattle.std.specs.List.{flat_map, AllByRecursion};
 ghost use Rattle.zk_jute.specs.Values.{list_items};
 ghost use Rattle.zk_items.specs.Copied.{Copied};
 ghost use Rattle.zk_items.specs.Form.{Gives, GivesSeen, Keeps};
+ghost use Rattle.zk_lines.specs.Copied.{CopiedOthers, CopiedSeries};
 ghost use Rattle.zk_lines.specs.Series.{element_at, series_at, full_at, list_of, series_spell};
 ghost use Rattle.zk_items.specs.Many.{many_at, with_first};
 
@@ -69,7 +70,7 @@ pub fn read_series<T: Item>(line: &mut Reader<'_>, signs: Signs) -> Result<Items
 
 /// Reads the items after the first, and appends their bytes; returns how many there are, with the first.
 fn copy_others<T: Copies>(line: &mut Reader<'_>, signs: Signs, out: &mut Vec<u8>) -> Option<usize>
-    ensures copied { IfSome result (λ n. (c : Copied (λ bytes. many_at (element_at signs.between signs.behind T.form.at) (length bytes) bytes) (flat_map T.items) line.old line.new out.old.items out.new.items) × (n ≡ length c.value + 1)) }
+    ensures copied { IfSome result (λ n. CopiedOthers signs.between signs.behind T.form.at T.items n line.old line.new out.old.items out.new.items) }
     ensures keeps { Keeps out.old.items out.new.items }
 {
     let turns = line.left();
@@ -93,7 +94,7 @@ pub fn copy_series<T: Copies>(
     signs: Signs,
     out: &mut Vec<u8>,
 ) -> Option<usize>
-    ensures copied { IfSome result (λ n. (c : Copied (series_at signs.between signs.behind T.form.at) (flat_map T.items) line.old line.new out.old.items out.new.items) × (n ≡ length c.value)) }
+    ensures copied { IfSome result (λ n. CopiedSeries signs.between signs.behind T.form.at T.items n line.old line.new out.old.items out.new.items) }
     ensures keeps { Keeps out.old.items out.new.items }
 {
     if line.passes(&[signs.behind]) {

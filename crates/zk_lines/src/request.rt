@@ -39,7 +39,11 @@ macro_rules! fields_of {
         $then!($($with)+: Kind kind: i32, Scheme scheme: Text, Auth auth: Blob)
     };
     (set_watches, $then:ident, $($with:tt)+) => {
-        $then!($($with)+: Zxid zxid: i64, DataWatches data_watches: List<Text>, ExistWatches exist_watches: List<Text>, ChildWatches child_watches: List<Text>)
+        $then!(
+            $($with)+:
+            Zxid zxid: i64, DataWatches data_watches: List<Text>, ExistWatches exist_watches: List<Text>,
+            ChildWatches child_watches: List<Text>
+        )
     };
     (check, $then:ident, $($with:tt)+) => {
         $then!($($with)+: Path path: Text, Version version: i32)

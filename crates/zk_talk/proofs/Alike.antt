@@ -1,12 +1,11 @@
 -- A message is known by its kind and the bytes of its payload, where one that may be said has them.
-use Rattle.std.proofs.Common.{◌≡◌, ◌≢◌, ℕ, ℤ, pos, negsuc, List, [], ◌∷◌, ◌++◌, refl, sym, ap, ◌∙◌, subst, append_assoc, true, false}
+use Rattle.std.proofs.Common.{◌≡◌, ℕ, ℤ, pos, negsuc, List, [], ◌∷◌, ◌++◌, refl, sym, ap, ◌∙◌, subst, append_assoc, true, false}
 use Rattle.std.proofs.lemmas.List.{append-nil}
 use Rattle.zk_jute.specs.Item.{Item, bytes_of, HaveBytes}
 use Rattle.zk_jute.proofs.Layouts.{bytes_only, bytes_both, have_parts}
 use Rattle.zk_records.specs.declared.header.MultiHeader.{MultiHeader}
 use Rattle.zk_records.specs.declared.header.ReplyHeader.{ReplyHeader}
 use Rattle.zk_records.specs.declared.op.Op.{Op}
-use Rattle.zk_records.specs.declared.op.Op.TheVariants as ops
 use Rattle.zk_records.specs.declared.op.PartOp.{PartOp}
 use Rattle.zk_records.specs.declared.op.PartOp.TheVariants as parts
 use Rattle.zk_records.specs.Codes.{op_number}
@@ -27,7 +26,7 @@ use Rattle.zk_answers.specs.declared.frame.OutcomeOf.TheVariants as outcome
 use Rattle.zk_answers.specs.declared.frame.ServerFrameOf.TheVariants.{Connected, Answered, Event}
 use Rattle.zk_answers.specs.Frames.{Fits, OutcomeFits, BodyFits, IsOutcome, err_of, header_of, op_of_outcome, op_of_reply, rest_items, reply_items}
 use Rattle.zk_answers.specs.Frames as answers
-use Rattle.zk_answers.specs.Results.{Answers, AnswerAll, result_header, error_header, done_items, multi_items, mark_before, result_of}
+use Rattle.zk_answers.specs.Results.{Answers, AnswerAll, result_header, done_items, multi_items, mark_before, result_of}
 use Rattle.zk_answers.specs.Rows.{op_of_body, body_items}
 use Rattle.zk_answers.proofs.Dones.{end_mark, mark_is, mark_same, multi_more, split_items}
 use Rattle.zk_answers.proofs.Heads.{head_unique, stands_head}
@@ -37,7 +36,7 @@ use Rattle.zk_talk.specs.declared.message.MessageOf.TheVariants.{Client as FromC
 use Rattle.zk_talk.specs.declared.message.Kind.{Kind}
 use Rattle.zk_talk.specs.declared.message.Kind.TheVariants as kinds
 use Rattle.zk_talk.specs.Written.{IsWritten, kind_of}
-use Rattle.zk_talk.proofs.Payloads.{first_inj, ask_inj, connected_inj, event_inj, reply_inj}
+use Rattle.zk_talk.proofs.Payloads.{first_inj, ask_inj, event_inj, reply_inj}
 
 -- ---- the client's
 
@@ -179,8 +178,3 @@ pub event_known : (p : List ℕ) (s t : ServerFrame) → answers.IsEvent s → a
 event_known p s (Connected u y) event sent is w = let e : kinds.Connected ≡ kinds.Event = w.kind_is in absurd (cc)
 event_known p s (Answered q) event sent is w = let e : kinds.Answered (op_of_reply q) ≡ kinds.Event = w.kind_is in absurd (cc)
 event_known p s (Event z k) event sent is w = event_inj s (Event z k) event tt sent (tt, tt, w.have) (is ∙ sym w.is)
-
-pub connected_known : (p : List ℕ) (s t : ServerFrame) → answers.IsConnected s → answers.IsSent s → server_payload s ≡ p → IsWritten kinds.Connected p (FromServer t) → s ≡ t
-connected_known p s (Connected u y) first sent is w = connected_inj s (Connected u y) first tt sent (tt, tt, w.have) (is ∙ sym w.is)
-connected_known p s (Answered q) first sent is w = let e : kinds.Answered (op_of_reply q) ≡ kinds.Connected = w.kind_is in absurd (cc)
-connected_known p s (Event z k) first sent is w = let e : kinds.Event ≡ kinds.Connected = w.kind_is in absurd (cc)

@@ -1,57 +1,34 @@
 -- What a speaker knows of a message that it says by its kind and the bytes of its payload.
-use Rattle.std.proofs.Common.{◌≡◌, ℕ, ℤ, ◌≤◌, List, [], ◌∷◌, ◌++◌, length, refl, sym, ◌∙◌, subst, arith, Bool, true, false, IsTrue}
-use Rattle.std.specs.Prelude.{Result, Ok, Err, IsOk, IfOk}
-use Rattle.std.proofs.lemmas.Bool.{false≢true}
+use Rattle.std.proofs.Common.{◌≡◌, ℕ, ℤ, ◌≤◌, List, length, refl, sym, subst, arith, Bool, true}
 use Rattle.zk_records.specs.declared.op.Op.{Op}
 use Rattle.zk_asks.specs.Held.{ClientFrame}
 use Rattle.zk_asks.specs.declared.frame.ClientFrameOf.TheVariants.{Connect, Ask}
-use Rattle.zk_asks.specs.Frames.{IsFirst, IsLater}
-use Rattle.zk_asks.specs.Frames as asks
+use Rattle.zk_asks.specs.Frames.{IsLater}
 use Rattle.zk_answers.specs.Held.{Reply, ServerFrame}
 use Rattle.zk_answers.specs.declared.frame.ServerFrameOf.TheVariants.{Connected, Answered, Event}
 use Rattle.zk_answers.specs.Frames as answers
 use Rattle.zk_waiting.specs.Lane.{lane_of}
 use Rattle.zk_waiting.specs.Waiting.{Lanes, IsDropped}
 use Rattle.zk_talk.specs.declared.limits.Limits.{Limits}
-use Rattle.zk_talk.specs.declared.message.Side.{Side}
 use Rattle.zk_talk.specs.declared.message.Side.TheVariants.{Client, Server}
 use Rattle.zk_talk.specs.declared.message.MessageOf.TheVariants.{Client as FromClient, Server as FromServer}
 use Rattle.zk_talk.specs.declared.message.Kind.{Kind}
 use Rattle.zk_talk.specs.declared.message.Kind.TheVariants as kinds
 use Rattle.zk_talk.specs.Held.{Message}
-use Rattle.zk_talk.specs.Payloads.{client_payload, server_payload}
-use Rattle.zk_talk.specs.Conversation.{Conversation, ServerMay}
-use Rattle.zk_talk.specs.Judged.{IsInTurn, IsRemembered, HasAsk, IsForgotten}
+use Rattle.zk_talk.specs.Judged.{HasAsk, IsForgotten}
 use Rattle.zk_talk.specs.Settled.{IsAwaited, IsDueReply}
-use Rattle.zk_talk.specs.Said.{SpeakerState, Heard, SaysClient, SaysServer, side_of}
+use Rattle.zk_talk.specs.Said.{SpeakerState, SaysClient, SaysServer, side_of}
 use Rattle.zk_talk.specs.Written.{IsWritten, SaysWritten, SaysClientWritten, SaysServerWritten, kind_of}
 use Rattle.zk_talk.proofs.Payloads.{server_is}
 use Rattle.zk_talk.proofs.Hearing.{described, some_spoken}
 use Rattle.zk_talk.proofs.Judging.{due_waits, event_may}
 use Rattle.zk_talk.proofs.Speaking.{ok_client, ok_server}
 use Rattle.zk_talk.proofs.SayingPayloads.{client_frame_said, server_frame_said}
-use Rattle.zk_talk.proofs.Alike.{client_known, reply_known, event_known, connected_known}
-
-pub if_ok : {X E : Type 0} (r : Result X E) (P : X → Type 0) → IsOk r → IfOk r P → (x : X) × P x
-if_ok (Ok x) P is k = (x, k)
-if_ok (Err e) P is k = absurd (false≢true is)
+use Rattle.zk_talk.proofs.Alike.{client_known, reply_known, event_known}
 
 -- ---- the client's
 
 module _ (limits : Limits) (w x : Lanes) (p : List ℕ) (room : w.max ≡ limits.waiting) (small : length p ≤ limits.client) where
-  pub first_written : (f : ClientFrame) → IsInTurn limits.profile 0 f → asks.IsSent f → client_payload f ≡ p → x ≡ w → SaysClientWritten limits false kinds.Connect w p x
-  first_written f turn sent is same = λ g written.
-      subst (λ z. SaysClient limits false w z x) (client_known kinds.Connect p f g sent is (kind f (turn.0 refl)) written)
-      (client_frame_said limits false 0 refl w p f turn sent is x room small (remembered f (turn.0 refl)))
-    where
-      kind : (f : ClientFrame) → IsFirst f → kind_of (FromClient f) ≡ kinds.Connect
-      kind (Connect t g) first = refl
-      kind (Ask xid ask) first = absurd first
-
-      remembered : (f : ClientFrame) → IsFirst f → IsRemembered f w x
-      remembered (Connect t g) first = same
-      remembered (Ask xid ask) first = absurd first
-
   pub ask_written : (f : ClientFrame) → IsAwaited limits.profile 1 p w x f → SaysClientWritten limits true kinds.Ask w p x
   ask_written f a = λ g written.
       let some : 1 ≡ 0 → ⊥ = (λ z. omega (arith, z)) in
@@ -90,21 +67,6 @@ module _ (limits : Limits) (asked : Bool) (w x : Lanes) (p : List ℕ) (small : 
       forgotten (Connected u y) event = absurd event
       forgotten (Answered q) event = absurd event
       forgotten (Event z k) event = same
-
-  pub connected_written : (s : ServerFrame) → answers.IsConnected s → answers.IsSent s → server_payload s ≡ p → ((v : Conversation) → Heard asked false w v → ServerMay v.client v.server s) → x ≡ w → SaysServerWritten limits asked false kinds.Connected w p x
-  connected_written s first sent is may same = λ t written.
-      subst (λ t. SaysServer limits asked false w t x) (connected_known p s t first sent is written)
-      (server_frame_said limits asked false w p s is may x (has s first) small (forgotten s first))
-    where
-      has : (s : ServerFrame) → answers.IsConnected s → HasAsk s w
-      has (Connected u y) first = tt
-      has (Answered q) first = absurd first
-      has (Event z k) first = absurd first
-
-      forgotten : (s : ServerFrame) → answers.IsConnected s → IsForgotten s w x
-      forgotten (Connected u y) first = same
-      forgotten (Answered q) first = absurd first
-      forgotten (Event z k) first = absurd first
 
 -- ---- the speaker's
 

@@ -268,6 +268,7 @@ pub fn forget_front(count: u64, waiting: &mut Awaited, payload: &[u8]) -> Option
     Some(Some(op))
 }
 
+/// Whether these are one operation.
 fn is_same(a: Op, b: Op) -> bool
     ensures { IsTrue result → a ≡ b }
 {
