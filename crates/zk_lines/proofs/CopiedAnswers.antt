@@ -1,19 +1,17 @@
 -- The replies and the events of a line are read into bytes.
 use Rattle.std.proofs.Common.{◌≡◌, ℕ, ℤ, List, [], ◌∷◌, ◌++◌, take, drop, Option, Some, None, refl, ap, ◌∙◌}
 use Rattle.std.specs.Prelude.{pos, negsuc}
-use Rattle.std.specs.List.{flat_map, prefix_len}
+use Rattle.std.specs.List.{prefix_len}
 use Rattle.zk_jute.specs.Item.{Item, AnInt, ALong, bytes_of, HaveBytes}
 use Rattle.zk_jute.specs.Wired as wired
 use Rattle.zk_jute.specs.Wired.{int, long, ustring}
 use Rattle.zk_records.specs.declared.op.Op.{Op}
-use Rattle.zk_asks.specs.Parts.{end_header, marked}
 use Rattle.zk_answers.specs.Held.{Outcome, Reply}
 use Rattle.zk_answers.specs.declared.frame.OutcomeOf.TheVariants as outcome
 use Rattle.zk_answers.specs.declared.frame.ServerFrameOf.TheVariants as server
-use Rattle.zk_answers.specs.Frames.{err_of, rest_items, op_of_outcome, op_of_reply, reply_items, frame_items}
-use Rattle.zk_answers.specs.Results.{done_items, multi_items}
+use Rattle.zk_answers.specs.Frames.{err_of, rest_items, op_of_reply, reply_items, frame_items}
 use Rattle.zk_answers.specs.Rows.{body_items}
-use Rattle.zk_items.specs.Form.{Read, ◌>>=◌, read_map, word_at}
+use Rattle.zk_items.specs.Form.{Read, read_map, word_at}
 use Rattle.zk_items.specs.Codes.{failure_code, event_code}
 use Rattle.zk_items.specs.Leaf as leaf
 use Rattle.zk_items.specs.Leaf.{in_name, num_at}
@@ -21,11 +19,11 @@ use Rattle.zk_items.specs.Copied.{Copied}
 use Rattle.zk_lines.specs.Answers as answers
 use Rattle.zk_lines.specs.Asks.{op_named}
 use Rattle.zk_lines.specs.Rows.{row_at}
-use Rattle.zk_lines.specs.Series.{if_passed, series_at}
+use Rattle.zk_lines.specs.Series.{if_passed}
 use Rattle.zk_lines.specs.Words.{word_of, field_at}
 use Rattle.zk_lines.specs.declared.word.Word.TheVariants as words
 use Rattle.zk_lines.proofs.Answers.{outcome_op}
-use Rattle.zk_lines.proofs.Appended.{◌then◌, value_copied, read_alone, field_copied, made, retold, headed, tailed, named_copied}
+use Rattle.zk_lines.proofs.Appended.{◌then◌, value_copied, read_alone, field_copied, made, retold, headed, named_copied}
 
 -- ---- an outcome, and the number of its error in front
 

@@ -1,5 +1,5 @@
 -- The requests of a line are read into bytes.
-use Rattle.std.proofs.Common.{◌≡◌, ℕ, ℤ, List, [], ◌++◌, take, drop, Some, refl, ap, sym, ◌∷◌, ◌∙◌}
+use Rattle.std.proofs.Common.{◌≡◌, ℕ, ℤ, List, [], ◌++◌, take, drop, Some, ap, sym, ◌∷◌, ◌∙◌}
 use Rattle.std.specs.List.{prefix_len}
 use Rattle.zk_jute.specs.Item.{AnInt, bytes_of, HaveBytes}
 use Rattle.zk_records.specs.Codes.{op_number}

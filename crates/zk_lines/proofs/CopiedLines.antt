@@ -1,7 +1,7 @@
 -- A line that is read into bytes is that of one message, whose payload they are.
-use Rattle.std.proofs.Common.{◌≡◌, ◌≢◌, ℕ, ℤ, List, [], ◌∷◌, ◌++◌, Option, Some, None, Bool, true, false, refl, sym, ap, ◌∙◌, cond, bytes_eq}
-use Rattle.std.specs.Prelude.{codes, pos}
-use Rattle.zk_jute.specs.Item.{bytes_of, AnInt}
+use Rattle.std.proofs.Common.{◌≡◌, ℕ, ℤ, List, [], Option, Some, None, Bool, true, false, refl, sym, ap, ◌∙◌, cond, bytes_eq}
+use Rattle.std.specs.Prelude.{codes}
+use Rattle.zk_jute.specs.Item.{bytes_of}
 use Rattle.zk_records.specs.Held.{ConnectRequest, ConnectResponse, WatcherEvent}
 use Rattle.zk_records.specs.declared.op.Op.{Op}
 use Rattle.zk_asks.specs.Held.{Ask, ClientFrame}

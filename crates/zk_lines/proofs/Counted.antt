@@ -1,5 +1,5 @@
 -- Items one after another are read into bytes.
-use Rattle.std.proofs.Common.{◌≡◌, ℕ, zero, suc, ◌+◌, ◌-◌, ◌<◌, ◌^◌, List, [], ◌∷◌, ◌++◌, length, take, drop, Option, Some, None, refl, sym, ap, subst, ◌∙◌, append_assoc, arith, length-append}
+use Rattle.std.proofs.Common.{◌≡◌, ℕ, ◌+◌, ◌-◌, ◌<◌, ◌^◌, List, [], ◌∷◌, ◌++◌, length, take, drop, Option, Some, None, refl, sym, ap, subst, ◌∙◌, append_assoc, arith, length-append}
 use Rattle.std.specs.Prelude.{IfNone, OnSome, pos, negsuc}
 use Rattle.std.specs.List.{flat_map}
 use Rattle.std.proofs.lemmas.List.{append-nil, take_at}
@@ -8,7 +8,7 @@ use Rattle.zk_jute.specs.Values.{list_items}
 use Rattle.zk_jute.specs.declared.value.Nullable.TheVariants as nullable
 use Rattle.zk_jute.proofs.Layouts.{have_both, bytes_both}
 use Rattle.zk_items.specs.Form.{Read, ◌>>=◌, Keeps, read_map, word_at}
-use Rattle.zk_items.specs.Many.{many_at, then_more, with_first, with_front}
+use Rattle.zk_items.specs.Many.{many_at, with_first, with_front}
 use Rattle.zk_items.specs.Copied.{Copied}
 use Rattle.zk_items.proofs.Copies.{room_filled}
 use Rattle.zk_items.proofs.Kept.{keeps_more}

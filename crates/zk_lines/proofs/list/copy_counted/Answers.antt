@@ -1,4 +1,4 @@
-use Rattle.std.proofs.Common.{◌≡◌, ◌+◌, ◌++◌, ◌∷◌, [], ℕ, List, length, take, drop, refl, subst, arith}
+use Rattle.std.proofs.Common.{◌≡◌, ◌+◌, ◌++◌, ◌∷◌, [], ℕ, length, take, drop, refl, subst, arith}
 use Rattle.std.specs.Prelude.{pos}
 use Rattle.zk_jute.specs.Item.{AnInt, bytes_of, int_bytes}
 use Rattle.zk_items.proofs.Kept.{on_both}

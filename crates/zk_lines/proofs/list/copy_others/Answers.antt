@@ -1,4 +1,4 @@
-use Rattle.std.proofs.Common.{◌≡◌, ◌∷◌, [], sym, ap, ◌∙◌, arith}
+use Rattle.std.proofs.Common.{◌∷◌, [], sym, ap, ◌∙◌, arith}
 use Rattle.zk_items.specs.Form.{word_at}
 use Rattle.zk_lines.specs.Series.{element_at}
 use Rattle.zk_lines.proofs.Counted.{none_yet, one_more, all_read, element_some, element_none}

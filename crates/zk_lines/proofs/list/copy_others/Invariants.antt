@@ -1,4 +1,3 @@
-use Rattle.std.proofs.Common.{length}
 use Rattle.zk_items.specs.Form.{Keeps}
 use Rattle.zk_lines.specs.Series.{element_at}
 use Rattle.zk_lines.proofs.Counted.{Begun}
