@@ -30,7 +30,8 @@ class Step(ctypes.Structure):
 
 class Passed(ctypes.Structure):
     _fields_ = [("used", ctypes.c_size_t), ("status", ctypes.c_uint32), ("went", ctypes.c_uint32),
-                ("xid", ctypes.c_int32), ("operation", ctypes.c_int32), ("fault", Fault), ("frame", ctypes.c_uint64)]
+                ("xid", ctypes.c_int32), ("operation", ctypes.c_int32), ("fault", Fault), ("frame", ctypes.c_uint64),
+                ("zxid", ctypes.c_int64), ("err", ctypes.c_int32)]
 
 
 class Ending(ctypes.Structure):
@@ -112,6 +113,7 @@ class Library:
             ("zk_talk_ending_line", Line, (handle, ctypes.c_char_p, size)),
             ("zk_talk_free", None, (handle,)),
             ("zk_through_new", number, (handle, number, number, number, number)),
+            ("zk_talk_join", number, (handle, number, number, number, number)),
             ("zk_through_step", Passed, (handle, number, ctypes.c_void_p, size)),
             ("zk_through_view", Message, (handle, number)),
             ("zk_through_free", None, (handle,)),

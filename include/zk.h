@@ -116,11 +116,13 @@ enum {
     ZK_MESSAGE = 1,  /* a frame is whole: a message */
     ZK_ASKED = 2,    /* a request is whole whose operation the profile lacks: it is left out */
     ZK_ANSWERED = 3, /* the reply to such a request is whole: it is left out */
-    ZK_FULL = 4      /* with the client's frame more would wait than may: nothing of its piece was used */
+    ZK_FULL = 4,     /* with the client's frame more would wait than may: nothing of its piece was used */
+    ZK_UNSEEN = 5    /* a reply to a request that wasn't seen is whole: it is left out (zk_talk_join) */
 };
 
 /* What a passage's step returns: the bytes used of the piece, and what became of them. xid, operation and frame are those
- * of the request of ZK_ASKED and ZK_ANSWERED: frame is the number of the client's frame, from 0; else they are 0. */
+ * of the request of ZK_ASKED and ZK_ANSWERED: frame is the number of the client's frame, from 0. xid, zxid and err are the
+ * header's of ZK_UNSEEN. Else they are 0. */
 struct zk_passed {
     size_t used;
     uint32_t status;
@@ -129,6 +131,8 @@ struct zk_passed {
     int32_t operation;
     struct zk_fault fault;
     uint64_t frame;
+    int64_t zxid;
+    int32_t err;
 };
 
 /* Kinds of an ending. */
@@ -343,7 +347,18 @@ void zk_talk_free(struct zk_talk *talk);
  * memory of a talk, and the requests that wait. */
 uint32_t zk_through_new(struct zk_through *through, uint32_t client, uint32_t server, uint32_t waiting, uint32_t profile);
 
-/* Begins anew with the same limits, as zk_talk_renew. */
+/* Makes a passage of a connection that is seen late, for who attaches to one in the middle: as zk_through_new, but a connect
+ * request and its answer have come that nobody sent, whose numbers are -1 and whose passwords are null: frame 0 of each side,
+ * of 32 and 24 bytes. Then give it all that the client sends from the beginning of a frame on, and what the server sends
+ * from the beginning of a frame on, of which none may be missing that came after the client's first.
+ *
+ * A reply to a request before that is ZK_UNSEEN. It is known by its xid, until a reply is to a request that was seen; from
+ * then on another xid than that of the oldest that waits is ZK_XID_ORDER, and a reply where none waits ZK_UNASKED, as ever.
+ * Before, ZK_XID_ORDER is a reply to a request that was seen, but isn't the oldest. Pings (-2) have one xid, and so have
+ * auths (-4) and setWatches (-8): a reply of theirs is ZK_UNSEEN where none of theirs waits. */
+uint32_t zk_talk_join(struct zk_through *through, uint32_t client, uint32_t server, uint32_t waiting, uint32_t profile);
+
+/* Begins anew with the same limits, as zk_through_new makes it; it never allocates. Returns ZK_WELL or ZK_EMPTY. */
 uint32_t zk_through_renew(struct zk_through *through);
 
 /* Takes a piece as zk_talk_step does. A fault's frame and offset are the side's own, those left out counted. After ZK_FULL
@@ -360,7 +375,7 @@ struct zk_line zk_through_line(struct zk_through *through, uint32_t side, uint8_
 /* The fields of that message, as zk_talk_fields writes them. */
 struct zk_read zk_through_fields(struct zk_through *through, uint32_t side, struct zk_field *out, size_t room);
 
-/* Writes the payload of the frame that the side's last step left out; ZK_NO_MESSAGE if it left none out. */
+/* Writes the payload of the frame that the side's last step left out, also of ZK_UNSEEN; ZK_NO_MESSAGE if it left none out. */
 struct zk_line zk_through_payload(struct zk_through *through, uint32_t side, uint8_t *out, size_t room);
 
 /* How the conversation ends if nothing more comes. Frames that are left out count: as unanswered, a request without its
@@ -720,6 +735,11 @@ static inline uint32_t zk_safe_through_new(struct zk_through *through, uint32_t 
     return fault != ZK_WELL ? fault : zk_through_new(through, client, server, waiting, profile);
 }
 
+static inline uint32_t zk_safe_talk_join(struct zk_through *through, uint32_t client, uint32_t server, uint32_t waiting, uint32_t profile) {
+    uint32_t fault = zk_fault_at(through, 1, sizeof *through);
+    return fault != ZK_WELL ? fault : zk_talk_join(through, client, server, waiting, profile);
+}
+
 static inline uint32_t zk_safe_through_renew(struct zk_through *through) {
     uint32_t fault = zk_fault_at(through, 1, sizeof *through);
     return fault != ZK_WELL ? fault : zk_through_renew(through);
@@ -912,6 +932,7 @@ static inline struct zk_line zk_safe_listing(const struct zk_piece *pieces, size
 #define zk_talk_ending_line zk_safe_talk_ending_line
 #define zk_talk_free zk_safe_talk_free
 #define zk_through_new zk_safe_through_new
+#define zk_talk_join zk_safe_talk_join
 #define zk_through_renew zk_safe_through_renew
 #define zk_through_step zk_safe_through_step
 #define zk_through_view zk_safe_through_view

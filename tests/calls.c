@@ -21,8 +21,8 @@ static bool goes_on(const struct played *it, uint32_t *side, const uint8_t **fro
     return true;
 }
 
-/* How often each of ZK_WITHIN to ZK_FULL came. */
-static unsigned long wents[ZK_FULL + 1];
+/* How often each of ZK_WITHIN to ZK_UNSEEN came. */
+static unsigned long wents[ZK_UNSEEN + 1];
 
 /* What a step is given. */
 struct given {
@@ -170,12 +170,15 @@ static void pass_through(struct played *it) {
     uint32_t side = given.side;
     struct zk_passed step = zk_through_step(&it->through, side, given.at, given.length);
     if (!stepped(it, given, step.status, step.used, step.fault)) return;
-    if (step.went <= ZK_FULL) wents[step.went]++;
-    bool asked = step.went == ZK_ASKED, answers = step.went == ZK_ANSWERED, left = asked || answers;
-    must(step.went <= ZK_FULL && (step.status == ZK_WELL || step.went == ZK_WITHIN), "what became of the bytes");
+    if (step.went <= ZK_UNSEEN) wents[step.went]++;
+    bool asked = step.went == ZK_ASKED, answers = step.went == ZK_ANSWERED, unseen = step.went == ZK_UNSEEN;
+    bool left = asked || answers || unseen;
+    must(step.went <= ZK_UNSEEN && (step.status == ZK_WELL || step.went == ZK_WITHIN), "what became of the bytes");
     must(step.status != ZK_QUEUE_FULL, "a passage that is refused where more would wait than may");
     must(left || (step.xid == 0 && step.operation == 0 && step.frame == 0), "a request that wasn't left out");
-    must(!left || step.frame > 0, "the number of the frame of what is left out");
+    must((asked || answers) == (step.frame > 0), "the number of the frame of what is left out");
+    must(unseen || (step.zxid == 0 && step.err == 0), "a header of what was seen");
+    must(!unseen || (it->late && side == ZK_SERVER && step.operation == 0), "a reply that wasn't seen");
     must(!asked || side == ZK_CLIENT, "a request of the server");
     must(!answers || side == ZK_SERVER, "a reply of the client");
     must(step.went != ZK_FULL || (side == ZK_CLIENT && step.used == 0), "bytes that are used where none may wait");
@@ -188,7 +191,9 @@ static void pass_through(struct played *it) {
     must(answered(zk_through_view(&it->through, side).status) == (left ? ZK_NO_MESSAGE : ZK_WELL), "the message kept");
     if (!left || found.status != ZK_WELL) return;
     must(found.length >= 8 && number_at(text.at) == step.xid, "the xid of what is left out");
-    must(answers || number_at(text.at + 4) == step.operation, "the operation of what is left out");
+    must(!asked || number_at(text.at + 4) == step.operation, "the operation of what is left out");
+    must(!unseen || number_at(text.at + 4) == (int32_t)(step.zxid >> 32), "the zxid of what is left out");
+    must(!unseen || number_at(text.at + 12) == step.err, "the err of what is left out");
 }
 
 /* ---- Lines and listings */
@@ -355,6 +360,6 @@ int main(int given, char **words) {
     for (uint32_t i = 0; i < 128; i++)
         if (statuses[i] > 0) printf(" %s %lu", zk_status_name(i), statuses[i]);
     printf("; of passages, asked %lu, answered %lu, full %lu", wents[ZK_ASKED], wents[ZK_ANSWERED], wents[ZK_FULL]);
-    putchar('\n');
+    printf(", unseen %lu\n", wents[ZK_UNSEEN]);
     return 0;
 }

@@ -126,6 +126,31 @@ def list_recordings(name, *words):
             yield path.stem, good, f"{name} --say {path.stem}: status {found.returncode}, {told}"
 
 
+def unseen(line):
+    """What a reader that didn't see its request has of a reply's line."""
+    words = dict(re.findall(r" (zxid|err)=(-?\d+)", line))
+    return f"S {line.split()[1]} zxid={words['zxid']} err={words.get('err', 0)}, not seen asked"
+
+
+def come_late(program):
+    """Whether a reader that comes late lists what is left of a recording, and a reply as one whose request isn't there."""
+    for path in sorted(CAPTURES.glob("[!r]*.zkr")):
+        listing = next(path.with_suffix(suffix) for suffix in (".show35", ".show") if path.with_suffix(suffix).exists())
+        lines = listing.read_text().splitlines()
+        if len(list(pieces(path.read_bytes()))) != len(lines) - 1:
+            continue
+        for count in range(2, min(9, len(lines) - 1)):
+            before, wanted = lines[2:count], lines[count:]
+            xids = [line.split()[1] for line in before if line.startswith("C ")]
+            for xid in filter(lambda xid: not any(line.startswith(f"S {xid} ") for line in before), xids):
+                at = next((i for i, line in enumerate(wanted) if line.startswith(f"S {xid} ")), None)
+                if at is not None:
+                    wanted[at] = unseen(wanted[at])
+            found = subprocess.run([program, path, str(count)], capture_output=True, text=True)
+            good = (found.returncode, found.stdout.splitlines()) == (0, wanted)
+            yield path.stem, good, f"late {path.stem} {count}: status {found.returncode}, {found.stdout[:300]}"
+
+
 def show_fields(program):
     """Whether the example shows the fields of a payload, and those before a fault, and refuses other arguments."""
     for given, status, shown in (
@@ -148,6 +173,8 @@ def complain(programs):
         ("listing", [], "listing: usage: listing RECORDING"),
         ("listing", [none], f"listing: {none}: No such file or directory"),
         ("listing", [listing], "listing: the file is no recording of format ZKR1"),
+        ("late", [listing], "late: usage: late RECORDING COUNT"),
+        ("late", [none, "2"], f"late: {none}: No such file or directory"),
         ("talk.py", ["--say"], "usage: talk.py LIBRARY RECORDING, or talk.py LIBRARY --say LISTING"),
         ("talk.py", [none, listing], f"talk.py: {none}: cannot open shared object file: No such file or directory"),
         ("fields", ["another", "00"], "fields: usage: fields first|connected|event HEX, fields request PROFILE HEX, or "
@@ -209,6 +236,7 @@ def check(folder, archive, shared, cc):
     programs = compiled(folder, archive, cc)
     for name, *words in listers(folder, programs, archive, shared):
         yield from list_recordings(name, *words)
+    yield from come_late(programs["late"])
     yield from show_fields(programs["fields"])
     yield from complain(programs)
     found = subprocess.run([programs["first"]], capture_output=True, text=True)

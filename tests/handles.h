@@ -9,7 +9,7 @@ struct played {
     struct zk_talk talk;
     struct zk_through through;
     struct zk_speaker speaker;
-    bool live, broken;
+    bool live, broken, late;
     const struct recording *recording;
     size_t piece, used;
 };
@@ -25,7 +25,7 @@ static void refused(uint32_t status, bool live, bool side) {
 
 /* A handle that has taken or said nothing begins with a recording or a listing. */
 static void choose(struct played *it, enum kind kind) {
-    it->broken = false;
+    it->broken = it->late = false;
     it->recording = kind == SPEAKER ? &listings[chance(listing_count)] : &recordings[chance(recording_count)];
     it->piece = it->used = 0;
 }
@@ -34,13 +34,17 @@ static void begin(struct played *it, enum kind kind) {
     uint32_t client = any_limit(), server = any_limit(), waiting = any_waiting(), profile = any_profile();
     bool good = client >= 64 && client <= 1 << 24 && server >= 64 && server <= 1 << 24 && waiting >= 1
                 && waiting <= 1 << 20 && (profile == 34 || profile == 35);
+    bool late = kind == PASSAGE && one_in(3);
     uint32_t status = answered(kind == TALK      ? zk_talk_new(&it->talk, client, server, waiting, profile)
+                               : late            ? zk_talk_join(&it->through, client, server, waiting, profile)
                                : kind == PASSAGE ? zk_through_new(&it->through, client, server, waiting, profile)
                                                  : zk_speaker_new(&it->speaker, client, server, waiting, profile));
     must(status == (it->live ? ZK_IN_USE : good ? ZK_WELL : ZK_RANGE), "a handle that is made");
     if (status != ZK_WELL) return;
     it->live = true;
     choose(it, kind);
+    it->late = late;
+    if (late) it->piece = (size_t)chance(it->recording->count + 1);
 }
 
 /* A handle that is begun anew has the answers of a new one. */

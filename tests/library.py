@@ -84,7 +84,7 @@ def exported():
 def went_numbers():
     """The number of each thing that a passage's step does."""
     text = (CRATE / "src" / "passed.rt").read_text()
-    return {name.upper(): int(n) for name, n in re.findall(r"Went::(\w+)(?:\(\w+\))? => \((\d+),", text)}
+    return {name.upper(): int(n) for name, n in re.findall(r"Went::(\w+)(?:\(\w+\)| \{[^}]*\})? => \((\d+),", text)}
 
 
 def declared():

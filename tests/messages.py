@@ -5,6 +5,9 @@ frame becomes whole, its payload, its fields, its number and the numbers of its 
 were given, as tests/fields.py reads them. A second talk passes over the same pieces: it returns what the first returns,
 and keeps no frame. After each piece what it holds, and what waits, is compared with the bytes and requests that came.
 A passage gets them, too: which of the client's frames each reply answers is compared with the requests that came.
+
+Passages that join each recording late, at several of its frames, are given what follows. They return the messages that
+the talk returns, with frames' numbers of their own, but replies to requests that they weren't given as such.
 """
 
 import collections
@@ -13,7 +16,7 @@ import ctypes
 import fields
 
 NO_MESSAGE, MULTI = 69, 14
-MESSAGE, ASKED, ANSWERED, FULL = 1, 2, 3, 4  # what becomes of a passage's bytes
+MESSAGE, ASKED, ANSWERED, FULL, UNSEEN = 1, 2, 3, 4, 5  # what becomes of a passage's bytes
 PINGS, AUTHS, WATCHES, EVENTS = -2, -4, -8, -1  # xids
 KINDS = ("first", "request", "connected", "reply", "event")
 
@@ -140,6 +143,64 @@ def compare_passage(caller, content):
     library.zk_through_free(handle)
 
 
+def good_messages(caller, content):
+    """The frames of a recording up to its fault, each with its side and what a talk from the first byte on returns."""
+    library, came = caller.library, [b"", b""]
+    with caller.talk.Talk(library, profile=35) as talk:
+        for side, piece in caller.talk.pieces(content):
+            while piece:
+                step = library.zk_talk_step(talk.handle, side, piece, len(piece))
+                if step.status != 0:
+                    return
+                came[side], piece = came[side] + piece[:step.used], piece[step.used:]
+                if step.whole:
+                    yield side, came[side], library.zk_talk_view(talk.handle, side)
+                    came[side] = b""
+
+
+def numbers_of_passed(step):
+    return (step.status, step.used, step.went, step.xid, step.operation, step.frame, step.zxid, step.err)
+
+
+def numbers_of_view(message):
+    return message.kind, message.xid, message.operation, message.size, message.err, message.zxid
+
+
+def compare_late(caller, messages):
+    """What a passage returns of these messages that has joined before them, and what should be."""
+    handle, library, frames, matched = caller.talk.Handle(), caller.library, [1, 1], False
+    lanes = collections.defaultdict(collections.deque)
+    yield library.zk_talk_join(handle, 1 << 22, 1 << 22, 1 << 16, 35), 0
+    for side, frame, message in messages:
+        kind, xid, answers = KINDS[message.kind - 1], message.xid, 0
+        ordinary = xid not in (PINGS, AUTHS, WATCHES)
+        lane = lanes[0 if ordinary else xid]
+        earlier = not matched and xid not in [asked for asked, _ in lane] if ordinary else not lane
+        found = numbers_of_passed(library.zk_through_step(handle, side, frame, len(frame)))
+        if kind == "reply" and earlier:
+            yield found, (0, len(frame), UNSEEN, xid, 0, 0, message.zxid, message.err)
+            yield library.zk_through_view(handle, side).status, NO_MESSAGE
+        else:
+            if kind == "request":
+                lane.append((xid, frames[0]))
+            elif kind == "reply":
+                (_, answers), matched = lane.popleft(), matched or ordinary
+            yield found, (0, len(frame), MESSAGE, 0, 0, 0, 0, 0)
+            view = library.zk_through_view(handle, side)
+            yield (*numbers_of_view(view), view.frame, view.answers), (*numbers_of_view(message), frames[side], answers)
+        frames[side] += 1
+    library.zk_through_free(handle)
+
+
+def compare_joined(caller, content):
+    """The same of passages that join after the connect pair, after the last message, and at places between."""
+    messages = list(good_messages(caller, content))
+    pair = [i for i, (_, _, message) in enumerate(messages) if KINDS[message.kind - 1] in ("first", "connected")]
+    first = 1 + max(pair, default=len(messages))
+    for place in range(first, len(messages) + 1, max(1, (len(messages) - first) // 8)):
+        yield from compare_late(caller, messages[place:])
+
+
 def compare(talk, library, names, recordings):
     """A line for each recording with a message that is returned wrongly."""
     caller = fields.Caller(talk, library, {"none": 0, **names})
@@ -147,7 +208,8 @@ def compare(talk, library, names, recordings):
         content = path.read_bytes()
         for what, compared in (("in its pieces", compare_recording(caller, content, 1 << 24)),
                                ("in pieces of a byte", compare_recording(caller, content, 1)),
-                               ("by a passage", compare_passage(caller, content))):
+                               ("by a passage", compare_passage(caller, content)),
+                               ("joined late", compare_joined(caller, content))):
             for found, wanted in compared:
                 if found != wanted:
                     yield path.stem, False, f"{path.stem}, {what}: {found}, not {wanted}"

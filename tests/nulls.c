@@ -39,6 +39,7 @@ static void handles_that_are_null(void) {
     expect("zk_talk_ending_line", zk_talk_ending_line(NULL, out, room).status, ZK_NULL);
     zk_talk_free(NULL);
     expect("zk_through_new", zk_through_new(NULL, 64, 64, 1, 34), ZK_NULL);
+    expect("zk_talk_join", zk_talk_join(NULL, 64, 64, 1, 34), ZK_NULL);
     expect("zk_through_renew", zk_through_renew(NULL), ZK_NULL);
     expect("zk_through_step", zk_through_step(NULL, ZK_CLIENT, &byte, 1).status, ZK_NULL);
     expect("zk_through_view", zk_through_view(NULL, ZK_CLIENT).status, ZK_NULL);
@@ -154,6 +155,42 @@ static void passages(void) {
     empty_passages();
 }
 
+static void passages_that_join(void) {
+    /* An exists request, the reply to another before it, and the reply to it. */
+    static const uint8_t asks[] = {0, 0, 0, 15, 0, 0, 0, 2, 0, 0, 0, 3, 0, 0, 0, 2, '/', 'a', 0};
+    static const uint8_t earlier[20] = {0, 0, 0, 16, 0, 0, 0, 1, 0, 0, 0, 0, 0, 0, 0, 9, 0xff, 0xff, 0xff, 0x9b};
+    static const uint8_t reply[20] = {0, 0, 0, 16, 0, 0, 0, 2, 0, 0, 0, 0, 0, 0, 0, 10, 0xff, 0xff, 0xff, 0x9b};
+    struct zk_passed step;
+
+    expect("zk_talk_join, a limit out of range", zk_talk_join(&through, 63, 64, 1, 34), ZK_RANGE);
+    expect("zk_talk_join, no profile", zk_talk_join(&through, 64, 64, 1, 36), ZK_RANGE);
+    expect("zk_talk_join, well", zk_talk_join(&through, 64, 64, 1, 34), ZK_WELL);
+    expect("zk_talk_join, in use", zk_talk_join(&through, 64, 64, 1, 34), ZK_IN_USE);
+    expect("zk_talk_join, no message", zk_through_view(&through, ZK_CLIENT).status, ZK_NO_MESSAGE);
+    expect("zk_talk_join, nothing is unanswered", zk_through_finish(&through).unanswered, 0);
+    step = zk_through_step(&through, ZK_CLIENT, asks, sizeof asks);
+    expect("zk_talk_join, a request", step.went, ZK_MESSAGE);
+    expect("zk_talk_join, its frame", (uint32_t)zk_through_view(&through, ZK_CLIENT).frame, 1);
+    step = zk_through_step(&through, ZK_SERVER, earlier, sizeof earlier);
+    expect("zk_talk_join, an earlier request's reply", step.went, ZK_UNSEEN);
+    expect("zk_talk_join, its xid", (uint32_t)step.xid, 1);
+    expect("zk_talk_join, its zxid", (uint32_t)step.zxid, 9);
+    expect("zk_talk_join, its err", (uint32_t)-step.err, 101);
+    expect("zk_talk_join, no message of it", zk_through_view(&through, ZK_SERVER).status, ZK_NO_MESSAGE);
+    expect("zk_talk_join, its payload", (uint32_t)zk_through_payload(&through, ZK_SERVER, NULL, 0).length, 16);
+    step = zk_through_step(&through, ZK_SERVER, reply, sizeof reply);
+    expect("zk_talk_join, the request's reply", step.went, ZK_MESSAGE);
+    expect("zk_talk_join, its frame", (uint32_t)zk_through_view(&through, ZK_SERVER).frame, 2);
+    step = zk_through_step(&through, ZK_SERVER, earlier, sizeof earlier);
+    expect("zk_talk_join, an earlier one's again", step.status, ZK_UNASKED);
+    expect("zk_talk_join, its place", (uint32_t)step.fault.offset, 84);
+    expect("zk_talk_join, begun anew", zk_through_renew(&through), ZK_WELL);
+    step = zk_through_step(&through, ZK_SERVER, earlier, sizeof earlier);
+    expect("zk_talk_join, begun anew, no request", step.status, ZK_UNASKED);
+    zk_through_free(&through);
+    empty_passages();
+}
+
 static void speakers(void) {
     expect("zk_speaker_new, well", zk_speaker_new(&speaker, 64, 64, 1, 34), ZK_WELL);
     expect("zk_speaker_say, null", zk_speaker_say(&speaker, NULL, 1).status, ZK_NULL);
@@ -247,6 +284,7 @@ int main(void) {
     pieces();
     messages();
     passages();
+    passages_that_join();
     speakers();
     judged_payloads();
     read_payloads();

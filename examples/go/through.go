@@ -13,17 +13,19 @@ type Went uint32
 
 // WentWithin: no frame is whole. WentMessage: a frame is whole, a message. WentAsked: a request is whole whose operation
 // the profile lacks, and is left out. WentAnswered: so is the reply to one. WentFull: more would wait than may, and
-// nothing was used.
+// nothing was used. WentUnseen: a reply to a request that wasn't seen is whole (JoinThrough).
 const (
 	WentWithin   Went = C.ZK_WITHIN
 	WentMessage  Went = C.ZK_MESSAGE
 	WentAsked    Went = C.ZK_ASKED
 	WentAnswered Went = C.ZK_ANSWERED
 	WentFull     Went = C.ZK_FULL
+	WentUnseen   Went = C.ZK_UNSEEN
 )
 
 // Passed is what became of the Used bytes of a step. With WentMessage it has the Message. With WentAsked and
-// WentAnswered it has the request's xid and operation, the number of its frame, and the payload that is left out.
+// WentAnswered it has the request's xid and operation, the number of its frame, and the payload that is left out; with
+// WentUnseen the reply's xid, zxid, err and payload.
 type Passed struct {
 	Went      Went
 	Used      int
@@ -31,6 +33,8 @@ type Passed struct {
 	Xid       int32
 	Operation int32
 	Frame     uint64
+	Zxid      int64
+	Err       int32
 	Payload   []byte
 }
 
@@ -47,8 +51,20 @@ type Through struct{ it *through }
 // NewThrough makes a passage of which nothing has come. It is freed when it is closed or collected.
 func NewThrough(limits Limits) (Through, error) {
 	it := &through{}
-	status := C.zk_safe_through_new(&it.handle, C.uint32_t(limits.Client), C.uint32_t(limits.Server),
-		C.uint32_t(limits.Waiting), C.uint32_t(limits.Profile))
+	return it.made(C.zk_safe_through_new(&it.handle, C.uint32_t(limits.Client), C.uint32_t(limits.Server),
+		C.uint32_t(limits.Waiting), C.uint32_t(limits.Profile)))
+}
+
+// JoinThrough makes a passage of a connection that is seen late: frame 0 of each side was made up, and each side's first
+// byte is to begin a frame, the server's before it answers what the client's ask. Begun anew, it is as a new one.
+func JoinThrough(limits Limits) (Through, error) {
+	it := &through{}
+	return it.made(C.zk_safe_talk_join(&it.handle, C.uint32_t(limits.Client), C.uint32_t(limits.Server),
+		C.uint32_t(limits.Waiting), C.uint32_t(limits.Profile)))
+}
+
+// made returns the passage if its call has made it.
+func (it *through) made(status C.uint32_t) (Through, error) {
 	if err := fault(status, 0); err != nil {
 		return Through{}, err
 	}
@@ -116,7 +132,7 @@ func (p Through) Feed(side Side, piece []byte) (every []Passed, err error) {
 // passed returns what became of the bytes that a step used.
 func (it *through) passed(side Side, step C.struct_zk_passed, used []byte) (passed Passed, err error) {
 	passed = Passed{Went: Went(step.went), Used: len(used), Xid: int32(step.xid), Operation: int32(step.operation),
-		Frame: uint64(step.frame)}
+		Frame: uint64(step.frame), Zxid: int64(step.zxid), Err: int32(step.err)}
 	it.came[side] = append(it.came[side], used...)
 	if passed.Went == WentWithin || passed.Went == WentFull {
 		return passed, nil

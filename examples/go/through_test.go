@@ -56,6 +56,8 @@ func told(t *testing.T, p Through, side Side, piece []byte) (found []string, use
 			of = "asked " + of
 		case WentAnswered:
 			of = "answered " + of
+		case WentUnseen:
+			of = fmt.Sprintf("unseen %d %d %d", step.Xid, step.Zxid, step.Err)
 		default:
 			it := step.Message
 			of = fmt.Sprintf("message %d %d of frame %d answers %d", it.Xid, it.Operation, it.Frame, it.Answers)
@@ -159,6 +161,33 @@ func TestReplyBeforeItsTurn(t *testing.T) {
 		if every, err := p.Feed(side, framed(noNodeTwo)); len(every) != 0 || err != wanted {
 			t.Error(every, err)
 		}
+	}
+}
+
+func TestLate(t *testing.T) {
+	p, err := JoinThrough(Usual)
+	if err != nil {
+		t.Fatal(err)
+	}
+	defer p.Close()
+	const earlier = "00000001 0000000000000004 ffffff9b"
+	for _, row := range []struct {
+		side    Side
+		payload string
+		told    string
+	}{
+		{Client, existsTwo, "message 2 3 of frame 1 answers 0"},
+		{Server, earlier, "unseen 1 4 -101"},
+		{Server, noNodeTwo, "message 2 3 of frame 2 answers 1"},
+	} {
+		if found, _ := told(t, p, row.side, framed(row.payload)); found[0] != row.told {
+			t.Error(row.payload, found)
+		}
+	}
+	// The made up frames have 32 and 24 bytes.
+	wanted := Fault{Status: 13, Refused: true, At: At{Server, 3, 84, 0, 0}}
+	if _, err := p.Feed(Server, framed(earlier)); err != wanted {
+		t.Error(err)
 	}
 }
 

@@ -24,17 +24,23 @@ const CONNECTED: &str = "\
 C 0000002d000000000000000000000000000075300000000000000000000000100000000000000000000000000000000000 = Ok(Passed { used: 49, went: Message }) waiting 0 out (false, false) ends Whole { unanswered: 1 }
 S 000000250000000000007530010000000000000100000010000102030405060708090a0b0c0d0e0f00 = Ok(Passed { used: 41, went: Message }) waiting 0 out (false, false) ends Whole { unanswered: 0 }";
 
-/// After these two, each step of the rows returns what its row says, with room for `waiting` requests; and so it does anew.
+/// Each step of the rows returns what its row says.
+fn keeps(rt: &impl Abort, alloc: Global, through: &mut Through, rows: &str) -> Result<(), Fail> {
+    for row in rows.lines() {
+        let (asked, want) = row.split_once(" = ").ok_or("no row")?;
+        let told = told(alloc, through, asked)?;
+        assert!(rt; told.starts_with(want), "{asked} = {told}");
+    }
+    Ok(())
+}
+
+/// So it does after these two, with room for `waiting` requests; and anew.
 fn goes(rt: &impl Abort, alloc: Global, waiting: u32, rows: &str) -> Result<(), Fail> {
     let limits = Limits::new(4_194_304, 4_194_304, waiting).ok_or("no limits")?;
     let mut through = Through::new(alloc, limits)?;
     for _ in 0..2 {
         for rows in [CONNECTED, rows] {
-            for row in rows.lines() {
-                let (asked, want) = row.split_once(" = ").ok_or("no row")?;
-                let told = told(alloc, &mut through, asked)?;
-                assert!(rt; told.starts_with(want), "{asked} = {told}");
-            }
+            keeps(rt, alloc, &mut through, rows)?;
         }
         through.renew();
         assert!(rt; through.view(Side::Client).is_none() && through.view(Side::Server).is_none());
@@ -208,6 +214,59 @@ fn replies_answer_frames(rt: HostRuntime) -> Result<(), Fail> {
             assert!(&rt; found.as_str() == want, "{asked} = {found}, {step}");
         }
         through.renew();
+    }
+    Ok(())
+}
+
+/// Seen late are exists under xid 7, getEphemerals (103) under 8 and a ping. What was asked before are 5, 6 and pings; an
+/// event answers nothing. The first reply to what is seen is the last by whose xid another can be told.
+const LATE: &str = "\
+C 0000000f0000000700000003000000022f6101 = Ok(Passed { used: 19, went: Message }) waiting 1 out (false, false)
+C 0000000e0000000800000067000000022f61 = Ok(Passed { used: 18, went: Asked(Turn { xid: 8, number: 103, frame: 2 }) }) waiting 2 out (true, false)
+S 00000010000000050000000000000005ffffff9b = Ok(Passed { used: 20, went: Unseen { xid: 5, zxid: 5, err: -101 } }) waiting 2 out (true, true) ends Whole { unanswered: 2 }
+S 0000001effffffffffffffffffffffff000000000000000300000003000000022f61 = Ok(Passed { used: 34, went: Message }) waiting 2 out (true, false)
+S 00000010fffffffe000000000000000500000000 = Ok(Passed { used: 20, went: Unseen { xid: -2, zxid: 5, err: 0 } }) waiting 2 out (true, true)
+C 00000008fffffffe0000000b = Ok(Passed { used: 12, went: Message }) waiting 3 out (false, true)
+S 00000010fffffffe000000000000000500000000 = Ok(Passed { used: 20, went: Message }) waiting 2 out (false, false)
+S 00000010fffffffe000000000000000500000000 = Ok(Passed { used: 20, went: Unseen { xid: -2, zxid: 5, err: 0 } }) waiting 2 out (false, true)
+S 000000140000000600000001000000060000000000000000 = Ok(Passed { used: 24, went: Unseen { xid: 6, zxid: 4294967302, err: 0 } }) waiting 2 out (false, true)
+S 00000010000000070000000000000005ffffff9b = Ok(Passed { used: 20, went: Message }) waiting 1 out (false, false)
+S 000000140000000800000000000000070000000000000000 = Ok(Passed { used: 24, went: Answered(Turn { xid: 8, number: 103, frame: 2 }) }) waiting 0 out (false, true)
+S 00000010000000060000000000000005ffffff9b = Err(Fault { side: Server, frame: 9, offset: 226, place: 0, reason: Unasked }) waiting 0";
+
+/// A reply to what is seen, before its turn; also to one that is left out.
+const LATE_BEFORE_ITS_TURN: &str = "\
+C 0000000f0000000700000003000000022f6101 = Ok(Passed { used: 19, went: Message })
+C 0000000f0000000800000003000000022f6101 = Ok(Passed { used: 19, went: Message })
+S 00000010000000080000000000000005ffffff9b = Err(Fault { side: Server, frame: 1, offset: 44, place: 0, reason: XidOrder { expected: 7, got: 8 } }) waiting 2";
+
+const LATE_BEFORE_ANOTHERS: &str = "\
+C 0000000e0000000700000067000000022f61 = Ok(Passed { used: 18, went: Asked(Turn { xid: 7, number: 103, frame: 1 }) })
+C 0000000f0000000800000003000000022f6101 = Ok(Passed { used: 19, went: Message })
+S 00000010000000080000000000000005ffffff9b = Err(Fault { side: Server, frame: 1, offset: 44, place: 0, reason: XidOrder { expected: 7, got: 8 } }) waiting 2";
+
+/// Another xid, after a reply to what is seen.
+const LATE_AFTER_ONE: &str = "\
+C 0000000f0000000700000003000000022f6101 = Ok(Passed { used: 19, went: Message })
+S 00000010000000070000000000000005ffffff9b = Ok(Passed { used: 20, went: Message })
+C 0000000f0000000800000003000000022f6101 = Ok(Passed { used: 19, went: Message })
+S 00000010000000060000000000000005ffffff9b = Err(Fault { side: Server, frame: 2, offset: 64, place: 0, reason: XidOrder { expected: 8, got: 6 } }) waiting 1";
+
+#[test]
+fn replies_to_what_was_not_seen(rt: HostRuntime) -> Result<(), Fail> {
+    let limits = Limits::new(4_194_304, 4_194_304, 65_536).ok_or("no limits")?;
+    for rows in [
+        LATE,
+        LATE_BEFORE_ITS_TURN,
+        LATE_BEFORE_ANOTHERS,
+        LATE_AFTER_ONE,
+    ] {
+        let mut through = Through::join(rt.alloc(), limits)?;
+        assert!(&rt; through.frames(Side::Client) == 1 && through.frames(Side::Server) == 1);
+        keeps(&rt, rt.alloc(), &mut through, rows)?;
+        through.renew();
+        keeps(&rt, rt.alloc(), &mut through, CONNECTED)?;
+        keeps(&rt, rt.alloc(), &mut through, UNASKED)?;
     }
     Ok(())
 }

@@ -1,5 +1,5 @@
 -- What calls return, in numbers.
-use Rattle.std.specs.Prelude.{ℕ, ◌-◌, pos, negsuc, false, Option, Some, None, Result, Ok, Err}
+use Rattle.std.specs.Prelude.{ℕ, ◌-◌, pos, negsuc, false, Option, unwrap_or, Result, Ok, Err}
 use Rattle.zk_records.specs.Codes.{op_number}
 use Rattle.zk_asks.specs.Rows.{op_of_ask}
 use Rattle.zk_asks.specs.declared.frame.ClientFrameOf.TheVariants.{Connect, Ask}
@@ -53,15 +53,11 @@ ending_answer (Refused f) = record { status = 0; kind = 3; unanswered = 0; side 
 abbrev pub no_message : ℕ → MessageAnswer
 no_message status = record { status = status; kind = 0; xid = pos 0; operation = pos 0; size = 0; err = pos 0; zxid = pos 0; frame = 0; answers = 0 }
 
-abbrev pub or_zero : Option ℕ → ℕ
-or_zero None = 0
-or_zero (Some n) = n
-
 -- a message whose frame has `size` bytes, is the last of `frames`, and answers the client's frame of this number; the
 -- operation of a reply is its request's
 abbrev pub message_answer : ℕ → ℕ → Option ℕ → Message → MessageAnswer
 message_answer size frames answered (FromClient (Connect hello read_only)) =
-    record { status = 0; kind = 1; xid = pos 0; operation = pos 0; size = size; err = pos 0; zxid = pos 0; frame = frames - 1; answers = or_zero answered }
+    record { status = 0; kind = 1; xid = pos 0; operation = pos 0; size = size; err = pos 0; zxid = pos 0; frame = frames - 1; answers = unwrap_or answered 0 }
 message_answer size frames answered (FromClient (Ask xid ask)) =
     record {
       status = 0;
@@ -72,10 +68,10 @@ message_answer size frames answered (FromClient (Ask xid ask)) =
       err = pos 0;
       zxid = pos 0;
       frame = frames - 1;
-      answers = or_zero answered;
+      answers = unwrap_or answered 0;
     }
 message_answer size frames answered (FromServer (Connected hello read_only)) =
-    record { status = 0; kind = 3; xid = pos 0; operation = pos 0; size = size; err = pos 0; zxid = pos 0; frame = frames - 1; answers = or_zero answered }
+    record { status = 0; kind = 3; xid = pos 0; operation = pos 0; size = size; err = pos 0; zxid = pos 0; frame = frames - 1; answers = unwrap_or answered 0 }
 message_answer size frames answered (FromServer (Answered reply)) =
     record {
       status = 0;
@@ -86,10 +82,10 @@ message_answer size frames answered (FromServer (Answered reply)) =
       err = err_of reply.outcome;
       zxid = reply.zxid;
       frame = frames - 1;
-      answers = or_zero answered;
+      answers = unwrap_or answered 0;
     }
 message_answer size frames answered (FromServer (Event zxid event)) =
-    record { status = 0; kind = 5; xid = negsuc 0; operation = pos 0; size = size; err = pos 0; zxid = zxid; frame = frames - 1; answers = or_zero answered }
+    record { status = 0; kind = 5; xid = negsuc 0; operation = pos 0; size = size; err = pos 0; zxid = zxid; frame = frames - 1; answers = unwrap_or answered 0 }
 
 abbrev pub no_line : ℕ → LineAnswer
 no_line status = record { status = status; length = 0 }

@@ -15,7 +15,8 @@ use Rattle.zk_talk.specs.Viewed.{Shows, other_side}
 use Rattle.zk_through.specs.declared.through.Passed.{Passed}
 use Rattle.zk_through.specs.declared.through.Went.{Went}
 use Rattle.zk_through.specs.declared.through.Went.TheVariants as went
-use Rattle.zk_through.specs.Came.{Came}
+use Rattle.zk_through.specs.Came.{Came, told}
+use Rattle.zk_through.specs.Unseen.{made_up}
 use Rattle.zk_through.specs.Runs.{Runs, WentOn, IsRefused, IsNeverFull, LeavesSide, IsEndOf, given_up, stream_on, left_on}
 use Rattle.zk_fields.specs.declared.field.Field.{Field}
 use Rattle.zk_c.specs.declared.answer.MessageAnswer.{MessageAnswer}
@@ -31,7 +32,7 @@ use Rattle.zk_c.specs.Passage.{PassageState, newest_on, answered_on}
 
 -- a step that wasn't made, with this status
 abbrev pub no_passed : ℕ → PassedAnswer
-no_passed status = record { used = 0; status = status; went = 0; xid = pos 0; operation = pos 0; fault = no_fault; frame = 0 }
+no_passed status = record { used = 0; status = status; went = 0; xid = pos 0; operation = pos 0; fault = no_fault; frame = 0; zxid = pos 0; err = pos 0 }
 
 -- a step that used these many bytes, by the number of what became of them
 abbrev pub step_of : ℕ → ℕ → PassedAnswer
@@ -42,6 +43,7 @@ went_answer used went.Within = step_of used 0
 went_answer used went.Message = step_of used 1
 went_answer used (went.Asked turn) = record (step_of used 2) { xid = turn.xid; operation = turn.number; frame = turn.frame }
 went_answer used (went.Answered turn) = record (step_of used 3) { xid = turn.xid; operation = turn.number; frame = turn.frame }
+went_answer used (went.Unseen xid zxid err) = record (step_of used 5) { xid = xid; zxid = zxid; err = err }
 went_answer used went.Full = step_of used 4
 
 abbrev pub passed_answer : Result Passed Fault → PassedAnswer
@@ -54,6 +56,7 @@ newest went.Within was = was
 newest went.Message was = true
 newest (went.Asked turn) was = false
 newest (went.Answered turn) was = false
+newest (went.Unseen xid zxid err) was = false
 newest went.Full was = was
 
 abbrev pub newest_after : Result Passed Fault → Bool → Bool
@@ -63,6 +66,7 @@ newest_after (Err f) was = was
 -- what `Through::step` promises, and which frame is the side's newest
 pub record IsPassing (old : PassageState) (side : Side) (piece : List ℕ) (outcome : Result Passed Fault) (new : PassageState) : Type 0 where
   pub limits : new.through.talk.limits ≡ old.through.talk.limits
+  pub late : new.through.late ≡ old.through.late
   pub ok : IfOk outcome (λ s. WentOn old.through side piece s.used s.went new.through)
   pub err : IfErr outcome (λ e. IsRefused old.through side piece e new.through)
   pub room : IfErr outcome (λ e. IsNeverFull old.through e)
@@ -81,15 +85,32 @@ pub record TellsStep (old : PassageState) (side : Side) (piece : List ℕ) (answ
 
 -- nothing has come, and no side shows a message
 pub record HasBegun (p : PassageState) : Type 0 where
+  pub late : p.through.late ≡ false
   pub runs : Runs p.through [] [] [] []
   pub none : (p.client ≡ false) × (p.server ≡ false)
 
--- a passage of these limits is behind the handle, and nothing has come
-pub record IsNew (client server waiting profile : ℕ) (after : Option PassageState) : Type 0 where
+-- the connection is seen late: only the connect pair has come that nobody sent, and no side shows a message
+pub record HasJoined (p : PassageState) : Type 0 where
+  pub late : p.through.late ≡ true
+  pub runs : (M : List Message) × Runs p.through (told made_up) made_up made_up M
+  pub none : (p.client ≡ false) × (p.server ≡ false)
+
+abbrev pub Begins : Bool → PassageState → Type 0
+Begins false p = HasBegun p
+Begins true p = HasJoined p
+
+-- a passage of these limits is behind the handle, and has begun so
+pub record IsMade (late : Bool) (client server waiting profile : ℕ) (after : Option PassageState) : Type 0 where
   pub passage : PassageState
   pub held : after ≡ Some passage
   pub limits : AreNumbers client server waiting profile passage.through.talk.limits
-  pub begun : HasBegun passage
+  pub begun : Begins late passage
+
+abbrev pub IsNew : ℕ → ℕ → ℕ → ℕ → Option PassageState → Type 0
+IsNew = IsMade false
+
+abbrev pub IsJoined : ℕ → ℕ → ℕ → ℕ → Option PassageState → Type 0
+IsJoined = IsMade true
 
 -- the passage has begun anew, with the same limits
 pub record IsRenewed (old new : PassageState) : Type 0 where
@@ -124,12 +145,12 @@ pub record IsFields (p : PassageState) (side : Side) (before after : List Field)
   pub client : newest_on side p ≡ true → (f : ClientFrame) → Shows p.through.talk side (FromClient f) → TellsClient f before after answer
   pub server : newest_on side p ≡ true → (s : ServerFrame) → Shows p.through.talk side (FromServer s) → TellsServer s before after answer
 
--- the text is the payload of the frame that the side's last step left out
+-- the text is the payload of the frame that the side's last step left out, or passed over
 pub record IsLeftOut (p : PassageState) (side : Side) (before after : List ℕ) (answer : LineAnswer) : Type 0 where
   pub none : left_on side p.through ≡ [] → (answer ≡ no_line 69) × (after ≡ before)
   pub some : (left_on side p.through ≡ [] → ⊥) → (q : List ℕ) × (left_on side p.through ≡ frame q) × TellsText q before after answer
 
 -- what `Through::finish` promises
 pub record IsFinish (p : PassageState) (ending : Ending) : Type 0 where
-  pub runs : (h : History) (c k : Came) (M : List Message) → Runs p.through h c k M → IsEndOf p.through c k ending
+  pub runs : (h : History) (c k : Came) (M : List Message) (r : Runs p.through h c k M) → IsEndOf p.through r.all k ending
   pub refused : (f : Fault) → p.through.fault ≡ Some f → ending ≡ Refused f

@@ -2,7 +2,7 @@
 ghost use Rattle.std.specs.Prelude.{◌≡◌, ◌≢◌, pos};
 ghost use Rattle.zk_c.specs.Handle.{TellsText};
 ghost use Rattle.zk_c.specs.Numbers.{expected_of, got_of};
-ghost use Rattle.zk_c.specs.Answer.{no_fault, fault_numbers, no_step, step_answer, no_ending, ending_answer, no_message, or_zero, message_answer, no_line};
+ghost use Rattle.zk_c.specs.Answer.{no_fault, fault_numbers, no_step, step_answer, no_ending, ending_answer, no_message, message_answer, no_line};
 
 use crate::number::{ROOM, WELL, reason_number, side_number};
 use crate::read_answer::err_of;
@@ -130,16 +130,6 @@ pub fn no_fault() -> FaultNumbers
         reason: 0,
         expected: 0,
         got: 0,
-    }
-}
-
-/// The number, or 0.
-fn or_zero(number: Option<u64>) -> u64
-    ensures { result ≡ or_zero number }
-{
-    match number {
-        Some(number) => number,
-        None => 0,
     }
 }
 
@@ -293,7 +283,7 @@ impl MessageAnswer {
             err,
             zxid,
             frame: frames.saturating_sub(1),
-            answers: or_zero(answered),
+            answers: answered.unwrap_or(0),
         }
     }
 }

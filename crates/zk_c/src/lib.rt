@@ -77,8 +77,8 @@ pub use talk::{
     zk_talk_waiting,
 };
 pub use through::{
-    zk_through_fields, zk_through_finish, zk_through_free, zk_through_line, zk_through_new,
-    zk_through_payload, zk_through_renew, zk_through_step, zk_through_view,
+    zk_talk_join, zk_through_fields, zk_through_finish, zk_through_free, zk_through_line,
+    zk_through_new, zk_through_payload, zk_through_renew, zk_through_step, zk_through_view,
 };
 pub use write::{
     zk_write_connected, zk_write_event, zk_write_first, zk_write_reply, zk_write_request,

@@ -1,7 +1,7 @@
 //! `Passage`: a conversation that goes on where its profile ends, and whether each side's newest frame is a message.
-ghost use Rattle.std.specs.Prelude.{◌≡◌, IfOk};
+ghost use Rattle.std.specs.Prelude.{◌≡◌, false, IfOk};
 ghost use Rattle.zk_c.specs.Passage.{newest_on, answered_on};
-ghost use Rattle.zk_c.specs.Passing.{HasBegun, IsRenewed, IsPassing, IsView, IsLine, IsFields, IsLeftOut, IsFinish, newest};
+ghost use Rattle.zk_c.specs.Passing.{Begins, IsRenewed, IsPassing, IsView, IsLine, IsFields, IsLeftOut, IsFinish, newest};
 
 use crate::answer::{LineAnswer, MessageAnswer};
 use crate::conversation::write_line;
@@ -39,17 +39,29 @@ fn newest(went: Went, was: bool) -> bool
     match went {
         Went::Within | Went::Full => was,
         Went::Message => true,
-        Went::Asked(_) | Went::Answered(_) => false,
+        Went::Asked(_) | Went::Answered(_) | Went::Unseen { .. } => false,
+    }
+}
+
+/// A passage of which nothing has come; or one of a connection that is seen `late`.
+fn begin(alloc: Global, limits: Limits, late: bool) -> Result<Through, AllocError>
+    ensures limits { IfOk result (λ t. t.talk.limits ≡ limits) }
+    ensures begun { IfOk result (λ t. Begins late (record { through = t; client = false; server = false })) }
+{
+    if late {
+        Through::join(alloc, limits)
+    } else {
+        Through::new(alloc, limits)
     }
 }
 
 impl Passage {
-    /// A conversation of which nothing has come.
-    pub fn new(alloc: Global, limits: Limits) -> Result<Self, AllocError>
+    /// A conversation of which nothing has come; or one that is seen `late`.
+    pub fn new(alloc: Global, limits: Limits, late: bool) -> Result<Self, AllocError>
         ensures limits { IfOk result (λ p. p.through.talk.limits ≡ limits) }
-        ensures begun { IfOk result HasBegun }
+        ensures begun { IfOk result (Begins late) }
     {
-        let through = Through::new(alloc, limits)?;
+        let through = begin(alloc, limits, late)?;
         let line = Vec::new(alloc);
         Ok(Passage {
             through,
@@ -152,7 +164,7 @@ impl Passage {
         }
     }
 
-    /// Writes the payload of the frame that the side's last step left out, if there is room for it.
+    /// Writes the payload of the frame that the side's last step left out or passed over, if there is room for it.
     pub fn payload(&self, side: Side, out: &mut [u8]) -> LineAnswer
         ensures { IsLeftOut self.now side out.old out.new result }
     {

@@ -15,9 +15,10 @@ pub struct PassedAnswer {
     pub used: usize,
     /// 0, the number of the fault's reason, or why no step was made.
     pub status: u32,
-    /// 0: no frame is whole. 1: a message. 2: a request that is left out. 3: the reply to one. 4: no room.
+    /// 0: no frame is whole. 1: a message. 2: a request that is left out. 3: the reply to one. 4: no room. 5: a reply to a
+    /// request that wasn't seen.
     pub went: u32,
-    /// The xid of a request that is left out, also of its reply.
+    /// The xid of a request that is left out, also of its reply; or of a reply to what wasn't seen.
     pub xid: i32,
     /// The number of its operation.
     pub operation: i32,
@@ -25,9 +26,15 @@ pub struct PassedAnswer {
     pub fault: FaultNumbers,
     /// The number of its frame among the client's, from 0; 0 if no frame is left out.
     pub frame: u64,
+    /// The zxid of a reply to what wasn't seen.
+    pub zxid: i64,
+    /// Its err.
+    pub err: i32,
 }
 
 /// The number of bytes that were used, and what became of them, in numbers.
+#[cold]
+#[inline(never)]
 fn went_answer(used: usize, went: Went) -> PassedAnswer
     ensures { result ≡ went_answer used went }
 {
@@ -37,6 +44,11 @@ fn went_answer(used: usize, went: Went) -> PassedAnswer
         Went::Asked(turn) => (2, turn.xid, turn.number, turn.frame),
         Went::Answered(turn) => (3, turn.xid, turn.number, turn.frame),
         Went::Full => (4, 0, 0, 0),
+        Went::Unseen { xid, .. } => (5, xid, 0, 0),
+    };
+    let (zxid, err) = match went {
+        Went::Unseen { zxid, err, .. } => (zxid, err),
+        _ => (0, 0),
     };
     PassedAnswer {
         used,
@@ -44,7 +56,27 @@ fn went_answer(used: usize, went: Went) -> PassedAnswer
         xid,
         operation,
         frame,
+        zxid,
+        err,
         ..PassedAnswer::none(WELL)
+    }
+}
+
+/// The same, quick for a message and within a frame.
+fn step_answer(used: usize, went: Went) -> PassedAnswer
+    ensures { result ≡ went_answer used went }
+{
+    match went {
+        Went::Within => PassedAnswer {
+            used,
+            ..PassedAnswer::none(WELL)
+        },
+        Went::Message => PassedAnswer {
+            used,
+            went: 1,
+            ..PassedAnswer::none(WELL)
+        },
+        _ => went_answer(used, went),
     }
 }
 
@@ -61,6 +93,8 @@ impl PassedAnswer {
             operation: 0,
             fault: no_fault(),
             frame: 0,
+            zxid: 0,
+            err: 0,
         }
     }
 
@@ -69,7 +103,7 @@ impl PassedAnswer {
         ensures { result ≡ passed_answer outcome }
     {
         match outcome {
-            Ok(passed) => went_answer(passed.used, passed.went),
+            Ok(passed) => step_answer(passed.used, passed.went),
             Err(fault) => {
                 PassedAnswer {
                     fault: fault_numbers(fault),

@@ -7,7 +7,7 @@ ghost use Rattle.zk_c.specs.Answer.{no_message, no_line, no_ending};
 ghost use Rattle.zk_c.specs.Handle.{AreNoLimits, TellsEnding};
 ghost use Rattle.zk_c.specs.Read.{no_read};
 ghost use Rattle.zk_c.specs.Passage.{PassageState};
-ghost use Rattle.zk_c.specs.Passing.{no_passed, IsNew, Renews, TellsStep, IsView, IsLine, IsFields, IsLeftOut, IsFinish};
+ghost use Rattle.zk_c.specs.Passing.{no_passed, IsMade, IsNew, IsJoined, Renews, TellsStep, IsView, IsLine, IsFields, IsLeftOut, IsFinish};
 
 use crate::answer::{EndingAnswer, LineAnswer, MessageAnswer};
 use crate::loose::Loose;
@@ -71,6 +71,39 @@ impl ThroughHandle {
     }
 }
 
+/// Makes a passage with these limits, of a connection that is seen `late` or from its beginning on. Returns the status.
+fn make(
+    alloc: Global,
+    handle: &mut ThroughHandle,
+    client: u32,
+    server: u32,
+    waiting: u32,
+    profile: u32,
+    late: bool,
+) -> u32
+    ensures in_use { IsSome handle.old.held.value → result ≡ 66 }
+    ensures limits { handle.old.held.value ≡ None → AreNoLimits client server waiting profile → result ≡ 67 }
+    ensures range { result ≡ 67 → AreNoLimits client server waiting profile }
+    ensures status { handle.old.held.value ≡ None → (result ≡ 0) ⊎ (result ≡ 5) ⊎ (result ≡ 67) }
+    ensures made { result ≡ 0 → IsMade late client server waiting profile handle.new.held.value }
+    ensures same { result ≢ 0 → handle.new ≡ handle.old }
+{
+    if handle.live {
+        return IN_USE;
+    }
+    let Some(limits) = limits_of(client, server, waiting, profile) else {
+        return RANGE;
+    };
+    let Ok(passage) = Passage::new(alloc, limits, late) else {
+        return NO_MEMORY;
+    };
+    let Ok(boxed) = Box::new(alloc, passage) else {
+        return NO_MEMORY;
+    };
+    handle.put(boxed);
+    WELL
+}
+
 /// Makes a passage with these limits, of which nothing has come. Returns the status.
 #[unsafe(no_mangle)]
 pub extern "C" fn zk_through_new(
@@ -92,20 +125,31 @@ pub extern "C" fn zk_through_new(
     // Nothing is changed if it is refused.
     ensures same { result ≢ 0 → handle.new ≡ handle.old }
 {
-    if handle.live {
-        return IN_USE;
-    }
-    let Some(limits) = limits_of(client, server, waiting, profile) else {
-        return RANGE;
-    };
-    let Ok(passage) = Passage::new(alloc, limits) else {
-        return NO_MEMORY;
-    };
-    let Ok(boxed) = Box::new(alloc, passage) else {
-        return NO_MEMORY;
-    };
-    handle.put(boxed);
-    WELL
+    make(alloc, handle, client, server, waiting, profile, false)
+}
+
+/// Makes a passage with these limits, of a connection that is seen late. Returns the status.
+#[unsafe(no_mangle)]
+pub extern "C" fn zk_talk_join(
+    alloc: Global,
+    handle: &mut ThroughHandle,
+    client: u32,
+    server: u32,
+    waiting: u32,
+    profile: u32,
+) -> u32
+    // A handle that holds a passage keeps it.
+    ensures in_use { IsSome handle.old.held.value → result ≡ 66 }
+    // Limits out of their ranges are refused as that, and those in them only if memory is refused.
+    ensures limits { handle.old.held.value ≡ None → AreNoLimits client server waiting profile → result ≡ 67 }
+    ensures range { result ≡ 67 → AreNoLimits client server waiting profile }
+    ensures status { handle.old.held.value ≡ None → (result ≡ 0) ⊎ (result ≡ 5) ⊎ (result ≡ 67) }
+    // What is made has come through a connect request and its answer, which nobody sent.
+    ensures join { result ≡ 0 → IsJoined client server waiting profile handle.new.held.value }
+    // Nothing is changed if it is refused.
+    ensures same { result ≢ 0 → handle.new ≡ handle.old }
+{
+    make(alloc, handle, client, server, waiting, profile, true)
 }
 
 /// Begins the passage anew with the same limits. Returns the status.
@@ -233,7 +277,7 @@ pub extern "C" fn zk_through_fields(
     answer
 }
 
-/// Writes the payload of the frame that the side's last step left out, if there is room for it.
+/// Writes the payload of the frame that the side's last step left out or passed over, if there is room for it.
 #[unsafe(no_mangle)]
 pub extern "C" fn zk_through_payload(
     alloc: Global,

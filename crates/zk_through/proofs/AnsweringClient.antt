@@ -22,6 +22,7 @@ use Rattle.zk_through.specs.Turns.{TurnsState, IsLacked, turn_of, left_out, with
 use Rattle.zk_through.specs.Runs.{ThroughState, Runs, WentOn, IsRefused, IsTold, IsNotTold, IsAhead, IsNotAhead, IsKeptAt, IsRequestOf, WeighsAtMost, IsWeighed, Weighs}
 use Rattle.zk_through.proofs.Steps.{nothing_more, within_on_client, ClientCame}
 use Rattle.zk_through.proofs.Outcomes.{counted, client_other, client_asks, client_lacks}
+use Rattle.zk_through.proofs.Seen.{client_counts}
 use Rattle.zk_through.proofs.Refusals.{refused_early, refused_told}
 use Rattle.zk_through.proofs.Fitting.{some_weight, its_good, talk_takes}
 
@@ -49,8 +50,8 @@ module _ (old : ThroughState) (piece : List ℕ) (limit : old.client.limit ≡ o
     is : old.client.held ++ take used piece ≡ frame whole.0
     is = sym w.advance.3 ∙ whole.1
 
-    came : (new : ThroughState) → new.talk.limits ≡ old.talk.limits → new.client.held ≡ [] → new.client.count ≡ s.count + 1 → new.client.size ≡ s.size + used → new.server ≡ old.server → new.answered ≡ old.answered → new.fault ≡ old.fault → ClientCame old new piece used whole.0
-    came new limits held count size other answered fault = record {
+    came : (new : ThroughState) → new.talk.limits ≡ old.talk.limits → new.client.held ≡ [] → new.client.count ≡ s.count + 1 → new.client.size ≡ s.size + used → new.server ≡ old.server → new.late ≡ old.late → new.matched ≡ old.matched → new.answered ≡ old.answered → new.fault ≡ old.fault → ClientCame old new piece used whole.0
+    came new limits held count size other late matched answered fault = record {
       some = w.advance.0;
       part = w.advance.1;
       fits = omega (arith, whole.2, limit);
@@ -60,6 +61,8 @@ module _ (old : ThroughState) (piece : List ℕ) (limit : old.client.limit ≡ o
       count = count ∙ ap (λ (z : StreamState). z.count + 1) w.stays;
       size = size ∙ ap (λ (z : StreamState). z.size + used) w.stays;
       other = other;
+      late = late;
+      matched = matched;
       answered = answered;
       fault = fault;
     }
@@ -76,7 +79,7 @@ module _ (old : ThroughState) (piece : List ℕ) (limit : old.client.limit ≡ o
       new = record old { talk = talk; client = s'; turns = turns }
 
       passed_on : ClientCame old new piece used whole.0
-      passed_on = came new limits (ap (λ (z : StreamState). z.held) pass) (ap (λ (z : StreamState). z.count) pass) (ap (λ (z : StreamState). z.size) pass) refl refl refl
+      passed_on = came new limits (ap (λ (z : StreamState). z.held) pass) (ap (λ (z : StreamState). z.count) pass) (ap (λ (z : StreamState). z.size) pass) refl refl refl refl refl
 
       left : s'.kept ≡ []
       left = ap (λ (z : StreamState). z.kept) pass ∙ still
@@ -110,7 +113,7 @@ module _ (old : ThroughState) (piece : List ℕ) (limit : old.client.limit ≡ o
         let new : ThroughState = record old { client = s'; turns = turns } in
         let t = a.1 whole.0 whole.1 in
         let is_turn : turn ≡ turn_of (old.client.count, whole.0) = t.1 ∙ ap (λ (z : StreamState). turn_of (z.count, whole.0)) w.stays in
-        let c' = came new refl (ap (λ (z : StreamState). z.held) keep) (ap (λ (z : StreamState). z.count) keep) (ap (λ (z : StreamState). z.size) keep) refl refl refl in (
+        let c' = came new refl (ap (λ (z : StreamState). z.held) keep) (ap (λ (z : StreamState). z.count) keep) (ap (λ (z : StreamState). z.size) keep) refl refl refl refl refl in (
           w.advance.1,
           refl,
           whole.0,
@@ -165,9 +168,10 @@ module _ (old : ThroughState) (piece : List ℕ) (limit : old.client.limit ≡ o
         refused_told Client old (record old { talk = talk; client = s'; fault = kept }) piece used e w.advance.1 at.1 whole.0 (omega (arith, whole.2, limit)) is
         (at.0 ∙ (λ i. fault_of Client (w.stays i).count ((w.stays i).size + used) e.place e.reason)) (not whole.0 whole.1)
         (λ h c k M r f is_fault some n q.
-        let begun : 0 < old.client.count = counted old.client.count (payloads Client c) r.client_count some in
+        let begun : 0 < old.client.count = counted old.client.count (payloads Client c) (client_counts old h c k M r) some in
         let begun' : 0 < s.count = omega (arith, begun, ap (λ (z : StreamState). z.count) w.stays) in
         let same = weighs begun' whole.0 n whole.1 q in
         let room = fits (omega (arith, same, q.5, some_weight q.0 q.1)) (told k) M r.stands.conversation [] [] r.stands (its_good old h c k M r) in
         fault_is_bad old.talk.limits (told k ++ on Client (frame whole.0)) f is_fault
         (with_client r.stands.conversation q.0, [], [], talk_takes old h c k M r piece used whole.0 w.advance.1 w.advance.2 is (omega (arith, whole.2, limit)) begun n q (omega (arith, room, same))))
+        (λ h c k M r e u. u)

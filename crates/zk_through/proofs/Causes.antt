@@ -26,6 +26,7 @@ use Rattle.zk_through.specs.Runs.{ThroughState, Runs, IsRequestOf, IsNoRequest}
 use Rattle.zk_through.proofs.AskReasons.{of_items, of_flagged, of_ask}
 use Rattle.zk_through.proofs.AnswerReasons.{of_reply, of_event}
 use Rattle.zk_through.proofs.Fitting.{its_good, begins}
+use Rattle.zk_through.proofs.Seen.{client_counts}
 
 -- ---- Where the fault's byte is
 head_or : {X : Type 0} → X → List X → X
@@ -121,7 +122,7 @@ module _ (t : ThroughState) (h : History) (c k : Came) (M : List Message) (r : R
         let both : frame cause.p ++ y ≡ frame q ++ [] = ap (λ (z : List ℕ). z ++ y) (sym whole) ∙ append_assoc x (is.byte ∷ []) y ∙ sym parts ∙ sym (append-nil (frame q)) in
         let it = (same_frame limits.client cause.p q y [] small.0 cause.fits fits both).0 in
         let begun = begins t h c k M r (λ empty. cause.later (ap (λ (z : Conversation). z.client) same.0 ∙ empty)) in
-        none (λ empty. omega (arith, begun, r.client_count, ap length empty)) cause.size (subst (λ (z : List ℕ). IsRequestOf limits.profile z cause.size) it cause.is)
+        none (λ empty. omega (arith, begun, client_counts t h c k M r, ap length empty)) cause.size (subst (λ (z : List ℕ). IsRequestOf limits.profile z cause.size) it cause.is)
 
     pub client_never : ⊥
     client_never = go (split (told k) (on Client (frame q)) is.before (f.side, is.byte) is.after is.stands)

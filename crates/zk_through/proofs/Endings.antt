@@ -37,15 +37,15 @@ module _ (t : ThroughState) (h : History) (c k : Came) (M : List Message) (r : R
   pub ends_refused : (f : Fault) → t.fault ≡ Some f → ⊥
   ends_refused f e = some_none f (sym e ∙ r.no_fault)
 
-  pub ends_client : (frame got : ℕ) → frame ≡ t.client.count → got ≡ length t.client.held → 0 < got → IsEndOf t c k (Cut Client frame got)
+  pub ends_client : (frame got : ℕ) → frame ≡ t.client.count → got ≡ length t.client.held → 0 < got → IsEndOf t r.all k (Cut Client frame got)
   ends_client frame got f g some = ((λ none. omega (arith, some, g, ap length none)), f ∙ r.client_count, g)
 
-  pub ends_server : (frame got : ℕ) → length t.client.held ≡ 0 → frame ≡ t.server.count → got ≡ length t.server.held → 0 < got → IsEndOf t c k (Cut Server frame got)
+  pub ends_server : (frame got : ℕ) → length t.client.held ≡ 0 → frame ≡ t.server.count → got ≡ length t.server.held → 0 < got → IsEndOf t r.all k (Cut Server frame got)
   ends_server frame got none f g some = (nil_from_length t.client.held none, (λ e. omega (arith, some, g, ap length e)), f ∙ r.server_count, g)
 
   pub ends_whole : (n requests connects : ℕ) → length t.client.held ≡ 0 → length t.server.held ≡ 0 →
       WhereItStands t.talk (λ v client_rest server_rest. requests ≡ number_waiting v.client v.server) →
-      connects ≡ unwelcomed r.stands.conversation.client r.stands.conversation.server → n ≡ requests + left_out t.turns + connects → IsEndOf t c k (Whole n)
+      connects ≡ unwelcomed r.stands.conversation.client r.stands.conversation.server → n ≡ requests + left_out t.turns + connects → IsEndOf t r.all k (Whole n)
   ends_whole n requests connects a b waits welcomes all =
       let v = r.stands.conversation in
       let w : requests ≡ number_waiting v.client v.server = waits (told k) M v [] [] r.stands (its_good t h c k M r) in

@@ -23,26 +23,11 @@ use Rattle.zk_talk.proofs.Standing.{runs_client, frame_front, bytes-on, other-on
 use Rattle.zk_through.specs.Came.{Came, payloads, told}
 use Rattle.zk_through.specs.LeftOut.{KeptAfter}
 use Rattle.zk_through.specs.Runs.{ThroughState, Runs, IsRequestOf}
-use Rattle.zk_through.proofs.Frames.{payloads-other, no_payloads, pushed}
+use Rattle.zk_through.proofs.Frames.{payloads-other, no_payloads, pushed, of_client, of_server, past_client, some_server}
+use Rattle.zk_through.proofs.Seen.{seen_client, client_counts, counts_none}
 use Rattle.zk_through.proofs.Telling.{side_bytes-on}
 
 -- ---- The client's frames that the talk was given
-of_client : (p : List ℕ) (k : Came) → payloads Client ((Client, p) ∷ k) ≡ p ∷ payloads Client k
-unfolding payloads
-of_client p k = refl
-
-of_server : (q : List ℕ) (k : Came) → payloads Client ((Server, q) ∷ k) ≡ payloads Client k
-unfolding payloads
-of_server q k = refl
-
-past_client : (p : List ℕ) (k : Came) → payloads Server ((Client, p) ∷ k) ≡ payloads Server k
-unfolding payloads
-past_client p k = refl
-
-some_server : (q : List ℕ) (k : Came) → payloads Server ((Server, q) ∷ k) ≡ [] → ⊥
-unfolding payloads
-some_server q k e = omega (arith, ap length e)
-
 none_on : (bs : List ℕ) → side_bytes Client (on Server bs) ≡ []
 none_on bs = other-on Server bs [] ∙ no_bytes Client
 
@@ -123,14 +108,14 @@ module _ (t : ThroughState) (h : History) (c k : Came) (M : List Message) (r : R
       let empty : length (side_bytes Client (told k)) ≡ 0 = ap length (its_good.whole.client_cut.whole ∙ ap (λ z. frames (client_payloads z) ++ []) none) in
       let given = no_frames (payloads Client k) (ap length (sym (bytes_are k)) ∙ empty) in
       let came = first_kept t.talk.limits.profile [] c k r.kept (no_payloads Client) given in
-      omega (arith, some, r.client_count, ap length came)
+      omega (arith, some, client_counts t h c k M r, ap length came)
 
   pub begins : r.stands.conversation.client ≢ [] → 0 < t.client.count
   begins some = go t.client.count refl
     where
       go : (n : ℕ) → n ≡ t.client.count → 0 < t.client.count
       go zero e =
-          let came : payloads Client c ≡ [] = nil_from_length (payloads Client c) (omega (arith, e, r.client_count)) in
+          let came : payloads Client c ≡ [] = nil_from_length (payloads Client c) (omega (arith, e, client_counts t h c k M r)) in
           let none : length (frames (client_payloads r.stands.conversation.client)) ≡ 0 = omega (arith, ap length (its_good.whole.client_cut.whole ∙ append-nil (frames (client_payloads r.stands.conversation.client))), ap length (bytes_are k), no_more t.talk.limits.profile [] c k r.kept, ap (λ z. length (frames z)) came) in
           absurd (some (nil_from_length r.stands.conversation.client (omega (arith, ap length (no_frames (client_payloads r.stands.conversation.client) none), length-map r.stands.conversation.client client_payload))))
       go (suc n) e = omega (arith, e)
@@ -141,7 +126,7 @@ module _ (t : ThroughState) (h : History) (c k : Came) (M : List Message) (r : R
       go : (n : ℕ) → n ≡ t.server.count → 0 < t.server.count
       go zero e =
           let S = r.stands.conversation.server in
-          let came : payloads Server c ≡ [] = nil_from_length (payloads Server c) (omega (arith, e, r.server_count)) in
+          let came : payloads Server c ≡ [] = counts_none t h c k M r (sym e) in
           let bytes = none_told k (none_kept t.talk.limits.profile [] c k r.kept came) in
           let none : length (frames (server_payloads S)) ≡ 0 = ap length (sym (append-nil (frames (server_payloads S))) ∙ sym its_good.whole.server_cut.whole ∙ bytes) in
           absurd (some (nil_from_length S (omega (arith, ap length (no_frames (server_payloads S) none), length-map S server_payload))))
@@ -151,9 +136,10 @@ module _ (t : ThroughState) (h : History) (c k : Came) (M : List Message) (r : R
     bounded : length (side_bytes Client (told k)) + length (frame p) < 2 ^ 62
     bounded =
         let held = t.client.held in
-        let whole : length (side_bytes Client h) ≡ length (frames (payloads Client c)) + length held = ap length r.frames.cut.client.whole ∙ length-append (frames (payloads Client c)) held in
+        let whole : length (side_bytes Client h) ≡ length (frames (payloads Client r.all)) + length held = ap length r.frames.cut.client.whole ∙ length-append (frames (payloads Client r.all)) held in
+        let same : length (frames (payloads Client c)) ≡ length (frames (payloads Client r.all)) = ap (λ z. length (frames z)) (seen_client t.late r.all c r.seen) in
         let all : length (frame p) ≡ length held + used = ap length (sym is) ∙ length-append held (take used piece) ∙ ap (λ z. length held + z) (length-take-le used piece part) in
-        omega (arith, small, r.client_size, whole, all, ap length (bytes_are k), no_more t.talk.limits.profile [] c k r.kept)
+        omega (arith, small, r.client_size, whole, same, all, ap length (bytes_are k), no_more t.talk.limits.profile [] c k r.kept)
 
     pub talk_takes : (w : ℕ) (q : IsRequestOf t.talk.limits.profile p w) → load r.stands.conversation.client r.stands.conversation.server + w ≤ t.talk.limits.waiting →
         Good t.talk.limits (told k ++ on Client (frame p)) (with_client r.stands.conversation q.0) [] []

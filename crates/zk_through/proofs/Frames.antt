@@ -34,6 +34,28 @@ pub no_payloads : (side : Side) → payloads side [] ≡ []
 unfolding payloads
 no_payloads side = refl
 
+-- ---- The first of some frames
+pub of_client : (p : List ℕ) (k : Came) → payloads Client ((Client, p) ∷ k) ≡ p ∷ payloads Client k
+unfolding payloads
+of_client p k = refl
+
+pub of_server : (q : List ℕ) (k : Came) → payloads Client ((Server, q) ∷ k) ≡ payloads Client k
+unfolding payloads
+of_server q k = refl
+
+pub past_client : (p : List ℕ) (k : Came) → payloads Server ((Client, p) ∷ k) ≡ payloads Server k
+unfolding payloads
+past_client p k = refl
+
+pub its_server : (q : List ℕ) (k : Came) → payloads Server ((Server, q) ∷ k) ≡ q ∷ payloads Server k
+unfolding payloads
+its_server q k = refl
+
+pub some_server : (q : List ℕ) (k : Came) → payloads Server ((Server, q) ∷ k) ≡ [] → ⊥
+unfolding payloads
+some_server q k e = omega (arith, ap length e)
+
+-- ---- The frames as a history
 pub told-push : (k : Came) (x : Side × List ℕ) → told (k ++ x ∷ []) ≡ told k ++ on x.0 (frame x.1)
 told-push k x = flat_map-append (λ (y : Side × List ℕ). on y.0 (frame y.1)) k (x ∷ []) ∙ ap (λ z. told k ++ z) (append-nil (on x.0 (frame x.1)))
 

@@ -44,7 +44,7 @@ numbered_some : (n : ℕ) (xs : List (List ℕ)) → xs ≢ [] → enumerate_fro
 numbered_some n [] some none = some refl
 numbered_some n (x ∷ xs) some none = omega (arith, ap length none)
 
-plus_none : (n : ℕ) → n + 0 ≡ n
+pub plus_none : (n : ℕ) → n + 0 ≡ n
 plus_none n = omega arith
 
 plus_one : (n : ℕ) → n + 1 ≡ suc n
@@ -54,7 +54,7 @@ module _ (lane : Lane) (c : Came) (p : List ℕ) where
   asked_by_server : asked lane (c ++ (Server, p) ∷ []) ≡ asked lane c
   asked_by_server = ap (λ z. filter (λ (x : ℕ × List ℕ). is_on lane 8 x.1) (drop 1 (enumerate_from 0 z))) (payloads-other Server c p)
 
-  replied_by_client : replied lane (c ++ (Client, p) ∷ []) ≡ replied lane c
+  pub replied_by_client : replied lane (c ++ (Client, p) ∷ []) ≡ replied lane c
   replied_by_client = ap (λ z. length (filter (is_on lane 16) (drop 1 z))) (payloads-other Client c p)
 
   numbered : enumerate_from 0 (payloads Client (c ++ (Client, p) ∷ [])) ≡ enumerate_from 0 (payloads Client c) ++ (length (payloads Client c), p) ∷ []
@@ -74,7 +74,7 @@ module _ (lane : Lane) (c : Came) (p : List ℕ) where
   replied_first : payloads Server c ≡ [] → replied lane (c ++ (Server, p) ∷ []) ≡ replied lane c
   replied_first none = ap length (ap (λ z. filter (is_on lane 16) (drop 1 z)) (payloads-same Server c p) ∙ later_first (is_on lane 16) (payloads Server c) p none)
 
-  replied_more : payloads Server c ≢ [] → (b : Bool) → is_on lane 16 p ≡ b → replied lane (c ++ (Server, p) ∷ []) ≡ replied lane c + length (cond {A = List (List ℕ)} b (p ∷ []) [])
+  pub replied_more : payloads Server c ≢ [] → (b : Bool) → is_on lane 16 p ≡ b → replied lane (c ++ (Server, p) ∷ []) ≡ replied lane c + length (cond {A = List (List ℕ)} b (p ∷ []) [])
   replied_more some b e =
       ap length (ap (λ z. filter (is_on lane 16) (drop 1 z)) (payloads-same Server c p) ∙ later_push (is_on lane 16) (payloads Server c) p some ∙ ap (λ z. filter (is_on lane 16) (drop 1 (payloads Server c)) ++ cond z (p ∷ []) []) e)
       ∙ length-append (filter (is_on lane 16) (drop 1 (payloads Server c))) (cond b (p ∷ []) [])
@@ -86,7 +86,7 @@ module _ (lane : Lane) (c : Came) (p : List ℕ) where
       go (inl none) = asked_first none
       go (inr more) = asked_more (some_not_nil (payloads Client c) more) false (other (some_not_nil (payloads Client c) more)) ∙ append-nil (asked lane c)
 
-  replied_still : (payloads Server c ≢ [] → is_on lane 16 p ≡ false) → replied lane (c ++ (Server, p) ∷ []) ≡ replied lane c
+  pub replied_still : (payloads Server c ≢ [] → is_on lane 16 p ≡ false) → replied lane (c ++ (Server, p) ∷ []) ≡ replied lane c
   replied_still other = go (nil_or_some (payloads Server c))
     where
       go : ((payloads Server c ≡ []) ⊎ (0 < length (payloads Server c))) → replied lane (c ++ (Server, p) ∷ []) ≡ replied lane c
@@ -174,7 +174,7 @@ module _ (lane : Lane) (waits : List Turn) where
           }
 
   module _ (c : Came) (x : IsLane lane c waits) where
-    waiting : length waits ≡ length (asked lane c) - replied lane c
+    pub waiting : length waits ≡ length (asked lane c) - replied lane c
     waiting = ap length x.are ∙ length-map (drop (replied lane c) (asked lane c)) turn_of ∙ length-drop (replied lane c) (asked lane c)
 
     -- the request that the next reply answers
@@ -318,12 +318,12 @@ left_with profile Plain f t a left n x e = record {
 }
 
 -- ---- The frame's lane
-on_none : (lane : Lane) (size : ℕ) (p : List ℕ) → has_turn size p ≡ false → is_on lane size p ≡ false
+pub on_none : (lane : Lane) (size : ℕ) (p : List ℕ) → has_turn size p ≡ false → is_on lane size p ≡ false
 unfolding is_on
 on_none lane size p e = ap (λ z. if z then same_lane lane (lane_in p) else false) e
 
 module _ (size : ℕ) (p : List ℕ) (turn : has_turn size p ≡ true) where
-  on_lane : (lane : Lane) → is_on lane size p ≡ same_lane lane (lane_in p)
+  pub on_lane : (lane : Lane) → is_on lane size p ≡ same_lane lane (lane_in p)
   unfolding is_on
   on_lane lane = ap (λ z. if z then same_lane lane (lane_in p) else false) turn
 

@@ -3,10 +3,12 @@ mod Alone
 mod Carried
 mod Weights
 mod Frames
+mod Seen
 mod Newest
 mod Counts
 mod Telling
 mod Lanes
+mod Earlier
 mod Steps
 mod Outcomes
 mod Refusals
@@ -21,3 +23,5 @@ mod Causes
 mod Never
 mod Rooms
 mod Endings
+mod Waits
+mod Joining

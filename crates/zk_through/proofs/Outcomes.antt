@@ -14,14 +14,17 @@ use Rattle.zk_talk.specs.Viewed.{Shows}
 use Rattle.zk_through.specs.declared.turn.Turn.{Turn}
 use Rattle.zk_through.specs.Came.{Came, payloads, told}
 use Rattle.zk_through.specs.LeftOut.{xid_of, has_turn, lane_in, IsForeign, IsLeftOut, AnswersAfter}
-use Rattle.zk_through.specs.Turns.{AreLanes, IsDue, IsLacked, turn_of, waits_on, with_waits, and_turn, left_out, number_of_turns}
-use Rattle.zk_through.specs.Runs.{ThroughState, Runs, GoesOn, GoesOnTold, IsTold, IsRequestOf}
+use Rattle.zk_through.specs.Unseen.{IsUnseen, IsSeen, TellsMatched}
+use Rattle.zk_through.specs.Turns.{AreLanes, IsDue, IsLacked, IsEarlier, matched_on, turn_of, waits_on, with_waits, and_turn, left_out, number_of_turns}
+use Rattle.zk_through.specs.Runs.{ThroughState, Runs, GoesOn, GoesOnTold, PassesOver, IsTold, IsRequestOf}
 use Rattle.zk_through.proofs.Frames.{told-push}
 use Rattle.zk_through.proofs.Lanes.{some_not_nil, same_some, kept_out, kept_told, lanes_client, lanes_server, lanes_request, lanes_left, lanes_reply, lanes_answer, some_left, turn_is}
 use Rattle.zk_through.proofs.Fitting.{its_good}
 use Rattle.zk_through.proofs.Rooms.{with_one, without_one, waits_fit, kept_client, one_more, weighs_some, load_client, one_less, kept_server, load_server}
 use Rattle.zk_through.proofs.Counts.{not_both}
-use Rattle.zk_through.proofs.Steps.{ClientCame, client_came, ServerCame, server_came}
+use Rattle.zk_through.proofs.Seen.{client_counts, none_counts, server_some, some_counts}
+use Rattle.zk_through.proofs.Earlier.{to_earlier, seen_other, seen_reply, matched_other, matched_reply}
+use Rattle.zk_through.proofs.Steps.{ClientCame, client_came, ServerCame, server_came, over_came}
 
 pub counted : (n : ℕ) (P : List (List ℕ)) → n ≡ length P → P ≢ [] → 0 < n
 counted n [] e some = absurd (some refl)
@@ -65,7 +68,7 @@ module _ (old new : ThroughState) (piece : List ℕ) (used : ℕ) (p : List ℕ)
     pub client_other : new.turns ≡ old.turns → (0 < old.client.count → has_turn 8 p ≡ false) → GoesOnTold old Client (take used piece) p new
     client_other same other =
         told_client (λ h c k M r m shows st ch sh.
-        let off : payloads Client c ≢ [] → has_turn 8 p ≡ false = λ some. other (counted old.client.count (payloads Client c) r.client_count some) in (
+        let off : payloads Client c ≢ [] → has_turn 8 p ≡ false = λ some. other (counted old.client.count (payloads Client c) (client_counts old h c k M r) some) in (
           (λ out. not_both (has_turn 8 p) out.1 (off out.0)),
           subst (AreLanes old.talk.limits.profile (c ++ (Client, p) ∷ [])) (sym same) (lanes_client old.talk.limits.profile c old.turns p r.lanes off),
           omega (arith, r.few, left, ap number_of_turns same, kept_client old h c k M r new.talk x.limits ch sh p x.fits m shows st),
@@ -78,10 +81,10 @@ module _ (old new : ThroughState) (piece : List ℕ) (used : ℕ) (p : List ℕ)
         told_client (λ h c k M r m shows st ch sh.
         let some = weighs_some old h c k M r new.talk x.limits ch sh p x.fits m shows st later size (only later) in
         let loads = fits some (told k) M r.stands.conversation [] [] r.stands (its_good old h c k M r) in
-        let is' = is ∙ ap (λ (z : ℕ). turn_of (z, p)) r.client_count in (
+        let is' = is ∙ ap (λ (z : ℕ). turn_of (z, p)) (client_counts old h c k M r) in (
           (λ out. known (subst (IsLacked old.talk.limits.profile) (sym is) out.2)),
           subst (AreLanes old.talk.limits.profile (c ++ (Client, p) ∷ [])) (sym more)
-              (lanes_request old.talk.limits.profile c old.turns p r.lanes (some_not_nil (payloads Client c) (omega (arith, later, r.client_count))) turn asks is' (waits_fit old h c k M r size some loads room) known),
+              (lanes_request old.talk.limits.profile c old.turns p r.lanes (some_not_nil (payloads Client c) (omega (arith, later, client_counts old h c k M r))) turn asks is' (waits_fit old h c k M r size some loads room) known),
           omega (arith, r.few, left, ap number_of_turns more, with_one (lane_in p) asks old.turns, one_more old h c k M r new.talk x.limits ch sh p x.fits m shows st later),
         ))
 
@@ -90,9 +93,9 @@ module _ (old new : ThroughState) (piece : List ℕ) (used : ℕ) (p : List ℕ)
       new.turns ≡ record (with_waits (lane_in p) (and_turn old.turns.room asks) old.turns) { left = old.turns.left + 1 } → IsLacked old.talk.limits.profile asks →
       WhereItStands old.talk (λ v client_rest server_rest. load v.client v.server + left_out old.turns + 1 ≤ old.talk.limits.waiting) → GoesOn old Client (take used piece) ((Client, p) ∷ []) [] [] new
   client_lacks turn later room same asks is more lacked fits h c k M r =
-      let some = some_not_nil (payloads Client c) (omega (arith, later, r.client_count)) in
+      let some = some_not_nil (payloads Client c) (omega (arith, later, client_counts old h c k M r)) in
       let foreign : IsForeign old.talk.limits.profile p = subst (IsLacked old.talk.limits.profile) is lacked in
-      let is' = is ∙ ap (λ (z : ℕ). turn_of (z, p)) r.client_count in
+      let is' = is ∙ ap (λ (z : ℕ). turn_of (z, p)) (client_counts old h c k M r) in
       let loads = fits (told k) M r.stands.conversation [] [] r.stands (its_good old h c k M r) in
       let lanes = subst (AreLanes old.talk.limits.profile (c ++ (Client, p) ∷ [])) (sym more)
       (lanes_left old.talk.limits.profile c old.turns p r.lanes some turn asks is' (waits_fit old h c k M r 1 (omega arith) loads room) lacked) in
@@ -108,11 +111,15 @@ module _ (old new : ThroughState) (piece : List ℕ) (used : ℕ) (p : List ℕ)
 
 -- ---- The server's
 module _ (old new : ThroughState) (piece : List ℕ) (used : ℕ) (q : List ℕ) (x : ServerCame old new piece used q) where
+  its_late : new.late ≡ true → old.late ≡ true
+  its_late e = sym x.late ∙ e
+
   -- the talk is told the frame, which isn't left out
   module _ (tells : IsTold old.talk Server q new.talk) (left : left_out new.turns ≡ left_out old.turns) where
     told_server : ((h : History) (c k : Came) (M : List Message) (r : Runs old h c k M) (m : Message) → Shows new.talk Server m → (st : Stands new.talk (told k ++ on Server (frame q)) (M ++ m ∷ [])) →
         (new.talk.client_held ≡ []) → (new.talk.server_held ≡ []) →
-        (IsLeftOut old.talk.limits.profile c (Server, q) → ⊥) × AreLanes old.talk.limits.profile (c ++ (Server, q) ∷ []) new.turns × (number_of_turns new.turns ≤ count_of new.talk.waiting + left_out new.turns) × AnswersAfter c q new.answered) →
+        (IsLeftOut old.talk.limits.profile c (Server, q) → ⊥) × AreLanes old.talk.limits.profile (c ++ (Server, q) ∷ []) new.turns × (number_of_turns new.turns ≤ count_of new.talk.waiting + left_out new.turns) × AnswersAfter c q new.answered × IsSeen old.late c (Server, q) ×
+        (new.late ≡ true → TellsMatched new.matched (c ++ (Server, q) ∷ []))) →
         GoesOnTold old Server (take used piece) q new
     told_server more h c k M r =
         let t = tells (told k) M r.stands r.alone.0 r.alone.1 in
@@ -125,45 +132,51 @@ module _ (old new : ThroughState) (piece : List ℕ) (used : ℕ) (q : List ℕ)
               (λ v g.
               let g' = subst (λ z. Good old.talk.limits z v [] []) (told-push k (Server, q)) g in
               omega (arith, load_server old h c k M r new.talk x.limits t.3 t.4 q x.fits t.0 t.1 t.2 v g', left, r.room r.stands.conversation (its_good old h c k M r)))
-              y.2 y.3,
+              y.2 y.3 y.4 y.5,
         )
 
     -- a frame that is the first, or no reply
-    pub server_other : new.turns ≡ old.turns → (0 < old.server.count → has_turn 16 q ≡ false) → (old.server.count ≡ 0 → new.answered ≡ Some 0) → (old.server.count ≢ 0 → new.answered ≡ None) → GoesOnTold old Server (take used piece) q new
-    server_other same other first later =
+    pub server_other : new.turns ≡ old.turns → (old.late ≡ true → new.matched ≡ old.matched) → (0 < old.server.count → has_turn 16 q ≡ false) → (old.server.count ≡ 0 → new.answered ≡ Some 0) → (old.server.count ≢ 0 → new.answered ≡ None) → GoesOnTold old Server (take used piece) q new
+    server_other same replies other first later =
         told_server (λ h c k M r m shows st ch sh.
-        let off : payloads Server c ≢ [] → has_turn 16 q ≡ false = λ some. other (counted old.server.count (payloads Server c) r.server_count some) in (
+        let off : payloads Server c ≢ [] → has_turn 16 q ≡ false = λ some. other (some_counts old h c k M r some) in (
           (λ out. not_both (has_turn 16 q) out.1 (off out.0)),
           subst (AreLanes old.talk.limits.profile (c ++ (Server, q) ∷ [])) (sym same) (lanes_server old.talk.limits.profile c old.turns q r.lanes off),
           omega (arith, r.few, left, ap number_of_turns same, kept_server old h c k M r new.talk x.limits ch sh q x.fits m shows st other),
-          answers c (payloads Server c) refl r.server_count off,
+          answers c (payloads Server c) refl (none_counts old h c k M r) (some_counts old h c k M r) off,
+          seen_other old.talk.limits.profile c old.turns r.lanes old.matched old.late r.matched q off,
+          λ e. subst (λ z. TellsMatched z (c ++ (Server, q) ∷ [])) (sym (replies (its_late e))) (matched_other old.matched c q (r.matched (its_late e)) off),
         ))
       where
-        answers : (c : Came) (P : List (List ℕ)) → payloads Server c ≡ P → old.server.count ≡ length (payloads Server c) → (payloads Server c ≢ [] → has_turn 16 q ≡ false) → AnswersAfter c q new.answered
-        answers c [] e n off = subst (AnswersAfter c q) (sym (first (n ∙ ap length e))) (inl (e, refl))
-        answers c (y ∷ P) e n off =
-            let some : payloads Server c ≢ [] = λ none. omega (arith, ap length (sym e ∙ none)) in
-            subst (AnswersAfter c q) (sym (later (λ zero. omega (arith, zero, n, ap length e)))) (some, off some)
+        answers : (c : Came) (P : List (List ℕ)) → payloads Server c ≡ P → (payloads Server c ≡ [] → old.server.count ≡ 0) → (payloads Server c ≢ [] → 0 < old.server.count) → (payloads Server c ≢ [] → has_turn 16 q ≡ false) →
+            AnswersAfter c q new.answered
+        answers c [] e none more off = subst (AnswersAfter c q) (sym (first (none e))) (inl (e, refl))
+        answers c (y ∷ P) e none more off =
+            let some : payloads Server c ≢ [] = λ empty. omega (arith, ap length (sym e ∙ empty)) in
+            subst (AnswersAfter c q) (sym (later (λ zero. omega (arith, zero, more some)))) (some, off some)
 
     -- a reply to a request that the talk got
     pub server_answers : has_turn 16 q ≡ true → 0 < old.server.count → (due : Turn) → IsDue old.turns (xid_of q) due → (IsLacked old.talk.limits.profile due → ⊥) → new.turns ≡ with_waits (lane_in q) (drop 1) old.turns → new.answered ≡ Some due.frame →
-        GoesOnTold old Server (take used piece) q new
-    server_answers turn later due is known less answered =
+        (old.late ≡ true → IsEarlier old.matched old.turns (Some (xid_of q)) → ⊥) → (old.late ≡ true → new.matched ≡ matched_on (lane_in q) old.matched) → GoesOnTold old Server (take used piece) q new
+    server_answers turn later due is known less answered stays replies =
         told_server (λ h c k M r m shows st ch sh.
-        let some = some_not_nil (payloads Server c) (omega (arith, later, r.server_count)) in
+        let some = server_some old h c k M r later in
         let y = turn_is old.talk.limits.profile c old.turns q r.lanes turn due is in
         let waits = slice_get_within (waits_on (lane_in q) old.turns) 0 due is in (
           (λ out. known (subst (IsLacked old.talk.limits.profile) (ap turn_of (same_some out.2 y.0 (sym out.3 ∙ y.1)) ∙ sym y.2) out.4)),
           subst (AreLanes old.talk.limits.profile (c ++ (Server, q) ∷ [])) (sym less) (lanes_reply old.talk.limits.profile c old.turns q r.lanes turn some due is known),
           omega (arith, r.few, left, ap number_of_turns less, without_one (lane_in q) old.turns waits, one_less old h c k M r new.talk x.limits ch sh q x.fits m shows st),
           subst (AnswersAfter c q) (sym answered) (inr (some, turn, y.0, y.1, ap (λ (z : Turn). z.frame) y.2)),
+          seen_reply old.talk.limits.profile c old.turns r.lanes old.matched old.late r.matched q (xid_of q) refl stays,
+          λ e. subst (λ z. TellsMatched z (c ++ (Server, q) ∷ [])) (sym (replies (its_late e))) (matched_reply old.matched c q (r.matched (its_late e)) turn some),
         ))
 
   -- a reply to one that was left out is left out
   pub server_lacks : has_turn 16 q ≡ true → 0 < old.server.count → new.talk ≡ old.talk → (due : Turn) → IsDue old.turns (xid_of q) due → IsLacked old.talk.limits.profile due →
-      new.turns ≡ record (with_waits (lane_in q) (drop 1) old.turns) { left = old.turns.left - 1 } → xid_of q ≡ due.xid → new.answered ≡ Some due.frame → GoesOn old Server (take used piece) ((Server, q) ∷ []) [] [] new
-  server_lacks turn later same due is lacked less xid answered h c k M r =
-      let some = some_not_nil (payloads Server c) (omega (arith, later, r.server_count)) in
+      new.turns ≡ record (with_waits (lane_in q) (drop 1) old.turns) { left = old.turns.left - 1 } → xid_of q ≡ due.xid → new.answered ≡ Some due.frame →
+      (old.late ≡ true → IsEarlier old.matched old.turns (Some (xid_of q)) → ⊥) → (old.late ≡ true → new.matched ≡ matched_on (lane_in q) old.matched) → GoesOn old Server (take used piece) ((Server, q) ∷ []) [] [] new
+  server_lacks turn later same due is lacked less xid answered stays replies h c k M r =
+      let some = server_some old h c k M r later in
       let y = turn_is old.talk.limits.profile c old.turns q r.lanes turn due is in
       let waits = slice_get_within (waits_on (lane_in q) old.turns) 0 due is in
       let foreign : IsForeign old.talk.limits.profile y.0.1 = subst (IsLacked old.talk.limits.profile) y.2 lacked in
@@ -175,6 +188,19 @@ module _ (old new : ThroughState) (piece : List ℕ) (used : ℕ) (q : List ℕ)
       let few : number_of_turns new.turns ≤ count_of new.talk.waiting + left_out new.turns =
       omega (arith, r.few, left, ap number_of_turns less, without_one (lane_in q) old.turns waits, some_left old.talk.limits.profile c old.turns q r.lanes turn some due is lacked, ap (λ (z : TalkState). count_of z.waiting) same) in
       let runs = server_came old new piece used q x h c k M r k M kept stands alone lanes (λ v g. omega (arith, left, r.room v g)) few
-      (subst (AnswersAfter c q) (sym answered) (inr (some, turn, y.0, y.1, ap (λ (z : Turn). z.frame) y.2))) in
+      (subst (AnswersAfter c q) (sym answered) (inr (some, turn, y.0, y.1, ap (λ (z : Turn). z.frame) y.2)))
+      (seen_reply old.talk.limits.profile c old.turns r.lanes old.matched old.late r.matched q (xid_of q) refl stays)
+      (λ e. subst (λ z. TellsMatched z (c ++ (Server, q) ∷ [])) (sym (replies (its_late e))) (matched_reply old.matched c q (r.matched (its_late e)) turn some)) in
       subst (λ z. Runs new (h ++ on Server (take used piece)) (c ++ (Server, q) ∷ []) z (M ++ [])) (sym (append-nil k))
       (subst (λ z. Runs new (h ++ on Server (take used piece)) (c ++ (Server, q) ∷ []) k z) (sym (append-nil M)) runs)
+
+  -- a reply to a request that wasn't seen is passed over
+  pub server_unseen : old.late ≡ true → has_turn 16 q ≡ true → 0 < old.server.count → IsEarlier old.matched old.turns (Some (xid_of q)) → new.talk ≡ old.talk → new.turns ≡ old.turns → new.matched ≡ old.matched →
+      new.answered ≡ old.answered → PassesOver old (take used piece) q new
+  server_unseen late turn begun earlier talk turns matched answered = (
+    late,
+    λ h c k M r.
+        let u : IsUnseen c (Server, q) = (server_some old h c k M r begun, turn, to_earlier old.talk.limits.profile c old.turns r.lanes old.matched (r.matched late) q (lane_in q) earlier) in
+        let o = over_came old new piece used q x talk turns matched answered late h c k M r u in
+        (u, o.0, o.1),
+  )

@@ -1,7 +1,8 @@
 -- Which frames are left out: requests of operations that the profile lacks, and the replies to them.
-use Rattle.std.specs.Prelude.{◌≡◌, ◌≢◌, ℕ, ◌⊎◌, ℤ, negsuc, List, [], ◌∷◌, ◌++◌, length, drop, filter, Bool, true, false, if◌then◌else◌, nat_le, Some, Option, None, slice_get}
+use Rattle.std.specs.Prelude.{◌≡◌, ◌≢◌, ℕ, ◌⊎◌, ℤ, negsuc, List, [], ◌∷◌, ◌++◌, length, take, drop, filter, Bool, true, false, if◌then◌else◌, nat_le, Some, Option, None, slice_get}
 use Rattle.std.specs.List.{enumerate_from}
 use Rattle.std.specs.Ordering.{int_eq}
+use Rattle.std.specs.Int.{w64, cast_signed, from_be_bytes}
 use Rattle.zk_jute.specs.Faults.{first_int}
 use Rattle.zk_records.specs.declared.profile.Profile.{Profile}
 use Rattle.zk_records.specs.Codes.{IsNoOp}
@@ -18,6 +19,13 @@ xid_of p = first_int p
 
 abbrev pub number_of : List ℕ → ℤ
 number_of p = first_int (drop 4 p)
+
+-- and a reply's second and third number
+abbrev pub zxid_of : List ℕ → ℤ
+zxid_of q = cast_signed w64 (from_be_bytes w64 (take 8 (drop 4 q)))
+
+abbrev pub err_of : List ℕ → ℤ
+err_of q = first_int (drop 12 q)
 
 -- the lanes of which requests may be left out
 abbrev pub may_be_out : Lane → Bool
@@ -50,9 +58,12 @@ asked lane came = filter (λ (x : ℕ × List ℕ). is_on lane 8 x.1) (drop 1 (e
 abbrev pub replied : Lane → Came → ℕ
 replied lane came = length (filter (is_on lane 16) (drop 1 (payloads Server came)))
 
--- the request is of such a lane, and its operation is none of the profile's
+-- a request under this xid is of such a lane, and its operation has this number, which is none of the profile's
+abbrev pub IsLackedUnder : Profile → ℤ → ℤ → Type 0
+IsLackedUnder profile xid number = (may_be_out (lane_of xid) ≡ true) × IsNoOp profile number
+
 abbrev pub IsForeign : Profile → List ℕ → Type 0
-IsForeign profile p = (may_be_out (lane_in p) ≡ true) × IsNoOp profile (number_of p)
+IsForeign profile p = IsLackedUnder profile (xid_of p) (number_of p)
 
 -- the reply is to answer this request, if it has the request's xid
 abbrev pub IsTurnOf : Came → List ℕ → ℕ × List ℕ → Type 0

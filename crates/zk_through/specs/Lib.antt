@@ -1,5 +1,6 @@
 -- Definitions that the contracts cite.
 pub mod Came
 pub mod LeftOut
+pub mod Unseen
 pub mod Turns
 pub mod Runs

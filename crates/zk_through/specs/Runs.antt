@@ -1,5 +1,5 @@
 -- What a connection comes to: the conversation that the talk is told, and the requests and replies that are left out.
-use Rattle.std.specs.Prelude.{◌≡◌, ◌≢◌, ℕ, ◌+◌, ◌≤◌, ◌<◌, ◌^◌, ◌⊎◌, List, [], ◌∷◌, ◌++◌, length, take, Option, Some, None, true, false}
+use Rattle.std.specs.Prelude.{◌≡◌, ◌≢◌, ℕ, ℤ, Bool, ◌+◌, ◌≤◌, ◌<◌, ◌^◌, ◌⊎◌, List, [], ◌∷◌, ◌++◌, length, take, Option, Some, None, true, false}
 use Rattle.zk_jute.specs.declared.fault.Reason.{Reason}
 use Rattle.zk_jute.specs.declared.fault.Reason.TheVariants.{StreamEnd, LengthRange, QueueFull, Unasked, XidOrder}
 use Rattle.zk_records.specs.declared.profile.Profile.{Profile}
@@ -19,38 +19,45 @@ use Rattle.zk_talk.specs.Conversation.{Conversation, load, weight}
 use Rattle.zk_talk.specs.Good.{Good}
 use Rattle.zk_talk.specs.Fault.{IsFaultOf, side_limit, fault_of}
 use Rattle.zk_talk.specs.Ending.{IsEnding}
-use Rattle.zk_talk.specs.Stands.{TalkState, Stands}
+use Rattle.zk_talk.specs.Stands.{TalkState, Stands, Refuses}
 use Rattle.zk_talk.specs.Streams.{StreamState}
 use Rattle.zk_talk.specs.Viewed.{Shows, Leaves}
 use Rattle.zk_waiting.specs.Waiting.{count_of}
 use Rattle.zk_through.specs.declared.through.Went.{Went}
 use Rattle.zk_through.specs.declared.through.Went.TheVariants as went
 use Rattle.zk_through.specs.Came.{Came, payloads, AreFrames, told}
-use Rattle.zk_through.specs.LeftOut.{xid_of, has_turn, lane_in, asked, replied, IsForeign, IsTurnOf, Kept, NewestAnswers}
+use Rattle.zk_through.specs.LeftOut.{xid_of, zxid_of, err_of, has_turn, lane_in, asked, replied, IsForeign, IsTurnOf, Kept, NewestAnswers}
+use Rattle.zk_through.specs.Unseen.{IsUnseen, Seen, IsSeen, TellsMatched}
 use Rattle.zk_through.specs.Turns.{TurnsState, AreLanes, IsDue, turn_of, left_out, number_of_turns}
 
--- the talk; each side's frame, with how many came; the requests that wait; and the number of the client's frame that the
--- server's newest frame answers
+-- the talk; each side's frame, with how many came; the requests that wait; whether the connection is seen late, and then
+-- whether a reply of the plain lane came; and the number of the client's frame that the server's newest frame answers
 pub record ThroughState : Type 0 where
   pub talk : TalkState
   pub client : StreamState
   pub server : StreamState
   pub turns : TurnsState
+  pub late : Bool
+  pub matched : Bool
   pub answered : Option ℕ
   pub fault : Option Fault
 
--- The history's frames are `came`, and the talk was given `given`, of which the messages are.
+-- Of the history's frames `came` were seen: all, but for replies to requests that weren't, where it is seen late. The talk was
+-- given `given` of them, of which the messages are.
 pub record Runs (t : ThroughState) (h : History) (came given : Came) (messages : List Message) : Type 0 where
-  pub frames : AreFrames t.talk.limits h came t.client.held t.server.held
+  pub all : Came
+  pub frames : AreFrames t.talk.limits h all t.client.held t.server.held
+  pub seen : Seen t.late all came
   pub kept : Kept t.talk.limits.profile came given
   pub stands : Stands t.talk (told given) messages
   pub alone : (t.talk.client_held ≡ []) × (t.talk.server_held ≡ [])
   pub lanes : AreLanes t.talk.limits.profile came t.turns
   pub few : number_of_turns t.turns ≤ count_of t.talk.waiting + left_out t.turns
+  pub matched : t.late ≡ true → TellsMatched t.matched came
   pub answered : NewestAnswers came t.answered
   pub room : (v : Conversation) → Good t.talk.limits (told given) v [] [] → load v.client v.server + left_out t.turns ≤ t.talk.limits.waiting
-  pub client_count : t.client.count ≡ length (payloads Client came)
-  pub server_count : t.server.count ≡ length (payloads Server came)
+  pub client_count : t.client.count ≡ length (payloads Client all)
+  pub server_count : t.server.count ≡ length (payloads Server all)
   pub client_size : t.client.size ≡ length (side_bytes Client h)
   pub server_size : t.server.size ≡ length (side_bytes Server h)
   pub no_fault : t.fault ≡ None
@@ -73,12 +80,18 @@ GoesOnTold old side used p new =
     (h : History) (c k : Came) (M : List Message) → Runs old h c k M →
     (m : Message) × Shows new.talk side m × Runs new (h ++ on side used) (c ++ (side, p) ∷ []) (k ++ (side, p) ∷ []) (M ++ m ∷ [])
 
+-- the bytes made this frame whole: a reply to a request that wasn't seen, which is passed over
+abbrev pub PassesOver : ThroughState → List ℕ → List ℕ → ThroughState → Type 0
+PassesOver old used q new = (old.late ≡ true) ×
+    ((h : History) (c k : Came) (M : List Message) (r : Runs old h c k M) → IsUnseen c (Server, q) ×
+    (s : Runs new (h ++ on Server used) c k M) × (s.all ≡ r.all ++ (Server, q) ∷ []))
+
 -- what is held and kept of the side's frames
 abbrev pub stream_on : Side → ThroughState → StreamState
 stream_on Client t = t.client
 stream_on Server t = t.server
 
--- the frame that was left out last on the side, until the side's next call
+-- the frame that was left out or passed over last on the side, until the side's next call
 abbrev pub left_on : Side → ThroughState → List ℕ
 left_on side t = (stream_on side t).kept
 
@@ -124,6 +137,9 @@ WentOn old side piece used (went.Asked turn) new =
 WentOn old side piece used (went.Answered turn) new =
     (used ≤ length piece) × (side ≡ Server) × (q : List ℕ) × (left_on side new ≡ frame q) × (xid_of q ≡ turn.xid) ×
     IsDue old.turns turn.xid turn × GoesOn old side (take used piece) ((side, q) ∷ []) [] [] new
+WentOn old side piece used (went.Unseen xid zxid err) new =
+    (used ≤ length piece) × (side ≡ Server) × (q : List ℕ) × (left_on side new ≡ frame q) ×
+    (xid ≡ xid_of q) × (zxid ≡ zxid_of q) × (err ≡ err_of q) × PassesOver old (take used piece) q new
 WentOn old side piece used went.Full new =
     (used ≡ 0) × (side ≡ Client) × (left_on side new ≡ []) × IsFull old piece × GoesOn old side [] [] [] [] new
 
@@ -133,29 +149,30 @@ abbrev pub IsNoRequest : Profile → Came → Side → List ℕ → Type 0
 IsNoRequest profile came Client p = (payloads Client came ≢ []) → (w : ℕ) → IsRequestOf profile p w → ⊥
 IsNoRequest profile came Server p = Unit {0}
 
--- why the side's frame is refused, after these frames of which the talk was told `kept`
-pub data IsWhy (limits : Limits) (came kept : Came) (side : Side) (size : ℕ) (bytes : List ℕ) (place : ℕ) (reason : Reason) : Type 0 where
-  stream_end : size ≡ 2 ^ 62 → place ≡ 0 → reason ≡ StreamEnd → IsWhy limits came kept side size bytes place reason
-  length_range : IsBadLength (side_limit limits side) bytes → place ≡ 0 → reason ≡ LengthRange → IsWhy limits came kept side size bytes place reason
-  unasked : side ≡ Server → (q : List ℕ) → bytes ≡ frame q → has_turn 16 q ≡ true →
+-- Why the side's frame is refused, after these frames of which the talk was told `kept`. None is refused that is passed over
+-- where the connection is seen late.
+pub data IsWhy (limits : Limits) (late : Bool) (came kept : Came) (side : Side) (size : ℕ) (bytes : List ℕ) (place : ℕ) (reason : Reason) : Type 0 where
+  stream_end : size ≡ 2 ^ 62 → place ≡ 0 → reason ≡ StreamEnd → IsWhy limits late came kept side size bytes place reason
+  length_range : IsBadLength (side_limit limits side) bytes → place ≡ 0 → reason ≡ LengthRange → IsWhy limits late came kept side size bytes place reason
+  unasked : side ≡ Server → (q : List ℕ) → bytes ≡ frame q → IsSeen late came (Server, q) → has_turn 16 q ≡ true →
       length (asked (lane_in q) came) ≤ replied (lane_in q) came →
-      place ≡ 0 → reason ≡ Unasked → IsWhy limits came kept side size bytes place reason
-  other_turn : side ≡ Server → (q : List ℕ) → bytes ≡ frame q → has_turn 16 q ≡ true →
+      place ≡ 0 → reason ≡ Unasked → IsWhy limits late came kept side size bytes place reason
+  other_turn : side ≡ Server → (q : List ℕ) → bytes ≡ frame q → IsSeen late came (Server, q) → has_turn 16 q ≡ true →
       (x : ℕ × List ℕ) → IsTurnOf came q x → IsForeign limits.profile x.1 → xid_of x.1 ≢ xid_of q →
-      place ≡ 0 → reason ≡ XidOrder (xid_of x.1) (xid_of q) → IsWhy limits came kept side size bytes place reason
-  told_so : (q : List ℕ) → bytes ≡ frame q → length q ≤ side_limit limits side → (f : Fault) → IsFaultOf limits (told kept ++ on side (frame q)) f →
-      IsNoRequest limits.profile came side q → place ≡ f.place → reason ≡ f.reason → IsWhy limits came kept side size bytes place reason
+      place ≡ 0 → reason ≡ XidOrder (xid_of x.1) (xid_of q) → IsWhy limits late came kept side size bytes place reason
+  told_so : (q : List ℕ) → bytes ≡ frame q → IsSeen late came (side, q) → length q ≤ side_limit limits side → (f : Fault) →
+      IsFaultOf limits (told kept ++ on side (frame q)) f → IsNoRequest limits.profile came side q → place ≡ f.place → reason ≡ f.reason → IsWhy limits late came kept side size bytes place reason
 
 -- The last of these bytes of the piece is refused, at the side's own frame and offset.
-pub record IsStopped (old : ThroughState) (side : Side) (piece : List ℕ) (fault : Fault) (h : History) (came kept : Came) : Type 0 where
+pub record IsStopped (old : ThroughState) (side : Side) (piece : List ℕ) (fault : Fault) (h : History) (all came kept : Came) : Type 0 where
   pub used : ℕ
   pub part : used ≤ length piece
-  pub told : fault ≡ fault_of side (length (payloads side came)) (length (side_bytes side h) + used) fault.place fault.reason
-  pub why : IsWhy old.talk.limits came kept side (length (side_bytes side h) + used) ((stream_on side old).held ++ take used piece) fault.place fault.reason
+  pub told : fault ≡ fault_of side (length (payloads side all)) (length (side_bytes side h) + used) fault.place fault.reason
+  pub why : IsWhy old.talk.limits old.late came kept side (length (side_bytes side h) + used) ((stream_on side old).held ++ take used piece) fault.place fault.reason
 
 abbrev pub IsRefused : ThroughState → Side → List ℕ → Fault → ThroughState → Type 0
 IsRefused old side piece fault new = (new.fault ≡ Some fault) ×
-    ((h : History) (c k : Came) (M : List Message) → Runs old h c k M → IsStopped old side piece fault h c k)
+    ((h : History) (c k : Came) (M : List Message) (r : Runs old h c k M) → IsStopped old side piece fault h r.all c k)
 
 -- the refusal isn't that too much waits
 abbrev pub IsNeverFull : ThroughState → Fault → Type 0
@@ -171,6 +188,17 @@ abbrev pub IsNotTold : TalkState → Side → List ℕ → Fault → Type 0
 IsNotTold old side p fault = (f : Fault) × (fault.place ≡ f.place) × (fault.reason ≡ f.reason) ×
     ((h : History) (M : List Message) → Stands old h M → IsFaultOf old.limits (h ++ on side (frame p)) f)
 
+-- the talk is as it was after these messages, or it has refused what came then
+abbrev pub WaitsAfter : TalkState → History → List Message → Type 0
+WaitsAfter t h messages = Stands t h messages ⊎ ((bad : History) × (f : Fault) × Refuses t (h ++ bad) messages f)
+
+abbrev pub KeepsTalk : TalkState → TalkState → Type 0
+KeepsTalk old new = (h : History) (M : List Message) → Stands old h M → WaitsAfter new h M
+
+-- as much waits as before, those left out too
+abbrev pub KeepsWaiting : ThroughState → ThroughState → Type 0
+KeepsWaiting old new = (left_out new.turns ≡ left_out old.turns) × KeepsTalk old.talk new.talk
+
 -- the frame that was left out last on the side is dropped
 abbrev pub given_up : Side → ThroughState → ThroughState
 given_up Client t = record t { client = record t.client { kept = [] } }
@@ -184,6 +212,10 @@ LeavesSide side old new = Leaves side old.talk new.talk × (stream_on side new �
 abbrev pub IsAhead : ℕ → StreamState → (List ℕ → Type 0) → Type 0
 IsAhead size s Is = (0 < s.count) × ((p : List ℕ) → s.held ≡ frame p → (has_turn size p ≡ true) × Is p)
 
+-- its header says this
+abbrev pub IsHeader : StreamState → ℤ × ℤ × ℤ → Type 0
+IsHeader s head = (q : List ℕ) → s.held ≡ frame q → head ≡ (xid_of q, zxid_of q, err_of q)
+
 -- it is no such frame
 abbrev pub IsNotAhead : ℕ → StreamState → Type 0
 IsNotAhead size s = (0 < s.count) → (p : List ℕ) → s.held ≡ frame p → has_turn size p ≡ false
@@ -192,12 +224,12 @@ IsNotAhead size s = (0 < s.count) → (p : List ℕ) → s.held ≡ frame p → 
 abbrev pub IsKeptAt : Side → StreamState → ℕ → Fault → Option Fault → Type 0
 IsKeptAt side s used e kept = (e ≡ fault_of side s.count (s.size + used) e.place e.reason) × (kept ≡ Some e)
 
--- How such a connection ends, after frames of which the talk was given `given`: where both sides end with a whole frame
--- the requests that are left out and wait are unanswered too.
+-- How such a connection ends, after these frames, of which the talk was given `given`: where both sides end with a whole
+-- frame the requests that are left out and wait are unanswered too.
 abbrev pub IsEndOf : ThroughState → Came → Came → Ending → Type 0
-IsEndOf t came given (Whole n) = (t.client.held ≡ []) × (t.server.held ≡ []) ×
+IsEndOf t all given (Whole n) = (t.client.held ≡ []) × (t.server.held ≡ []) ×
     (m : ℕ) × IsEnding t.talk.limits (told given) (Whole m) × (n ≡ m + left_out t.turns)
-IsEndOf t came given (Cut Client frame got) = (t.client.held ≢ []) × (frame ≡ length (payloads Client came)) × (got ≡ length t.client.held)
-IsEndOf t came given (Cut Server frame got) =
-    (t.client.held ≡ []) × (t.server.held ≢ []) × (frame ≡ length (payloads Server came)) × (got ≡ length t.server.held)
-IsEndOf t came given (Refused f) = ⊥
+IsEndOf t all given (Cut Client frame got) = (t.client.held ≢ []) × (frame ≡ length (payloads Client all)) × (got ≡ length t.client.held)
+IsEndOf t all given (Cut Server frame got) =
+    (t.client.held ≡ []) × (t.server.held ≢ []) × (frame ≡ length (payloads Server all)) × (got ≡ length t.server.held)
+IsEndOf t all given (Refused f) = ⊥

@@ -1,10 +1,11 @@
 -- The requests that wait for their replies, by lanes.
-use Rattle.std.specs.Prelude.{◌≡◌, ◌≢◌, ℕ, suc, ◌+◌, ◌-◌, ◌≤◌, ◌⊎◌, ℤ, List, [], ◌∷◌, ◌++◌, length, map, drop, slice_get, true, Option, Some, None, Result, Ok, Err}
+use Rattle.std.specs.Prelude.{◌≡◌, ◌≢◌, ℕ, suc, ◌+◌, ◌-◌, ◌≤◌, ◌⊎◌, ℤ, List, [], ◌∷◌, ◌++◌, length, map, drop, slice_get, Bool, true, false, Option, Some, None, Result, Ok, Err}
+use Rattle.std.specs.List.{list_any}
+use Rattle.std.specs.Ordering.{int_eq}
 use Rattle.circular_buffer.specs.Buffer.{keep_last}
 use Rattle.zk_jute.specs.declared.fault.Reason.{Reason}
 use Rattle.zk_jute.specs.declared.fault.Reason.TheVariants.{Unasked, XidOrder}
 use Rattle.zk_records.specs.declared.profile.Profile.{Profile}
-use Rattle.zk_records.specs.Codes.{IsNoOp}
 use Rattle.zk_waiting.specs.declared.lane.Lane.{Lane}
 use Rattle.zk_waiting.specs.declared.lane.Lane.TheVariants.{Ping, Auth, Watches, Plain}
 use Rattle.zk_waiting.specs.Lane.{lane_of}
@@ -12,7 +13,7 @@ use Rattle.zk_through.specs.declared.turn.Turn.{Turn}
 use Rattle.zk_through.specs.declared.turns.Due.{Due}
 use Rattle.zk_through.specs.declared.turns.Due.TheVariants as dues
 use Rattle.zk_through.specs.Came.{Came}
-use Rattle.zk_through.specs.LeftOut.{xid_of, number_of, may_be_out, asked, replied}
+use Rattle.zk_through.specs.LeftOut.{xid_of, number_of, asked, replied, IsLackedUnder}
 
 -- the requests of each lane that wait, the oldest first; how many of all are left out; for how many a lane has room
 pub record TurnsState : Type 0 where
@@ -51,7 +52,7 @@ pub record IsLane (lane : Lane) (came : Came) (waits : List Turn) : Type 0 where
 
 -- the request is left out, by its header alone
 abbrev pub IsLacked : Profile → Turn → Type 0
-IsLacked profile turn = (may_be_out (lane_of turn.xid) ≡ true) × IsNoOp profile turn.number
+IsLacked profile turn = IsLackedUnder profile turn.xid turn.number
 
 -- so many of these requests are left out
 abbrev pub AreLacked : Profile → List Turn → ℕ → Type 0
@@ -135,3 +136,22 @@ abbrev pub TellsFrame : Due → ℕ → Option ℕ → Type 0
 TellsFrame dues.Nothing frames n = (frames ≡ 0 → n ≡ Some 0) × (frames ≢ 0 → n ≡ None)
 TellsFrame (dues.Told turn) frames n = n ≡ Some turn.frame
 TellsFrame (dues.Left turn) frames n = n ≡ Some turn.frame
+
+-- The reply with this xid, if it is one of a lane, is to a request from before those that wait, in a connection that is seen
+-- late; `matched` says whether a reply of the plain lane came.
+abbrev pub IsEarlierOn : Lane → Bool → TurnsState → ℤ → Type 0
+IsEarlierOn Plain matched t xid = (matched ≡ false) × (list_any (λ (turn : Turn). int_eq turn.xid xid) t.plain ≡ false)
+IsEarlierOn lane matched t xid = slice_get (waits_on lane t) 0 ≡ None
+
+abbrev pub IsEarlier : Bool → TurnsState → Option ℤ → Type 0
+IsEarlier matched t None = ⊥
+IsEarlier matched t (Some xid) = IsEarlierOn (lane_of xid) matched t xid
+
+-- whether a reply of the plain lane came, with one more of this xid
+abbrev pub matched_on : Lane → Bool → Bool
+matched_on Plain was = true
+matched_on lane was = was
+
+abbrev pub matched_after : Option ℤ → Bool → Bool
+matched_after None was = was
+matched_after (Some xid) was = matched_on (lane_of xid) was

@@ -2,13 +2,13 @@
 ghost use Rattle.std.specs.Prelude.{◌≡◌, ◌≤◌, true, false, Some, IfSome, IfNone};
 ghost use Rattle.zk_frames.specs.Framing.{IsFrame};
 ghost use Rattle.zk_through.specs.declared.turn.Turn.{Turn};
-ghost use Rattle.zk_through.specs.LeftOut.{is_turn_xid, has_turn, xid_of};
+ghost use Rattle.zk_through.specs.LeftOut.{is_turn_xid, has_turn, xid_of, zxid_of, err_of};
 ghost use Rattle.zk_through.specs.Turns.{turn_of, IsLacked};
 ghost use Rattle.zk_through.specs.Runs.{IsAhead, IsNotAhead, IsWeighed};
 
 use crate::turn::{Turn, is_lacked};
 use zk_asks::{Asked, ClientFrameOf, RequestRef, borrow_ask};
-use zk_jute::int_at;
+use zk_jute::{int_at, long_at};
 use zk_records::Profile;
 use zk_talk::Stream;
 
@@ -17,10 +17,7 @@ use zk_talk::Stream;
 fn is_turn_xid(xid: i32) -> bool
     ensures { result ≡ is_turn_xid xid }
 {
-    match xid {
-        -1 => false,
-        _ => true,
-    }
+    xid != -1
 }
 
 /// The request of a client's later frame of this number, if its header is whole and has such an xid.
@@ -55,6 +52,25 @@ fn reply_ahead(payload: &[u8]) -> Option<i32>
         return None;
     };
     if is_turn_xid(xid) { Some(xid) } else { None }
+}
+
+/// The xid, the zxid and the err of a server's later frame, if its header is whole.
+#[tactic(auto, unfolding(crate::specs::LeftOut::has_turn))]
+pub fn header(payload: &[u8]) -> Option<(i32, i64, i32)>
+    ensures some { IfSome result (λ head. head ≡ (xid_of payload.now, zxid_of payload.now, err_of payload.now)) }
+    ensures none { IfNone result (has_turn 16 payload.now ≡ false) }
+{
+    if payload.len() < 16 {
+        return None;
+    }
+    let (Ok((xid, _)), Ok((zxid, _)), Ok((err, _))) = (
+        int_at(payload, 0),
+        long_at(payload, 4),
+        int_at(payload, 12),
+    ) else {
+        return None;
+    };
+    Some((xid, zxid, err))
 }
 
 /// The request of the client's whole frame, if that is a later one, its header is whole and has such an xid.

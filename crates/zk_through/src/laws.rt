@@ -1,11 +1,15 @@
 //! The laws of what the talk gets of the frames that came.
-ghost use Rattle.std.specs.Prelude.{◌≡◌};
+ghost use Rattle.std.specs.Prelude.{◌≡◌, Bool};
 ghost use Rattle.zk_records.specs.declared.profile.Profile.{Profile};
 ghost use Rattle.zk_through.specs.Came.{Came};
 ghost use Rattle.zk_through.specs.LeftOut.{Kept, HasNoneOut};
+ghost use Rattle.zk_through.specs.Unseen.{Seen};
 
-/// The talk gets one list of frames, and all of them where none is left out. The function does nothing.
+/// One list of the frames is seen, and one list of these the talk gets: all where none is left out. The function does
+/// nothing.
 pub fn kept_laws()
+    // What is seen of the frames that came is one list.
+    ensures seen { (late : Bool) (all came other : Came) → Seen late all came → Seen late all other → came ≡ other }
     // What is kept of the frames that came is one list.
     ensures one { (profile : Profile) (came given other : Came) → Kept profile came given → Kept profile came other → given ≡ other }
     // A conversation of the profile passes as through a talk alone.

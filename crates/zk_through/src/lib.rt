@@ -24,10 +24,13 @@
 #![tactic(auto)]
 
 mod ahead;
+mod holds;
+mod join;
 mod laws;
 mod through;
 mod turn;
 mod turns;
+mod unseen;
 
 pub use laws::kept_laws;
 pub use through::{Passed, Through, Went};

@@ -1,28 +1,29 @@
 //! `Through`: a conversation, with what its profile lacks left out.
-ghost use Rattle.std.specs.Prelude.{◌≡◌, ◌≢◌, ◌≤◌, ◌<◌, ◌+◌, ◌-◌, ℕ, List, [], length, None, Some, Err, OnOk, OnErr, IfOk, IfErr, MatchOption};
+ghost use Rattle.std.specs.Prelude.{◌≡◌, ◌≤◌, ◌<◌, ◌+◌, ◌-◌, ℕ, List, [], length, true, false, None, Some, Err, OnOk, OnErr, IfOk, IfErr, MatchOption};
 ghost use Rattle.zk_frames.specs.Framing.{frame};
 ghost use Rattle.zk_talk.specs.declared.message.Fault.{Fault};
 ghost use Rattle.zk_talk.specs.declared.message.Ending.TheVariants.{Refused};
 ghost use Rattle.zk_talk.specs.declared.message.Side.TheVariants.{Client, Server};
 ghost use Rattle.zk_talk.specs.Fault.{side_limit};
 ghost use Rattle.zk_talk.specs.Conversation.{load};
+ghost use Rattle.zk_talk.specs.Good.{clients, servers};
 ghost use Rattle.zk_talk.specs.History.{History};
 ghost use Rattle.zk_talk.specs.Sound.{IsKnown};
 ghost use Rattle.zk_talk.specs.Streams.{IsAtFrame, passed};
 ghost use Rattle.zk_talk.specs.Held.{Message};
-ghost use Rattle.zk_talk.specs.Stands.{Stands, WhereItStands, held_on, kept_on};
+ghost use Rattle.zk_talk.specs.Stands.{Stands, WhereItStands, kept_on};
 ghost use Rattle.zk_talk.specs.Ending.{unwelcomed};
 ghost use Rattle.zk_talk.specs.Viewed.{Leaves, Shows, other_side};
 ghost use Rattle.zk_through.specs.Came.{Came};
-ghost use Rattle.zk_through.specs.LeftOut.{NewestAnswers};
 ghost use Rattle.zk_through.specs.declared.through.Passed.{Passed};
 ghost use Rattle.zk_through.specs.declared.through.Went.{Went};
 ghost use Rattle.zk_through.specs.Turns.{HaveRoom, left_out};
-ghost use Rattle.zk_through.specs.Runs.{WentOn, IsRefused, IsTold, IsNotTold, IsKeptAt, IsNeverFull, IsEndOf, Runs, WhereItRuns, given_up, stream_on, left_on, LeavesSide};
+ghost use Rattle.zk_through.specs.Runs.{ThroughState, WentOn, IsRefused, IsTold, IsNotTold, IsKeptAt, IsNeverFull, IsEndOf, Runs, WaitsAfter, KeepsTalk, KeepsWaiting, given_up, LeavesSide};
 
 use crate::ahead::{asked, lacking, replied, weight};
 use crate::turn::Turn;
 use crate::turns::{Due, Turns, frame_answered};
+use crate::unseen::unseen;
 use std::alloc::{AllocError, Global};
 use std::marker::Model;
 use zk_jute::ItemFault;
@@ -39,6 +40,8 @@ pub enum Went {
     Asked(Turn),
     /// The reply to such a request, the oldest that waits, is whole.
     Answered(Turn),
+    /// A reply is whole to a request that wasn't seen, with what its header says: see `Through::join`.
+    Unseen { xid: i32, zxid: i64, err: i32 },
     /// With the client's frame more would wait than may: it is not taken, and nothing of the piece was used. Where
     /// nothing waits, the frame alone is too heavy.
     Full,
@@ -64,13 +67,17 @@ impl Passed {
 /// A conversation of which a talk gets what its profile has.
 #[derive(Drop)]
 pub struct Through {
-    talk: Talk,
-    client: Stream,
-    server: Stream,
-    turns: Turns,
+    pub(crate) talk: Talk,
+    pub(crate) client: Stream,
+    pub(crate) server: Stream,
+    pub(crate) turns: Turns,
     limits: Limits,
+    /// Whether the connection is seen late.
+    late: bool,
+    /// Whether a reply of the plain lane came to a request that was seen, if the connection is seen late.
+    matched: bool,
     /// The number of the client's frame that the server's newest frame answers.
-    answered: Option<u64>,
+    pub(crate) answered: Option<u64>,
     fault: Option<Fault>,
 }
 
@@ -82,7 +89,7 @@ impl Model for Through {
 
     ghost Value = { ThroughState };
 
-    ghost view = { λ t. record { talk = t.talk; client = t.client; server = t.server; turns = t.turns; answered = t.answered; fault = t.fault } };
+    ghost view = { λ t. record { talk = t.talk; client = t.client; server = t.server; turns = t.turns; late = t.late; matched = t.matched; answered = t.answered; fault = t.fault } };
 
     ghost invariant = { λ t. (t.talk.limits ≡ t.limits) × IsSide t.limits.client t.fault t.client × IsSide t.limits.server t.fault t.server × IsKnown t.fault × HaveRoom t.limits.waiting t.turns };
 }
@@ -102,6 +109,7 @@ fn tell(
     ensures ok { OnOk result ((p : List ℕ) → stream.old.held ≡ frame p → IsTold talk.old side p talk.new) }
     ensures passed { OnOk result ((stream.new ≡ passed stream.old new) × (kept.new ≡ kept.old)) }
     ensures err { IfErr result (λ e. (p : List ℕ) → stream.old.held ≡ frame p → IsNotTold talk.old side p e) }
+    ensures waits { OnErr result (KeepsTalk talk.old talk.new) }
     ensures other { Leaves (other_side side) talk.old talk.new }
     ensures known { IsKnown kept.old → IsKnown kept.new }
     ensures told { IfErr result (λ e. IsKeptAt side stream.old new e kept.new) }
@@ -120,9 +128,10 @@ fn tell(
 }
 
 /// The weight of the requests that wait, those that are left out too.
-fn weight_waiting(talk: &Talk, turns: &Turns) -> u32
+pub(crate) fn weight_waiting(talk: &Talk, turns: &Turns) -> u32
     requires { HaveRoom talk.now.limits.waiting turns.now }
     ensures stands { WhereItStands talk.now (λ v c s. result ≡ load v.client v.server + left_out turns.now) }
+    ensures after { (h : History) (M : List Message) → WaitsAfter talk.now h M → result ≡ load (clients M) (servers M) + left_out turns.now }
     ensures left { left_out turns.now ≤ result }
 {
     talk.waiting() + turns.left()
@@ -157,6 +166,7 @@ impl Through {
     /// `AllocError` if it is refused.
     pub fn new(alloc: Global, limits: Limits) -> Result<Self, AllocError>
         ensures limits { IfOk result (λ t. t.talk.limits ≡ limits) }
+        ensures late { IfOk result (λ t. t.late ≡ false) }
         ensures runs { IfOk result (λ t. Runs t [] [] [] []) }
     {
         let talk = Talk::new(alloc, limits)?;
@@ -169,18 +179,23 @@ impl Through {
             server,
             turns,
             limits,
+            late: false,
+            matched: false,
             answered: None,
             fault: None,
         })
     }
 
     /// Takes the client's piece up to the end of the first frame that becomes whole, or all of it.
+    #[inline(always)]
     fn client_step(&mut self, piece: &[u8]) -> Result<Passed, Fault>
         requires good { self.old.fault ≡ None }
         requires given_up { self.old.client.kept ≡ [] }
         ensures limits { self.new.talk.limits ≡ self.old.talk.limits }
+        ensures late { self.new.late ≡ self.old.late }
         ensures ok { IfOk result (λ s. WentOn self.old Client piece.now s.used s.went self.new) }
         ensures err { IfErr result (λ e. IsRefused self.old Client piece.now e self.new) }
+        ensures waits { OnErr result (KeepsWaiting self.old self.new) }
         ensures other { LeavesSide Server self.old self.new }
     {
         let side = Side::Client;
@@ -208,12 +223,15 @@ impl Through {
     }
 
     /// Takes the server's piece up to the end of the first frame that becomes whole, or all of it.
+    #[inline(always)]
     fn server_step(&mut self, piece: &[u8]) -> Result<Passed, Fault>
         requires good { self.old.fault ≡ None }
         requires given_up { self.old.server.kept ≡ [] }
         ensures limits { self.new.talk.limits ≡ self.old.talk.limits }
+        ensures late { self.new.late ≡ self.old.late }
         ensures ok { IfOk result (λ s. WentOn self.old Server piece.now s.used s.went self.new) }
         ensures err { IfErr result (λ e. IsRefused self.old Server piece.now e self.new) }
+        ensures waits { OnErr result (KeepsWaiting self.old self.new) }
         ensures other { LeavesSide Client self.old self.new }
     {
         let side = Side::Server;
@@ -222,6 +240,16 @@ impl Through {
             return Ok(Passed::of(piece.len(), Went::Within));
         };
         let ahead = replied(&self.server);
+        if let Some((xid, zxid, err)) = unseen(
+            self.late,
+            &mut self.matched,
+            &self.turns,
+            &self.server,
+            ahead,
+        ) {
+            self.server.keep(new);
+            return Ok(Passed::of(new, Went::Unseen { xid, zxid, err }));
+        }
         let due = match self.turns.due(self.limits.profile(), ahead) {
             Ok(due) => due,
             Err(reason) => {
@@ -259,14 +287,18 @@ impl Through {
     ///
     /// Why the frame is refused, at the side's own frame and offset, those left out counted; never `QueueFull`. It is
     /// kept, and each later call returns it and uses nothing.
+    #[inline(always)]
     pub fn step(&mut self, side: Side, piece: &[u8]) -> Result<Passed, Fault>
         ensures limits { self.new.talk.limits ≡ self.old.talk.limits }
-        // What is used goes on with the history: by a message, by a frame that is left out, or by no frame.
+        ensures late { self.new.late ≡ self.old.late }
+        // What is used goes on with the history: by a message, by a frame that is left out or passed over, or by none.
         ensures ok { IfOk result (λ s. WentOn self.old side piece.now s.used s.went self.new) }
         // A refusal is that of the frame: the talk's own, or of its length, its turn or the stream.
         ensures err { IfErr result (λ e. IsRefused self.old side piece.now e self.new) }
         // It is never that too much waits.
         ensures room { IfErr result (λ e. IsNeverFull self.old e) }
+        // What waits after it is what waited before the frame.
+        ensures waits { OnErr result (KeepsWaiting self.old self.new) }
         // The other side's frames stay as they are, and show what they show.
         ensures other { LeavesSide (other_side side) self.old self.new }
         // A fault is kept.
@@ -291,56 +323,9 @@ impl Through {
         self.talk.view(side)
     }
 
-    /// The payload of the frame that the side's last step left out; `None` if it left none out.
-    pub fn payload(&self, side: Side) -> Option<&[u8]>
-        ensures { MatchOption result (left_on side self.now ≡ []) (λ p. left_on side self.now ≡ frame p.now) }
-    {
-        match side {
-            Side::Client => self.client.kept_payload(),
-            Side::Server => self.server.kept_payload(),
-        }
-    }
-
-    /// The number of the side's frames that were whole, those left out too.
-    pub fn frames(&self, side: Side) -> u64
-        ensures { result ≡ (stream_on side self.now).count }
-    {
-        match side {
-            Side::Client => self.client.count(),
-            Side::Server => self.server.count(),
-        }
-    }
-
-    /// The number of bytes of the frame whose message `view` borrows, its length included.
-    pub fn size(&self, side: Side) -> u32
-        ensures { result ≡ length (held_on side self.now.talk) + length (kept_on side self.now.talk) }
-    {
-        self.talk.held(side)
-    }
-
-    /// The number of the client's frame that the server's newest whole frame answers, those left out counted: 0 for the
-    /// reply to the connect request. `None` if that is an event, or none came.
-    pub fn answered(&self) -> Option<u64>
-        ensures value { result ≡ self.now.answered }
-        // The k-th reply of a lane answers the lane's k-th request.
-        ensures answers { (h : History) (c k : Came) (M : List Message) → Runs self.now h c k M → NewestAnswers c result }
-    {
-        self.answered
-    }
-
-    /// The weight of the requests that wait for their replies: 1 each, those left out too, and 1 more for each part of
-    /// a multi.
-    pub fn waiting(&self) -> u32
-        ensures value { WhereItRuns self.now (λ v. result ≡ load v.client v.server + left_out self.now.turns) }
-        ensures left { left_out self.now.turns ≤ result }
-        ensures most { WhereItRuns self.now (λ v. result ≤ self.now.talk.limits.waiting) }
-    {
-        weight_waiting(&self.talk, &self.turns)
-    }
-
     /// How the bytes so far end, those left out too.
     pub fn finish(&self) -> Ending
-        ensures runs { (h : History) (c k : Came) (M : List Message) → Runs self.now h c k M → IsEndOf self.now c k result }
+        ensures runs { (h : History) (c k : Came) (M : List Message) (r : Runs self.now h c k M) → IsEndOf self.now r.all k result }
         ensures refused { (f : Fault) → self.now.fault ≡ Some f → result ≡ Refused f }
     {
         if let Some(fault) = self.fault {
@@ -361,15 +346,26 @@ impl Through {
         Ending::Whole { unanswered }
     }
 
-    /// Begins anew with the same limits: a conversation of which nothing has come. Allocates nothing.
+    /// From now on the connection is one that is seen late, and no reply of the plain lane came.
+    pub(crate) fn be_late(&mut self)
+        ensures { self.new ≡ record self.old { late = true; matched = false } }
+    {
+        self.late = true;
+        self.matched = false;
+    }
+
+    /// Begins anew with the same limits: a conversation of which nothing has come, as `new` makes it. Allocates nothing.
     pub fn renew(&mut self)
         ensures limits { self.new.talk.limits ≡ self.old.talk.limits }
+        ensures late { self.new.late ≡ false }
         ensures runs { Runs self.new [] [] [] [] }
     {
         self.talk.renew();
         self.client.renew();
         self.server.renew();
         self.turns.renew();
+        self.late = false;
+        self.matched = false;
         self.answered = None;
         self.fault = None;
     }

@@ -1,7 +1,9 @@
 //! `Turns`: which requests wait for their replies, by lanes, and how many of them are left out.
-ghost use Rattle.std.specs.Prelude.{◌≡◌, ◌<◌, ◌+◌, ◌-◌, ◌^◌, drop, slice_get, IfOk};
+ghost use Rattle.std.specs.Prelude.{◌≡◌, ◌<◌, ◌+◌, ◌-◌, ◌^◌, drop, slice_get, IfOk, MatchBool};
+ghost use Rattle.std.specs.List.{list_any};
+ghost use Rattle.std.specs.Ordering.{int_eq};
 ghost use Rattle.zk_waiting.specs.Lane.{lane_of};
-ghost use Rattle.zk_through.specs.Turns.{Judges, TellsFrame, no_turns, and_turn, waits_on, with_waits, after_request, after_left, after_reply, after_answer};
+ghost use Rattle.zk_through.specs.Turns.{Judges, TellsFrame, no_turns, and_turn, waits_on, with_waits, after_request, after_left, after_reply, after_answer, IsEarlier, matched_after};
 
 use crate::turn::{Turn, is_lacked};
 use circular_buffer::HeapCircularBuffer;
@@ -32,6 +34,26 @@ pub fn frame_answered(due: Due, frames: u64) -> Option<u64>
         Due::Nothing if frames == 0 => Some(0),
         Due::Nothing => None,
     }
+}
+
+/// Whether a reply of the plain lane came, with one more of this xid, if it is one of a lane.
+pub fn has_matched(xid: Option<i32>, was: bool) -> bool
+    ensures { result ≡ matched_after xid was }
+{
+    let Some(xid) = xid else {
+        return was;
+    };
+    match lane_of(xid) {
+        Lane::Plain => true,
+        Lane::Ping | Lane::Auth | Lane::Watches => was,
+    }
+}
+
+/// Whether one of these requests has the xid.
+fn is_asked(turns: &HeapCircularBuffer<Turn>, xid: i32) -> bool
+    ensures { result ≡ list_any (λ turn. int_eq turn.xid xid) turns.now.items }
+{
+    turns.iter().any(|turn| turn.xid == xid)
 }
 
 /// The requests that wait, by lanes, the oldest first. A lane has room for all that may wait.
@@ -112,6 +134,7 @@ impl Turns {
     }
 
     /// The oldest request of the lane.
+    #[inline(always)]
     fn oldest(&self, lane: Lane) -> Option<Turn>
         ensures { result ≡ slice_get (waits_on lane self.now) 0 }
     {
@@ -149,6 +172,7 @@ impl Turns {
     ///
     /// `Unasked` if nothing of the lane waits; `XidOrder` if it is the turn of a request that is left out, with another
     /// xid.
+    #[inline(always)]
     pub fn due(&self, profile: Profile, xid: Option<i32>) -> Result<Due, Reason>
         ensures { Judges profile self.now xid result }
     {
@@ -167,6 +191,20 @@ impl Turns {
             let expected = turn.xid;
             let got = xid;
             Err(Reason::XidOrder { expected, got })
+        }
+    }
+
+    /// Whether the reply with this xid, if it is one of a lane, is to a request from before those that wait, in a
+    /// connection that is seen late; `matched`: a reply of the plain lane came.
+    pub fn is_earlier(&self, xid: Option<i32>, matched: bool) -> bool
+        ensures { MatchBool result (IsEarlier matched self.now xid) (IsEarlier matched self.now xid → ⊥) }
+    {
+        let Some(xid) = xid else {
+            return false;
+        };
+        match lane_of(xid) {
+            Lane::Plain => !matched && !is_asked(&self.plain, xid),
+            lane => self.oldest(lane).is_none(),
         }
     }
 

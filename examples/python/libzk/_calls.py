@@ -27,7 +27,7 @@ class Step(ctypes.Structure):
 
 class Passed(ctypes.Structure):
     _fields_ = [("used", SIZE), ("status", U32), ("went", U32), ("xid", I32), ("operation", I32), ("fault", Fault),
-                ("frame", U64)]
+                ("frame", U64), ("zxid", I64), ("err", I32)]
 
 
 class Message(ctypes.Structure):
@@ -94,6 +94,7 @@ CALLS = {
     "zk_talk_ending_line": (Line, HANDLE, BYTES, SIZE),
     "zk_talk_free": (None, HANDLE),
     "zk_through_new": (U32, HANDLE, U32, U32, U32, U32),
+    "zk_talk_join": (U32, HANDLE, U32, U32, U32, U32),
     "zk_through_renew": (U32, HANDLE),
     "zk_through_step": (Passed, HANDLE, U32, BYTES, SIZE),
     "zk_through_view": (Message, HANDLE, U32),

@@ -156,13 +156,15 @@ class Went(enum.IntEnum):
     ASKED = 2
     ANSWERED = 3
     FULL = 4
+    UNSEEN = 5
 
 
 class Passed(NamedTuple):
     """What became of the `used` bytes of a step. WITHIN: no frame is whole. MESSAGE: a frame is, and `message` is its
     message. ASKED: a request is whole whose operation the profile lacks, and is left out; ANSWERED: so is the reply to
     one. Both have the request's xid, the number of its operation, the payload that is left out, and the number of the
-    request's frame. FULL: with this frame more would wait than may, and nothing was used."""
+    request's frame. FULL: with this frame more would wait than may, and nothing was used. UNSEEN: a reply to a request
+    that wasn't seen is whole, where the passage is `late`, with its xid, zxid, err and payload."""
     went: Went
     used: int
     message: Optional[Message] = None
@@ -170,15 +172,19 @@ class Passed(NamedTuple):
     operation: Optional[int] = None
     payload: Optional[bytes] = None
     frame: Optional[int] = None
+    zxid: Optional[int] = None
+    err: Optional[int] = None
 
 
 class Through(_Held):
-    """A passage: a conversation that goes on where its profile ends. The limits and `lines` are those of a talk."""
+    """A passage: a conversation that goes on where its profile ends. The limits and `lines` are those of a talk. A `late`
+    one is seen from the middle on: frame 0 of each side was made up, and each side's first byte is to begin a frame, the
+    server's before it answers what the client's ask. Begun anew, it is not late."""
 
     def __init__(self, client: int = 4194304, server: int = 4194304, waiting: int = 65536,
-                 profile: Profile = Profile.V34, lines: bool = False):
-        super().__init__(library.zk_through_new, library.zk_through_renew, library.zk_through_free,
-                         (client, server, waiting, Profile(profile)))
+                 profile: Profile = Profile.V34, lines: bool = False, late: bool = False):
+        super().__init__(library.zk_talk_join if late else library.zk_through_new, library.zk_through_renew,
+                         library.zk_through_free, (client, server, waiting, Profile(profile)))
         self._came, self._lines = (bytearray(), bytearray()), lines
 
     def renew(self) -> None:
@@ -215,6 +221,8 @@ class Through(_Held):
             read = message_of(view, lambda *out: library.zk_through_fields(self._handle, side, *out), frame[4:], line)
             return Passed(went, step.used, read)
         payload = written(lambda *out: library.zk_through_payload(self._handle, side, *out), len(frame))
+        if went == Went.UNSEEN:
+            return Passed(went, step.used, None, step.xid, None, payload, None, step.zxid, step.err)
         return Passed(went, step.used, None, step.xid, step.operation, payload, step.frame)
 
     def ending(self) -> Ending:

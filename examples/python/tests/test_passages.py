@@ -24,7 +24,7 @@ class Passages(unittest.TestCase):
         message = passed.message
         if message is None:
             return passed.went, passed.xid, passed.operation, passed.payload, passed.frame
-        self.assertEqual((passed.went, *passed[3:]), (Went.MESSAGE, None, None, None, None))
+        self.assertEqual((passed.went, *passed[3:]), (Went.MESSAGE, *[None] * 6))
         return message.kind, message.xid, message.operation, message.payload, message.frame, message.answers
 
     def test_pairs_are_left_out(self):
@@ -84,6 +84,22 @@ class Passages(unittest.TestCase):
                 through.feed(Side.CLIENT, frame(HELLO) + frame(EPHEMERALS) + frame(self.SECOND[:-1]))
             self.assertEqual(caught.exception.fault, Fault(Side.CLIENT, 2, 85, 14, "SHORT", None, None))
             self.assertEqual([message.kind for message in caught.exception.messages], [Kind.CONNECT])
+
+    def test_late(self):
+        earlier = bytes.fromhex("00000001 0000000000000004 ffffff9b")
+        with Through(late=True) as through:
+            every = [passed for side, payload in ((Side.CLIENT, self.SECOND), (Side.SERVER, earlier),
+                                                  (Side.SERVER, self.SECOND_NO_NODE))
+                     for passed in through.feed(side, frame(payload))]
+            self.assertEqual(self.told(every[0]), (Kind.REQUEST, 2, "exists", self.SECOND, 1, None))
+            self.assertEqual(every[1], Passed(Went.UNSEEN, 20, None, 1, None, earlier, None, 4, -101))
+            self.assertEqual(self.told(every[2]), (Kind.REPLY, 2, "exists", self.SECOND_NO_NODE, 2, 1))
+            with self.assertRaises(Refused) as caught:
+                through.feed(Side.SERVER, frame(earlier))
+            # The made up frames have 32 and 24 bytes.
+            self.assertEqual(caught.exception.fault, Fault(Side.SERVER, 3, 84, 0, "UNASKED", None, None))
+            through.renew()
+            self.assertEqual(through.feed(Side.CLIENT, frame(HELLO))[0].went, Went.MESSAGE)
 
     def test_endings(self):
         with Through() as through:

@@ -57,6 +57,8 @@ pub struct zk_passed {
     pub operation: i32,
     pub fault: zk_fault,
     pub frame: u64,
+    pub zxid: i64,
+    pub err: i32,
 }
 
 #[repr(C)]
@@ -187,6 +189,13 @@ extern "C" {
     pub fn zk_talk_ending_line(talk: *mut zk_talk, out: *mut u8, room: usize) -> zk_line;
     pub fn zk_talk_free(talk: *mut zk_talk);
     pub fn zk_through_new(
+        through: *mut zk_through,
+        client: u32,
+        server: u32,
+        waiting: u32,
+        profile: u32,
+    ) -> u32;
+    pub fn zk_talk_join(
         through: *mut zk_through,
         client: u32,
         server: u32,

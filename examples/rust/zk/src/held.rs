@@ -27,7 +27,7 @@ impl Default for Limits {
 }
 
 /// What makes a handle of limits: the greatest payloads, how many requests may wait, and the profile.
-type Make<H> = unsafe extern "C" fn(*mut H, u32, u32, u32, u32) -> u32;
+pub(crate) type Make<H> = unsafe extern "C" fn(*mut H, u32, u32, u32, u32) -> u32;
 
 impl Limits {
     /// Has a handle made, which is all zeros and stays where nothing copies it.

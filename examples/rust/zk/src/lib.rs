@@ -51,7 +51,7 @@ pub use ending::{Ending, Waiting};
 pub use held::{listing, Limits, Speaker, Talk};
 pub use judge::{judge_connected, judge_event, judge_first, judge_reply, judge_request};
 pub use message::{Field, Kind, Message, Reader, Value};
-pub use through::{LeftOut, Through, Went};
+pub use through::{LeftOut, Through, Unseen, Went};
 pub use write::Writer;
 
 pub use names::{error_name, event_name, field_name, operation_name, status_name};

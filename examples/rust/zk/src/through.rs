@@ -1,6 +1,6 @@
 //! Passages: conversations that go on where their profile ends.
 
-use crate::held::{take, written, Limits};
+use crate::held::{take, written, Limits, Make};
 use crate::message::{Message, Reader};
 use crate::{Ending, Fault, Side};
 use std::mem::swap;
@@ -11,6 +11,7 @@ const MESSAGE: u32 = 1;
 const ASKED: u32 = 2;
 const ANSWERED: u32 = 3;
 const FULL: u32 = 4;
+const UNSEEN: u32 = 5;
 
 /// What became of the bytes that a step took.
 #[derive(Clone, Copy, Debug)]
@@ -23,6 +24,8 @@ pub enum Went<'t> {
     Asked(LeftOut<'t>),
     /// The reply to such a request is whole: it is left out.
     Answered(LeftOut<'t>),
+    /// A reply to a request that wasn't seen is whole: see `Through::join`.
+    Unseen(Unseen<'t>),
     /// More would wait than may: nothing was taken. The server's bytes come first; then the client's piece again.
     Full,
 }
@@ -37,6 +40,15 @@ pub struct LeftOut<'t> {
     pub payload: &'t [u8],
 }
 
+/// A reply to a request that wasn't seen, by its header.
+#[derive(Clone, Copy, Debug, PartialEq, Eq)]
+pub struct Unseen<'t> {
+    pub xid: i32,
+    pub zxid: i64,
+    pub err: i32,
+    pub payload: &'t [u8],
+}
+
 impl<'t> LeftOut<'t> {
     fn went(step: &zk_passed, payload: &'t [u8]) -> Went<'t> {
         let left = LeftOut {
@@ -47,6 +59,12 @@ impl<'t> LeftOut<'t> {
         };
         match step.went {
             ASKED => Went::Asked(left),
+            UNSEEN => Went::Unseen(Unseen {
+                xid: step.xid,
+                zxid: step.zxid,
+                err: step.err,
+                payload,
+            }),
             _ => Went::Answered(left),
         }
     }
@@ -68,6 +86,16 @@ unsafe impl Send for Through {}
 
 impl Through {
     pub fn new(limits: Limits) -> Result<Through, Fault> {
+        Through::made(limits, zk_sys::zk_through_new)
+    }
+
+    /// A connection that is seen late: frame 0 of each side was made up, and each side's first byte is to begin a frame,
+    /// the server's before it answers what the client's ask. Begun anew, it is as a new one.
+    pub fn join(limits: Limits) -> Result<Through, Fault> {
+        Through::made(limits, zk_sys::zk_talk_join)
+    }
+
+    fn made(limits: Limits, make: Make<zk_through>) -> Result<Through, Fault> {
         let mut through = Through {
             handle: zk_through {
                 held: null_mut(),
@@ -78,7 +106,7 @@ impl Through {
             reader: Reader::new(),
         };
         limits
-            .make(zk_sys::zk_through_new, &mut through.handle)
+            .make(make, &mut through.handle)
             .map(|()| through)
     }
 
@@ -126,7 +154,7 @@ impl Through {
                 message.answers = view.answers;
                 Ok(Went::Message(message))
             }
-            ASKED | ANSWERED => {
+            ASKED | ANSWERED | UNSEEN => {
                 came.clear();
                 written(newest, |out, room| unsafe {
                     zk_sys::zk_through_payload(handle, side, out, room)

@@ -1,7 +1,7 @@
 //! getEphemerals of ZooKeeper 3.6 (103), which no profile has, and an exists request before its reply. The payloads are
 //! those of docs/EXAMPLES.md and docs/FORMATS.md.
 
-use zk::{At, Ending, Fault, LeftOut, Limits, Message, Order, Side, Through, Value, Went};
+use zk::{At, Ending, Fault, LeftOut, Limits, Message, Order, Side, Through, Unseen, Value, Went};
 
 const HELLO: [u8; 45] = [
     0, 0, 0, 0, 0, 0, 0, 0, 0, 0, 0, 0, 0, 0, 117, 48, 0, 0, 0, 0, 0, 0, 0, 0, 0, 0, 0, 16, 0, 0,
@@ -48,6 +48,12 @@ fn told(went: Went) -> String {
         Went::Full => "full".into(),
         Went::Asked(left) => format!("asked {}", of(left)),
         Went::Answered(left) => format!("answered {}", of(left)),
+        Went::Unseen(Unseen {
+            xid,
+            zxid,
+            err,
+            payload,
+        }) => format!("unseen {xid} {zxid} {err} {}", payload.len()),
         Went::Message(Message {
             xid,
             operation,
@@ -104,6 +110,24 @@ fn pairs_are_left_out() {
         }
         through.renew();
     }
+}
+
+#[test]
+fn late() {
+    let mut through = Through::join(Limits::default()).expect("a passage");
+    let earlier = [0, 0, 0, 1, 0, 0, 0, 0, 0, 0, 0, 4, 0xff, 0xff, 0xff, 0x9b];
+    for (side, payload, wanted) in [
+        (Side::Client, &EXISTS[..], "message 2 3 15 frame 1 answers 0"),
+        (Side::Server, &earlier, "unseen 1 4 -101 16"),
+        (Side::Server, &NO_NODE, "message 2 3 16 frame 2 answers 1"),
+    ] {
+        let bytes = frame(payload);
+        assert_eq!(step(&mut through, side, &bytes, bytes.len()), wanted);
+    }
+    let fault = through.step(Side::Server, &mut &frame(&earlier)[..]).expect_err("nothing waits");
+    let at = fault.at.expect("a place");
+    // The made up frames have 32 and 24 bytes.
+    assert_eq!((at.frame, at.offset), (3, 84));
 }
 
 #[test]

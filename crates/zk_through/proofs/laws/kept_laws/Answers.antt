@@ -1,5 +1,6 @@
 use Rattle.std.proofs.Common.{[]}
 use Rattle.zk_through.proofs.Alone.{one_kept, all_kept}
+use Rattle.zk_through.proofs.Seen.{one_seen}
 use Rattle.zk_through.proofs.laws.kept_laws.Goals as goal
 
 pub returns-clause-one : goal.returns-clause-one
@@ -7,3 +8,6 @@ returns-clause-one c = λ profile came given other a b. one_kept profile [] came
 
 pub returns-clause-alone : goal.returns-clause-alone
 returns-clause-alone c = λ profile came given none kept. all_kept profile [] came given kept none
+
+pub returns-clause-seen : goal.returns-clause-seen
+returns-clause-seen c = λ late all came other a b. one_seen late all came other a b

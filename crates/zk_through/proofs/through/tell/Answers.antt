@@ -1,4 +1,4 @@
-use Rattle.std.proofs.Common.{◌≡◌, ◌≤◌, ◌∙◌, ◌++◌, ℕ, List, length, false, ap, subst, arith}
+use Rattle.std.proofs.Common.{◌≡◌, ◌≤◌, ◌∙◌, ◌++◌, ℕ, inr, List, length, false, ap, subst, arith}
 use Rattle.zk_frames.proofs.Cuts.{length-frame}
 use Rattle.zk_talk.specs.declared.limits.Limits.{Limits}
 use Rattle.zk_talk.specs.declared.message.Fault.{Fault}
@@ -34,3 +34,6 @@ returns-in-Err-clause-err c p is =
           subst (λ (z : List ℕ). IsFaultOf c.args.talk.now.limits (h ++ on c.args.side z) fault) e
           (subst (λ (l : Limits). IsFaultOf l (h ++ on c.args.side c.frame.result.now) fault) c.in-Err.ensures.limits (c.in-Err.ensures.err.1 h M st).is),
     )
+
+pub returns-in-Err-clause-waits : goal.returns-in-Err-clause-waits
+returns-in-Err-clause-waits c h M st = inr (on c.args.side c.frame.result.now, c.in-Err.fault, c.in-Err.ensures.err.1 h M st)

@@ -11,6 +11,7 @@ returns-in-Err c =
     let after : PassageState = record { through = c.step.new.self; client = was.client; server = was.server } in
     subst (λ (p : PassageState). IsPassing p c.args.side c.args.piece.now (Err c.in-Err.fault) after) c.self.view_is (record {
       limits = c.in-Err.ensures.limits;
+      late = c.in-Err.ensures.late;
       ok = tt;
       err = c.in-Err.ensures.err;
       room = c.in-Err.ensures.room;

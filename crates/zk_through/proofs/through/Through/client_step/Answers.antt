@@ -1,4 +1,4 @@
-use Rattle.std.proofs.Common.{◌≡◌, ◌∙◌, [], sym, ap, subst, Option, Some, arith}
+use Rattle.std.proofs.Common.{◌≡◌, ◌∙◌, [], refl, sym, ap, subst, Option, Some, arith}
 use Rattle.std.specs.Option.{IfSome, IfNone}
 use Rattle.zk_records.specs.declared.profile.Profile.{Profile}
 use Rattle.std.proofs.lemmas.Result.{err_from_is_err_and}
@@ -97,3 +97,8 @@ returns-clause-ok c =
     let most : c.waiting.result ≡ T.talk.limits.waiting = c.waiting.ensures ∙ ap (λ (l : Limits). l.waiting) (sym c.self.invariant.0) in
     rw (← c.self.view_is, c.of-2.ensures, t.passed.1, w.1) (client_told T c.args.piece.now limit none room c.in-Some.new c.receive.new.stream w.0 c.tell.new.stream c.tell.new.talk c.ask.new.self t.passed.0 t.limits t.ok c.weight-weight.result size (λ more h M v cr sr st g. omega (arith, more, c.if-weight-room.false, c.room-room.ensures.stands h M v cr sr st g, most)) c.asked-ahead.result c.ask.ensures.now c.asked-ahead.ensures.some c.asked-ahead.ensures.none
     (λ turn e foreign. c.in_default-out.ensures.none turn e (subst (λ (z : Profile). IsLacked z turn) (sym profile) foreign)))
+
+pub returns-in_err-tell-clause-waits : goal.returns-in_err-tell-clause-waits
+returns-in_err-tell-clause-waits c =
+    let p = err_from_is_err_and c.from_residual-in_err-tell.result c.from_residual-in_err-tell.ensures.1 in
+    rw (p.1, ← c.self.view_is) (refl, c.in_err-tell.ensures.waits)

@@ -1,8 +1,9 @@
 use Rattle.std.proofs.Common.{◌≡◌, ◌∙◌, Some, sym, ap, subst}
+use Rattle.std.specs.Prelude.{OnErr}
 use Rattle.std.proofs.lemmas.Result.{IfErr-weaker, IfOk-weaker}
 use Rattle.zk_talk.specs.declared.message.Side.TheVariants.{Client, Server}
-use Rattle.zk_through.specs.Runs.{ThroughState, WentOn, IsRefused, LeavesSide, given_up}
-use Rattle.zk_through.proofs.Given.{given_went, given_refused, given_leaves, given_itself, fault_stays, kept_refused}
+use Rattle.zk_through.specs.Runs.{ThroughState, WentOn, IsRefused, LeavesSide, KeepsWaiting, given_up}
+use Rattle.zk_through.proofs.Given.{given_went, given_refused, given_leaves, given_itself, given_waits, fault_stays, kept_refused}
 use Rattle.zk_through.proofs.Never.{never_full}
 use Rattle.zk_through.proofs.through.Through.step.Goals as goal
 
@@ -78,3 +79,20 @@ returns-in-Some-clause-room c =
     let f = c.in-Some.fault in
     let kept : old.fault ≡ Some f = fault_stays c.args.side old ∙ ap (λ (t : ThroughState). t.fault) (sym c.give_up.ensures ∙ sym c.self.view_is) ∙ c.in-Some.is in
     never_full c.args.side old c.args.piece.now f (given_up c.args.side old) (kept_refused c.args.side old c.args.piece.now f kept)
+
+pub returns-in-Some-clause-waits : goal.returns-in-Some-clause-waits
+returns-in-Some-clause-waits c = rw c.give_up.ensures (given_waits c.args.side c.args.self.now)
+
+pub returns-in-Client-clause-waits : goal.returns-in-Client-clause-waits
+returns-in-Client-clause-waits c =
+    let old = c.args.self.now in
+    let new = c.client_step.new.self in
+    let gave : c.give_up.new.self ≡ given_up Client old = c.give_up.ensures ∙ ap (λ z. given_up z old) c.in-Client.is in
+    subst (λ (z : ThroughState). OnErr c.client_step.result (KeepsWaiting z new)) gave c.client_step.ensures.waits
+
+pub returns-in-Server-clause-waits : goal.returns-in-Server-clause-waits
+returns-in-Server-clause-waits c =
+    let old = c.args.self.now in
+    let new = c.server_step.new.self in
+    let gave : c.give_up.new.self ≡ given_up Server old = c.give_up.ensures ∙ ap (λ z. given_up z old) c.in-Server.is in
+    subst (λ (z : ThroughState). OnErr c.server_step.result (KeepsWaiting z new)) gave c.server_step.ensures.waits

@@ -1,10 +1,10 @@
 use Rattle.std.proofs.Common.{Some, sym, ap, subst, ◌∙◌}
 use Rattle.zk_talk.specs.declared.limits.Limits.{Limits}
 use Rattle.zk_c.specs.Handle.{AreNumbers}
-use Rattle.zk_c.proofs.through.zk_through_new.Goals as goal
+use Rattle.zk_c.proofs.through.make.Goals as goal
 
-pub returns-clause-new : goal.returns-clause-new
-returns-clause-new c well = record {
+pub returns-clause-made : goal.returns-clause-made
+returns-clause-made c well = record {
   passage = c.in-Ok.passage;
   held = c.put.ensures ∙ ap Some c.in-Ok-new.ensures.ok;
   limits = subst (λ (l : Limits). AreNumbers c.args.client c.args.server c.args.waiting c.args.profile l) (sym c.in-Ok.ensures.limits) c.in-Some.ensures.value;

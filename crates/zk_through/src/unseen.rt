@@ -1,0 +1,57 @@
+//! Whether a reply is to a request that wasn't seen, of a connection that is seen late.
+ghost use Rattle.std.specs.Prelude.{◌≡◌, true, IfSome, IfNone};
+ghost use Rattle.zk_frames.specs.Framing.{IsFrame};
+ghost use Rattle.zk_through.specs.LeftOut.{xid_of};
+ghost use Rattle.zk_through.specs.Turns.{IsEarlier, matched_after};
+ghost use Rattle.zk_through.specs.Runs.{IsAhead, IsHeader};
+
+use crate::ahead::header;
+use crate::turns::{Turns, has_matched};
+use zk_talk::Stream;
+
+/// The xid, the zxid and the err of the server's whole frame, if that is a reply to a request that wasn't seen. If it
+/// isn't, it counts for `matched`.
+#[cold]
+#[inline(never)]
+fn unseen_late(
+    matched: &mut bool,
+    turns: &Turns,
+    server: &Stream,
+    ahead: Option<i32>,
+) -> Option<(i32, i64, i32)>
+    requires whole { IsFrame server.now.limit server.now.held }
+    requires ahead { IfSome ahead (λ xid. IsAhead 16 server.now (λ q. xid ≡ xid_of q)) }
+    ensures some { IfSome result (λ head. IsEarlier matched.old turns.now ahead × IsHeader server.now head) }
+    ensures none { IfNone result (IsEarlier matched.old turns.now ahead → ⊥) }
+    ensures same { IsEarlier matched.old turns.now ahead → matched.new ≡ matched.old }
+    ensures counts { (IsEarlier matched.old turns.now ahead → ⊥) → matched.new ≡ matched_after ahead matched.old }
+{
+    if !turns.is_earlier(ahead, *matched) {
+        *matched = has_matched(ahead, *matched);
+        return None;
+    }
+    header(server.payload())
+}
+
+/// The same, of a connection that is seen `late`; nothing of another.
+#[inline(always)]
+pub fn unseen(
+    late: bool,
+    matched: &mut bool,
+    turns: &Turns,
+    server: &Stream,
+    ahead: Option<i32>,
+) -> Option<(i32, i64, i32)>
+    requires whole { IsFrame server.now.limit server.now.held }
+    requires ahead { IfSome ahead (λ xid. IsAhead 16 server.now (λ q. xid ≡ xid_of q)) }
+    ensures late { IfSome result (λ head. late ≡ true) }
+    ensures some { IfSome result (λ head. IsEarlier matched.old turns.now ahead × IsHeader server.now head) }
+    ensures none { IfNone result (late ≡ true → IsEarlier matched.old turns.now ahead → ⊥) }
+    ensures same { late ≡ true → IsEarlier matched.old turns.now ahead → matched.new ≡ matched.old }
+    ensures counts { late ≡ true → (IsEarlier matched.old turns.now ahead → ⊥) → matched.new ≡ matched_after ahead matched.old }
+{
+    if !late {
+        return None;
+    }
+    unseen_late(matched, turns, server, ahead)
+}
