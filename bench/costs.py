@@ -99,6 +99,7 @@ ROWS = (
     *(command("migrate", name) for name in ("small", "listing", "one message a piece")),
     Row("check --earliest refused", Run("zkdump", ("check", "--earliest"), "refused", 1), START),
     *map(steps, ("step", "passage", "view", "fields")),
+    Row("library, say", *(Run("handle", ("say",), f"{name}.lines") for name in ("small", NOTHING))),
     talks("open", 400),
     talks("renew", 400),
 )

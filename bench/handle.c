@@ -1,12 +1,13 @@
 /* How fast the library for C is, and how often it allocates.
  *
  *     handle step|line|view|open|renew [THREADS [TIMES]] < RECORDING
+ *     handle say [THREADS [TIMES]] < LINES
  *
  * Steps through the recording (format ZKR1), and with `line` writes each message's line, with `view` asks for its
- * numbers. With THREADS that many threads do so at once, each with a handle of its own. With TIMES the recording is read
- * that often: with `open` by a new talk each time, which is closed after it, and else by one that is begun anew. It
- * prints the messages, the ending, the CPU seconds of the steps and the number of allocations between the first message
- * and the last. bench/README.md says how to compile it. */
+ * numbers; `say` says the message of each line. With THREADS that many threads do so at once, each with a handle of its
+ * own. With TIMES all is read that often: with `open` by a new talk each time, which is closed after it, and else by one
+ * that is begun anew. It prints the messages, the ending, the CPU seconds of the steps and the number of allocations
+ * between the first message and the last. bench/README.md says how to compile it. */
 #define _POSIX_C_SOURCE 200809L
 #pragma weak zk_talk_renew /* so that an older library, which lacks it, can be measured without it */
 #include "zk.h"
@@ -46,8 +47,28 @@ static void open_talk(struct zk_talk *talk) {
     if (zk_talk_new(talk, 4194304, 4194304, 65536, ZK_PROFILE_34) != ZK_WELL) exit(2);
 }
 
-/* Gives the talk the recording, up to its end or to a fault. */
+/* Says the message of each line, up to the first that is refused. */
+static void say_lines(struct result *result) {
+    struct zk_speaker speaker = {0};
+    if (zk_speaker_new(&speaker, 4194304, 4194304, 65536, ZK_PROFILE_34) != ZK_WELL) exit(2);
+    for (size_t at = 0; at < size;) {
+        const uint8_t *line = recording + at, *end = memchr(line, '\n', size - at);
+        size_t length = end == NULL ? size - at : (size_t)(end - line);
+        at += length + 1;
+        struct zk_say said = zk_speaker_say(&speaker, line, length);
+        if (said.status != ZK_WELL) break;
+        result->messages++;
+        result->kinds += (long)said.length;
+    }
+    zk_speaker_free(&speaker);
+}
+
+/* Gives the talk the recording, up to its end or to a fault; or says the lines. */
 static void read_once(struct zk_talk *talk, struct result *result, uint8_t *text, size_t room) {
+    if (what == 'S') {
+        say_lines(result);
+        return;
+    }
     for (size_t at = 4; at + 5 <= size;) {
         const uint8_t *head = recording + at, *bytes = head + 5;
         size_t left = (size_t)head[1] << 24 | (size_t)head[2] << 16 | (size_t)head[3] << 8 | head[4];
@@ -98,7 +119,7 @@ int main(int count, char **words) {
     int threads = count > 2 ? atoi(words[2]) : 1;
     if (count > 3) times = atoi(words[3]);
     if (count < 2 || threads < 1 || threads > 64 || times < 1) return 2;
-    what = words[1][0];
+    what = strcmp(words[1], "say") == 0 ? 'S' : words[1][0]; /* step has the s */
     size_t room = 1 << 28;
     recording = malloc(room);
     size = fread(recording, 1, room, stdin);

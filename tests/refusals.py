@@ -14,7 +14,9 @@ up from 1 until a run meets no refusal
   (crates/talk_tests/src/growth.rt) passes, with the example on its standard input: each call of read_all, Talk::new,
   Talk::take, Speaker::new, Speaker::say, MessageRef::to_message, line_of, line_of_ref, read_line and ending_line that
   runs out of memory returns, when it is called again, what it returns with ample memory; and Talk::step and Talk::view,
-  which are called once, never allocate.
+  which are called once, never allocate;
+- few: `build` over lines of small messages and of listings (bench/make_recording.py) grows no more than a few times for
+  each 65,536 bytes that it reads, however many messages or names they have.
 
 The program is crates/zkdump/out/zkdump, and the tests are crates/talk_tests/out/talk_tests_tests, where no others are
 named; `./test` builds both there, and so do `./zkdump` and, in crates/talk_tests, `rt test`. It prints the other runs
@@ -23,6 +25,7 @@ and one last line. The status is 0 if there are none. Without a C compiler it re
 
 import argparse
 import concurrent.futures
+import math
 import os
 import pathlib
 import shutil
@@ -31,12 +34,17 @@ import sys
 import tempfile
 import time
 
-from program import BUILT, TOP, Program
+from program import BUILT, HEAD, TOP, Program
+
+sys.path.append(str(TOP / "bench"))
+import make_recording as making  # noqa: E402
 
 CASES = TOP / "crates" / "zkdump" / "cases"
 TESTS = TOP / "crates" / "talk_tests" / "out" / "talk_tests_tests"
 CALLS = "growth::asked_again"
-KINDS = ("show", "check", "build", "migrate", "calls")
+KINDS = ("show", "check", "build", "migrate", "calls", "few")
+LINES = (("small", 1_000), ("small", 10_000), ("listing", 20), ("listing", 100))
+BLOCK = 65_536
 OUT_OF_MEMORY = b"zkdump: out of memory\n"
 
 
@@ -88,6 +96,28 @@ def test(task):
     return growth - len(failures), failures
 
 
+def lines_of(program, mix, count):
+    """The first lines of a recording of the mix."""
+    with tempfile.NamedTemporaryFile() as recording:
+        making.write(recording.name, mix, 4 if mix == "small" else count // 8)
+        lines = program.run(["show"], pathlib.Path(recording.name).read_bytes())[0].splitlines(keepends=True)
+    return b"".join(lines[:count]), len(lines[:count])
+
+
+def few(task):
+    """A run of `build` over many lines, of which one growth more than a few would be refused."""
+    path, library, mix, count = task
+    program = Refusing(path, library)
+    lines, found = lines_of(program, mix, count)
+    most = 64 + 24 * math.ceil(len(lines) / BLOCK)
+    if found != count:
+        return 0, [f"few {mix}: {found} lines, not {count}"]
+    (output, errors, status), was_refused = program.run_without(most + 1, ["build"], lines)
+    if was_refused or status or errors or not output.startswith(HEAD):
+        return 0, [f"few {mix}: {count} lines, more than {most} growths, or {status} {errors}"]
+    return 1, []
+
+
 def content(path):
     return path.read_bytes() if path.exists() else b""
 
@@ -137,6 +167,9 @@ def main():
             return 0
         tasks = [(options.tests if one[0] == "calls" else options.program, library, *one) for one in runs()]
         for good, bad in pool.map(test, [task for task in tasks if options.only in (None, task[2])]):
+            passed, failures = passed + good, failures + bad
+        counted = [(options.program, library, *one) for one in LINES if options.only in (None, "few")]
+        for good, bad in pool.map(few, counted):
             passed, failures = passed + good, failures + bad
     print("\n".join(failures[:50]), end="\n" if failures else "")
     print(f"{passed + len(failures)} runs in {time.monotonic() - begin:.0f} s")

@@ -15,6 +15,8 @@ mod engines;
 #[cfg(test)]
 mod memory;
 #[cfg(test)]
+mod said;
+#[cfg(test)]
 mod samples;
 #[cfg(test)]
 mod watching;

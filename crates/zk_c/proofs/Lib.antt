@@ -1,3 +1,4 @@
+mod Copied
 mod Cutting
 mod Handles
 mod Keeping

@@ -1,8 +1,8 @@
 //! `Voice`: a speaker, and the frame that it said last.
-ghost use Rattle.std.specs.Prelude.{◌≡◌, ◌≢◌, [], IfOk};
+ghost use Rattle.std.specs.Prelude.{◌≡◌, ◌≢◌, [], false, length, IfOk, IsTrue};
 ghost use Rattle.zk_talk.specs.Said.{Says};
 ghost use Rattle.zk_c.specs.Handle.{TellsText};
-ghost use Rattle.zk_c.specs.Saying.{IsRenewed, TellsSay, TellsPayload};
+ghost use Rattle.zk_c.specs.Saying.{IsRenewed, TellsSay, TellsPayload, say_answer};
 
 use crate::answer::LineAnswer;
 use crate::number::WELL;
@@ -10,7 +10,7 @@ use crate::payload::PayloadAnswer;
 use crate::said::{SayAnswer, refused_payload};
 use std::alloc::{AllocError, Global};
 use std::marker::Model;
-use zk_lines::read_line;
+use zk_lines::{copy_line, read_line};
 use zk_talk::{Limits, Side, Speaker};
 
 /// A speaker, and its newest frame.
@@ -48,11 +48,42 @@ impl Voice {
         self.frame.clear();
     }
 
+    /// Says the message whose line the bytes are, of which the payload alone is made; false: undecided, and nothing changed.
+    fn copy(&mut self, line: &[u8]) -> bool
+        requires { self.old.frame ≡ [] }
+        ensures said { IsTrue result → TellsSay self.old line.now self.new (say_answer 0 (length self.new.frame) 0) }
+        ensures same { result ≡ false → self.new ≡ self.old }
+    {
+        let Ok(()) = self.frame.extend_from_slice(&[0; 4]) else {
+            return false;
+        };
+        let Some(kind) = copy_line(line, &mut self.frame) else {
+            self.frame.clear();
+            return false;
+        };
+        if !self.speaker.say_written(kind, 0, &mut self.frame) {
+            self.frame.clear();
+            return false;
+        }
+        true
+    }
+
     /// Says the message whose line the bytes are.
     pub fn say(&mut self, alloc: Global, line: &[u8]) -> SayAnswer
         ensures { TellsSay self.old line.now self.new result }
     {
         self.frame.clear();
+        if self.copy(line) {
+            return SayAnswer::said(self.frame.len());
+        }
+        self.make(alloc, line)
+    }
+
+    /// Says the message whose line the bytes are, which is made.
+    fn make(&mut self, alloc: Global, line: &[u8]) -> SayAnswer
+        requires { self.old.frame ≡ [] }
+        ensures { TellsSay self.old line.now self.new result }
+    {
         let message = match read_line(alloc, line) {
             Ok(message) => message,
             Err(fault) => return SayAnswer::no_line(fault),

@@ -54,7 +54,7 @@ pub next-line : (limits : Limits) (lines : List (List ℕ)) (messages : List Mes
 next-line limits lines messages next a = record { before = lines; after = []; stands = refl; accepted = a }
 
 -- a frame's length fits into its piece's number
-short-frame : (limits : Limits) (before : List Message) (m : Message) → MaySay limits before m → length (frame (payload_of m)) < 4294967296
+pub short-frame : (limits : Limits) (before : List Message) (m : Message) → MaySay limits before m → length (frame (payload_of m)) < 4294967296
 short-frame limits before (Client f) may = omega (arith, length-frame (client_payload f), may.1, limits.in_range.1)
 short-frame limits before (Server s) may = omega (arith, length-frame (server_payload s), may.1, limits.in_range.3)
 

@@ -1,5 +1,5 @@
 -- What `build` makes of lines: the recording of their messages, up to the first line that is refused.
-use Rattle.std.specs.Prelude.{◌≡◌, ◌≢◌, ℕ, ◌+◌, List, [], ◌∷◌, ◌++◌, length, map, Option}
+use Rattle.std.specs.Prelude.{◌≡◌, ◌≢◌, ℕ, ◌+◌, ◌^◌, ◌<◌, List, [], ◌∷◌, ◌++◌, length, map, Option}
 use Rattle.std.specs.List.{flat_map, AllByRecursion}
 use Rattle.std.specs.Int.{w32, to_be_bytes}
 use Rattle.std.specs.Io.KnownBytes.{Consumes, IsAtEnd, Appends}
@@ -62,6 +62,10 @@ head = letters Zkr1
 
 abbrev pub built_bytes : Piece → List ℕ
 built_bytes p = piece_bytes Zkr1 p
+
+-- behind these bytes is now the piece, if four bytes hold its number
+abbrev pub PutsPiece : Side → List ℕ → List ℕ → List ℕ → Type 0
+PutsPiece side content before now = length content < 2 ^ 32 → now ≡ before ++ built_bytes (untimed side content)
 
 -- the head, and a piece for each message, in order
 abbrev pub recording_of : List Message → List ℕ

@@ -8,15 +8,15 @@ ghost use Rattle.zk_talk.specs.Said as said;
 ghost use Rattle.zk_lines.specs.Lines.{Fits, line};
 ghost use Rattle.zk_runs.specs.declared.builder.Halt.TheVariants.{Fails};
 ghost use Rattle.zk_listings.specs.declared.listing.RunFault.TheVariants.{Read, Write, Memory};
-ghost use Rattle.zk_recordings.specs.Recording.{side_byte};
-ghost use Rattle.zk_runs.specs.Building.{built_bytes, untimed, IsDotted};
+ghost use Rattle.zk_runs.specs.Building.{IsDotted};
 ghost use Rattle.zk_runs.specs.Accepting.{IfSpared};
 ghost use Rattle.zk_runs.specs.Stepping.{IsBegun, TakesLine, HaltsOn, GathersIn, StopsGathering, TakesIn, HaltsWithin, IsAnswered, HasWrittenFirst};
 
 use crate::built::Built;
+use crate::piece::{put_head, put_piece};
 use memchr::memchr;
 use std::alloc::{AllocError, Global};
-use zk_lines::{LineFault, LineReason, ending_line, read_line};
+use zk_lines::{LineFault, LineReason, copy_line, ending_line, read_line};
 use zk_listings::{BLOCK, Failed, RunFault, Sink, rest, write_whole};
 use zk_talk::{Ending, Limits, Message, SayFault, Side, Speaker};
 
@@ -114,42 +114,6 @@ fn side_of(message: &Message) -> Side
     }
 }
 
-fn byte_of(side: Side) -> u8
-    ensures { result ≡ side_byte side }
-{
-    match side {
-        Side::Client => b'C',
-        Side::Server => b'S',
-    }
-}
-
-/// Appends the piece of `content`, which is of `side`, or as much of it as there is memory for.
-fn append_piece(side: Side, content: &[u8], due: &mut Vec<u8>) -> Result<(), AllocError>
-    ensures ok { OnOk result (length content.now < 2 ^ 32 → due.new.items ≡ due.old.items ++ built_bytes (untimed side content.now)) }
-    ensures front { OnErr result (take (length due.old.items) due.new.items ≡ due.old.items) }
-{
-    let size = u32::try_from(content.len()).unwrap_or(u32::MAX);
-    due.extend_from_slice(&[byte_of(side)])?;
-    due.extend_from_slice(&size.to_be_bytes())?;
-    due.extend_from_slice(content)?;
-    Ok(())
-}
-
-/// Appends the piece of `content`, which is of `side`, or nothing.
-fn put_piece(side: Side, content: &[u8], due: &mut Vec<u8>) -> Result<(), AllocError>
-    ensures ok { OnOk result (length content.now < 2 ^ 32 → due.new.items ≡ due.old.items ++ built_bytes (untimed side content.now)) }
-    ensures same { OnErr result (due.new.items ≡ due.old.items) }
-{
-    let start = due.len();
-    match append_piece(side, content, due) {
-        Ok(()) => Ok(()),
-        Err(e) => {
-            due.truncate(start);
-            Err(e)
-        }
-    }
-}
-
 /// Takes all bytes out of a buffer, which keeps its room unless they were more than a block.
 fn empty(alloc: Global, buffer: &mut Vec<u8>)
     ensures { buffer.new.items ≡ [] }
@@ -195,6 +159,32 @@ impl Scribe {
         Ok(())
     }
 
+    /// Takes the line of a message as the payload's bytes, which are read into their place in `due`; false: undecided.
+    // It stands for reading the message and saying it, and makes neither the message nor its frame.
+    fn copy(&mut self, line: &[u8], due: &mut Vec<u8>) -> bool
+        requires room { self.old.lines + 1 < 2 ^ 64 }
+        requires going { self.old.ended ≡ false }
+        ensures count { IsTrue result → self.new.lines ≡ self.old.lines + 1 }
+        ensures goes_on { IsTrue result → TakesLine self.old self.new line.now due.old.items due.new.items }
+        ensures same { result ≡ false → (self.new ≡ self.old) × (due.new.items ≡ due.old.items) }
+    {
+        let before = due.len();
+        let Ok(()) = due.extend_from_slice(&[0; 9]) else {
+            return false;
+        };
+        let Some(kind) = copy_line(line, due) else {
+            due.truncate(before);
+            return false;
+        };
+        if !self.speaker.say_written(kind, before + 5, due) {
+            due.truncate(before);
+            return false;
+        }
+        put_head(kind.side(), before, due);
+        self.lines += 1;
+        true
+    }
+
     /// Takes the line, which begins with a dot, as the ending line.
     fn end(&mut self, alloc: Global, line: &[u8]) -> Result<(), Halt>
         requires room { self.old.lines + 1 < 2 ^ 64 }
@@ -218,6 +208,25 @@ impl Scribe {
         }
     }
 
+    /// Takes the line of a message, which is made and said.
+    fn make(&mut self, alloc: Global, line: &[u8], due: &mut Vec<u8>) -> Result<(), Halt>
+        requires room { self.old.lines + 1 < 2 ^ 64 }
+        requires going { self.old.ended ≡ false }
+        requires plain { IsDotted line.now → ⊥ }
+        ensures count { OnOk result (self.new.lines ≡ self.old.lines + 1) }
+        ensures kept { OnErr result (self.new.lines ≡ self.old.lines) }
+        ensures goes_on { OnOk result (TakesLine self.old self.new line.now due.old.items due.new.items) }
+        ensures halts { IfErr result (HaltsOn self.old line.now) }
+        ensures same { OnErr result (due.new.items ≡ due.old.items) }
+        ensures no_read { result ≢ Err (Fails Read) }
+        ensures no_write { result ≢ Err (Fails Write) }
+    {
+        match read_line(alloc, line) {
+            Ok(message) => self.speak(alloc, &message, due),
+            Err(fault) => Err(Halt::at_line(self.lines + 1, fault)),
+        }
+    }
+
     /// Takes a whole line.
     fn close(&mut self, alloc: Global, line: &[u8], due: &mut Vec<u8>) -> Result<(), Halt>
         requires room { self.old.lines + 1 < 2 ^ 64 }
@@ -235,10 +244,10 @@ impl Scribe {
         if is_dotted(line) {
             return self.end(alloc, line);
         }
-        match read_line(alloc, line) {
-            Ok(message) => self.speak(alloc, &message, due),
-            Err(fault) => Err(Halt::at_line(self.lines + 1, fault)),
+        if self.copy(line, due) {
+            return Ok(());
         }
+        self.make(alloc, line, due)
     }
 }
 

@@ -23,9 +23,10 @@
 //!
 //! # Choices
 //!
-//! **`build` judges a line once it is whole**, so its memory is a line, its message, and the pieces of the lines that
-//! end in one block. These are put into one buffer, which is written once the block is taken, also where a line in it is
-//! refused or memory is. A line is copied only where it goes on from one block to the next. A builder's contract holds
+//! **`build` judges a line once it is whole**, so its memory is a line and the pieces of the lines that end in one block.
+//! These are put into one buffer, which is written once the block is taken, also where a line in it is refused or memory
+//! is. A line's payload is read into its place there. Only where that is undecided, as for a line that is refused, the
+//! line's message is made. A line is copied only where it goes on from one block to the next. A builder's contract holds
 //! for every list of lines that it may have taken, so its calls compose.
 //!
 //! **`migrate` puts what it writes into one buffer**: what a block made whole, which is written before the next read,
@@ -43,6 +44,7 @@ mod built;
 mod laws;
 mod migrate;
 mod options;
+mod piece;
 mod run;
 mod words;
 

@@ -1,24 +1,23 @@
-use Rattle.std.proofs.Common.{ℕ, List, ◌++◌, ap, ◌∙◌}
-use Rattle.zk_frames.specs.Framing.{frame}
-use Rattle.zk_talk.specs.Said.{payload_of}
+use Rattle.std.proofs.Common.{ℕ, List, length, ap, ◌∙◌, sym, subst}
 use Rattle.zk_c.specs.contracts.voice.Voice.{the_view}
+use Rattle.zk_c.specs.declared.said.SayAnswer.{SayAnswer}
 use Rattle.zk_c.specs.Voice.{VoiceState}
-use Rattle.zk_c.specs.Saying.{say_answer, said, refused, no_line}
-use Rattle.zk_c.proofs.Handles.{say_of}
+use Rattle.zk_c.specs.Saying.{TellsSay, say_answer, silent}
+use Rattle.zk_c.proofs.Copied.{say_silent}
 use Rattle.zk_c.proofs.voice.Voice.say.Goals as goal
 
 -- a speaker with the frame that it said last
 abbrev voiced : VoiceState → List ℕ → VoiceState
 voiced v xs = record v { frame = xs }
 
-pub returns-in-Err : goal.returns-in-Err
-returns-in-Err c = say_of c.self.view_is (no_line c.in-Err.fault (ap (voiced (the_view c.self.inside)) c.clear.ensures.items) c.no_line.ensures c.in-Err.ensures.only)
-
-pub returns-in-Ok-say : goal.returns-in-Ok-say
-returns-in-Ok-say c = let found = c.in-Ok.ensures.found in say_of c.self.view_is (said c.in-Ok.message found.1 found.0 c.in-Ok-say.ensures.limits
-    (c.in-Ok-say.ensures.bytes ∙ ap (λ (xs : List ℕ). xs ++ frame (payload_of c.in-Ok.message)) c.clear.ensures.items)
-    (c.said.ensures ∙ ap (λ (n : ℕ). say_answer 0 n 0) (c.len.ensures ∙ c.say.new.out.ok.0)) c.in-Ok-say.ensures.said)
+pub returns-then-copy : goal.returns-then-copy
+returns-then-copy c =
+    let dropped = ap (voiced (the_view c.self.inside)) c.clear.ensures.items ∙ ap silent c.self.view_is in
+    let long = c.len.ensures ∙ c.self-2.inside.frame.ok.0 ∙ ap (λ (v : VoiceState). length v.frame) c.self-2.view_is in
+    let told = c.said.ensures ∙ ap (λ (n : ℕ). say_answer 0 n 0) long in
+    say_silent dropped (subst (λ (a : SayAnswer). TellsSay (voiced (the_view c.self.inside) c.clear.new.self.items) c.args.line.now c.copy.new.self a) (sym told) (c.copy.ensures.said c.if-copy.true))
 
 pub returns : goal.returns
-returns c = let found = c.in-Ok.ensures.found in let same = c.in-Err-say.ensures.same in say_of c.self.view_is (refused c.in-Ok.message found.1 found.0 c.in-Err-say.fault
-    (λ i. record { speaker = same.0 i; frame = (same.1 ∙ c.clear.ensures.items) i }) c.refused.ensures (record { err = c.in-Err-say.ensures.err; lacks = c.in-Err-say.ensures.lacks; exact = c.in-Err-say.ensures.exact }))
+returns c =
+    let dropped = c.copy.ensures.same c.if-copy.false ∙ ap (voiced (the_view c.self.inside)) c.clear.ensures.items ∙ ap silent c.self.view_is in
+    say_silent dropped c.make.ensures
