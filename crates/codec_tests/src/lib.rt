@@ -9,6 +9,8 @@ mod answers;
 #[cfg(test)]
 mod asks;
 #[cfg(test)]
+mod awaited;
+#[cfg(test)]
 mod digits;
 #[cfg(test)]
 mod frames;
