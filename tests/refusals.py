@@ -15,8 +15,8 @@ up from 1 until a run meets no refusal
   Talk::take, Speaker::new, Speaker::say, MessageRef::to_message, line_of, line_of_ref, read_line and ending_line that
   runs out of memory returns, when it is called again, what it returns with ample memory; and Talk::step and Talk::view,
   which are called once, never allocate;
-- few: `build` over lines of small messages and of listings (bench/make_recording.py) grows no more than a few times for
-  each 65,536 bytes that it reads, however many messages or names they have.
+- few: `build` over lines of small messages, in ASCII and outside it, and of listings (bench/costs_inputs.py) grows no more
+  than a few times for each 65,536 bytes that it reads, however many messages or names they have.
 
 The program is crates/zkdump/out/zkdump, and the tests are crates/talk_tests/out/talk_tests_tests, where no others are
 named; `./test` builds both there, and so do `./zkdump` and, in crates/talk_tests, `rt test`. It prints the other runs
@@ -37,13 +37,20 @@ import time
 from program import BUILT, HEAD, TOP, Program
 
 sys.path.append(str(TOP / "bench"))
-import make_recording as making  # noqa: E402
+import costs_inputs  # noqa: E402
 
 CASES = TOP / "crates" / "zkdump" / "cases"
 TESTS = TOP / "crates" / "talk_tests" / "out" / "talk_tests_tests"
 CALLS = "growth::asked_again"
 KINDS = ("show", "check", "build", "migrate", "calls", "few")
-LINES = (("small", 1_000), ("small", 10_000), ("listing", 20), ("listing", 100))
+# A mix, and more bytes of a recording than a message of it has.
+MIXES = {
+    "small": (costs_inputs.making.Small, 150),
+    "outside ASCII": (costs_inputs.Foreign, 150),
+    "listing": (costs_inputs.making.Listing, 210_000),
+}
+LINES = (("small", 1_000), ("small", 10_000), ("outside ASCII", 1_000), ("outside ASCII", 10_000), ("listing", 20),
+         ("listing", 100))
 BLOCK = 65_536
 OUT_OF_MEMORY = b"zkdump: out of memory\n"
 
@@ -98,10 +105,10 @@ def test(task):
 
 def lines_of(program, mix, count):
     """The first lines of a recording of the mix."""
-    with tempfile.NamedTemporaryFile() as recording:
-        making.write(recording.name, mix, 4 if mix == "small" else count // 8)
-        lines = program.run(["show"], pathlib.Path(recording.name).read_bytes())[0].splitlines(keepends=True)
-    return b"".join(lines[:count]), len(lines[:count])
+    kind, size = MIXES[mix]
+    recording = costs_inputs.conversation(kind, size * count)
+    lines = program.run(["show"], recording)[0].splitlines(keepends=True)[:count]
+    return b"".join(lines), len(lines)
 
 
 def few(task):
