@@ -155,7 +155,7 @@ enum { ZK_CONNECT = 1, ZK_REQUEST = 2, ZK_CONNECTED = 3, ZK_REPLY = 4, ZK_EVENT 
 /* What message a frame is. operation is that of a request, or of the request that a reply answers; err and zxid are those
  * of a reply or an event, else 0; frame is the number of the side's frame, from 0. The frame's bytes, its length
  * included, are the last `size` that were used of its side. answers is the number of the client's frame that a ZK_REPLY
- * of a passage answers. It is 0 for ZK_CONNECTED, which answers that frame, for what answers none, and in a talk. */
+ * answers. It is 0 for ZK_CONNECTED, which answers that frame, and for what answers none. */
 struct zk_message {
     uint32_t status;
     uint32_t kind;

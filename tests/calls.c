@@ -161,7 +161,7 @@ static void show_fields(struct played *it, enum kind kind, uint32_t side) {
     must(read.kind == message.kind && read.xid == message.xid && read.operation == message.operation,
          "another message");
     must(read.err == message.err && read.zxid == message.zxid, "other numbers of the header");
-    must((message.answers != 0) == (kind != TALK && message.kind == ZK_REPLY), "the frame that is answered");
+    must((message.answers != 0) == (message.kind == ZK_REPLY), "the frame that is answered");
 }
 
 /* A step of a passage: what became of the bytes, and what is then shown and left out. */

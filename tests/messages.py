@@ -4,7 +4,7 @@ tests/library.py calls it. Each recording is given to a talk in the pieces that 
 frame becomes whole, its payload, its fields, its number and the numbers of its header are compared with the bytes that
 were given, as tests/fields.py reads them. A second talk passes over the same pieces: it returns what the first returns,
 and keeps no frame. After each piece what it holds, and what waits, is compared with the bytes and requests that came.
-A passage gets them, too: which of the client's frames each reply answers is compared with the requests that came.
+Which of the client's frames each reply answers is compared with the requests that came; so it is of a passage, too.
 
 Passages that join each recording late, at several of its frames, are given what follows. They return the messages that
 the talk returns, with frames' numbers of their own, but replies to requests that they weren't given as such.
@@ -92,9 +92,28 @@ def compare_message(caller, talk, side, frame, payload):
            (0, len(wanted), message.kind, message.operation, xid, err, zxid))
 
 
+class Lanes:
+    """How many frames each side has sent, and the numbers of the requests that wait, by lanes."""
+
+    def __init__(self):
+        self.frames, self.lanes = [0, 0], collections.defaultdict(collections.deque)
+
+    def answered(self, side, payload):
+        """Takes the side's next frame, and returns the number of the client's frame that it answers; 0 if none."""
+        xid, first = int.from_bytes(payload[:4], "big", signed=True), self.frames[side] == 0
+        lane = self.lanes[xid if xid in (PINGS, AUTHS, WATCHES) else 0]
+        self.frames[side] += 1
+        if first or xid == EVENTS:
+            return 0
+        if side == 1:
+            return lane.popleft()
+        lane.append(self.frames[side] - 1)
+        return 0
+
+
 def compare_recording(caller, content, cut):
     """What is returned of each message of a recording whose pieces are cut to at most `cut` bytes."""
-    came, frames, waiting, library = [bytearray(), bytearray()], [0, 0], Waiting(), caller.library
+    came, lanes, waiting, library = [bytearray(), bytearray()], Lanes(), Waiting(), caller.library
     with caller.talk.Talk(library, profile=35) as talk, caller.talk.Talk(library, profile=35) as passing:
         for side, piece in caller.talk.pieces(content):
             at = 0
@@ -109,9 +128,10 @@ def compare_recording(caller, content, cut):
                 at += step.used
                 if step.whole:
                     payload, message = bytes(came[side][4:]), library.zk_talk_view(talk.handle, side)
-                    yield from compare_message(caller, talk, side, frames[side], payload)
+                    yield from compare_message(caller, talk, side, lanes.frames[side], payload)
+                    yield message.answers, lanes.answered(side, payload)
                     waiting.message(KINDS[message.kind - 1], message.xid, parts_of(caller, message, payload))
-                    came[side], frames[side] = bytearray(), frames[side] + 1
+                    came[side] = bytearray()
                     yield library.zk_talk_view(passing.handle, side).status, NO_MESSAGE
                     yield from compare_counts(library, talk, came, waiting)
                 yield from compare_counts(library, passing, came, waiting)
@@ -120,7 +140,7 @@ def compare_recording(caller, content, cut):
 def compare_passage(caller, content):
     """Which of the client's frames each reply of a passage answers, and which should."""
     handle, library = caller.talk.Handle(), caller.library
-    came, frames, lanes = [bytearray(), bytearray()], [0, 0], collections.defaultdict(collections.deque)
+    came, lanes = [bytearray(), bytearray()], Lanes()
     yield library.zk_through_new(handle, 1 << 22, 1 << 22, 1 << 16, 34), 0
     for side, piece in caller.talk.pieces(content):
         while piece:
@@ -132,14 +152,11 @@ def compare_passage(caller, content):
             piece = piece[step.used:]
             if step.went not in (MESSAGE, ASKED, ANSWERED):
                 continue
-            xid = int.from_bytes(came[side][4:8], "big", signed=True)
-            lane, first = lanes[xid if xid in (PINGS, AUTHS, WATCHES) else 0], frames[side] == 0
             answers = step.frame if step.went == ANSWERED else library.zk_through_view(handle, side).answers
+            wanted = lanes.answered(side, came[side][4:])
             if side == 1:
-                yield answers, 0 if first or xid == EVENTS else lane.popleft()
-            elif not first:
-                lane.append(frames[side])
-            came[side], frames[side] = bytearray(), frames[side] + 1
+                yield answers, wanted
+            came[side] = bytearray()
     library.zk_through_free(handle)
 
 

@@ -73,7 +73,7 @@ type Field struct {
 }
 
 // Message is a message. The operation of a reply is that of its request. Frame is the number of its frame among those of
-// its side in a talk, from 0; Answers is that of the client's frame that a passage's reply answers, else 0.
+// its side in a talk, from 0; Answers is that of the client's frame that a reply answers, else 0.
 type Message struct {
 	Kind      Kind
 	Xid       int32

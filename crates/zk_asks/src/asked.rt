@@ -14,11 +14,17 @@ pub trait Room {
     /// How many more it takes at most.
     ghost room: { Self → ℕ };
 
+    /// What else it has.
+    ghost Kept: { Type 0 };
+
+    ghost kept: { Self → Self.Kept };
+
     /// Appends `op`.
     fn push(&mut self, op: PartOp)
         requires { length (ops self.old) < room self.old }
         ensures pushed { ops self.new ≡ ops self.old ++ op ∷ [] }
-        ensures room { room self.new ≡ room self.old };
+        ensures room { room self.new ≡ room self.old }
+        ensures kept { kept self.new ≡ kept self.old };
 }
 
 /// The operation of a request, and the operations of its parts: what its reply is read by.
@@ -45,6 +51,7 @@ pub trait Asked {
         requires { length (R.ops room.old) + length (part_ops self.now) ≤ R.room room.old }
         ensures put { R.ops room.new ≡ R.ops room.old ++ part_ops self.now }
         ensures room { R.room room.new ≡ R.room room.old }
+        ensures kept { R.kept room.new ≡ R.kept room.old }
     {
         for j in 0..self.parts() {
             room.push(self.part(j).unwrap());

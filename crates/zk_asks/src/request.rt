@@ -29,6 +29,7 @@ fn put_all<'a, R: Room>(parts: PartItems<'a>, room: &mut R)
     requires { length (R.ops room.old) + length (map op_of_part parts) ≤ R.room room.old }
     ensures put { R.ops room.new ≡ R.ops room.old ++ map op_of_part parts.entry }
     ensures room { R.room room.new ≡ R.room room.old }
+    ensures kept { R.kept room.new ≡ R.kept room.old }
 {
     let mut items = parts;
     while let Some(op) = items.pass() {

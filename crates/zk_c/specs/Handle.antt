@@ -2,6 +2,7 @@
 use Rattle.std.specs.Prelude.{◌≡◌, ◌≢◌, ℕ, ◌<◌, ◌+◌, Bool, false, List, [], ◌++◌, length, drop, Option, Some, None, Result, Err, IfOk, IfErr, OnErr}
 use Rattle.zk_jute.specs.declared.fault.Reason.TheVariants.{NoMemory}
 use Rattle.zk_talk.specs.declared.message.Side.{Side}
+use Rattle.zk_talk.specs.declared.message.Side.TheVariants.{Client, Server}
 use Rattle.zk_talk.specs.declared.message.Fault.{Fault}
 use Rattle.zk_talk.specs.declared.talk.Stepped.{Stepped}
 use Rattle.zk_talk.specs.declared.message.Ending.{Ending}
@@ -12,6 +13,7 @@ use Rattle.zk_talk.specs.History.{History}
 use Rattle.zk_talk.specs.Conversation.{Conversation, number_waiting, load}
 use Rattle.zk_talk.specs.Fault.{rest_on}
 use Rattle.zk_talk.specs.Ending.{IsEnding}
+use Rattle.zk_talk.specs.Numbers.{NewestAnswers}
 use Rattle.zk_talk.specs.Stands.{TalkState, Stands, Refuses, WhereItStands, held_on, kept_on, frames_on}
 use Rattle.zk_talk.specs.Taking.{StepsOn, PassesOn, IsRefused, given_up}
 use Rattle.zk_talk.specs.Viewed.{Shows, Leaves, other_side}
@@ -114,10 +116,17 @@ pub record TellsEnding (Is : Ending → Type 0) (answer : EndingAnswer) : Type 0
 abbrev pub size_held : Side → TalkState → ℕ
 size_held side talk = length (held_on side talk) + length (kept_on side talk)
 
+-- the frame that the side keeps answers the client's frame of this number, or none; the client's answer none
+abbrev pub AnswersOn : Side → TalkState → Option ℕ → Type 0
+AnswersOn Client talk number = number ≡ None
+AnswersOn Server talk number = WhereItStands talk (λ v client_rest server_rest. NewestAnswers v number) ×
+    ((h : History) (M : List Message) (f : Fault) (r : Refuses talk h M f) → NewestAnswers r.is.conversation number)
+
 -- the answer is the message of the frame that the side keeps, which is one
 pub record IsView (talk : TalkState) (side : Side) (answer : MessageAnswer) : Type 0 where
   pub none : kept_on side talk ≡ [] → answer ≡ no_message 69
-  pub some : (m : Message) → Shows talk side m → answer ≡ message_answer (size_held side talk) (frames_on side talk) None m
+  pub some : (m : Message) → Shows talk side m →
+      (number : Option ℕ) × AnswersOn side talk number × (answer ≡ message_answer (size_held side talk) (frames_on side talk) number m)
   pub there : (kept_on side talk ≡ [] → ⊥) → (m : Message) × Shows talk side m
 
 -- how many requests wait for their replies after these frames, and what they weigh

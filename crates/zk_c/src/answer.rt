@@ -86,7 +86,7 @@ pub struct MessageAnswer {
     pub zxid: i64,
     /// The number of the side's frame, from 0.
     pub frame: u64,
-    /// The number of the client's frame that a reply of a passage answers; else 0.
+    /// The number of the client's frame that a reply answers; else 0.
     pub answers: u64,
 }
 
@@ -254,6 +254,7 @@ impl MessageAnswer {
     }
 
     /// The message in numbers, with the size of its frame, the frame's number, and that of the frame that it answers.
+    #[inline(always)]
     pub fn of(
         message: &MessageRef<'_>,
         size: u32,

@@ -1,8 +1,8 @@
 //! `Conversation`: a talk, and a buffer for the lines of its messages.
 ghost use Rattle.std.specs.Prelude.{◌≡◌, [], IfOk};
-ghost use Rattle.zk_talk.specs.Stands.{Stands};
+ghost use Rattle.zk_talk.specs.Stands.{Stands, kept_on};
 ghost use Rattle.zk_lines.specs.Lines.{line};
-ghost use Rattle.zk_c.specs.Handle.{IsRenewed, IsStep, IsPass, IsFinish, IsView, IsLine, IsEndingLine, IsFields, IsPayload, IsWaiting, IsHeld, TellsText};
+ghost use Rattle.zk_c.specs.Handle.{IsRenewed, IsStep, IsPass, IsFinish, AnswersOn, IsView, IsLine, IsEndingLine, IsFields, IsPayload, IsWaiting, IsHeld, TellsText};
 
 use crate::answer::{LineAnswer, MessageAnswer};
 use crate::counts::{HeldAnswer, WaitingAnswer};
@@ -118,6 +118,16 @@ impl Conversation {
         self.talk.finish()
     }
 
+    /// The number of the client's frame that the side's kept frame answers; a client's answers none.
+    fn answered(&self, side: Side) -> Option<u64>
+        ensures { (kept_on side self.now ≡ [] → ⊥) → AnswersOn side self.now result }
+    {
+        match side {
+            Side::Client => None,
+            Side::Server => self.talk.answered(),
+        }
+    }
+
     /// The message of the side's kept frame.
     pub fn view(&self, side: Side) -> MessageAnswer
         ensures { IsView self.now side result }
@@ -125,7 +135,7 @@ impl Conversation {
         match self.talk.view(side) {
             Some(message) => {
                 let (size, frames) = (self.talk.held(side), self.talk.frames(side));
-                MessageAnswer::of(&message, size, frames, None)
+                MessageAnswer::of(&message, size, frames, self.answered(side))
             }
             None => MessageAnswer::none(NO_MESSAGE),
         }

@@ -4,13 +4,14 @@ use Rattle.std.proofs.lemmas.List.{length-take-le}
 use Rattle.zk_jute.specs.declared.fault.ItemFault.{ItemFault}
 use Rattle.zk_jute.specs.declared.fault.Reason.{Reason}
 use Rattle.zk_jute.specs.declared.fault.Reason.TheVariants.{Short, BadBool, BadLength, BadText, NoMemory, Trailing, UnknownOp, XidOp, BadPart, EventErr, LengthRange, QueueFull, Unasked, XidOrder, StreamEnd}
-use Rattle.zk_records.specs.declared.op.Op.{Op}
 use Rattle.zk_waiting.specs.Waiting.{Lanes}
 use Rattle.zk_talk.specs.declared.message.Fault.{Fault}
 use Rattle.zk_talk.specs.declared.message.Side.{Side}
 use Rattle.zk_talk.specs.declared.message.Side.TheVariants.{Client, Server}
 use Rattle.zk_talk.specs.declared.stream.Advance.{Advance}
 use Rattle.zk_talk.specs.declared.stream.Advance.TheVariants.{Within, Whole, Refused}
+use Rattle.zk_talk.specs.declared.replied.Replied.{Replied}
+use Rattle.zk_talk.specs.Numbers.{IsNewest}
 use Rattle.zk_talk.specs.Held.{Message}
 use Rattle.zk_talk.specs.History.{History}
 use Rattle.zk_talk.specs.Streams.{StreamState, passed, kept_now}
@@ -22,7 +23,7 @@ use Rattle.zk_talk.specs.Viewed.{Shows}
 use Rattle.zk_talk.specs.Receiving.{IsReceived}
 use Rattle.zk_talk.specs.Taking.{GoesOn, Steps, IsRefused, Fails, given_up}
 use Rattle.zk_talk.proofs.Talks.{set_on, put_on, refusing}
-use Rattle.zk_talk.proofs.Sides.{TellsOn, IsNextOn, goes_within, stopped, goes_whole, judged}
+use Rattle.zk_talk.proofs.Sides.{TellsOn, IsNextOn, IsToldOn, told_nothing, goes_within, stopped, goes_whole, judged}
 
 lacking : (r : Reason) → (r ≡ NoMemory) ⊎ (r ≡ NoMemory → ⊥)
 lacking NoMemory = inl refl
@@ -56,8 +57,8 @@ pub received : (side : Side) (old : StreamState) (piece : List ℕ) (kept : Opti
 received side old piece kept new keeps e r = subst (λ z. IsReceived side old piece kept (Ok z) new keeps) e r
 
 -- what is kept is of no weight for the history
-pub rekept : (t : TalkState) (a b : List ℕ) (h : History) (M : List Message) → Stands t h M → Stands (record t { client_kept = a; server_kept = b }) h M
-rekept t a b h M st = record {
+pub rekept : (t : TalkState) (a b : List ℕ) (h : History) (M : List Message) (st : Stands t h M) → ((b ≡ [] → ⊥) → IsNewest st.conversation t.answered) → Stands (record t { client_kept = a; server_kept = b }) h M
+rekept t a b h M st newest = record {
   conversation = st.conversation;
   good = st.good;
   order = st.order;
@@ -66,6 +67,8 @@ rekept t a b h M st = record {
   client_size = st.client_size;
   server_size = st.server_size;
   queues = st.queues;
+  numbers = st.numbers;
+  newest = newest;
   no_fault = st.no_fault;
 }
 
@@ -74,7 +77,7 @@ given_there : (side : Side) (t : TalkState) → set_on side t (held_on side t) [
 given_there Client t = refl
 given_there Server t = refl
 
-held_there : (side : Side) (t : TalkState) (held kept : List ℕ) (count size : ℕ) (w : Lanes) (o : Option Op) (k : Option Fault) → held_on side (set_on side t held kept count size w o k) ≡ held
+held_there : (side : Side) (t : TalkState) (held kept : List ℕ) (count size : ℕ) (w : Lanes) (o : Option Replied) (k : Option Fault) → held_on side (set_on side t held kept count size w o k) ≡ held
 held_there Client t held kept count size w o k = refl
 held_there Server t held kept count size w o k = refl
 
@@ -116,21 +119,21 @@ module _ (side : Side) (t : TalkState) (piece : List ℕ) (s s' : StreamState) {
 
   module _ (used : ℕ) (a : IsAdvance limit (size_on side t) (held_on side t) piece (Whole used) s.held) (max : t.waiting.max ≡ t.limits.waiting) where
     -- a frame more, which is passed or kept
-    one_more : (k : List ℕ) (o : Option Op) (m : Message) (w : Lanes) → IsNextOn side t.limits.profile t.client_frames s.count t.waiting (drop 4 s.held) m w →
+    one_more : (k : List ℕ) (o : Option Replied) (m : Message) (w : Lanes) → IsNextOn side t.limits.profile t.client_frames s.count t.waiting (drop 4 s.held) m w → IsToldOn side t k o m →
         GoesOn t side (take used piece) (m ∷ []) (set_on side t [] k (s.count + 1) (s.size + used) w o t.fault)
-    one_more k o m w next =
-        let target = goes_whole side t piece s.held k o used m w (advance_on (Whole used) a) max (subst (λ z. IsNextOn side t.limits.profile t.client_frames z t.waiting (drop 4 s.held) m w) same_count next) in
+    one_more k o m w next told =
+        let target = goes_whole side t piece s.held k o used m w (advance_on (Whole used) a) max (subst (λ z. IsNextOn side t.limits.profile t.client_frames z t.waiting (drop 4 s.held) m w) same_count next) told in
         subst (GoesOn t side (take used piece) (m ∷ [])) (λ i. set_on side t [] k (sym same_count i + 1) (sym same_size i + used) w o t.fault) target
 
-    pub makes : (m : Message) (w : Lanes) → IsNextOn side t.limits.profile t.client_frames s.count t.waiting (drop 4 s.held) m w → s' ≡ passed s used → GoesOn t side (take used piece) (m ∷ []) (put_on side t s' w t.answered t.fault)
-    makes m w next q =
-        subst (λ (z : StreamState). GoesOn t side (take used piece) (m ∷ []) (put_on side t z w t.answered t.fault)) (sym q) (one_more s.kept t.answered m w next)
+    pub makes : (m : Message) (w : Lanes) → IsNextOn side t.limits.profile t.client_frames s.count t.waiting (drop 4 s.held) m w → kept_on side t ≡ [] → s' ≡ passed s used → GoesOn t side (take used piece) (m ∷ []) (put_on side t s' w t.answered t.fault)
+    makes m w next none q =
+        subst (λ (z : StreamState). GoesOn t side (take used piece) (m ∷ []) (put_on side t z w t.answered t.fault)) (sym q) (one_more s.kept t.answered m w next (subst (λ (z : List ℕ). IsToldOn side t z t.answered m) (sym (same_kept ∙ none)) (told_nothing side t m s.count w (drop 4 s.held) next)))
 
-    pub keeps : (o : Option Op) (m : Message) (w : Lanes) → IsNextOn side t.limits.profile t.client_frames s.count t.waiting (drop 4 s.held) m w → Shows (put_on side t s' w o t.fault) side m → s' ≡ kept_now s used →
+    pub keeps : (o : Option Replied) (m : Message) (w : Lanes) → IsNextOn side t.limits.profile t.client_frames s.count t.waiting (drop 4 s.held) m w → IsToldOn side t s.held o m → Shows (put_on side t s' w o t.fault) side m → s' ≡ kept_now s used →
         Steps t side (take used piece) true (put_on side t s' w o t.fault)
-    keeps o m w next shows q = (
+    keeps o m w next told shows q = (
       m,
-      subst (λ (z : StreamState). GoesOn t side (take used piece) (m ∷ []) (put_on side t z w o t.fault)) (sym q) (one_more s.held o m w next),
+      subst (λ (z : StreamState). GoesOn t side (take used piece) (m ∷ []) (put_on side t z w o t.fault)) (sym q) (one_more s.held o m w next told),
       shows,
       held_there side t s'.held s'.kept s'.count s'.size w o t.fault ∙ ap (λ (z : StreamState). z.held) q,
     )
@@ -167,6 +170,6 @@ module _ (side : Side) (t : TalkState) (piece : List ℕ) (s s' : StreamState) {
                 part = a.1;
                 message = next.0;
                 after = set_on side t [] [] (s.count + 1) (s.size + used) next.1 t.answered t.fault;
-                goes = one_more [] t.answered next.0 next.1 next.2;
+                goes = one_more [] t.answered next.0 next.1 next.2 (told_nothing side t next.0 s.count next.1 (drop 4 s.held) next.2);
               })
           go (inr n) = inr ((bad n (same n) (fault n)).1)

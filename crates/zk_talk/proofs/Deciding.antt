@@ -43,12 +43,12 @@ use Rattle.zk_talk.specs.Good.{IsGood}
 use Rattle.zk_talk.specs.Fault.{IsFaultOf, fault_of, side_limit}
 use Rattle.zk_talk.specs.Answer.{AreMessages}
 use Rattle.zk_talk.specs.Stands.{TalkState, Stands, Refuses, held_on, frames_on, size_on}
-use Rattle.zk_talk.specs.Judged.{IsNextClient, IsNextServer, IsRemembered, IsForgotten, HasRoomFor}
+use Rattle.zk_talk.specs.Judged.{IsNextClient, IsNextServer, IsNumbered, IsForgotten, HasRoomFor}
 use Rattle.zk_talk.specs.Advance.IsStop.{too_many, out_of_range}
 use Rattle.zk_talk.proofs.Small.{small_limits}
 use Rattle.zk_talk.proofs.Start.{start_state, start}
 use Rattle.zk_talk.proofs.Talks.{grown, counted, refusing}
-use Rattle.zk_talk.proofs.Sides.{IsNextOn, TellsOn, goes_within, stopped, goes_whole, judged}
+use Rattle.zk_talk.proofs.Sides.{IsNextOn, TellsOn, told_nothing, goes_within, stopped, goes_whole, judged}
 use Rattle.zk_talk.proofs.Judging.{later_may, first_refused, ask_refused, full, too_early, connected_refused, connected_may, head_refused, event_refused, event_may, nothing_waits, wrong, reply_refused, reply_may, reply_due, due_waits, connected_due, event_due}
 use Rattle.zk_talk.proofs.Headline.{messages_more}
 
@@ -68,9 +68,9 @@ pays_server : (s : ServerFrame) (p : List ℕ) → answers.payload s ≡ p → s
 unfolding server_payload
 pays_server s p e = e
 
-first_waits : (f : ClientFrame) (w : Lanes) → IsFirst f → HasRoomFor f w × IsRemembered f w w
-first_waits (Connect hello flag) w first = (tt, refl)
-first_waits (Ask xid ask) w first = absurd first
+first_waits : (number : ℕ) (f : ClientFrame) (w : Lanes) → IsFirst f → HasRoomFor f w × IsNumbered number f w w
+first_waits number (Connect hello flag) w first = (tt, refl)
+first_waits number (Ask xid ask) w first = absurd first
 
 put : (lane : Lane) (r : Request) (w : Lanes) → (x : Lanes) × IsPut lane r w x × (x.max ≡ w.max)
 put lanes.Ping r w = (record w { ping = w.ping ++ r ∷ [] }, refl, refl)
@@ -78,9 +78,9 @@ put lanes.Auth r w = (record w { auth = w.auth ++ r ∷ [] }, refl, refl)
 put lanes.Watches r w = (record w { watches = w.watches ++ r ∷ [] }, refl, refl)
 put lanes.Plain r w = (record w { plain = w.plain ++ r ∷ [] }, refl, refl)
 
-later_waits : (f : ClientFrame) (w : Lanes) → IsLater f → weight_of w + weight f ≤ w.max → HasRoomFor f w × (x : Lanes) × IsRemembered f w x × (x.max ≡ w.max)
-later_waits (Connect hello flag) w later room = absurd later
-later_waits (Ask xid ask) w later room = let x = put (lane_of xid) (record { xid = xid; op = op_of_ask ask; parts = ops_of_ask ask }) w in (room, x.0, (room, x.1), x.2)
+later_waits : (number : ℕ) (f : ClientFrame) (w : Lanes) → IsLater f → weight_of w + weight f ≤ w.max → HasRoomFor f w × (x : Lanes) × IsNumbered number f w x × (x.max ≡ w.max)
+later_waits number (Connect hello flag) w later room = absurd later
+later_waits number (Ask xid ask) w later room = let x = put (lane_of xid) (record { xid = xid; op = op_of_ask ask; parts = ops_of_ask ask; frame = number }) w in (room, x.0, (room, x.1), x.2)
 
 -- the next message of the side, and what waits then; or the fault
 abbrev NextDecided : Side → Profile → ℕ → ℕ → Lanes → List ℕ → Type 0
@@ -90,7 +90,7 @@ NextDecided side profile asked count w p =
 module _ (profile : Profile) (asked count : ℕ) (w : Lanes) (p : List ℕ) where
   first_next : count ≡ 0 → FirstIs p → NextDecided Client profile asked count w p
   first_next none f =
-      let k = first_waits f.0 w f.1 in
+      let k = first_waits count f.0 w f.1 in
       let next : IsNextClient profile count w p f.0 = record { turn = ((λ _. f.1), (λ some. absurd (some none))); sent = f.2; is = pays_client f.0 p f.3; room = k.0 } in
       inl (FromClient f.0, w, (next, k.1), refl)
 
@@ -103,7 +103,7 @@ module _ (profile : Profile) (asked count : ℕ) (w : Lanes) (p : List ℕ) wher
           (0, full count m w v d limits p f.0 (later_may count m w v d limits.profile f.0 some f.1 f.3 of) f.1 (pays_client f.0 p f.4) (omega (arith, over, waits)), refl),
     )
     | inr room ↦
-        let k = later_waits f.0 w f.1 room in
+        let k = later_waits count f.0 w f.1 room in
         let next : IsNextClient profile count w p f.0 = record { turn = ((λ none. absurd (some none)), (λ _. (f.1, f.2))); sent = f.3; is = pays_client f.0 p f.4; room = k.0 } in
         inl (FromClient f.0, k.1, (next, k.2), k.3)
   ]
@@ -295,7 +295,7 @@ module _ (h : History) (r : TalkState) (M : List Message) (max : r.waiting.max �
     is_whole : size_on side r + 1 < 2 ^ 62 → IsFrame (side_limit r.limits side) now → Outcome r.limits (h ++ on side piece)
     is_whole room whole = elim (next_decided side r.limits.profile r.client_frames (frames_on side r) r.waiting (drop 4 now) (IsBytes-drop 4 now now_bytes)) [
       | inl n ↦ inl (reach side [] [] 0 (size_on side r + 1) n.1 n.3 no_bytes (counted side r [] (size_on side r + 1) n.1 r.answered) r.answered refl (h ++ on side piece) (M ++ n.0 ∷ []) refl
-          (goes_whole side r piece now [] r.answered 1 n.0 n.1 (omega arith, omega arith, room, refl, whole) max n.2 h M st))
+          (goes_whole side r piece now [] r.answered 1 n.0 n.1 (omega arith, omega arith, room, refl, whole) max n.2 (told_nothing side r n.0 (frames_on side r) n.1 (drop 4 now) n.2) h M st))
       | inr e ↦
           let stop = judged side r piece now 1 e.0 (omega arith, omega arith, room, refl, whole) max e.1 h M st in
           inr (stopped_by side r now (fault_of side (frames_on side r) (size_on side r + 1) e.0.place e.0.reason) (h ++ on side piece) M stop)

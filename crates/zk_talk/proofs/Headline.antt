@@ -88,6 +88,8 @@ refuses_more t h r M f x = record {
   is = fault_more t.limits h r f x.is;
   order = x.order;
   queues = x.queues;
+  server_frames = x.server_frames;
+  newest = x.newest;
   load = x.load;
   held = x.held;
 }

@@ -31,7 +31,7 @@ use Rattle.zk_talk.specs.Queues.{IsRequest, AreRequests}
 use Rattle.zk_talk.specs.Describes.{Describes}
 use Rattle.std.proofs.lemmas.Bool.{cases_order}
 use Rattle.zk_jute.specs.declared.fault.ItemFault.{ItemFault}
-use Rattle.zk_talk.specs.Judged.{Tells, IsInTurn, IsRemembered, HasRoomFor, IsDue, HasAsk}
+use Rattle.zk_talk.specs.Judged.{Tells, IsInTurn, IsNumbered, HasRoomFor, IsDue, HasAsk}
 use Rattle.zk_talk.proofs.Turns.{first_left}
 use Rattle.zk_talk.proofs.Loads.{load_ask, lanes_same}
 use Rattle.zk_talk.proofs.Queues.{weight_is_load, requests-head, requests-length}
@@ -97,9 +97,9 @@ module _ (n m : ℕ) (w : Lanes) (v : Conversation) (d : Describes n m w v) wher
   pub heavier : (max : ℕ) (f : ClientFrame) → weight_of w + weight f ≤ max → load (v.client ++ f ∷ []) v.server ≤ max
   heavier max f l = omega (arith, l, load_ask v f d.may, weight_is_load v w d.queues)
 
-  pub next_load : (x : Lanes) (f : ClientFrame) → IsRemembered f w x → load v.client v.server ≤ w.max → load (v.client ++ f ∷ []) v.server ≤ w.max
-  next_load x (Connect t g) r l = omega (arith, l, load_ask v (Connect t g) d.may)
-  next_load x (Ask xid ask) r l = heavier w.max (Ask xid ask) r.0
+  pub next_load : (number : ℕ) (x : Lanes) (f : ClientFrame) → IsNumbered number f w x → load v.client v.server ≤ w.max → load (v.client ++ f ∷ []) v.server ≤ w.max
+  next_load number x (Connect t g) r l = omega (arith, l, load_ask v (Connect t g) d.may)
+  next_load number x (Ask xid ask) r l = heavier w.max (Ask xid ask) r.0
 
   pub put_refused : (limits : Limits) (p : List ℕ) (f : ClientFrame) (e : ItemFault) → limits.waiting ≡ w.max → ClientMay limits.profile v.client f → client_payload f ≡ p → IsLater f × (e ≡ record { place = 0; reason = QueueFull }) × (w.max < weight_of w + weight f) → Tells (IsClientFault limits v p) e
   put_refused limits p f e q may pay r = (0, subst (λ z. IsClientFault limits v p 0 z.reason) (sym r.1) (full limits p f may r.0 pay (omega (arith, q, r.2))), ap (λ z. z.place) r.1)

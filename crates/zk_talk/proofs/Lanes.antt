@@ -14,11 +14,11 @@ use Rattle.zk_waiting.specs.Waiting.{Request, Lanes, queue_on, IsPut, IsDropped}
 use Rattle.zk_talk.specs.Conversation.{Conversation, with_client, with_server}
 use Rattle.zk_talk.specs.Queues.{IsQueue}
 use Rattle.zk_talk.specs.Describes.{Describes}
-use Rattle.zk_talk.specs.Judged.{HasRoomFor, IsRemembered, HasAsk, IsForgotten}
+use Rattle.zk_talk.specs.Judged.{HasRoomFor, IsNumbered, HasAsk, IsForgotten}
 use Rattle.zk_talk.proofs.Loads.{lanes_same}
 use Rattle.zk_talk.proofs.Queues.{queue_ask, queue_skip, queue_keep, queue_pop}
 
-put_on : (l k : Lane) (r : Request) (w x : Lanes) → IsPut l r w x → queue_on k x ≡ cond (same_lane k l) (queue_on k w ++ r ∷ []) (queue_on k w)
+pub put_on : (l k : Lane) (r : Request) (w x : Lanes) → IsPut l r w x → queue_on k x ≡ cond (same_lane k l) (queue_on k w ++ r ∷ []) (queue_on k w)
 put_on Ping Ping r w x e = ap (queue_on Ping) e
 put_on Ping Auth r w x e = ap (queue_on Auth) e
 put_on Ping Watches r w x e = ap (queue_on Watches) e
@@ -36,7 +36,7 @@ put_on Plain Auth r w x e = ap (queue_on Auth) e
 put_on Plain Watches r w x e = ap (queue_on Watches) e
 put_on Plain Plain r w x e = ap (queue_on Plain) e
 
-drop_on : (l k : Lane) (w x : Lanes) → IsDropped l w x → queue_on k x ≡ cond (same_lane k l) (drop 1 (queue_on k w)) (queue_on k w)
+pub drop_on : (l k : Lane) (w x : Lanes) → IsDropped l w x → queue_on k x ≡ cond (same_lane k l) (drop 1 (queue_on k w)) (queue_on k w)
 drop_on Ping Ping w x e = ap (queue_on Ping) e
 drop_on Ping Auth w x e = ap (queue_on Auth) e
 drop_on Ping Watches w x e = ap (queue_on Watches) e
@@ -59,15 +59,15 @@ front_some [] x e = absurd (cc)
 front_some (y ∷ xs) x e = (xs, ap (λ z. z ∷ xs) (cc))
 
 module _ (n m : ℕ) (w x : Lanes) (v : Conversation) (d : Describes n m w v) where
-  pub remembered : (f : ClientFrame) → IsRemembered f w x → (k : Lane) → IsQueue k (with_client v f) (queue_on k x)
-  remembered (Connect t g) e k = subst (λ z. IsQueue k (with_client v (Connect t g)) (queue_on k z)) (sym e) (queue_skip k v (queue_on k w) (Connect t g) refl (d.queues k))
-  remembered (Ask xid ask) e k = go (same_lane k (lane_of xid)) refl
+  pub remembered : (number : ℕ) (f : ClientFrame) → IsNumbered number f w x → (k : Lane) → IsQueue k (with_client v f) (queue_on k x)
+  remembered number (Connect t g) e k = subst (λ z. IsQueue k (with_client v (Connect t g)) (queue_on k z)) (sym e) (queue_skip k v (queue_on k w) (Connect t g) refl (d.queues k))
+  remembered number (Ask xid ask) e k = go (same_lane k (lane_of xid)) refl
     where
       f : ClientFrame
       f = Ask xid ask
 
       r : Request
-      r = record { xid = xid; op = op_of_ask ask; parts = ops_of_ask ask }
+      r = record { xid = xid; op = op_of_ask ask; parts = ops_of_ask ask; frame = number }
 
       go : (b : Bool) → same_lane k (lane_of xid) ≡ b → IsQueue k (with_client v f) (queue_on k x)
       go true q = subst (IsQueue k (with_client v f)) (sym (put_on (lane_of xid) k r w x e.1 ∙ ap (λ z. cond z (queue_on k w ++ r ∷ []) (queue_on k w)) q)) (queue_ask k v (queue_on k w) r f d.may q refl (d.queues k))
@@ -100,9 +100,9 @@ drop_there Auth w = (record w { auth = drop 1 w.auth }, refl)
 drop_there Watches w = (record w { watches = drop 1 w.watches }, refl)
 drop_there Plain w = (record w { plain = drop 1 w.plain }, refl)
 
-pub remembered_there : (f : ClientFrame) (w : Lanes) → HasRoomFor f w → (x : Lanes) × IsRemembered f w x
-remembered_there (Connect t g) w room = (w, refl)
-remembered_there (Ask xid ask) w room = let x = put_there (lane_of xid) (record { xid = xid; op = op_of_ask ask; parts = ops_of_ask ask }) w in (x.0, (room, x.1))
+pub remembered_there : (number : ℕ) (f : ClientFrame) (w : Lanes) → HasRoomFor f w → (x : Lanes) × IsNumbered number f w x
+remembered_there number (Connect t g) w room = (w, refl)
+remembered_there number (Ask xid ask) w room = let x = put_there (lane_of xid) (record { xid = xid; op = op_of_ask ask; parts = ops_of_ask ask; frame = number }) w in (x.0, (room, x.1))
 
 pub forgotten_there : (s : ServerFrame) (w : Lanes) → (x : Lanes) × IsForgotten s w x
 forgotten_there (Connected t g) w = (w, refl)

@@ -24,6 +24,7 @@ pub mod Endings
 pub mod Feeding
 pub mod Pieces
 pub mod Lanes
+pub mod Numbers
 pub mod Judging
 pub mod Advancing
 pub mod Kept

@@ -5,13 +5,14 @@ use Rattle.zk_jute.specs.declared.fault.Reason.{Reason}
 use Rattle.zk_jute.specs.declared.fault.Reason.TheVariants.{StreamEnd, LengthRange}
 use Rattle.zk_jute.specs.Reading.{told_place}
 use Rattle.zk_frames.specs.Framing.{frame, IsBeginning, IsBadLength}
-use Rattle.zk_records.specs.declared.op.Op.{Op}
 use Rattle.zk_waiting.specs.declared.lane.Lane.{Lane}
 use Rattle.zk_waiting.specs.Waiting.{Lanes, queue_on}
 use Rattle.zk_talk.specs.declared.message.Side.{Side}
+use Rattle.zk_talk.specs.declared.message.Side.TheVariants.{Server}
 use Rattle.zk_talk.specs.Held.{Message}
 use Rattle.zk_talk.specs.History.{History, on}
-use Rattle.zk_talk.specs.Conversation.{Conversation, load}
+use Rattle.zk_talk.specs.declared.replied.Replied.{Replied}
+use Rattle.zk_talk.specs.Conversation.{Conversation, IsConversation, load}
 use Rattle.zk_talk.specs.Fault.{IsPayloadFault, fault_of, side_limit}
 use Rattle.zk_talk.specs.Fault.IsCause.{stream_end, length_range, payload_fault}
 use Rattle.zk_talk.specs.Queues.{IsQueue}
@@ -21,7 +22,7 @@ use Rattle.zk_talk.specs.Taking.{GoesOn}
 use Rattle.zk_talk.proofs.GoodSteps.{load_here}
 use Rattle.zk_talk.proofs.Lists.{by_last, IsPushed}
 use Rattle.zk_talk.proofs.Standing.{frame_front}
-use Rattle.zk_talk.proofs.Talks.{grown, refusing, counted, message_payload, with_message, MayOn, more, whole, refuse}
+use Rattle.zk_talk.proofs.Talks.{grown, refusing, counted, message_payload, with_message, MayOn, IsKnownAfter, more, whole, refuse}
 
 pub described : (t : TalkState) (h : History) (M : List Message) (st : Stands t h M) → Describes t.client_frames t.server_frames t.waiting st.conversation
 described t h M st = record { client = st.client_frames; server = st.server_frames; may = st.good.conversation.server; queues = st.queues }
@@ -40,17 +41,18 @@ module _ (side : Side) (t : TalkState) where
       subst (λ z. Stands (grown side t (held_on side t ++ part) (size_on side t + z)) (h ++ on side part) (M ++ [])) (sym e)
       (subst (Stands (grown side t (held_on side t ++ part) (size_on side t + length part)) (h ++ on side part)) (sym (append-nil M)) (more t h M st side part begin (omega (arith, e, size))))
 
-  pub go_whole : (k : List ℕ) (o : Option Op) (part : List ℕ) (n : ℕ) (p : List ℕ) (m : Message) (w : Lanes) → n ≡ length part → 0 < length part → held_on side t ++ part ≡ frame p → length p ≤ side_limit t.limits side → size_on side t + n < 2 ^ 62 →
+  pub go_whole : (k : List ℕ) (o : Option Replied) (part : List ℕ) (n : ℕ) (p : List ℕ) (m : Message) (w : Lanes) → n ≡ length part → 0 < length part → held_on side t ++ part ≡ frame p → length p ≤ side_limit t.limits side → size_on side t + n < 2 ^ 62 →
       ((v : Conversation) → Describes t.client_frames t.server_frames t.waiting v → load v.client v.server ≤ t.limits.waiting → (message_payload m ≡ p) × MayOn side t.limits v m) →
-      ((v : Conversation) → Describes t.client_frames t.server_frames t.waiting v → (lane : Lane) → IsQueue lane (with_message v m) (queue_on lane w)) → GoesOn t side part (m ∷ []) (counted side t k (size_on side t + n) w o)
-  go_whole k o part n p m w e l is fits size judged queues h M st =
+      ((v : Conversation) → Describes t.client_frames t.server_frames t.waiting v → (lane : Lane) → IsQueue lane (with_message v m) (queue_on lane w)) →
+      ((v : Conversation) → Describes t.client_frames t.server_frames t.waiting v → IsConversation t.limits.profile v → IsKnownAfter Server t t.server_kept t.answered v t.waiting → IsKnownAfter side t k o (with_message v m) w) → GoesOn t side part (m ∷ []) (counted side t k (size_on side t + n) w o)
+  go_whole k o part n p m w e l is fits size judged queues after h M st =
       let v = st.conversation in
       let d = described t h M st in
       let j = judged v d (load_here t.limits h v t.client_held t.server_held st.good) in
       let q = last_of part l in
       let last : (held_on side t ++ q.init) ++ q.last ∷ [] ≡ frame (message_payload m) = append_assoc (held_on side t) q.init (q.last ∷ []) ∙ ap (λ z. held_on side t ++ z) (sym q.is) ∙ is ∙ ap frame (sym j.0) in
       let long : length part ≡ length q.init + 1 = ap length q.is ∙ length_push q.init q.last in
-      let r = whole t h M st side k o q.init q.last m w last (omega (arith, ap length j.0, fits)) j.1 (omega (arith, e, long, size)) (queues v d) in
+      let r = whole t h M st side k o q.init q.last m w last (omega (arith, ap length j.0, fits)) j.1 (omega (arith, e, long, size)) (queues v d) (after v d st.good.conversation (st.numbers, st.newest)) in
       let size' : size_on side t + n ≡ size_on side t + (length q.init + 1) = omega (arith, e, long) in
       subst (λ z. Stands (counted side t k z w o) (h ++ on side part) (M ++ m ∷ [])) (sym size')
       (subst (λ z. Stands (counted side t k (size_on side t + (length q.init + 1)) w o) (h ++ on side z) (M ++ m ∷ [])) (sym q.is) r)

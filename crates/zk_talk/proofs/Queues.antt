@@ -41,10 +41,10 @@ requests-length (q ∷ rs) (g ∷ fs) a = omega (arith, requests-length rs fs a.
 
 -- ---- a lane after a frame more
 
-filter-skip : {X : Type 0} (p : X → Bool) (xs : List X) (x : X) → p x ≡ false → filter p (xs ++ x ∷ []) ≡ filter p xs
+pub filter-skip : {X : Type 0} (p : X → Bool) (xs : List X) (x : X) → p x ≡ false → filter p (xs ++ x ∷ []) ≡ filter p xs
 filter-skip p xs x e = filter-append p xs (x ∷ []) ∙ ap (λ b. filter p xs ++ cond b (x ∷ []) []) e ∙ append-nil (filter p xs)
 
-filter-keep : {X : Type 0} (p : X → Bool) (xs : List X) (x : X) → p x ≡ true → filter p (xs ++ x ∷ []) ≡ filter p xs ++ x ∷ []
+pub filter-keep : {X : Type 0} (p : X → Bool) (xs : List X) (x : X) → p x ≡ true → filter p (xs ++ x ∷ []) ≡ filter p xs ++ x ∷ []
 filter-keep p xs x e = filter-append p xs (x ∷ []) ∙ ap (λ b. filter p xs ++ cond b (x ∷ []) []) e
 
 pub queue_ask : (lane : Lane) (v : Conversation) (queue : List Request) (r : Request) (f : ClientFrame) → EachAfter (ServerMay v.client) v.server → is_ask_on lane f ≡ true → IsRequest r f → IsQueue lane v queue → IsQueue lane (with_client v f) (queue ++ r ∷ [])

@@ -134,7 +134,7 @@ module _ (limits : Limits) (asked welcomed : Bool) (w : Lanes) (v : Conversation
             client = λ e. not_empty v.client f [] e;
             server = heard.server;
             may = each_still v.client f v.server heard.may;
-            queues = λ k. remembered (length v.client) (length v.server) w x v describes f put k;
+            queues = λ k. remembered (length v.client) (length v.server) w x v describes 0 f put k;
           },
         )
       where

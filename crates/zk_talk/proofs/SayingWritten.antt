@@ -1,5 +1,5 @@
 -- What a speaker knows of a message that it says by its kind and the bytes of its payload.
-use Rattle.std.proofs.Common.{◌≡◌, ℕ, ℤ, ◌≤◌, List, length, refl, sym, subst, arith, Bool, true}
+use Rattle.std.proofs.Common.{◌≡◌, ℕ, ℤ, ◌≤◌, List, length, refl, sym, ap, ◌∙◌, subst, arith, Some, Bool, true}
 use Rattle.zk_records.specs.declared.op.Op.{Op}
 use Rattle.zk_asks.specs.Held.{ClientFrame}
 use Rattle.zk_asks.specs.declared.frame.ClientFrameOf.TheVariants.{Connect, Ask}
@@ -10,13 +10,14 @@ use Rattle.zk_answers.specs.Frames as answers
 use Rattle.zk_waiting.specs.Lane.{lane_of}
 use Rattle.zk_waiting.specs.Waiting.{Lanes, IsDropped}
 use Rattle.zk_talk.specs.declared.limits.Limits.{Limits}
+use Rattle.zk_talk.specs.declared.replied.Replied.{Replied}
 use Rattle.zk_talk.specs.declared.message.Side.TheVariants.{Client, Server}
 use Rattle.zk_talk.specs.declared.message.MessageOf.TheVariants.{Client as FromClient, Server as FromServer}
 use Rattle.zk_talk.specs.declared.message.Kind.{Kind}
 use Rattle.zk_talk.specs.declared.message.Kind.TheVariants as kinds
 use Rattle.zk_talk.specs.Held.{Message}
 use Rattle.zk_talk.specs.Judged.{HasAsk, IsForgotten}
-use Rattle.zk_talk.specs.Settled.{IsAwaited, IsDueReply}
+use Rattle.zk_talk.specs.Settled.{IsAwaited, IsDueReply, IsDueOf}
 use Rattle.zk_talk.specs.Said.{SpeakerState, SaysClient, SaysServer, side_of}
 use Rattle.zk_talk.specs.Written.{IsWritten, SaysWritten, SaysClientWritten, SaysServerWritten, kind_of}
 use Rattle.zk_talk.proofs.Payloads.{server_is}
@@ -29,7 +30,7 @@ use Rattle.zk_talk.proofs.Alike.{client_known, reply_known, event_known}
 -- ---- the client's
 
 module _ (limits : Limits) (w x : Lanes) (p : List ℕ) (room : w.max ≡ limits.waiting) (small : length p ≤ limits.client) where
-  pub ask_written : (f : ClientFrame) → IsAwaited limits.profile 1 p w x f → SaysClientWritten limits true kinds.Ask w p x
+  pub ask_written : (f : ClientFrame) → IsAwaited limits.profile 1 0 p w x f → SaysClientWritten limits true kinds.Ask w p x
   ask_written f a = λ g written.
       let some : 1 ≡ 0 → ⊥ = (λ z. omega (arith, z)) in
       subst (λ z. SaysClient limits true w z x) (client_known kinds.Ask p f g a.sent a.is (kind f (a.turn.1 some).0) written)
@@ -41,10 +42,16 @@ module _ (limits : Limits) (w x : Lanes) (p : List ℕ) (room : w.max ≡ limits
 
 -- ---- the server's
 
+told_op : (told : Replied) (op : Op) (frame : ℕ) → Some told ≡ Some (record { op = op; frame = frame }) → told.op ≡ op
+told_op told op frame e = let same : told ≡ record { op = op; frame = frame } = cc in ap (λ (z : Replied). z.op) same
+
 module _ (limits : Limits) (asked : Bool) (w x : Lanes) (p : List ℕ) (small : length p ≤ limits.server) where
-  pub answer_written : (op : Op) (xid : ℤ) (r : Reply) → IsDueReply xid p op w r → IsDropped (lane_of xid) w x → SaysServerWritten limits asked true (kinds.Answered op) w p x
-  answer_written op xid r d dropped = λ t written. known t (subst (λ (o : Op). IsWritten (kinds.Answered o) p (FromServer t)) (sym d.op) written)
+  pub answer_written : (op : Op) (xid : ℤ) (r : Reply) → IsDueOf op xid p w r → IsDropped (lane_of xid) w x → SaysServerWritten limits asked true (kinds.Answered op) w p x
+  answer_written op xid r k dropped = λ t written. known t (subst (λ (o : Op). IsWritten (kinds.Answered o) p (FromServer t)) (sym k.1 ∙ told_op k.0 (answers.op_of_reply r) d.told.0.frame d.told.2) written)
     where
+      d : IsDueReply xid p k.0 w r
+      d = k.2
+
       said : SaysServer limits asked true w (Answered r) x
       said = (server_frame_said limits asked true w p (Answered r) d.is (λ v heard. d.may (length v.client) (length v.server) v (some_spoken true v.server heard.server refl) (described asked true w v heard)) x (due_waits w (Answered r) d.due) small (subst (λ (z : ℤ). IsDropped (lane_of z) w x) (sym d.xid) dropped))
 

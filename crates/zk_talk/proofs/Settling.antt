@@ -1,6 +1,6 @@
 -- What the quick way finds, as the exact way would.
 use Rattle.std.proofs.Common.{◌≡◌, ℕ, ◌+◌, ◌≤◌, List, length, refl, sym, ap, subst, arith}
-use Rattle.std.specs.Prelude.{ℤ, Some, None, slice_get, Result, Ok, Err, IsOk, OnOk}
+use Rattle.std.specs.Prelude.{ℤ, Option, Some, None, slice_get, Result, Ok, Err, IsOk, OnOk}
 use Rattle.std.proofs.lemmas.Bool.{false≢true}
 use Rattle.zk_records.specs.declared.op.Op.{Op}
 use Rattle.zk_records.specs.declared.op.PartOp.{PartOp}
@@ -19,7 +19,8 @@ use Rattle.zk_answers.specs.Frames as answers
 use Rattle.zk_answers.specs.Fronts.{IsReplyUnder}
 use Rattle.zk_waiting.specs.Lane.{lane_of}
 use Rattle.zk_waiting.specs.Waiting.{Lanes, Request, queue_on, weight_of, IsPut, IsDropped}
-use Rattle.zk_talk.specs.Judged.{HasRoomFor, IsRemembered}
+use Rattle.zk_talk.specs.declared.replied.Replied.{Replied}
+use Rattle.zk_talk.specs.Judged.{HasRoomFor, IsNumbered}
 use Rattle.zk_talk.specs.Settled.{IsAwaited, IsDueReply, IsSettled}
 use Rattle.zk_talk.proofs.Payloads.{client_is, server_is}
 use Rattle.zk_talk.proofs.Judging as J
@@ -31,24 +32,24 @@ of_ok (Err e) is k = absurd (false≢true is)
 
 -- ---- a request
 
-module _ (profile : Profile) (count : ℕ) (p : List ℕ) (old new : Lanes) where
-  pub asked_awaited : (xid : ℤ) (op : Op) (parts : List PartOp) → (count ≡ 0 → ⊥) → IsAsked profile xid op parts p → weight_of old + (1 + length parts) ≤ old.max → IsPut (lane_of xid) (record { xid = xid; op = op; parts = parts }) old new
-      → (f : ClientFrame) × IsAwaited profile count p old new f
+module _ (profile : Profile) (count number : ℕ) (p : List ℕ) (old new : Lanes) where
+  pub asked_awaited : (xid : ℤ) (op : Op) (parts : List PartOp) → (count ≡ 0 → ⊥) → IsAsked profile xid op parts p → weight_of old + (1 + length parts) ≤ old.max → IsPut (lane_of xid) (record { xid = xid; op = op; parts = parts; frame = number }) old new
+      → (f : ClientFrame) × IsAwaited profile count number p old new f
   asked_awaited xid op parts later k fits put =
       let a = k.1.0 in
-      let named = subst (λ (o : Op). IsPut (lane_of xid) (record { xid = xid; op = o; parts = parts }) old new) (sym k.1.1) put in (
+      let named = subst (λ (o : Op). IsPut (lane_of xid) (record { xid = xid; op = o; parts = parts; frame = number }) old new) (sym k.1.1) put in (
         Ask xid a,
         record {
           turn = ((λ z. absurd (later z)), (λ n. (tt, subst (λ (o : Op). HasOp profile o) (sym k.1.1) k.0)));
           sent = k.1.3;
           is = client_is (Ask xid a) p k.1.4;
-          waits = (omega (arith, fits, ap length k.1.2), subst (λ (ps : List PartOp). IsPut (lane_of xid) (record { xid = xid; op = op_of_ask a; parts = ps }) old new) (sym k.1.2) named);
+          waits = (omega (arith, fits, ap length k.1.2), subst (λ (ps : List PartOp). IsPut (lane_of xid) (record { xid = xid; op = op_of_ask a; parts = ps; frame = number }) old new) (sym k.1.2) named);
         },
       )
 
-pub room_before : (f : ClientFrame) (old new : Lanes) → IsRemembered f old new → HasRoomFor f old
-room_before (Connect hello read_only) old new waits = tt
-room_before (Ask xid ask) old new waits = waits.0
+pub room_before : (number : ℕ) (f : ClientFrame) (old new : Lanes) → IsNumbered number f old new → HasRoomFor f old
+room_before number (Connect hello read_only) old new waits = tt
+room_before number (Ask xid ask) old new waits = waits.0
 
 -- ---- a reply
 
@@ -56,15 +57,19 @@ its_operation : (o : Outcome) (op : Op) (parts : List PartOp) → answers.Outcom
 its_operation (outcome.Done b) op parts fits = fits.0
 its_operation (outcome.Failed o e) op parts fits = fits
 
+abbrev to_request : Op → ℕ → Option Replied
+to_request op frame = Some (record { op = op; frame = frame })
+
 module _ (w : Lanes) (p : List ℕ) (header : ReplyHeader) (rest : List ℕ) (h : IsHead p header rest) where
-  pub reply_is_due : (r : Request) → slice_get (queue_on (lane_of header.xid) w) 0 ≡ Some r → r.xid ≡ header.xid → IsReplyUnder header.xid r.op r.parts p → (q : Reply) × IsDueReply header.xid p r.op w q
+  pub reply_is_due : (r : Request) → slice_get (queue_on (lane_of header.xid) w) 0 ≡ Some r → r.xid ≡ header.xid → IsReplyUnder header.xid r.op r.parts p → (q : Reply) × IsDueReply header.xid p (record { op = r.op; frame = r.frame }) w q
   reply_is_due r some same k =
       let q = k.0 in
-      let is = server_is (Answered q) p k.4 in (
+      let is = server_is (Answered q) p k.4 in
+      let waits = subst (λ (x : ℤ). slice_get (queue_on (lane_of x) w) 0 ≡ Some r) (sym k.1) some in (
         q,
         record {
           xid = k.1;
-          op = its_operation q.outcome r.op r.parts k.2;
+          told = (r, waits, ap (λ (o : Op). to_request o r.frame) (sym (its_operation q.outcome r.op r.parts k.2)));
           due = J.reply_due w p header rest r (Answered q) h some k.2 k.3 is;
           sent = k.3;
           is = is;
@@ -72,14 +77,14 @@ module _ (w : Lanes) (p : List ℕ) (header : ReplyHeader) (rest : List ℕ) (h 
         },
       )
 
-module _ (count : ℕ) (p : List ℕ) (op : Op) (old new : Lanes) where
-  pub reply_settled : (xid : ℤ) → (count ≡ 0 → ⊥) → (q : Reply) × IsDueReply xid p op old q → IsDropped (lane_of xid) old new → (s : ServerFrame) × IsSettled count p (Some op) old new s
+module _ (count : ℕ) (p : List ℕ) (request : Replied) (old new : Lanes) where
+  pub reply_settled : (xid : ℤ) → (count ≡ 0 → ⊥) → (q : Reply) × IsDueReply xid p request old q → IsDropped (lane_of xid) old new → (s : ServerFrame) × IsSettled count p (Some request) old new s
   reply_settled xid later k dropped =
       let d = k.1 in (
         Answered k.0,
         record {
           turn = ((λ z. absurd (later z)), (λ n c. c));
-          operation = ap Some d.op;
+          told = d.told;
           due = d.due;
           sent = d.sent;
           is = d.is;
@@ -95,7 +100,7 @@ event_settled count p w later (Connected hello flag) event sent is = absurd even
 event_settled count p w later (Answered reply) event sent is = absurd event
 event_settled count p w later (Event zxid change) event sent is = record {
   turn = ((λ z. absurd (later z)), (λ n c. c));
-  operation = refl;
+  told = refl;
   due = tt;
   sent = sent;
   is = server_is (Event zxid change) p is;

@@ -6,7 +6,6 @@ use Rattle.zk_jute.specs.declared.fault.Reason.{Reason}
 use Rattle.zk_jute.specs.declared.fault.Reason.TheVariants.{StreamEnd, LengthRange}
 use Rattle.zk_frames.specs.Framing.{frame}
 use Rattle.zk_frames.proofs.Cuts.{drop-frame}
-use Rattle.zk_records.specs.declared.op.Op.{Op}
 use Rattle.zk_waiting.specs.declared.lane.Lane.{Lane}
 use Rattle.zk_waiting.specs.Waiting.{Lanes, queue_on}
 use Rattle.zk_talk.specs.declared.message.Side.{Side}
@@ -15,19 +14,22 @@ use Rattle.zk_talk.specs.declared.message.MessageOf.TheVariants.{Client as FromC
 use Rattle.zk_talk.specs.declared.stream.Advance.TheVariants.{Within, Whole, Refused}
 use Rattle.zk_talk.specs.Held.{Message}
 use Rattle.zk_talk.specs.History.{History, on}
-use Rattle.zk_talk.specs.Conversation.{Conversation, load}
+use Rattle.zk_talk.specs.declared.replied.Replied.{Replied}
+use Rattle.zk_talk.specs.Conversation.{Conversation, IsConversation, load}
 use Rattle.zk_talk.specs.Fault.{IsPayloadFault, fault_of, side_limit}
 use Rattle.zk_talk.specs.Queues.{IsQueue}
+use Rattle.zk_talk.specs.Numbers.{IsNewest}
 use Rattle.zk_talk.specs.Stands.{TalkState, Stands, Refuses, held_on, frames_on, size_on}
 use Rattle.zk_talk.specs.Describes.{Describes}
 use Rattle.zk_records.specs.declared.profile.Profile.{Profile}
-use Rattle.zk_talk.specs.Judged.{Tells, TellsClient, TellsServer, IsNextClient, IsNextServer, IsRemembered, IsForgotten}
+use Rattle.zk_talk.specs.Judged.{Tells, TellsClient, TellsServer, IsNextClient, IsNextServer, IsNumbered, IsForgotten, TellsReplied}
 use Rattle.zk_talk.specs.Advance.{IsAdvance, IsStop}
 use Rattle.zk_talk.specs.Advance.IsStop.{too_many, out_of_range}
 use Rattle.zk_talk.specs.Taking.{GoesOn, IsRefused}
 use Rattle.zk_talk.proofs.Judging.{in_turn, next_load}
 use Rattle.zk_talk.proofs.Lanes.{remembered, forgotten}
-use Rattle.zk_talk.proofs.Talks.{grown, refusing, counted, message_payload, with_message, MayOn}
+use Rattle.zk_talk.proofs.Numbers.{numbers_after_client, numbers_after_server, newest_still, newest_after}
+use Rattle.zk_talk.proofs.Talks.{grown, refusing, counted, message_payload, with_message, MayOn, IsKnownAfter}
 use Rattle.zk_talk.proofs.Pieces.{described, go_more, go_whole, fail_here, fail_length, fail_end}
 
 -- what a whole frame carries stands behind its length
@@ -37,10 +39,16 @@ carried bytes p e = sym (drop-frame p) ∙ ap (drop 4) (sym e)
 -- the side's frame with this payload, behind so many of the client and so many of the side, is the message's: it may come
 -- now, and then these wait
 abbrev pub IsNextOn : Side → Profile → ℕ → ℕ → Lanes → List ℕ → Message → Lanes → Type 0
-IsNextOn Client profile asked count waiting p (FromClient f) waits = IsNextClient profile count waiting p f × IsRemembered f waiting waits
+IsNextOn Client profile asked count waiting p (FromClient f) waits = IsNextClient profile count waiting p f × IsNumbered count f waiting waits
 IsNextOn Server profile asked count waiting p (FromServer s) waits = IsNextServer asked count waiting p s × IsForgotten s waiting waits
 IsNextOn Client profile asked count waiting p (FromServer s) waits = ⊥
 IsNextOn Server profile asked count waiting p (FromClient f) waits = ⊥
+
+-- what is told of the server's newest frame, where the side keeps this: as before, or of the message
+abbrev pub IsToldOn : Side → TalkState → List ℕ → Option Replied → Message → Type 0
+IsToldOn Client t kept o m = o ≡ t.answered
+IsToldOn Server t kept o (FromServer s) = (kept ≡ [] → ⊥) → TellsReplied s t.waiting o
+IsToldOn Server t kept o (FromClient f) = Unit {0}
 
 -- the fault of the side's payload
 abbrev pub TellsOn : Side → Profile → ℕ → ℕ → Lanes → List ℕ → ItemFault → Type 0
@@ -51,20 +59,35 @@ TellsOn Server profile asked count waiting p e = TellsServer asked count waiting
 module _ (t : TalkState) (max : t.waiting.max ≡ t.limits.waiting) (v : Conversation) (d : Describes t.client_frames t.server_frames t.waiting v) (p : List ℕ) where
   next_may : (side : Side) (m : Message) (w : Lanes) → IsNextOn side t.limits.profile t.client_frames (frames_on side t) t.waiting p m w → load v.client v.server ≤ t.limits.waiting → (message_payload m ≡ p) × MayOn side t.limits v m
   next_may Client (FromClient f) w n l =
-      (n.0.is, (in_turn t.client_frames t.server_frames t.waiting v d t.limits.profile f n.0.turn n.0.sent, omega (arith, max, next_load t.client_frames t.server_frames t.waiting v d w f n.1 (omega (arith, max, l)))))
+      (n.0.is, (in_turn t.client_frames t.server_frames t.waiting v d t.limits.profile f n.0.turn n.0.sent, omega (arith, max, next_load t.client_frames t.server_frames t.waiting v d t.client_frames w f n.1 (omega (arith, max, l)))))
   next_may Server (FromServer s) w n l = (n.0.is, n.0.may v d)
   next_may Client (FromServer s) w next l = absurd next
   next_may Server (FromClient f) w next l = absurd next
 
   next_waits : (side : Side) (m : Message) (w : Lanes) → IsNextOn side t.limits.profile t.client_frames (frames_on side t) t.waiting p m w → (lane : Lane) → IsQueue lane (with_message v m) (queue_on lane w)
-  next_waits Client (FromClient f) w n = remembered t.client_frames t.server_frames t.waiting w v d f n.1
+  next_waits Client (FromClient f) w n = remembered t.client_frames t.server_frames t.waiting w v d t.client_frames f n.1
   next_waits Server (FromServer s) w n = forgotten t.client_frames t.server_frames t.waiting w v d s n.0.due n.1
   next_waits Client (FromServer s) w next = absurd next
   next_waits Server (FromClient f) w next = absurd next
 
+  next_known : (side : Side) (m : Message) (w : Lanes) (k : List ℕ) (o : Option Replied) → IsNextOn side t.limits.profile t.client_frames (frames_on side t) t.waiting p m w → IsToldOn side t k o m →
+      IsConversation t.limits.profile v → IsKnownAfter Server t t.server_kept t.answered v t.waiting → IsKnownAfter side t k o (with_message v m) w
+  next_known Client (FromClient f) w k o n told conversation known =
+      (numbers_after_client v t.waiting w known.0 f t.client_frames d.may d.client n.1, (λ kept. newest_still v f o (subst (IsNewest v) (sym told) (known.1 kept))))
+  next_known Server (FromServer s) w k o n told conversation known =
+      (numbers_after_server v t.waiting w known.0 s n.0.due n.1, (λ kept. newest_after t.limits.profile v t.waiting conversation known.0 s o (n.0.may v d) (told kept)))
+  next_known Client (FromServer s) w k o next told conversation known = absurd next
+  next_known Server (FromClient f) w k o next told conversation known = absurd next
+
   told_fault : (side : Side) (e : ItemFault) → TellsOn side t.limits.profile t.client_frames (frames_on side t) t.waiting p e → Tells (IsPayloadFault t.limits v side p) e
   told_fault Client e told = told t.limits t.server_frames v (sym max) refl d
   told_fault Server e told = told v d
+
+-- where the side keeps nothing, and nothing else is told
+pub told_nothing : (side : Side) (t : TalkState) (m : Message) (count : ℕ) (w : Lanes) (p : List ℕ) → IsNextOn side t.limits.profile t.client_frames count t.waiting p m w → IsToldOn side t [] t.answered m
+told_nothing Client t m count w p next = refl
+told_nothing Server t (FromServer s) count w p next = λ kept. absurd (kept refl)
+told_nothing Server t (FromClient f) count w p next = absurd next
 
 module _ (side : Side) (t : TalkState) (piece after : List ℕ) where
   pub goes_within : (n : ℕ) → n ≡ length piece → IsAdvance (side_limit t.limits side) (size_on side t) (held_on side t) piece Within after → GoesOn t side (take n piece) [] (grown side t after (size_on side t + n))
@@ -90,15 +113,16 @@ module _ (side : Side) (t : TalkState) (piece after : List ℕ) where
           (subst (λ z. Refuses (refusing side t after (fault_of side (frames_on side t) (size_on side t + used) 0 LengthRange)) (h ++ on side z) M (fault_of side (frames_on side t) (size_on side t + used) 0 LengthRange)) (take-append-drop used piece) stop)
 
   -- a frame more, which is passed or kept
-  pub goes_whole : (k : List ℕ) (o : Option Op) (used : ℕ) (m : Message) (w : Lanes) → IsAdvance (side_limit t.limits side) (size_on side t) (held_on side t) piece (Whole used) after → t.waiting.max ≡ t.limits.waiting →
-      IsNextOn side t.limits.profile t.client_frames (frames_on side t) t.waiting (drop 4 after) m w → GoesOn t side (take used piece) (m ∷ []) (counted side t k (size_on side t + used) w o)
-  goes_whole k o used m w a max next =
+  pub goes_whole : (k : List ℕ) (o : Option Replied) (used : ℕ) (m : Message) (w : Lanes) → IsAdvance (side_limit t.limits side) (size_on side t) (held_on side t) piece (Whole used) after → t.waiting.max ≡ t.limits.waiting →
+      IsNextOn side t.limits.profile t.client_frames (frames_on side t) t.waiting (drop 4 after) m w → IsToldOn side t k o m → GoesOn t side (take used piece) (m ∷ []) (counted side t k (size_on side t + used) w o)
+  goes_whole k o used m w a max next told =
       let whole = a.4 in
       let n : used ≡ length (take used piece) = sym (length-take-le used piece a.1) in
       let same = carried after whole.0 whole.1 in
       go_whole side t k o (take used piece) used whole.0 m w n (omega (arith, n, a.0)) (sym a.3 ∙ whole.1) whole.2 a.2
       (λ v d l. (let j = next_may t max v d (drop 4 after) side m w next l in (j.0 ∙ sym same, j.1)))
       (λ v d. next_waits t max v d (drop 4 after) side m w next)
+      (λ v d. next_known t max v d (drop 4 after) side m w k o next told)
 
   pub judged : (used : ℕ) (e : ItemFault) → IsAdvance (side_limit t.limits side) (size_on side t) (held_on side t) piece (Whole used) after → t.waiting.max ≡ t.limits.waiting →
       TellsOn side t.limits.profile t.client_frames (frames_on side t) t.waiting (drop 4 after) e →

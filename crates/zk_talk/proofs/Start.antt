@@ -10,6 +10,7 @@ use Rattle.std.proofs.Common.{None}
 use Rattle.zk_waiting.specs.declared.lane.Lane.{Lane}
 use Rattle.zk_waiting.specs.Waiting.{Lanes, queue_on}
 use Rattle.zk_talk.specs.Queues.{IsQueue}
+use Rattle.zk_talk.specs.Numbers.{HaveNumbers}
 use Rattle.zk_talk.specs.Stands.{TalkState, Stands}
 use Rattle.zk_waiting.specs.declared.lane.Lane.TheVariants.{Ping, Auth, Watches, Plain}
 use Rattle.zk_talk.proofs.Lists.{EachAfter-nil, both_empty}
@@ -54,9 +55,17 @@ start limits = record {
   client_size = sym (ap length (no_bytes Client));
   server_size = sym (ap length (no_bytes Server));
   queues = λ lane. none lane;
+  numbers = λ lane. unnumbered lane;
+  newest = λ kept. absurd (kept refl);
   no_fault = refl;
 }
   where
+    unnumbered : (lane : Lane) → HaveNumbers lane no_conversation (queue_on lane (no_lanes limits.waiting))
+    unnumbered Ping = refl
+    unnumbered Auth = refl
+    unnumbered Watches = refl
+    unnumbered Plain = refl
+
     none : (lane : Lane) → IsQueue lane no_conversation (queue_on lane (no_lanes limits.waiting))
     none Ping = tt
     none Auth = tt

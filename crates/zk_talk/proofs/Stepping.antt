@@ -10,8 +10,8 @@ use Rattle.zk_talk.specs.Taking.{GoesOn, Steps, Passes, IsRefused, Fails, given_
 use Rattle.zk_talk.proofs.Answering.{rekept}
 
 stands_given : (side : Side) (t : TalkState) (h : History) (M : List Message) → Stands t h M → Stands (given_up side t) h M
-stands_given Client t h M st = rekept t [] t.server_kept h M st
-stands_given Server t h M st = rekept t t.client_kept [] h M st
+stands_given Client t h M st = rekept t [] t.server_kept h M st st.newest
+stands_given Server t h M st = rekept t t.client_kept [] h M st (λ kept. absurd (kept refl))
 
 pub given_twice : (side : Side) (t : TalkState) → given_up side (given_up side t) ≡ given_up side t
 given_twice Client t = refl
@@ -64,6 +64,8 @@ refuses_given Client t h M f r = record {
   is = r.is;
   order = r.order;
   queues = r.queues;
+  server_frames = r.server_frames;
+  newest = r.newest;
   load = r.load;
   held = λ items. held_given Client f.side t ∙ r.held items;
 }
@@ -72,6 +74,8 @@ refuses_given Server t h M f r = record {
   is = r.is;
   order = r.order;
   queues = r.queues;
+  server_frames = r.server_frames;
+  newest = λ kept. absurd (kept refl);
   load = r.load;
   held = λ items. held_given Server f.side t ∙ r.held items;
 }

@@ -20,9 +20,10 @@ use Rattle.zk_talk.specs.History.{on}
 use Rattle.zk_talk.specs.declared.message.Fault.{Fault}
 use Rattle.zk_talk.specs.Good.{clients, servers, IsOrder}
 use Rattle.zk_talk.specs.Fault.{IsCause, IsOfItems, fault_of, side_limit}
-use Rattle.zk_records.specs.declared.op.Op.{Op}
 use Rattle.zk_waiting.specs.Waiting.{Lanes, queue_on}
 use Rattle.zk_talk.specs.Queues.{IsQueue}
+use Rattle.zk_talk.specs.Numbers.{AreNumbered, IsNewest}
+use Rattle.zk_talk.specs.declared.replied.Replied.{Replied}
 use Rattle.zk_talk.specs.Stands.{TalkState, Stands, Refuses, held_on, kept_on, frames_on, size_on}
 use Rattle.zk_talk.specs.Streams.{StreamState}
 use Rattle.zk_jute.specs.Reading.{told_place}
@@ -33,11 +34,11 @@ use Rattle.zk_talk.proofs.Standing.{frame_front, clients-append, servers-append,
 
 -- the talk with this in place of what is held and kept of the side, how many frames were whole, how many bytes came, what
 -- waits, what was answered, and the fault
-abbrev pub set_on : Side → TalkState → List ℕ → List ℕ → ℕ → ℕ → Lanes → Option Op → Option Fault → TalkState
+abbrev pub set_on : Side → TalkState → List ℕ → List ℕ → ℕ → ℕ → Lanes → Option Replied → Option Fault → TalkState
 set_on Client t held kept frames size w o fault = record t { client_held = held; client_kept = kept; client_frames = frames; client_size = size; waiting = w; answered = o; fault = fault }
 set_on Server t held kept frames size w o fault = record t { server_held = held; server_kept = kept; server_frames = frames; server_size = size; waiting = w; answered = o; fault = fault }
 
-abbrev pub put_on : Side → TalkState → StreamState → Lanes → Option Op → Option Fault → TalkState
+abbrev pub put_on : Side → TalkState → StreamState → Lanes → Option Replied → Option Fault → TalkState
 put_on side t s w o fault = set_on side t s.held s.kept s.count s.size w o fault
 
 -- the talk whose side has this beginning, and so many bytes in all
@@ -49,7 +50,7 @@ abbrev pub refusing : Side → TalkState → List ℕ → Fault → TalkState
 refusing side t held fault = set_on side t held (kept_on side t) (frames_on side t) (size_on side t) t.waiting t.answered (Some fault)
 
 -- the talk that has one frame more of the side, and so many bytes in all
-abbrev pub counted : Side → TalkState → List ℕ → ℕ → Lanes → Option Op → TalkState
+abbrev pub counted : Side → TalkState → List ℕ → ℕ → Lanes → Option Replied → TalkState
 counted side t kept size w o = set_on side t [] kept (frames_on side t + 1) size w o t.fault
 
 abbrev pub message_payload : Message → List ℕ
@@ -68,6 +69,15 @@ MayOn Server limits v (FromServer s) = ServerMay v.client v.server s
 MayOn Client limits v (FromServer s) = ⊥
 MayOn Server limits v (FromClient f) = ⊥
 
+-- what the server keeps, where the side keeps this
+abbrev pub server_keeps : Side → TalkState → List ℕ → List ℕ
+server_keeps Client t kept = t.server_kept
+server_keeps Server t kept = kept
+
+-- the requests that wait have their numbers, and what is told of the server's newest frame, if it is kept, is so
+abbrev pub IsKnownAfter : Side → TalkState → List ℕ → Option Replied → Conversation → Lanes → Type 0
+IsKnownAfter side t kept o v w = AreNumbered v w × ((server_keeps side t kept ≡ [] → ⊥) → IsNewest v o)
+
 module _ (t : TalkState) (h : History) (M : List Message) (st : Stands t h M) where
   -- ---- The client's pieces
   more_client : (bs : List ℕ) → IsBeginning t.limits.client (t.client_held ++ bs) → t.client_size + length bs < 2 ^ 62 →
@@ -83,13 +93,15 @@ module _ (t : TalkState) (h : History) (M : List Message) (st : Stands t h M) wh
         client_size = omega (arith, st.client_size, bytes-on Client bs h);
         server_size = st.server_size ∙ ap length (sym (other-on Client bs h));
         queues = st.queues;
+        numbers = st.numbers;
+        newest = st.newest;
         no_fault = st.no_fault;
       }
 
-  whole_client : (k : List ℕ) (o : Option Op) (bs : List ℕ) (b : ℕ) (f : ClientFrame) (w : Lanes) → (t.client_held ++ bs) ++ b ∷ [] ≡ frame (client_payload f) → length (client_payload f) ≤ t.limits.client → ClientMay t.limits.profile st.conversation.client f →
-      load (st.conversation.client ++ f ∷ []) st.conversation.server ≤ t.limits.waiting → t.client_size + (length bs + 1) < 2 ^ 62 → ((lane : Lane) → IsQueue lane (with_client st.conversation f) (queue_on lane w)) →
+  whole_client : (k : List ℕ) (o : Option Replied) (bs : List ℕ) (b : ℕ) (f : ClientFrame) (w : Lanes) → (t.client_held ++ bs) ++ b ∷ [] ≡ frame (client_payload f) → length (client_payload f) ≤ t.limits.client → ClientMay t.limits.profile st.conversation.client f →
+      load (st.conversation.client ++ f ∷ []) st.conversation.server ≤ t.limits.waiting → t.client_size + (length bs + 1) < 2 ^ 62 → ((lane : Lane) → IsQueue lane (with_client st.conversation f) (queue_on lane w)) → IsKnownAfter Client t k o (with_client st.conversation f) w →
       Stands (counted Client t k (t.client_size + (length bs + 1)) w o) (h ++ on Client (bs ++ b ∷ [])) (M ++ FromClient f ∷ [])
-  whole_client k o bs b f w e l may fits size qs =
+  whole_client k o bs b f w e l may fits size qs after =
       let v = st.conversation in
       let begin = frame_front t.limits.client (t.client_held ++ bs) [] (client_payload f) b l e in
       let r = runs_client t.limits (small_limits t.limits) v M bs h t.client_held t.server_held (record { good = st.good; order = st.order }) begin (omega (arith, size, st.client_size)) in
@@ -108,6 +120,8 @@ module _ (t : TalkState) (h : History) (M : List Message) (st : Stands t h M) wh
         client_size = omega (arith, st.client_size, bytes-on Client (bs ++ b ∷ []) h, length_push bs b);
         server_size = st.server_size ∙ ap length (sym (other-on Client (bs ++ b ∷ []) h));
         queues = qs;
+        numbers = after.0;
+        newest = after.1;
         no_fault = st.no_fault;
       }
 
@@ -141,6 +155,8 @@ module _ (t : TalkState) (h : History) (M : List Message) (st : Stands t h M) wh
         };
         order = r.order;
         queues = st.queues;
+        server_frames = st.server_frames;
+        newest = st.newest;
         load = weight_is_load v t.waiting st.queues;
         held = kept;
       }
@@ -159,13 +175,15 @@ module _ (t : TalkState) (h : History) (M : List Message) (st : Stands t h M) wh
         client_size = st.client_size ∙ ap length (sym (other-on Server bs h));
         server_size = omega (arith, st.server_size, bytes-on Server bs h);
         queues = st.queues;
+        numbers = st.numbers;
+        newest = st.newest;
         no_fault = st.no_fault;
       }
 
-  whole_server : (k : List ℕ) (o : Option Op) (bs : List ℕ) (b : ℕ) (s : ServerFrame) (w : Lanes) → (t.server_held ++ bs) ++ b ∷ [] ≡ frame (server_payload s) → length (server_payload s) ≤ t.limits.server → ServerMay st.conversation.client st.conversation.server s →
-      t.server_size + (length bs + 1) < 2 ^ 62 → ((lane : Lane) → IsQueue lane (with_server st.conversation s) (queue_on lane w)) →
+  whole_server : (k : List ℕ) (o : Option Replied) (bs : List ℕ) (b : ℕ) (s : ServerFrame) (w : Lanes) → (t.server_held ++ bs) ++ b ∷ [] ≡ frame (server_payload s) → length (server_payload s) ≤ t.limits.server → ServerMay st.conversation.client st.conversation.server s →
+      t.server_size + (length bs + 1) < 2 ^ 62 → ((lane : Lane) → IsQueue lane (with_server st.conversation s) (queue_on lane w)) → IsKnownAfter Server t k o (with_server st.conversation s) w →
       Stands (counted Server t k (t.server_size + (length bs + 1)) w o) (h ++ on Server (bs ++ b ∷ [])) (M ++ FromServer s ∷ [])
-  whole_server k o bs b s w e l may size qs =
+  whole_server k o bs b s w e l may size qs after =
       let v = st.conversation in
       let begin = frame_front t.limits.server (t.server_held ++ bs) [] (server_payload s) b l e in
       let r = runs_server t.limits (small_limits t.limits) v M bs h t.client_held t.server_held (record { good = st.good; order = st.order }) begin (omega (arith, size, st.server_size)) in
@@ -184,6 +202,8 @@ module _ (t : TalkState) (h : History) (M : List Message) (st : Stands t h M) wh
         client_size = st.client_size ∙ ap length (sym (other-on Server (bs ++ b ∷ []) h));
         server_size = omega (arith, st.server_size, bytes-on Server (bs ++ b ∷ []) h, length_push bs b);
         queues = qs;
+        numbers = after.0;
+        newest = after.1;
         no_fault = st.no_fault;
       }
 
@@ -217,6 +237,8 @@ module _ (t : TalkState) (h : History) (M : List Message) (st : Stands t h M) wh
         };
         order = r.order;
         queues = st.queues;
+        server_frames = st.server_frames;
+        newest = st.newest;
         load = weight_is_load v t.waiting st.queues;
         held = kept;
       }
@@ -226,12 +248,12 @@ module _ (t : TalkState) (h : History) (M : List Message) (st : Stands t h M) wh
   more Client = more_client
   more Server = more_server
 
-  pub whole : (side : Side) (k : List ℕ) (o : Option Op) (bs : List ℕ) (b : ℕ) (m : Message) (w : Lanes) → (held_on side t ++ bs) ++ b ∷ [] ≡ frame (message_payload m) → length (message_payload m) ≤ side_limit t.limits side → MayOn side t.limits st.conversation m →
-      size_on side t + (length bs + 1) < 2 ^ 62 → ((lane : Lane) → IsQueue lane (with_message st.conversation m) (queue_on lane w)) → Stands (counted side t k (size_on side t + (length bs + 1)) w o) (h ++ on side (bs ++ b ∷ [])) (M ++ m ∷ [])
-  whole Client k o bs b (FromClient f) w e l may size qs = whole_client k o bs b f w e l may.0 may.1 size qs
-  whole Server k o bs b (FromServer s) w e l may size qs = whole_server k o bs b s w e l may size qs
-  whole Client k o bs b (FromServer s) w e l may size qs = absurd may
-  whole Server k o bs b (FromClient f) w e l may size qs = absurd may
+  pub whole : (side : Side) (k : List ℕ) (o : Option Replied) (bs : List ℕ) (b : ℕ) (m : Message) (w : Lanes) → (held_on side t ++ bs) ++ b ∷ [] ≡ frame (message_payload m) → length (message_payload m) ≤ side_limit t.limits side → MayOn side t.limits st.conversation m →
+      size_on side t + (length bs + 1) < 2 ^ 62 → ((lane : Lane) → IsQueue lane (with_message st.conversation m) (queue_on lane w)) → IsKnownAfter side t k o (with_message st.conversation m) w → Stands (counted side t k (size_on side t + (length bs + 1)) w o) (h ++ on side (bs ++ b ∷ [])) (M ++ m ∷ [])
+  whole Client k o bs b (FromClient f) w e l may size qs after = whole_client k o bs b f w e l may.0 may.1 size qs after
+  whole Server k o bs b (FromServer s) w e l may size qs after = whole_server k o bs b s w e l may size qs after
+  whole Client k o bs b (FromServer s) w e l may size qs after = absurd may
+  whole Server k o bs b (FromClient f) w e l may size qs after = absurd may
 
   pub refuse : (side : Side) (held : List ℕ) (place told : ℕ) → told ≡ told_place place → (reason : Reason) (bs : List ℕ) (b : ℕ) (more : List ℕ) → IsBeginning (side_limit t.limits side) (held_on side t ++ bs) → size_on side t + length bs < 2 ^ 62 →
       (IsOfItems reason → held ≡ (held_on side t ++ bs) ++ b ∷ []) → IsCause t.limits st.conversation side (size_on side t + length bs) (held_on side t ++ bs) b place reason →

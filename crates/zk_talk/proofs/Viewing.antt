@@ -12,7 +12,8 @@ use Rattle.zk_answers.specs.declared.frame.ServerFrameOf.TheVariants.{Connected,
 use Rattle.zk_answers.specs.Frames as answers
 use Rattle.zk_waiting.specs.Waiting.{Lanes}
 use Rattle.zk_talk.specs.Payloads.{client_payload, server_payload}
-use Rattle.zk_talk.specs.Judged.{IsInTurn, IsDue}
+use Rattle.zk_talk.specs.declared.replied.Replied.{Replied}
+use Rattle.zk_talk.specs.Judged.{IsInTurn, IsDue, TellsReplied}
 use Rattle.zk_frames.proofs.Cuts.{length-frame}
 use Rattle.zk_talk.specs.declared.message.Side.{Side}
 use Rattle.zk_talk.specs.declared.message.Side.TheVariants.{Client, Server}
@@ -20,7 +21,7 @@ use Rattle.zk_talk.specs.Held.{Message}
 use Rattle.zk_talk.specs.declared.message.MessageOf.TheVariants.{Client as FromClient, Server as FromServer}
 use Rattle.zk_talk.specs.Stands.{TalkState, kept_on}
 use Rattle.zk_talk.proofs.Sides.{carried}
-use Rattle.zk_talk.specs.Viewed.{Shows, ShowsClient, ShowsServer, IsShownAs, answered_by}
+use Rattle.zk_talk.specs.Viewed.{Shows, ShowsClient, ShowsServer, IsShownAs}
 
 one_less : (n : ℕ) → n + 1 ≡ 1 → n ≡ 0
 one_less n e = omega (arith, e)
@@ -40,14 +41,14 @@ fits_its_own : (o : Outcome) → (op : Op) (parts : List _) → answers.OutcomeF
 fits_its_own (outcome.Done b) op parts fits = (refl, fits.1)
 fits_its_own (outcome.Failed o e) op parts fits = refl
 
-kind_of : (n : ℕ) (s : ServerFrame) (w : Lanes) → IsDue s w → (n ≡ 0 → answers.IsConnected s) × ((n ≡ 0 → ⊥) → answers.IsConnected s → ⊥) → IsShownAs (n + 1) (answered_by s) s
-kind_of n (Connected hello read_only) w due turn = ((λ e. tt), (λ not. absurd (turn.1 (λ e. not (one_more n e)) tt)))
-kind_of n (Answered reply) w due turn = (due.0.parts, fits_its_own reply.outcome due.0.op due.0.parts due.2)
-kind_of n (Event zxid event) w due turn = ((λ e. absurd (turn.0 (one_less n e))), (λ not. tt))
+kind_of : (n : ℕ) (s : ServerFrame) (w : Lanes) (told : Option Replied) → TellsReplied s w told → IsDue s w → (n ≡ 0 → answers.IsConnected s) × ((n ≡ 0 → ⊥) → answers.IsConnected s → ⊥) → IsShownAs (n + 1) told s
+kind_of n (Connected hello read_only) w told tells due turn = subst (λ o. IsShownAs (n + 1) o (Connected hello read_only)) (sym tells) ((λ e. tt), (λ not. absurd (turn.1 (λ e. not (one_more n e)) tt)))
+kind_of n (Answered reply) w told tells due turn = subst (λ o. IsShownAs (n + 1) o (Answered reply)) (sym tells.2) (due.0.parts, fits_its_own reply.outcome due.0.op due.0.parts due.2)
+kind_of n (Event zxid event) w told tells due turn = subst (λ o. IsShownAs (n + 1) o (Event zxid event)) (sym tells) ((λ e. absurd (turn.0 (one_less n e))), (λ not. tt))
 
-pub server_shown : (n : ℕ) (kept : List ℕ) (s : ServerFrame) (w : Lanes) → IsDue s w → (n ≡ 0 → answers.IsConnected s) × ((n ≡ 0 → ⊥) → answers.IsConnected s → ⊥) → answers.IsSent s
-    → kept ≡ frame (server_payload s) → ShowsServer (n + 1) (answered_by s) kept s
-server_shown n kept s w due turn sent is = record { kind = kind_of n s w due turn; sent = sent; is = is }
+pub server_shown : (n : ℕ) (kept : List ℕ) (s : ServerFrame) (w : Lanes) (told : Option Replied) → TellsReplied s w told → IsDue s w → (n ≡ 0 → answers.IsConnected s) × ((n ≡ 0 → ⊥) → answers.IsConnected s → ⊥) → answers.IsSent s
+    → kept ≡ frame (server_payload s) → ShowsServer (n + 1) told kept s
+server_shown n kept s w told tells due turn sent is = record { kind = kind_of n s w told tells due turn; sent = sent; is = is }
 
 -- ---- what the payload of a kept frame is
 
@@ -88,7 +89,7 @@ module _ (count : ℕ) (kept p : List ℕ) (is : kept ≡ frame p) where
         let same = only x.0 (subst (λ (b : List ℕ). ShowsClient n b x.0) is (subst (λ (m : ℕ). ShowsClient m kept x.0) (sym e) x.1)) in
         subst (ShowsClient count kept) (sym same) x.1
 
-  module _ (op : Option Op) (k : (kept ≡ [] → ⊥) → (s : ServerFrame) × ShowsServer count op kept s) where
+  module _ (op : Option Replied) (k : (kept ≡ [] → ⊥) → (s : ServerFrame) × ShowsServer count op kept s) where
     pub server_lies : (n : ℕ) → n ≡ count → (s : ServerFrame) × ShowsServer n op (frame p) s
     server_lies n e = let x = k not_none in (x.0, subst (λ (b : List ℕ). ShowsServer n op b x.0) is (subst (λ (m : ℕ). ShowsServer m op kept x.0) (sym e) x.1))
 

@@ -1,23 +1,23 @@
 -- How a payload's judgement is reported.
-use Rattle.std.specs.Prelude.{◌≡◌, ℕ, ◌<◌, ◌≤◌, ◌+◌, ◌⊎◌, List, drop, Option, Some, slice_get}
+use Rattle.std.specs.Prelude.{◌≡◌, ℕ, ◌<◌, ◌≤◌, ◌+◌, ◌⊎◌, List, drop, Option, Some, None, slice_get}
 use Rattle.zk_jute.specs.declared.fault.ItemFault.{ItemFault}
 use Rattle.zk_jute.specs.declared.fault.Reason.{Reason}
 use Rattle.zk_jute.specs.declared.fault.Reason.TheVariants.{QueueFull}
 use Rattle.zk_jute.specs.Reading.{told_place, no_memory}
 use Rattle.zk_records.specs.declared.profile.Profile.{Profile}
-use Rattle.zk_records.specs.declared.op.Op.{Op}
 use Rattle.zk_asks.specs.Held.{ClientFrame}
 use Rattle.zk_asks.specs.declared.frame.ClientFrameOf.TheVariants.{Connect, Ask}
 use Rattle.zk_asks.specs.Frames.{IsFirst, IsLater, IsOfProfile, ops_of_ask}
 use Rattle.zk_asks.specs.Rows.{op_of_ask}
 use Rattle.zk_asks.specs.Faults.{IsFirstFault, IsAskFault}
-use Rattle.zk_answers.specs.Frames.{IsReplyTo}
+use Rattle.zk_answers.specs.Frames.{IsReplyTo, op_of_reply}
 use Rattle.zk_answers.specs.Held.{ServerFrame}
 use Rattle.zk_answers.specs.declared.frame.ServerFrameOf.TheVariants.{Connected, Answered, Event}
 use Rattle.zk_waiting.specs.Lane.{lane_of}
 use Rattle.zk_waiting.specs.Waiting.{Lanes, Request, queue_on, weight_of, IsPut, IsDropped}
 use Rattle.zk_asks.specs.Frames as asks
 use Rattle.zk_talk.specs.declared.limits.Limits.{Limits}
+use Rattle.zk_talk.specs.declared.replied.Replied.{Replied}
 use Rattle.zk_talk.specs.Payloads.{client_payload, server_payload}
 use Rattle.zk_talk.specs.Fault.{IsClientFault, IsServerFault}
 use Rattle.zk_talk.specs.Streams.{StreamState}
@@ -58,11 +58,15 @@ abbrev pub HasRoomFor : ClientFrame → Lanes → Type 0
 HasRoomFor (Connect hello read_only) w = Unit {0}
 HasRoomFor (Ask xid ask) w = weight_of w + weight (Ask xid ask) ≤ w.max
 
--- the frame waits for its reply, if it is to have one
+-- the frame of this number waits for its reply, if it is to have one
+abbrev pub IsNumbered : ℕ → ClientFrame → Lanes → Lanes → Type 0
+IsNumbered number (Connect hello read_only) old new = new ≡ old
+IsNumbered number (Ask xid ask) old new = (weight_of old + weight (Ask xid ask) ≤ old.max) ×
+    IsPut (lane_of xid) (record { xid = xid; op = op_of_ask ask; parts = ops_of_ask ask; frame = number }) old new
+
+-- the frame waits for its reply, if it is to have one; no number is told
 abbrev pub IsRemembered : ClientFrame → Lanes → Lanes → Type 0
-IsRemembered (Connect hello read_only) old new = new ≡ old
-IsRemembered (Ask xid ask) old new = (weight_of old + weight (Ask xid ask) ≤ old.max) ×
-    IsPut (lane_of xid) (record { xid = xid; op = op_of_ask ask; parts = ops_of_ask ask }) old new
+IsRemembered f old new = IsNumbered 0 f old new
 
 -- a reply has an ask in its lane
 abbrev pub HasAsk : ServerFrame → Lanes → Type 0
@@ -102,9 +106,16 @@ HasNextClient profile stream waiting = (f : ClientFrame) × IsNextClient profile
 abbrev pub HasNextServer : ℕ → StreamState → Lanes → Type 0
 HasNextServer asked stream waiting = (s : ServerFrame) × IsNextServer asked stream.count waiting (drop 4 stream.held) s
 
+-- the request that the frame answers, if it is a reply: the oldest of its lane
+abbrev pub TellsReplied : ServerFrame → Lanes → Option Replied → Type 0
+TellsReplied (Connected hello read_only) w told = told ≡ None
+TellsReplied (Answered reply) w told = (r : Request) × (slice_get (queue_on (lane_of reply.xid) w) 0 ≡ Some r) ×
+    (told ≡ Some (record { op = op_of_reply reply; frame = r.frame }))
+TellsReplied (Event zxid event) w told = told ≡ None
+
 -- the client's frame of these bytes may come next, and then waits for its reply
 abbrev pub PassesClient : Profile → StreamState → Lanes → List ℕ → ClientFrame → Lanes → Type 0
-PassesClient profile old waiting bytes f waits = IsNextClient profile old.count waiting (drop 4 bytes) f × IsRemembered f waiting waits
+PassesClient profile old waiting bytes f waits = IsNextClient profile old.count waiting (drop 4 bytes) f × IsNumbered old.count f waiting waits
 
 -- the server's frame of these bytes may come next, and the ask that it answers is then dropped
 abbrev pub PassesServer : ℕ → StreamState → Lanes → List ℕ → ServerFrame → Lanes → Type 0
@@ -113,9 +124,9 @@ PassesServer asked old waiting bytes s waits = IsNextServer asked old.count wait
 -- the client's frame that may come next is counted and kept, and waits for its reply
 abbrev pub KeepsClient : Profile → StreamState → Lanes → ClientFrame → Lanes → StreamState → Type 0
 KeepsClient profile old waiting f waits new = IsNextClient profile old.count waiting (drop 4 old.held) f ×
-    IsRemembered f waiting waits × ShowsClient new.count new.kept f
+    IsNumbered old.count f waiting waits × ShowsClient new.count new.kept f
 
 -- the server's frame that may come next is counted and kept, and the ask that it answers is dropped
-abbrev pub KeepsServer : ℕ → StreamState → Lanes → Option Op → ServerFrame → Lanes → StreamState → Type 0
+abbrev pub KeepsServer : ℕ → StreamState → Lanes → Option Replied → ServerFrame → Lanes → StreamState → Type 0
 KeepsServer asked old waiting answered s waits new = IsNextServer asked old.count waiting (drop 4 old.held) s ×
-    IsForgotten s waiting waits × ShowsServer new.count answered new.kept s
+    IsForgotten s waiting waits × ShowsServer new.count answered new.kept s × TellsReplied s waiting answered

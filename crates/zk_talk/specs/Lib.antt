@@ -9,6 +9,7 @@ pub mod Fault
 pub mod Ending
 pub mod Refused
 pub mod Queues
+pub mod Numbers
 pub mod Stands
 pub mod Describes
 pub mod Streams

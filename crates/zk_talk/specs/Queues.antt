@@ -8,10 +8,10 @@ use Rattle.zk_waiting.specs.declared.lane.Lane.{Lane}
 use Rattle.zk_waiting.specs.Waiting.{Request}
 use Rattle.zk_talk.specs.Conversation.{Conversation, is_ask_on, replies_on}
 
--- what waits for the frame's reply
+-- what waits for the frame's reply, whatever its number
 abbrev pub IsRequest : Request → ClientFrame → Type 0
 IsRequest r (Connect hello read_only) = ⊥
-IsRequest r (Ask xid ask) = r ≡ record { xid = xid; op = op_of_ask ask; parts = ops_of_ask ask }
+IsRequest r (Ask xid ask) = r ≡ record { xid = xid; op = op_of_ask ask; parts = ops_of_ask ask; frame = r.frame }
 
 abbrev pub AreRequests : List Request → List ClientFrame → Type 0
 AreRequests [] [] = Unit {0}

@@ -1,5 +1,5 @@
 -- What is known of a frame that is judged without being made.
-use Rattle.std.specs.Prelude.{◌≡◌, ℕ, ℤ, List, Option}
+use Rattle.std.specs.Prelude.{◌≡◌, ℕ, ℤ, List, Option, Some}
 use Rattle.zk_records.specs.declared.op.Op.{Op}
 use Rattle.zk_records.specs.declared.profile.Profile.{Profile}
 use Rattle.zk_asks.specs.Held.{ClientFrame}
@@ -11,30 +11,34 @@ use Rattle.zk_waiting.specs.Waiting.{Lanes}
 use Rattle.zk_talk.specs.Payloads.{client_payload, server_payload}
 use Rattle.zk_talk.specs.Conversation.{Conversation, ServerMay}
 use Rattle.zk_talk.specs.Describes.{Describes}
-use Rattle.zk_talk.specs.Judged.{IsInTurn, IsRemembered, IsDue, IsForgotten}
-use Rattle.zk_talk.specs.Viewed.{answered_by}
+use Rattle.zk_talk.specs.declared.replied.Replied.{Replied}
+use Rattle.zk_talk.specs.Judged.{IsInTurn, IsNumbered, IsDue, IsForgotten, TellsReplied}
 
--- the client's frame with this payload, after `count` frames, may come now, and waits for its reply
-pub record IsAwaited (profile : Profile) (count : ℕ) (p : List ℕ) (old new : Lanes) (f : ClientFrame) : Type 0 where
+-- the client's frame with this payload, after `count` frames, may come now, and waits for its reply under this number
+pub record IsAwaited (profile : Profile) (count number : ℕ) (p : List ℕ) (old new : Lanes) (f : ClientFrame) : Type 0 where
   pub turn : IsInTurn profile count f
   pub sent : asks.IsSent f
   pub is : client_payload f ≡ p
-  pub waits : IsRemembered f old new
+  pub waits : IsNumbered number f old new
 
--- the reply with this payload and this xid, to the operation that waits, may come after any frame but the first
-pub record IsDueReply (number : ℤ) (p : List ℕ) (asked : Op) (waiting : Lanes) (r : Reply) : Type 0 where
+-- the reply with this payload and this xid, to the request that waits, may come after any frame but the first
+pub record IsDueReply (number : ℤ) (p : List ℕ) (asked : Replied) (waiting : Lanes) (r : Reply) : Type 0 where
   pub xid : r.xid ≡ number
-  pub op : answers.op_of_reply r ≡ asked
+  pub told : TellsReplied (Answered r) waiting (Some asked)
   pub due : IsDue (Answered r) waiting
   pub sent : answers.IsSent (Answered r)
   pub is : server_payload (Answered r) ≡ p
   pub may : (n m : ℕ) (v : Conversation) → (m ≡ 0 → ⊥) → Describes n m waiting v → ServerMay v.client v.server (Answered r)
 
--- the server's frame with this payload, after `count` frames, may come now; it answers this operation, which is dropped,
+-- the request has this operation
+abbrev pub IsDueOf : Op → ℤ → List ℕ → Lanes → Reply → Type 0
+IsDueOf op number p waiting r = (asked : Replied) × (asked.op ≡ op) × IsDueReply number p asked waiting r
+
+-- the server's frame with this payload, after `count` frames, may come now; it answers this request, which is dropped,
 -- or none
-pub record IsSettled (count : ℕ) (p : List ℕ) (answered : Option Op) (old new : Lanes) (s : ServerFrame) : Type 0 where
+pub record IsSettled (count : ℕ) (p : List ℕ) (answered : Option Replied) (old new : Lanes) (s : ServerFrame) : Type 0 where
   pub turn : (count ≡ 0 → answers.IsConnected s) × ((count ≡ 0 → ⊥) → answers.IsConnected s → ⊥)
-  pub operation : answered_by s ≡ answered
+  pub told : TellsReplied s old answered
   pub due : IsDue s old
   pub sent : answers.IsSent s
   pub is : server_payload s ≡ p

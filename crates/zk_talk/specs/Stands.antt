@@ -1,6 +1,5 @@
 -- Which history a talk has come through.
 use Rattle.std.specs.Prelude.{◌≡◌, ℕ, List, [], ◌∷◌, ◌++◌, length, Option, Some, None}
-use Rattle.zk_records.specs.declared.op.Op.{Op}
 use Rattle.zk_waiting.specs.declared.lane.Lane.{Lane}
 use Rattle.zk_waiting.specs.Waiting.{Lanes, queue_on, weight_of}
 use Rattle.zk_talk.specs.declared.message.Side.{Side}
@@ -13,8 +12,10 @@ use Rattle.zk_talk.specs.Conversation.{Conversation, load}
 use Rattle.zk_talk.specs.Good.{Good, IsOrder}
 use Rattle.zk_talk.specs.Fault.{IsFaultOf, IsOfItems, rest_on}
 use Rattle.zk_talk.specs.Queues.{IsQueue}
+use Rattle.zk_talk.specs.Numbers.{AreNumbered, IsNewest}
+use Rattle.zk_talk.specs.declared.replied.Replied.{Replied}
 
--- what is known of a talk; `answered` is the operation that the newest frame of the server that was kept answers
+-- what is known of a talk; `answered` is the request that the newest frame of the server that was kept answers
 pub record TalkState : Type 0 where
   pub limits : Limits
   pub client_held : List ℕ
@@ -26,7 +27,7 @@ pub record TalkState : Type 0 where
   pub server_frames : ℕ
   pub client_size : ℕ
   pub server_size : ℕ
-  pub answered : Option Op
+  pub answered : Option Replied
   pub fault : Option Fault
 
 abbrev pub held_on : Side → TalkState → List ℕ
@@ -48,6 +49,8 @@ pub record Stands (t : TalkState) (h : History) (messages : List Message) : Type
   pub client_size : t.client_size ≡ length (side_bytes Client h)
   pub server_size : t.server_size ≡ length (side_bytes Server h)
   pub queues : (lane : Lane) → IsQueue lane conversation (queue_on lane t.waiting)
+  pub numbers : AreNumbered conversation t.waiting
+  pub newest : (t.server_kept ≡ [] → ⊥) → IsNewest conversation t.answered
   pub no_fault : t.fault ≡ None
 
 -- this holds of any conversation that the talk's history spells, and of what its sides have begun
@@ -62,6 +65,8 @@ pub record Refuses (t : TalkState) (h : History) (messages : List Message) (faul
   pub is : IsFaultOf t.limits h fault
   pub order : IsOrder t.limits is.before is.conversation messages
   pub queues : (lane : Lane) → IsQueue lane is.conversation (queue_on lane t.waiting)
+  pub server_frames : t.server_frames ≡ length is.conversation.server
+  pub newest : (t.server_kept ≡ [] → ⊥) → IsNewest is.conversation t.answered
   pub load : weight_of t.waiting ≡ load is.conversation.client is.conversation.server
   pub held : IsOfItems fault.reason → held_on fault.side t ≡ rest_on fault.side is.client_rest is.server_rest ++ is.byte ∷ []
 

@@ -1,30 +1,23 @@
 -- What the frame that a side keeps shows.
 use Rattle.std.specs.Prelude.{◌≡◌, ℕ, List, [], Option, Some, None}
 use Rattle.zk_frames.specs.Framing.{frame}
-use Rattle.zk_records.specs.declared.op.Op.{Op}
 use Rattle.zk_records.specs.declared.op.PartOp.{PartOp}
 use Rattle.zk_asks.specs.Held.{ClientFrame}
 use Rattle.zk_asks.specs.Frames as asks
 use Rattle.zk_answers.specs.Held.{ServerFrame}
-use Rattle.zk_answers.specs.declared.frame.ServerFrameOf.TheVariants.{Connected, Answered, Event}
 use Rattle.zk_answers.specs.Frames as answers
 use Rattle.zk_talk.specs.declared.message.Side.{Side}
 use Rattle.zk_talk.specs.declared.message.Side.TheVariants.{Client, Server}
 use Rattle.zk_talk.specs.Held.{Message}
 use Rattle.zk_talk.specs.declared.message.MessageOf.TheVariants.{Client as FromClient, Server as FromServer}
+use Rattle.zk_talk.specs.declared.replied.Replied.{Replied}
 use Rattle.zk_talk.specs.Payloads.{client_payload, server_payload}
 use Rattle.zk_talk.specs.Stands.{TalkState, kept_on}
 use Rattle.zk_talk.specs.Streams.{StreamState}
 
--- the operation whose request the frame answers; none where it isn't a reply
-abbrev pub answered_by : ServerFrame → Option Op
-answered_by (Connected hello read_only) = None
-answered_by (Answered reply) = Some (answers.op_of_reply reply)
-answered_by (Event zxid event) = None
-
--- the frame, the last of `frames`, replies to a request of this operation; or, with none, it is the first, or an event
-abbrev pub IsShownAs : ℕ → Option Op → ServerFrame → Type 0
-IsShownAs frames (Some op) s = (parts : List PartOp) × answers.IsReplyTo op parts s
+-- the frame, the last of `frames`, replies to this request; or, with none, it is the first, or an event
+abbrev pub IsShownAs : ℕ → Option Replied → ServerFrame → Type 0
+IsShownAs frames (Some request) s = (parts : List PartOp) × answers.IsReplyTo request.op parts s
 IsShownAs frames None s = (frames ≡ 1 → answers.IsConnected s) × ((frames ≡ 1 → ⊥) → answers.IsEvent s)
 
 -- the kept bytes, the client's last frame of `frames`, are this frame's
@@ -35,7 +28,7 @@ pub record ShowsClient (frames : ℕ) (kept : List ℕ) (f : ClientFrame) : Type
   pub is : kept ≡ frame (client_payload f)
 
 -- the kept bytes, the server's last frame of `frames`, are this frame's
-pub record ShowsServer (frames : ℕ) (answered : Option Op) (kept : List ℕ) (s : ServerFrame) : Type 0 where
+pub record ShowsServer (frames : ℕ) (answered : Option Replied) (kept : List ℕ) (s : ServerFrame) : Type 0 where
   pub kind : IsShownAs frames answered s
   pub sent : answers.IsSent s
   pub is : kept ≡ frame (server_payload s)
@@ -59,5 +52,5 @@ Leaves side old new = (kept_on side new ≡ kept_on side old) × ((m : Message) 
 abbrev pub ClientKeeps : StreamState → Type 0
 ClientKeeps s = (s.kept ≡ [] → ⊥) → (f : ClientFrame) × ShowsClient s.count s.kept f
 
-abbrev pub ServerKeeps : StreamState → Option Op → Type 0
+abbrev pub ServerKeeps : StreamState → Option Replied → Type 0
 ServerKeeps s answered = (s.kept ≡ [] → ⊥) → (f : ServerFrame) × ShowsServer s.count answered s.kept f

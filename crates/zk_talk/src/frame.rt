@@ -5,15 +5,17 @@ ghost use Rattle.zk_asks.specs.Held as asks;
 ghost use Rattle.zk_answers.specs.Held as answers;
 ghost use Rattle.zk_talk.specs.Judged.{KeepsClient, KeepsServer, TellsClient, TellsServer, PassesClient, PassesServer, HasNextClient, HasNextServer};
 ghost use Rattle.zk_talk.specs.Streams.{IsAtFrame, TakenBack, passed, kept_now, held_in};
-ghost use Rattle.zk_talk.specs.Viewed.{answered_by};
 
-use crate::judge::{await_front, await_reply, forget_front, forget_seen, next_client, next_server};
+use crate::judge::{
+    await_front, await_numbered, forget_front, forget_seen, next_client, next_server, replied,
+};
+use crate::replied::Replied;
 use crate::stream::{Stream, carried};
 use std::alloc::Global;
-use zk_answers::{ServerFrame, ServerFrameOf, ServerRef};
+use zk_answers::ServerFrame;
 use zk_asks::ClientFrame;
 use zk_jute::{ItemFault, Reason};
-use zk_records::{Op, Own, Profile};
+use zk_records::{Own, Profile};
 use zk_waiting::Awaited;
 
 /// Whether the fault is that memory was refused.
@@ -41,7 +43,8 @@ pub fn keep_client(
     ensures kept { IsTrue result → stream.new ≡ kept_now stream.old used }
     ensures same { result ≡ false → (waiting.new ≡ waiting.old) × (stream.new ≡ stream.old) }
 {
-    if !await_front(profile, stream.count(), waiting, stream.payload()) {
+    let count = stream.count();
+    if !await_front(profile, count, count, waiting, stream.payload()) {
         return false;
     }
     stream.keep(used);
@@ -66,7 +69,8 @@ pub fn pass_client(
     ensures passed { IsTrue result → stream.new ≡ passed stream.old used }
     ensures same { result ≡ false → (waiting.new ≡ waiting.old) × (stream.new ≡ stream.old) }
 {
-    if !await_front(profile, stream.count(), waiting, carried(piece, used)) {
+    let count = stream.count();
+    if !await_front(profile, count, count, waiting, carried(piece, used)) {
         return false;
     }
     stream.pass_front(used);
@@ -91,8 +95,9 @@ pub fn client_step(
     if keep_client(profile, stream, waiting, used) {
         return Ok(());
     }
-    let frame = next_client(profile, stream.count(), waiting, stream.payload())?;
-    await_reply(waiting, &frame);
+    let count = stream.count();
+    let frame = next_client(profile, count, waiting, stream.payload())?;
+    await_numbered(waiting, &frame, count);
     stream.keep(used);
     Ok(())
 }
@@ -116,10 +121,11 @@ pub fn client_frame(
     ensures stays { IfErr result (λ e. e.reason ≢ NoMemory → stream.new ≡ stream.old) }
     ensures fault { IfErr result (λ e. e.reason ≢ NoMemory → TellsClient profile stream.old.count waiting.old (drop 4 stream.old.held) e) }
 {
-    let seen = next_client(profile, stream.count(), waiting, stream.payload())?;
+    let count = stream.count();
+    let seen = next_client(profile, count, waiting, stream.payload())?;
     match seen.own(alloc) {
         Ok(frame) => {
-            await_reply(waiting, &seen);
+            await_numbered(waiting, &seen, count);
             stream.pass(used);
             Ok(frame)
         }
@@ -130,25 +136,18 @@ pub fn client_frame(
     }
 }
 
-/// The operation whose request `frame` replies to; `None` if it is no reply.
-fn answered(frame: &ServerRef<'_>) -> Option<Op>
-    ensures { result ≡ answered_by frame.now }
-{
-    match frame {
-        ServerFrameOf::Answered(reply) => Some(reply.op()),
-        ServerFrameOf::Connected { .. } => None,
-        ServerFrameOf::Event { .. } => None,
-    }
-}
-
 /// Keeps the server's whole frame, whose last `used` bytes are new, if it is a reply or an event that may come next, and
-/// returns the operation of its request, if it is a reply; `None`: undecided, and nothing changed.
+/// returns its request, if it is a reply; `None`: undecided, and nothing changed.
 #[inline(always)]
-pub fn keep_server(stream: &mut Stream, waiting: &mut Awaited, used: usize) -> Option<Option<Op>>
+pub fn keep_server(
+    stream: &mut Stream,
+    waiting: &mut Awaited,
+    used: usize,
+) -> Option<Option<Replied>>
     requires { IsAtFrame stream.old used }
     ensures max { waiting.new.max ≡ waiting.old.max }
-    ensures found { (asked : ℕ) → IfSome result (λ op. (s : answers.ServerFrame) × KeepsServer asked stream.old waiting.old op s waiting.new stream.new) }
-    ensures kept { IfSome result (λ op. stream.new ≡ kept_now stream.old used) }
+    ensures found { (asked : ℕ) → IfSome result (λ told. (s : answers.ServerFrame) × KeepsServer asked stream.old waiting.old told s waiting.new stream.new) }
+    ensures kept { IfSome result (λ told. stream.new ≡ kept_now stream.old used) }
     ensures same { IfNone result ((waiting.new ≡ waiting.old) × (stream.new ≡ stream.old)) }
 {
     let answered = forget_front(stream.count(), waiting, stream.payload())?;
@@ -156,21 +155,21 @@ pub fn keep_server(stream: &mut Stream, waiting: &mut Awaited, used: usize) -> O
     Some(answered)
 }
 
-/// Passes the server's frame `piece[..used]` if it is a reply or an event that may come next, and returns the operation of
-/// its request, if it is a reply; `None`: undecided, and nothing changed. Copies nothing.
+/// Passes the server's frame `piece[..used]` if it is a reply or an event that may come next, and returns its request, if it
+/// is a reply; `None`: undecided, and nothing changed. Copies nothing.
 #[inline(always)]
 pub fn pass_server(
     stream: &mut Stream,
     waiting: &mut Awaited,
     piece: &[u8],
     used: usize,
-) -> Option<Option<Op>>
+) -> Option<Option<Replied>>
     requires part { used ≤ length piece.now }
     requires front { IsAtFrame (held_in stream.old (take used piece.now)) used }
     requires none { (stream.old.held ≡ []) × (stream.old.kept ≡ []) }
     ensures max { waiting.new.max ≡ waiting.old.max }
-    ensures found { (asked : ℕ) → IfSome result (λ op. (s : answers.ServerFrame) × PassesServer asked stream.old waiting.old (take used piece.now) s waiting.new) }
-    ensures passed { IfSome result (λ op. stream.new ≡ passed stream.old used) }
+    ensures found { (asked : ℕ) → IfSome result (λ told. (s : answers.ServerFrame) × PassesServer asked stream.old waiting.old (take used piece.now) s waiting.new) }
+    ensures passed { IfSome result (λ told. stream.new ≡ passed stream.old used) }
     ensures same { IfNone result ((waiting.new ≡ waiting.old) × (stream.new ≡ stream.old)) }
 {
     let answered = forget_front(stream.count(), waiting, carried(piece, used))?;
@@ -179,17 +178,17 @@ pub fn pass_server(
 }
 
 /// Judges the server's whole frame, whose last `used` bytes are new, where the client has sent `asked` frames; keeps it,
-/// and returns the operation of its request, if it is a reply.
+/// and returns its request, if it is a reply.
 // `keep_server` first, as in `client_step`.
 pub fn server_step(
     asked: u64,
     stream: &mut Stream,
     waiting: &mut Awaited,
     used: usize,
-) -> Result<Option<Op>, ItemFault>
+) -> Result<Option<Replied>, ItemFault>
     requires { IsAtFrame stream.old used }
     ensures max { waiting.new.max ≡ waiting.old.max }
-    ensures found { IfOk result (λ op. (s : answers.ServerFrame) × KeepsServer asked stream.old waiting.old op s waiting.new stream.new) }
+    ensures found { IfOk result (λ told. (s : answers.ServerFrame) × KeepsServer asked stream.old waiting.old told s waiting.new stream.new) }
     ensures kept { OnOk result (stream.new ≡ kept_now stream.old used) }
     ensures same { IfErr result (λ e. (waiting.new ≡ waiting.old) × (stream.new ≡ stream.old)) }
     ensures fault { IfErr result (λ e. (e.reason ≢ NoMemory) × TellsServer asked stream.old.count waiting.old (drop 4 stream.old.held) e) }
@@ -198,7 +197,7 @@ pub fn server_step(
         return Ok(answered);
     }
     let frame = next_server(asked, stream.count(), waiting, stream.payload())?;
-    let answered = answered(&frame);
+    let answered = replied(waiting, &frame);
     forget_seen(waiting, &frame);
     stream.keep(used);
     Ok(answered)

@@ -12,11 +12,12 @@ ghost use Rattle.zk_waiting.specs.Waiting.{IsDropped};
 ghost use Rattle.zk_talk.specs.Payloads.{client_payload, server_payload};
 ghost use Rattle.zk_talk.specs.Conversation.{Conversation, ServerMay};
 ghost use Rattle.zk_talk.specs.Describes.{Describes};
-ghost use Rattle.zk_talk.specs.Settled.{IsAwaited, IsDueReply, IsSettled};
-ghost use Rattle.zk_talk.specs.Judged.{TellsLater, TellsClient, TellsServer, IsInTurn, IsTurnFault, IsPutRefusal, HasRoomFor, IsRemembered, IsDue, HasAsk, IsForgotten};
+ghost use Rattle.zk_talk.specs.Settled.{IsAwaited, IsDueReply, IsDueOf, IsSettled};
+ghost use Rattle.zk_talk.specs.Judged.{TellsLater, TellsClient, TellsServer, IsInTurn, IsTurnFault, IsPutRefusal, HasRoomFor, IsNumbered, IsRemembered, IsDue, HasAsk, IsForgotten, TellsReplied};
 ghost use Rattle.zk_talk.specs.Said.{Heard};
 ghost use Rattle.zk_talk.specs.SaidPayload.{HearsFault};
 
+use crate::replied::Replied;
 use std::alloc::Global;
 use zk_answers::{
     ServerFrame, ServerFrameOf, ServerRef, borrow_connected, borrow_event_under,
@@ -28,7 +29,7 @@ use zk_asks::{
 };
 use zk_jute::{ItemFault, Reason};
 use zk_records::{Op, Profile, ReplyHeader};
-use zk_waiting::{Awaited, PutFault, lane_of};
+use zk_waiting::{Awaited, Lane, PutFault, lane_of};
 
 /// The client's payload after `count` frames, borrowed.
 pub fn seen_client(profile: Profile, count: u64, payload: &[u8]) -> Result<ClientRef<'_>, ItemFault>
@@ -73,37 +74,59 @@ pub fn next_client<'a>(
     }
 }
 
-/// Lets `payload`, which isn't the client's first, wait for its reply, if it is a multi that may come; false: undecided,
-/// and nothing changed.
-fn await_multi(profile: Profile, waiting: &mut Awaited, payload: &[u8]) -> bool
+/// Lets `payload`, which isn't the client's first, wait for its reply as its frame `number`, if it is a multi that may
+/// come; false: undecided, and nothing changed.
+fn await_multi(profile: Profile, number: u64, waiting: &mut Awaited, payload: &[u8]) -> bool
     ensures max { waiting.new.max ≡ waiting.old.max }
-    ensures found { IsTrue result → (count : ℕ) → (count ≡ 0 → ⊥) → (f : asks.ClientFrame) × IsAwaited profile count payload.now waiting.old waiting.new f }
+    ensures found { IsTrue result → (count : ℕ) → (count ≡ 0 → ⊥) → (f : asks.ClientFrame) × IsAwaited profile count number payload.now waiting.old waiting.new f }
     ensures same { result ≡ false → waiting.new ≡ waiting.old }
 {
     match front_multi(profile, payload) {
-        Some((xid, multi)) => waiting.put(xid, &multi).is_ok(),
+        Some((xid, multi)) => waiting.put_numbered(xid, &multi, number).is_ok(),
         None => false,
     }
 }
 
-/// Lets the client's payload after `count` frames wait for its reply, if it is a request that may come next; false:
-/// undecided, and nothing changed. No fault and no frame is made.
+/// Lets the client's payload after `count` frames wait for its reply as its frame `number`, if it is a request that may
+/// come next; false: undecided, and nothing changed. No fault and no frame is made.
 #[inline(always)]
-pub fn await_front(profile: Profile, count: u64, waiting: &mut Awaited, payload: &[u8]) -> bool
+pub fn await_front(
+    profile: Profile,
+    count: u64,
+    number: u64,
+    waiting: &mut Awaited,
+    payload: &[u8],
+) -> bool
     ensures max { waiting.new.max ≡ waiting.old.max }
-    ensures found { IsTrue result → (f : asks.ClientFrame) × IsAwaited profile count payload.now waiting.old waiting.new f }
+    ensures found { IsTrue result → (f : asks.ClientFrame) × IsAwaited profile count number payload.now waiting.old waiting.new f }
     ensures same { result ≡ false → waiting.new ≡ waiting.old }
 {
     if count == 0 {
         return false;
     }
     match front_ask(profile, payload) {
-        Some((xid, ask)) => waiting.put(xid, &ask).is_ok(),
-        None => await_multi(profile, waiting, payload),
+        Some((xid, ask)) => waiting.put_numbered(xid, &ask, number).is_ok(),
+        None => await_multi(profile, number, waiting, payload),
     }
 }
 
-/// Lets `frame` wait for its reply, if it is to have one; there is room for it.
+/// Lets `frame`, the client's after `count` frames, wait for its reply, if it is to have one; there is room for it.
+pub fn await_numbered(waiting: &mut Awaited, frame: &ClientRef<'_>, count: u64)
+    requires may { MaySend frame.now }
+    requires small { length (client_payload frame.now) < 2 ^ 32 }
+    requires room { HasRoomFor frame.now waiting.old }
+    ensures max { waiting.new.max ≡ waiting.old.max }
+    ensures waits { IsNumbered count frame.now waiting.old waiting.new }
+{
+    if let ClientFrameOf::Ask { xid, ask } = frame {
+        match waiting.put_numbered(*xid, &RequestRef::of(ask), count) {
+            Ok(()) => {}
+            Err(PutFault::QueueFull) => unreachable!(),
+        }
+    }
+}
+
+/// Lets `frame` wait for its reply, if it is to have one, whatever its number; there is room for it.
 pub fn await_reply(waiting: &mut Awaited, frame: &ClientRef<'_>)
     requires may { MaySend frame.now }
     requires small { length (client_payload frame.now) < 2 ^ 32 }
@@ -111,12 +134,7 @@ pub fn await_reply(waiting: &mut Awaited, frame: &ClientRef<'_>)
     ensures max { waiting.new.max ≡ waiting.old.max }
     ensures waits { IsRemembered frame.now waiting.old waiting.new }
 {
-    if let ClientFrameOf::Ask { xid, ask } = frame {
-        match waiting.put(*xid, &RequestRef::of(ask)) {
-            Ok(()) => {}
-            Err(PutFault::QueueFull) => unreachable!(),
-        }
-    }
+    await_numbered(waiting, frame, 0);
 }
 
 /// Lets `frame` wait for its reply, if it is to have one.
@@ -214,20 +232,67 @@ pub fn next_server<'a>(
     seen_server(has_spoken(asked), has_spoken(count), waiting, payload)
 }
 
-/// The operation of the oldest request of the lane, if `payload`, which has the header `head`, is a reply to it; `None`:
-/// undecided.
+/// The oldest request of `lane`, that of the header `head`, if `payload` is a reply to it; `None`: undecided.
 #[inline(always)]
-fn front_answer(head: &ReplyHeader, waiting: &Awaited, payload: &[u8]) -> Option<Op>
+fn front_answer(
+    lane: Lane,
+    head: &ReplyHeader,
+    waiting: &Awaited,
+    payload: &[u8],
+) -> Option<Replied>
+    requires lane { lane ≡ lane_of head.now.xid }
     requires head { (rest : List ℕ) × IsHead payload.now head.now rest }
     requires reply { head.now.xid ≢ event_xid }
-    ensures { IfSome result (λ op. (r : answered.Reply) × IsDueReply head.now.xid payload.now op waiting.now r) }
+    ensures { IfSome result (λ request. (r : answered.Reply) × IsDueReply head.now.xid payload.now request waiting.now r) }
 {
-    let slot = waiting.oldest(lane_of(head.xid))?;
+    let slot = waiting.oldest(lane)?;
     if slot.xid() == head.xid && front_reply(&slot, head, payload) {
-        Some(slot.op())
+        let (op, frame) = (slot.op(), slot.frame());
+        Some(Replied { op, frame })
     } else {
         None
     }
+}
+
+/// Drops the request that `front_answer` returns, and returns it.
+#[inline(always)]
+fn forget_on(
+    lane: Lane,
+    head: &ReplyHeader,
+    waiting: &mut Awaited,
+    payload: &[u8],
+) -> Option<Replied>
+    requires lane { lane ≡ lane_of head.now.xid }
+    requires head { (rest : List ℕ) × IsHead payload.now head.now rest }
+    requires reply { head.now.xid ≢ event_xid }
+    ensures max { waiting.new.max ≡ waiting.old.max }
+    ensures due { IfSome result (λ request. (r : answered.Reply) × IsDueReply head.now.xid payload.now request waiting.old r) }
+    ensures dropped { IfSome result (λ request. IsDropped (lane_of head.now.xid) waiting.old waiting.new) }
+    ensures same { IfNone result (waiting.new ≡ waiting.old) }
+{
+    let request = front_answer(lane, head, waiting, payload)?;
+    waiting.drop_oldest(lane);
+    Some(request)
+}
+
+/// `forget_on` of any lane.
+// Not inlined, so that the way of the plain lane holds no values of the others.
+#[inline(never)]
+fn forget_special(
+    lane: Lane,
+    head: &ReplyHeader,
+    waiting: &mut Awaited,
+    payload: &[u8],
+) -> Option<Replied>
+    requires lane { lane ≡ lane_of head.now.xid }
+    requires head { (rest : List ℕ) × IsHead payload.now head.now rest }
+    requires reply { head.now.xid ≢ event_xid }
+    ensures max { waiting.new.max ≡ waiting.old.max }
+    ensures due { IfSome result (λ request. (r : answered.Reply) × IsDueReply head.now.xid payload.now request waiting.old r) }
+    ensures dropped { IfSome result (λ request. IsDropped (lane_of head.now.xid) waiting.old waiting.new) }
+    ensures same { IfNone result (waiting.new ≡ waiting.old) }
+{
+    forget_on(lane, head, waiting, payload)
 }
 
 /// Whether `payload`, which begins with the header `head`, is an event; false: undecided. As `front_event`.
@@ -242,12 +307,11 @@ fn is_event(head: &ReplyHeader, payload: &[u8]) -> bool
 }
 
 /// Judges the server's payload after `count` frames: if it is a reply that may come next, drops the request and returns
-/// its operation; `Some(None)` if it is an event that may. `None`: undecided, and nothing changed. No fault and no frame
-/// is made.
+/// it; `Some(None)` if it is an event that may. `None`: undecided, and nothing changed. No fault and no frame is made.
 #[inline(always)]
-pub fn forget_front(count: u64, waiting: &mut Awaited, payload: &[u8]) -> Option<Option<Op>>
+pub fn forget_front(count: u64, waiting: &mut Awaited, payload: &[u8]) -> Option<Option<Replied>>
     ensures max { waiting.new.max ≡ waiting.old.max }
-    ensures found { IfSome result (λ op. (s : answered.ServerFrame) × IsSettled count payload.now op waiting.old waiting.new s) }
+    ensures found { IfSome result (λ told. (s : answered.ServerFrame) × IsSettled count payload.now told waiting.old waiting.new s) }
     ensures same { IfNone result (waiting.new ≡ waiting.old) }
 {
     if count == 0 {
@@ -262,10 +326,32 @@ pub fn forget_front(count: u64, waiting: &mut Awaited, payload: &[u8]) -> Option
         }
         return None;
     }
-    let lane = lane_of(head.xid);
-    let op = front_answer(&head, waiting, payload)?;
-    waiting.drop_oldest(lane);
-    Some(Some(op))
+    match lane_of(head.xid) {
+        Lane::Plain => {
+            let request = forget_on(Lane::Plain, &head, waiting, payload)?;
+            Some(Some(request))
+        }
+        lane => {
+            let request = forget_special(lane, &head, waiting, payload)?;
+            Some(Some(request))
+        }
+    }
+}
+
+/// The request that `frame` answers; `None` if it is no reply.
+pub fn replied(waiting: &Awaited, frame: &ServerRef<'_>) -> Option<Replied>
+    requires { HasAsk frame.now waiting.now }
+    ensures { TellsReplied frame.now waiting.now result }
+{
+    match frame {
+        ServerFrameOf::Answered(reply) => {
+            let slot = waiting.oldest(lane_of(reply.xid))?;
+            let (op, frame) = (reply.op(), slot.frame());
+            Some(Replied { op, frame })
+        }
+        ServerFrameOf::Connected { .. } => None,
+        ServerFrameOf::Event { .. } => None,
+    }
 }
 
 /// Whether these are one operation.
@@ -279,7 +365,7 @@ fn is_same(a: Op, b: Op) -> bool
 /// undecided, and nothing changed. No fault and no frame is made.
 pub fn forget_answer(op: Op, waiting: &mut Awaited, payload: &[u8]) -> bool
     ensures max { waiting.new.max ≡ waiting.old.max }
-    ensures found { IsTrue result → (xid : ℤ) × (r : answered.Reply) × IsDueReply xid payload.now op waiting.old r × IsDropped (lane_of xid) waiting.old waiting.new }
+    ensures found { IsTrue result → (xid : ℤ) × (r : answered.Reply) × IsDueOf op xid payload.now waiting.old r × IsDropped (lane_of xid) waiting.old waiting.new }
     ensures same { result ≡ false → waiting.new ≡ waiting.old }
 {
     let Ok(head) = reply_head(payload) else {
@@ -288,10 +374,10 @@ pub fn forget_answer(op: Op, waiting: &mut Awaited, payload: &[u8]) -> bool
     if head.xid == -1 {
         return false;
     }
-    let Some(answered) = front_answer(&head, waiting, payload) else {
+    let Some(answered) = front_answer(lane_of(head.xid), &head, waiting, payload) else {
         return false;
     };
-    if !is_same(answered, op) {
+    if !is_same(answered.op, op) {
         return false;
     }
     waiting.drop_oldest(lane_of(head.xid));

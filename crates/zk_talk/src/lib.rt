@@ -58,6 +58,7 @@ mod payload;
 mod read;
 mod received;
 mod refused;
+mod replied;
 mod round;
 mod say;
 mod speaker;

@@ -10,6 +10,8 @@ ghost use Rattle.zk_talk.specs.History.{History};
 ghost use Rattle.zk_talk.specs.Conversation.{load};
 ghost use Rattle.zk_talk.specs.Fault.{side_limit, rest_on};
 ghost use Rattle.zk_talk.specs.Ending.{IsEnding};
+ghost use Rattle.zk_talk.specs.Numbers.{NewestAnswers};
+ghost use Rattle.zk_talk.specs.declared.message.Side.TheVariants.{Server};
 ghost use Rattle.zk_talk.specs.Stands.{held_on, kept_on, frames_on, Stands, Refuses, WhereItStands};
 ghost use Rattle.zk_talk.specs.Refused.{TellsRefusedBody};
 ghost use Rattle.zk_records.specs.declared.op.Op.TheVariants as ops;
@@ -25,12 +27,12 @@ use crate::limits::Limits;
 use crate::message::{Ending, Fault, Message, MessageOf, MessageRef, Side};
 use crate::received::{receive, refuse};
 use crate::refused::{answered_body, asked_body, is_in_body};
+use crate::replied::Replied;
 use crate::stream::Stream;
 use crate::view::{shown_client, shown_server};
 use std::alloc::{AllocError, Global};
 use std::marker::Model;
 use zk_answers::Layout;
-use zk_records::Op;
 use zk_waiting::Awaited;
 
 /// What `Talk::take` took of a piece.
@@ -60,8 +62,8 @@ pub struct Talk {
     pub(crate) client: Stream,
     pub(crate) server: Stream,
     pub(crate) waiting: Awaited,
-    /// The operation of the request that the server's kept frame replies to; `None` if that is no reply.
-    answered: Option<Op>,
+    /// The request that the server's kept frame replies to; `None` if that is no reply.
+    answered: Option<Replied>,
     pub(crate) fault: Option<Fault>,
 }
 
@@ -429,6 +431,22 @@ impl Talk {
                 let payload = self.server.kept_payload()?;
                 Some(MessageOf::Server(shown_server(self.server.count(), self.answered, payload)))
             }
+        }
+    }
+
+    /// The number, from 0, of the client's frame that the frame which the server keeps answers: 0 for the reply to the
+    /// connect request. `None` if it is an event, or if none is kept.
+    pub fn answered(&self) -> Option<u64>
+        ensures none { kept_on Server self.now ≡ [] → result ≡ None }
+        // A reply answers the request that has as many of its lane before it as the reply has replies.
+        ensures stands { WhereItStands self.now (λ v client_rest server_rest. (kept_on Server self.now ≡ [] → ⊥) → NewestAnswers v result) }
+        ensures refuses { (h : History) (M : List Message) (f : Fault) (r : Refuses self.now h M f) → (kept_on Server self.now ≡ [] → ⊥) → NewestAnswers r.is.conversation result }
+    {
+        let _payload = self.server.kept_payload()?;
+        match self.answered {
+            Some(request) => Some(request.frame),
+            None if self.server.count() == 1 => Some(0),
+            None => None,
         }
     }
 

@@ -5,9 +5,9 @@ ghost use Rattle.zk_asks.specs.Held as asks;
 ghost use Rattle.zk_answers.specs.Held as answers;
 ghost use Rattle.zk_talk.specs.Viewed.{ShowsClient, ShowsServer};
 
+use crate::replied::Replied;
 use zk_answers::{ServerRef, connected_ref, event_ref, reply_ref};
 use zk_asks::{ClientRef, client_ref};
-use zk_records::Op;
 
 /// The frame of the client's `payload`, the last of `count` frames.
 pub fn shown_client(count: u64, payload: &[u8]) -> ClientRef<'_>
@@ -22,12 +22,12 @@ pub fn shown_client(count: u64, payload: &[u8]) -> ClientRef<'_>
 }
 
 /// The frame of the server's `payload`, the last of `count` frames; a reply to `answered`, or none.
-pub fn shown_server(count: u64, answered: Option<Op>, payload: &[u8]) -> ServerRef<'_>
+pub fn shown_server(count: u64, answered: Option<Replied>, payload: &[u8]) -> ServerRef<'_>
     requires { (s : answers.ServerFrame) × ShowsServer count answered (frame payload.now) s }
     ensures { (s : answers.ServerFrame) → ShowsServer count answered (frame payload.now) s → result ≡ s }
 {
     match answered {
-        Some(op) => reply_ref(op, payload),
+        Some(request) => reply_ref(request.op, payload),
         None if count == 1 => connected_ref(payload),
         None => event_ref(payload),
     }

@@ -37,7 +37,7 @@ pub fn await_written(
             if !asked {
                 return false;
             }
-            await_front(limits.profile(), 1, waiting, payload)
+            await_front(limits.profile(), 1, 0, waiting, payload)
         }
         Kind::Connected | Kind::Answered(_) | Kind::Event => false,
     }

@@ -1,10 +1,10 @@
--- The lanes by counts.
-use Rattle.std.proofs.Common.{◌≡◌, ◌≢◌, ℕ, ◌+◌, ◌≤◌, List, [], length, refl, sym, ◌∙◌, subst, Bool, true, false, arith}
-use Rattle.std.specs.Prelude.{ℤ, negsuc, replicate, if◌then◌else◌}
+-- The lanes by the numbers of frames.
+use Rattle.std.proofs.Common.{◌≡◌, ◌≢◌, ℕ, ◌+◌, ◌≤◌, List, [], ◌∷◌, ◌++◌, length, map, refl, sym, ◌∙◌, subst, Bool, true, false, arith}
+use Rattle.std.specs.Prelude.{ℤ, negsuc, slice_get, if◌then◌else◌}
 use Rattle.std.specs.Ordering.{int_eq}
 use Rattle.std.proofs.lemmas.Bool.Decides.{Decides-int_eq}
-use Rattle.std.proofs.lemmas.List.{replicate_more}
-use Rattle.std.proofs.lemmas.List.Folds.{sum_by-replicate}
+use Rattle.std.proofs.lemmas.List.{map-append}
+use Rattle.std.proofs.lemmas.List.Sums.{sum_by-cons}
 use Rattle.zk_records.specs.declared.op.Op.{Op}
 use Rattle.zk_records.specs.declared.op.Op.TheVariants as ops
 use Rattle.zk_records.specs.declared.op.PartOp.{PartOp}
@@ -12,18 +12,23 @@ use Rattle.zk_asks.specs.Codes.{ping_xid, auth_xid, watches_xid, IsAllowed}
 use Rattle.zk_waiting.specs.Lane.{lane_of}
 use Rattle.zk_waiting.specs.declared.lane.Lane.{Lane}
 use Rattle.zk_waiting.specs.declared.lane.Lane.TheVariants.{Ping, Auth, Watches, Plain}
-use Rattle.zk_waiting.specs.Awaited.{bare, counted}
+use Rattle.zk_waiting.specs.Awaited.{bare, bare_of, numbered}
 use Rattle.zk_waiting.specs.Waiting.{Request, Lanes, request_weight, queue_weight, weight_of, IsPut, IsWeighed}
 use Rattle.zk_waiting.proofs.Weights.{queue_weight_push}
 
--- ---- what counts weigh
+-- ---- what requests without parts weigh
 
-weight_alike : (n : ℕ) (xid : ℤ) (op : Op) → queue_weight (replicate n (bare xid op)) ≡ n
-weight_alike n xid op = omega (arith, sum_by-replicate request_weight n (bare xid op))
+pub weight_alike : (xid : ℤ) (op : Op) (ns : List ℕ) → queue_weight (map (bare xid op) ns) ≡ length ns
+weight_alike xid op [] = refl
+weight_alike xid op (n ∷ ns) = omega (arith, sum_by-cons request_weight (bare xid op n) (map (bare xid op) ns), weight_alike xid op ns)
 
-pub counted_weight : (max pings auths watches : ℕ) (plain : List Request) → weight_of (counted max pings auths watches plain) ≡ pings + auths + watches + queue_weight plain
-counted_weight max pings auths watches plain =
-    omega (arith, weight_alike pings ping_xid ops.Ping, weight_alike auths auth_xid ops.Auth, weight_alike watches watches_xid ops.SetWatches)
+pub numbered_weight : (max : ℕ) (pings auths watches : List ℕ) (plain : List Request) → weight_of (numbered max pings auths watches plain) ≡ length pings + length auths + length watches + queue_weight plain
+numbered_weight max pings auths watches plain =
+    omega (arith, weight_alike ping_xid ops.Ping pings, weight_alike auth_xid ops.Auth auths, weight_alike watches_xid ops.SetWatches watches)
+
+pub oldest_bare : (xid : ℤ) (op : Op) (ns : List ℕ) → bare_of xid op (slice_get ns 0) ≡ slice_get (map (bare xid op) ns) 0
+oldest_bare xid op [] = refl
+oldest_bare xid op (n ∷ ns) = refl
 
 -- ---- a special lane's requests are alike
 
@@ -43,30 +48,30 @@ its_lane xid = go (int_eq xid (negsuc 1)) (int_eq xid (negsuc 3)) (int_eq xid (n
     go false false true p q r = r refl
     go false false false p q r = tt
 
-alike : (xid : ℤ) (op : Op) (parts : List PartOp) (x : ℤ) (o : Op) → xid ≡ x → op ≡ o → parts ≡ [] → record { xid = xid; op = op; parts = parts } ≡ bare x o
-alike xid op parts x o same is none = cc
+alike : (xid : ℤ) (op : Op) (parts : List PartOp) (frame : ℕ) (x : ℤ) (o : Op) → xid ≡ x → op ≡ o → parts ≡ [] → record { xid = xid; op = op; parts = parts; frame = frame } ≡ bare x o frame
+alike xid op parts frame x o same is none = cc
 
-module _ (xid : ℤ) (op : Op) (parts : List PartOp) (may : IsAllowed xid op) (none : op ≢ ops.Multi → parts ≡ []) where
+module _ (xid : ℤ) (op : Op) (parts : List PartOp) (frame : ℕ) (may : IsAllowed xid op) (none : op ≢ ops.Multi → parts ≡ []) where
   no_parts : (o : Op) → o ≢ ops.Multi → op ≡ o → parts ≡ []
   no_parts o other is = none (λ multi. other (sym is ∙ multi))
 
-  pub a_ping : Ping ≡ lane_of xid → record { xid = xid; op = op; parts = parts } ≡ bare ping_xid ops.Ping
+  pub a_ping : Ping ≡ lane_of xid → record { xid = xid; op = op; parts = parts; frame = frame } ≡ bare ping_xid ops.Ping frame
   a_ping e =
       let same : xid ≡ ping_xid = subst (λ l. IsOn l xid) (sym e) (its_lane xid) in
       let is = may.1.1 same in
-      alike xid op parts ping_xid ops.Ping same is (no_parts ops.Ping (λ z. cc) is)
+      alike xid op parts frame ping_xid ops.Ping same is (no_parts ops.Ping (λ z. cc) is)
 
-  pub an_auth : Auth ≡ lane_of xid → record { xid = xid; op = op; parts = parts } ≡ bare auth_xid ops.Auth
+  pub an_auth : Auth ≡ lane_of xid → record { xid = xid; op = op; parts = parts; frame = frame } ≡ bare auth_xid ops.Auth frame
   an_auth e =
       let same : xid ≡ auth_xid = subst (λ l. IsOn l xid) (sym e) (its_lane xid) in
       let is = may.2.1 same in
-      alike xid op parts auth_xid ops.Auth same is (no_parts ops.Auth (λ z. cc) is)
+      alike xid op parts frame auth_xid ops.Auth same is (no_parts ops.Auth (λ z. cc) is)
 
-  pub a_watch : Watches ≡ lane_of xid → record { xid = xid; op = op; parts = parts } ≡ bare watches_xid ops.SetWatches
+  pub a_watch : Watches ≡ lane_of xid → record { xid = xid; op = op; parts = parts; frame = frame } ≡ bare watches_xid ops.SetWatches frame
   a_watch e =
       let same : xid ≡ watches_xid = subst (λ l. IsOn l xid) (sym e) (its_lane xid) in
       let is = may.3 same in
-      alike xid op parts watches_xid ops.SetWatches same is (no_parts ops.SetWatches (λ z. cc) is)
+      alike xid op parts frame watches_xid ops.SetWatches same is (no_parts ops.SetWatches (λ z. cc) is)
 
 -- ---- one more
 
@@ -76,12 +81,12 @@ put_weighs Auth r old new weight was room e = rw e (record { is = omega (arith, 
 put_weighs Watches r old new weight was room e = rw e (record { is = omega (arith, was.is, queue_weight_push old.watches r); within = omega (arith, was.is, room); small = was.small })
 put_weighs Plain r old new weight was room e = rw e (record { is = omega (arith, was.is, queue_weight_push old.plain r); within = omega (arith, was.is, room); small = was.small })
 
-module _ (max pings auths watches : ℕ) (plain : List Request) (xid : ℤ) (op : Op) (parts : List PartOp) (may : IsAllowed xid op) (none : op ≢ ops.Multi → parts ≡ []) where
-  pub put_ping : Ping ≡ lane_of xid → IsPut Ping (record { xid = xid; op = op; parts = parts }) (counted max pings auths watches plain) (counted max (pings + 1) auths watches plain)
-  put_ping e = rw (a_ping xid op parts may none e, replicate_more) refl
+module _ (max : ℕ) (pings auths watches : List ℕ) (plain : List Request) (xid : ℤ) (op : Op) (parts : List PartOp) (frame : ℕ) (may : IsAllowed xid op) (none : op ≢ ops.Multi → parts ≡ []) where
+  pub put_ping : Ping ≡ lane_of xid → IsPut Ping (record { xid = xid; op = op; parts = parts; frame = frame }) (numbered max pings auths watches plain) (numbered max (pings ++ frame ∷ []) auths watches plain)
+  put_ping e = rw (a_ping xid op parts frame may none e, map-append) refl
 
-  pub put_auth : Auth ≡ lane_of xid → IsPut Auth (record { xid = xid; op = op; parts = parts }) (counted max pings auths watches plain) (counted max pings (auths + 1) watches plain)
-  put_auth e = rw (an_auth xid op parts may none e, replicate_more) refl
+  pub put_auth : Auth ≡ lane_of xid → IsPut Auth (record { xid = xid; op = op; parts = parts; frame = frame }) (numbered max pings auths watches plain) (numbered max pings (auths ++ frame ∷ []) watches plain)
+  put_auth e = rw (an_auth xid op parts frame may none e, map-append) refl
 
-  pub put_watch : Watches ≡ lane_of xid → IsPut Watches (record { xid = xid; op = op; parts = parts }) (counted max pings auths watches plain) (counted max pings auths (watches + 1) plain)
-  put_watch e = rw (a_watch xid op parts may none e, replicate_more) refl
+  pub put_watch : Watches ≡ lane_of xid → IsPut Watches (record { xid = xid; op = op; parts = parts; frame = frame }) (numbered max pings auths watches plain) (numbered max pings auths (watches ++ frame ∷ []) plain)
+  put_watch e = rw (a_watch xid op parts frame may none e, map-append) refl

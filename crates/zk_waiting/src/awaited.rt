@@ -1,14 +1,16 @@
-//! `Awaited`: as `Waiting`, where each request has an xid that its operation allows. So a special lane is a count.
-ghost use Rattle.std.specs.Prelude.{◌≡◌, ◌+◌, ◌<◌, ◌≤◌, ◌↔◌, [], length, IfOk, OnOk, IfErr, IfSome, IsTrue, replicate};
+//! `Awaited`: as `Waiting`, where each request has an xid that its operation allows. So of a request in a special lane only
+//! the number of its frame is kept.
+ghost use Rattle.std.specs.Prelude.{◌≡◌, ◌+◌, ◌<◌, ◌≤◌, ◌↔◌, [], length, IfOk, OnOk, IfErr, IfSome, IsTrue};
 ghost use Rattle.std.specs.List.{slice_get};
 ghost use Rattle.zk_asks.specs.Codes.{IsAllowed};
-ghost use Rattle.zk_waiting.specs.Awaited.{bare};
+ghost use Rattle.zk_waiting.specs.Awaited.{bare_of};
 ghost use Rattle.zk_waiting.specs.Lane.{lane_of};
 ghost use Rattle.zk_waiting.specs.Waiting.{weight_of, count_of, queue_on, IsPut, IsDropped, IsPutFault, IsFit};
 
 use crate::lane::{Lane, lane_of};
-use crate::queue::Queue;
-use crate::slot::Slot;
+use crate::lists::Lists;
+use crate::oldest::Oldest;
+use crate::row::Column;
 use crate::waiting::PutFault;
 use std::alloc::{AllocError, Global};
 use std::marker::Model;
@@ -20,22 +22,19 @@ use zk_records::Op;
 pub struct Awaited {
     max: u32,
     weight: u32,
-    pings: u32,
-    auths: u32,
-    watches: u32,
-    plain: Queue,
+    lists: Lists,
 }
 
 impl Model for Awaited {
-    ghost use Rattle.zk_waiting.specs.Awaited.{counted};
+    ghost use Rattle.zk_waiting.specs.Awaited.{numbered};
     ghost use Rattle.zk_waiting.specs.Waiting.{Lanes, IsWeighed};
     ghost use Rattle.std.specs.Prelude.{◌≡◌};
 
     ghost Value = { Lanes };
 
-    ghost view = { λ w. counted w.max w.pings w.auths w.watches w.plain.requests };
+    ghost view = { λ w. numbered w.max w.lists.ping w.lists.auth w.lists.watches w.lists.plain };
 
-    ghost invariant = { λ w. IsWeighed w.weight (counted w.max w.pings w.auths w.watches w.plain.requests) × (w.plain.max ≡ w.max) };
+    ghost invariant = { λ w. IsWeighed w.weight (numbered w.max w.lists.ping w.lists.auth w.lists.watches w.lists.plain) × (w.lists.room ≡ w.max) };
 }
 
 impl Awaited {
@@ -47,14 +46,11 @@ impl Awaited {
     pub fn new(alloc: Global, max: u32) -> Result<Self, AllocError>
         ensures { IfOk result (λ w. w ≡ record { max = max; ping = []; auth = []; watches = []; plain = [] }) }
     {
-        let plain = Queue::new(alloc, max)?;
+        let lists = Lists::new(alloc, max)?;
         Ok(Awaited {
             max,
             weight: 0,
-            pings: 0,
-            auths: 0,
-            watches: 0,
-            plain,
+            lists,
         })
     }
 
@@ -75,57 +71,71 @@ impl Awaited {
     pub fn put<F: Asked>(&mut self, xid: i32, form: &F) -> Result<(), PutFault>
         requires { IsAllowed xid (F.operation form.now) }
         ensures fits { OnOk result (weight_of self.old + (1 + length (F.part_ops form.now)) ≤ self.old.max) }
-        ensures ok { OnOk result (IsPut (lane_of xid) (record { xid = xid; op = F.operation form.now; parts = F.part_ops form.now }) self.old self.new) }
+        ensures ok { OnOk result (IsPut (lane_of xid) (record { xid = xid; op = F.operation form.now; parts = F.part_ops form.now; frame = 0 }) self.old self.new) }
+        ensures err { IfErr result (λ e. (self.new ≡ self.old) × IsPutFault e (weight_of self.old + (1 + length (F.part_ops form.now))) self.old.max) }
+    {
+        self.put_numbered(xid, form, 0)
+    }
+
+    /// `put` of the request `form` of the client's frame with the number `frame`.
+    ///
+    /// # Errors
+    ///
+    /// Those of `put`.
+    #[inline(always)]
+    pub fn put_numbered<F: Asked>(&mut self, xid: i32, form: &F, frame: u64) -> Result<(), PutFault>
+        requires { IsAllowed xid (F.operation form.now) }
+        ensures fits { OnOk result (weight_of self.old + (1 + length (F.part_ops form.now)) ≤ self.old.max) }
+        ensures ok { OnOk result (IsPut (lane_of xid) (record { xid = xid; op = F.operation form.now; parts = F.part_ops form.now; frame = frame }) self.old self.new) }
         ensures err { IfErr result (λ e. (self.new ≡ self.old) × IsPutFault e (weight_of self.old + (1 + length (F.part_ops form.now))) self.old.max) }
     {
         if !self.has_room(form) {
             return Err(PutFault::QueueFull);
         }
-        self.append(lane_of(xid), xid, form);
+        self.append(lane_of(xid), xid, form, frame);
         Ok(())
     }
 
     #[inline(always)]
-    fn append<F: Asked>(&mut self, lane: Lane, xid: i32, form: &F)
+    fn append<F: Asked>(&mut self, lane: Lane, xid: i32, form: &F, frame: u64)
         requires lane { lane ≡ lane_of xid }
         requires allowed { IsAllowed xid (F.operation form.now) }
         requires room { weight_of self.old + (1 + length (F.part_ops form.now)) ≤ self.old.max }
-        ensures { IsPut lane (record { xid = xid; op = F.operation form.now; parts = F.part_ops form.now }) self.old self.new }
+        ensures { IsPut lane (record { xid = xid; op = F.operation form.now; parts = F.part_ops form.now; frame = frame }) self.old self.new }
     {
         self.weight = self.weight + 1 + form.parts();
         match lane {
-            Lane::Ping => self.pings += 1,
-            Lane::Auth => self.auths += 1,
-            Lane::Watches => self.watches += 1,
-            Lane::Plain => self.plain.put(xid, form),
+            Lane::Ping => self.lists.push(Column::Ping, frame),
+            Lane::Auth => self.lists.push(Column::Auth, frame),
+            Lane::Watches => self.lists.push(Column::Watches, frame),
+            Lane::Plain => self.lists.put(xid, form, frame),
         }
     }
 
-    /// The first of `count` requests without parts.
+    /// The request without parts of the frame `frame`, if there is one.
     #[inline(always)]
-    fn first(&self, count: u32, xid: i32, op: Op) -> Option<Slot<'_>>
-        ensures value { result ≡ slice_get (replicate count (bare xid op)) 0 }
+    fn bare(&self, xid: i32, op: Op, frame: Option<u64>) -> Option<Oldest<'_>>
+        ensures value { result ≡ bare_of xid op frame }
         ensures fit { IfSome result IsFit }
     {
-        if count == 0 {
-            None
-        } else {
-            Some(self.plain.bare(xid, op))
+        match frame {
+            Some(frame) => Some(self.lists.bare(xid, op, frame)),
+            None => None,
         }
     }
 
     /// The lane's oldest request.
     #[inline(always)]
-    pub fn oldest(&self, lane: Lane) -> Option<Slot<'_>>
+    pub fn oldest(&self, lane: Lane) -> Option<Oldest<'_>>
         ensures value { result ≡ slice_get (queue_on lane self.now) 0 }
         // Only a multi has parts.
         ensures fit { IfSome result IsFit }
     {
         match lane {
-            Lane::Ping => self.first(self.pings, -2, Op::Ping),
-            Lane::Auth => self.first(self.auths, -4, Op::Auth),
-            Lane::Watches => self.first(self.watches, -8, Op::SetWatches),
-            Lane::Plain => self.plain.oldest(),
+            Lane::Ping => self.bare(-2, Op::Ping, self.lists.first(Column::Ping)),
+            Lane::Auth => self.bare(-4, Op::Auth, self.lists.first(Column::Auth)),
+            Lane::Watches => self.bare(-8, Op::SetWatches, self.lists.first(Column::Watches)),
+            Lane::Plain => self.lists.oldest(),
         }
     }
 
@@ -136,19 +146,35 @@ impl Awaited {
         ensures { IsDropped lane self.old self.new }
     {
         match lane {
+            Lane::Plain => self.weight -= self.lists.pop(),
+            _ => self.drop_oldest_of(lane),
+        }
+    }
+
+    /// `drop_oldest` of any lane.
+    // Not inlined: with it the way of the plain lane is too long to be inlined itself.
+    #[inline(never)]
+    fn drop_oldest_of(&mut self, lane: Lane)
+        requires { 0 < length (queue_on lane self.old) }
+        ensures { IsDropped lane self.old self.new }
+    {
+        match lane {
             Lane::Ping => {
-                self.pings -= 1;
+                self.lists.drop_first(Column::Ping);
                 self.weight -= 1;
             }
             Lane::Auth => {
-                self.auths -= 1;
+                self.lists.drop_first(Column::Auth);
                 self.weight -= 1;
             }
             Lane::Watches => {
-                self.watches -= 1;
+                self.lists.drop_first(Column::Watches);
                 self.weight -= 1;
             }
-            Lane::Plain => self.weight -= self.plain.pop(),
+            Lane::Plain => {
+                let weight = self.lists.pop();
+                self.weight -= weight;
+            }
         }
     }
 
@@ -157,10 +183,7 @@ impl Awaited {
         ensures { self.new ≡ record { max = self.old.max; ping = []; auth = []; watches = []; plain = [] } }
     {
         self.weight = 0;
-        self.pings = 0;
-        self.auths = 0;
-        self.watches = 0;
-        self.plain.renew();
+        self.lists.renew();
     }
 
     /// The weight of all requests that wait: 1 each, and 1 more for each part of a multi.
@@ -176,6 +199,6 @@ impl Awaited {
         ensures value { result ≡ count_of self.now }
         ensures within { result ≤ self.now.max }
     {
-        self.pings + self.auths + self.watches + self.plain.len() as u32
+        self.lists.count() as u32
     }
 }

@@ -59,7 +59,7 @@ class Field(NamedTuple):
 class Message:
     """A message. The operation of a reply is that of its request. `frame` is the number of its frame among those of its
     side, from 0, and `line` its line, if the talk has lines; both are None for a payload by itself. `answers` is the
-    number of the client's frame that a passage's reply answers, else None."""
+    number of the client's frame that a reply answers, else None."""
     kind: Kind
     xid: int
     operation: str

@@ -100,6 +100,7 @@ impl Talk {
             zk_sys::zk_talk_fields(handle, side, out, room)
         })?;
         message.frame = view.frame;
+        message.answers = view.answers;
         Ok(Some(message))
     }
 

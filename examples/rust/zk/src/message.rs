@@ -40,7 +40,7 @@ pub struct Field<'p> {
 
 /// A message. The operation of a reply is that of its request; `err` and `zxid` are those of a reply or an event;
 /// `frame` is the number of its frame among those of its side in a talk, from 0; `answers` is that of the client's frame
-/// that a passage's reply answers, else 0.
+/// that a reply answers, else 0.
 #[derive(Clone, Copy, Debug)]
 pub struct Message<'p> {
     pub kind: Kind,

@@ -6,6 +6,7 @@ abbrev pub invariant-loop-op : goal.invariant-loop-op
 invariant-loop-op g l = record {
   ops : g.R.Room.ops l.room ++ map op_of_part l.items ≡ g.R.Room.ops l.initial.room ++ map op_of_part l.initial.items;
   room : g.R.Room.room l.room ≡ g.R.Room.room l.initial.room;
+  kept : g.R.Room.kept l.room ≡ g.R.Room.kept l.initial.room;
 }
 
 abbrev pub decreases-loop-op : goal.decreases-loop-op

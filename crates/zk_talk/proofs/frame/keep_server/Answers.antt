@@ -14,12 +14,13 @@ returns-clause-found c = λ asked.
     let answered = c.in_ok-answered.answered in
     let old = c.args.stream.now in
     let w = c.args.waiting.now in
-    let shows = server_shown c.count.result old.held s w k.due k.turn k.sent (c.payload.ensures ∙ ap frame (sym k.is)) in
-    let counted = subst (λ n. ShowsServer (n + 1) answered old.held s) c.count.ensures (subst (λ o. ShowsServer (c.count.result + 1) o old.held s) k.operation shows) in (
+    let shows = server_shown c.count.result old.held s w answered k.told k.due k.turn k.sent (c.payload.ensures ∙ ap frame (sym k.is)) in
+    let counted = subst (λ n. ShowsServer (n + 1) answered old.held s) c.count.ensures shows in (
       s,
       (
         server_seen old c.args.used c.count.result c.requires c.payload.result.now c.payload.ensures c.count.ensures w asked s k.due k.is (k.may asked),
         k.forgotten,
         subst (λ (z : StreamState). ShowsServer z.count answered z.kept s) (sym c.keep.ensures) counted,
+        k.told,
       ),
     )

@@ -24,13 +24,14 @@ returns-clause-found c =
     let at = subst (λ z. IsAtFrame z c.args.used) (sym same.1) c.requires in
     let k = c.in_ok-frame.ensures in
     let s = c.in_ok-frame.frame in
-    let shows = server_shown c.count.result now.held s c.keep_server.new.waiting k.due.0 k.turn k.due.1 (c.payload.ensures ∙ ap frame (sym k.due.2)) in
-    let counted = subst (λ n. ShowsServer (n + 1) c.answered-answered.result now.held s) c.count.ensures (subst (λ op. ShowsServer (c.count.result + 1) op now.held s) (sym c.answered-answered.ensures) shows) in
+    let shows = server_shown c.count.result now.held s c.keep_server.new.waiting c.replied-answered.result c.replied-answered.ensures k.due.0 k.turn k.due.1 (c.payload.ensures ∙ ap frame (sym k.due.2)) in
+    let counted = subst (λ n. ShowsServer (n + 1) c.replied-answered.result now.held s) c.count.ensures shows in
     rw (← same.0, ← same.1) (
       s,
       (
         server_seen now c.args.used c.count.result at c.payload.result.now c.payload.ensures c.count.ensures c.keep_server.new.waiting c.args.asked s k.due.0 k.due.2 k.may,
         c.forget_seen.ensures.forgotten,
-        subst (λ (z : StreamState). ShowsServer z.count c.answered-answered.result z.kept s) (sym c.keep.ensures) counted,
+        subst (λ (z : StreamState). ShowsServer z.count c.replied-answered.result z.kept s) (sym c.keep.ensures) counted,
+        c.replied-answered.ensures,
       ),
     )

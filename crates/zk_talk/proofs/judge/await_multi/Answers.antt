@@ -10,8 +10,8 @@ use Rattle.zk_waiting.specs.Waiting.{IsPut}
 use Rattle.zk_talk.proofs.Settling.{of_ok, asked_awaited}
 use Rattle.zk_talk.proofs.judge.await_multi.Goals as goal
 
-pub put-requires : goal.put-requires
-put-requires c =
+pub put_numbered-requires : goal.put_numbered-requires
+put_numbered-requires c =
     let asked = c.in-Some.ensures.some in
     let may = subst (λ (op : Op). IsAllowed c.in-Some.xid op) asked.1.1 asked.1.3.0 in
     subst (λ (z : ℤ). IsAllowed z ops.Multi) (sym (to_z-of_z w32 c.in-Some.xid asked.1.3.1.0)) may
@@ -19,10 +19,10 @@ put-requires c =
 pub returns-in-Some-clause-found : goal.returns-in-Some-clause-found
 returns-in-Some-clause-found c = λ yes count later.
     let w = c.args.waiting.now in
-    let new = c.put.new.self in
+    let new = c.put_numbered.new.self in
     let parts = map op_of_part c.in-Some.multi.list in
     let asked = c.in-Some.ensures.some in
     let ok = subst (λ (b : Bool). IsTrue b) c.is_ok.ensures.value yes in
-    let fits = of_ok c.put.result ok c.put.ensures.fits in
-    let put = subst (λ (z : ℤ). IsPut (lane_of z) (record { xid = z; op = ops.Multi; parts = parts }) w new) (to_z-of_z w32 c.in-Some.xid asked.1.3.1.0) (of_ok c.put.result ok c.put.ensures.ok) in
-    asked_awaited c.args.profile count c.args.payload.now w new c.in-Some.xid ops.Multi parts later asked fits put
+    let fits = of_ok c.put_numbered.result ok c.put_numbered.ensures.fits in
+    let put = subst (λ (z : ℤ). IsPut (lane_of z) (record { xid = z; op = ops.Multi; parts = parts; frame = c.args.number }) w new) (to_z-of_z w32 c.in-Some.xid asked.1.3.1.0) (of_ok c.put_numbered.result ok c.put_numbered.ensures.ok) in
+    asked_awaited c.args.profile count c.args.number c.args.payload.now w new c.in-Some.xid ops.Multi parts later asked fits put

@@ -15,4 +15,5 @@ loop-j-preserved g c =
           c.push.ensures.pushed ∙ ap (λ (z : List PartOp). z ++ op ∷ []) c.loop-j.invariant.put ∙ append_assoc was (take j ops) (op ∷ [])
           ∙ ap (λ (z : List PartOp). was ++ z) next;
       room = c.push.ensures.room ∙ c.loop-j.invariant.room;
+      kept = c.push.ensures.kept ∙ c.loop-j.invariant.kept;
     }

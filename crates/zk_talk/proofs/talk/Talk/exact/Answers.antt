@@ -27,7 +27,7 @@ returns-in-Ok-clause-ok c =
     let w = r.0 in
     let f = c.in-Ok.ensures.found in
     let next = subst (λ z. IsNextClient z s.count T.waiting (drop 4 s.held) f.0) c.profile-profile.ensures f.1.0 in
-    rw (c.in-Client.is, ← c.self.view_is, r.1) (w.advance.1, (λ l. w.advance.0), keeps Client T c.args.piece.now s c.client_step.new.stream c.self.invariant.0.same w.stays c.in-Some.used w.advance c.self.invariant.2 T.answered (FromClient f.0) c.client_step.new.waiting (next, f.1.1) f.1.2 c.in-Ok.ensures.kept)
+    rw (c.in-Client.is, ← c.self.view_is, r.1) (w.advance.1, (λ l. w.advance.0), keeps Client T c.args.piece.now s c.client_step.new.stream c.self.invariant.0.same w.stays c.in-Some.used w.advance c.self.invariant.2 T.answered (FromClient f.0) c.client_step.new.waiting (next, f.1.1) refl f.1.2 c.in-Ok.ensures.kept)
 
 pub returns-in-Err-clause-err : goal.returns-in-Err-clause-err
 returns-in-Err-clause-err c =
@@ -63,7 +63,7 @@ returns-in-Ok-server_step-clause-ok c =
     let w = r.0 in
     let f = c.in-Ok-server_step.ensures.found in
     let next = subst (λ z. IsNextServer z s.count T.waiting (drop 4 s.held) f.0) c.count-asked.ensures f.1.0 in
-    rw (c.in-Server.is, ← c.self.view_is, r.1) (w.advance.1, (λ l. w.advance.0), keeps Server T c.args.piece.now s c.server_step.new.stream c.self.invariant.1.same w.stays c.in-Some-2.used w.advance c.self.invariant.2 c.in-Ok-server_step.answered (FromServer f.0) c.server_step.new.waiting (next, f.1.1) f.1.2 c.in-Ok-server_step.ensures.kept)
+    rw (c.in-Server.is, ← c.self.view_is, r.1) (w.advance.1, (λ l. w.advance.0), keeps Server T c.args.piece.now s c.server_step.new.stream c.self.invariant.1.same w.stays c.in-Some-2.used w.advance c.self.invariant.2 c.in-Ok-server_step.answered (FromServer f.0) c.server_step.new.waiting (next, f.1.1) (λ kept. f.1.3) f.1.2 c.in-Ok-server_step.ensures.kept)
 
 pub returns-in-Err-server_step-clause-err : goal.returns-in-Err-server_step-clause-err
 returns-in-Err-server_step-clause-err c =

@@ -1,4 +1,4 @@
-use Rattle.std.proofs.Common.{◌∙◌, ap, arith, drop, inl, subst, sym}
+use Rattle.std.proofs.Common.{refl, ◌∙◌, ap, arith, drop, inl, subst, sym}
 use Rattle.zk_talk.specs.contracts.talk.Talk.{the_view}
 use Rattle.zk_talk.specs.declared.message.Side.TheVariants.{Client, Server}
 use Rattle.zk_talk.specs.declared.message.MessageOf.TheVariants.{Client as FromClient, Server as FromServer}
@@ -17,7 +17,7 @@ returns-then-keep_client-clause-some c =
     let t = c.in_ok-used-in-Client.ensures in
     let a = t.some.1 in
     let next = subst (λ z. IsNextClient z s.count T.waiting (drop 4 s.held) f.0) c.profile-profile.ensures f.1.0 in
-    rw (c.in-Client.is, ← c.self.view_is) (a.1, (λ l. a.0), keeps Client T c.args.piece.now s c.keep_client.new.stream c.self.invariant.0.same t.stays c.in_ok-used-in-Client.used a c.self.invariant.2 T.answered (FromClient f.0) c.keep_client.new.waiting (next, f.1.1) f.1.2 (k.kept c.if-keep_client.true))
+    rw (c.in-Client.is, ← c.self.view_is) (a.1, (λ l. a.0), keeps Client T c.args.piece.now s c.keep_client.new.stream c.self.invariant.0.same t.stays c.in_ok-used-in-Client.used a c.self.invariant.2 T.answered (FromClient f.0) c.keep_client.new.waiting (next, f.1.1) refl f.1.2 (k.kept c.if-keep_client.true))
 
 pub invariant_of-self-in-Some : goal.invariant_of-self-in-Some
 invariant_of-self-in-Some c =
@@ -45,4 +45,4 @@ returns-in-Some-clause-some c =
     let f = k.found T.client_frames in
     let t = c.in_ok-used-in-Server.ensures in
     let a = t.some.1 in
-    rw (c.in-Server.is, ← c.self.view_is) (a.1, (λ l. a.0), keeps Server T c.args.piece.now s c.keep_server.new.stream c.self.invariant.1.same t.stays c.in_ok-used-in-Server.used a c.self.invariant.2 c.in-Some.answered (FromServer f.0) c.keep_server.new.waiting (f.1.0, f.1.1) f.1.2 k.kept)
+    rw (c.in-Server.is, ← c.self.view_is) (a.1, (λ l. a.0), keeps Server T c.args.piece.now s c.keep_server.new.stream c.self.invariant.1.same t.stays c.in_ok-used-in-Server.used a c.self.invariant.2 c.in-Some.answered (FromServer f.0) c.keep_server.new.waiting (f.1.0, f.1.1) (λ kept. f.1.3) f.1.2 k.kept)

@@ -1,7 +1,8 @@
-use Rattle.std.proofs.Common.{drop, refl, subst, take}
+use Rattle.std.proofs.Common.{◌≡◌, [], ap, ◌∙◌, drop, refl, subst, take}
 use Rattle.zk_talk.specs.contracts.talk.Talk.{the_view}
 use Rattle.zk_talk.specs.declared.message.Side.TheVariants.{Client, Server}
 use Rattle.zk_talk.specs.declared.message.MessageOf.TheVariants.{Client as FromClient, Server as FromServer}
+use Rattle.zk_talk.specs.Stands.{TalkState, kept_on}
 use Rattle.zk_talk.specs.Streams.{held_in}
 use Rattle.zk_talk.specs.Judged.{IsNextClient}
 use Rattle.zk_talk.proofs.Answering.{makes}
@@ -15,8 +16,9 @@ returns-else-not-pass_client-clause-some c =
     let k = c.pass_client.ensures in
     let f = k.found c.if-not-pass_client.false in
     let a = c.in_ok-used-in-Client.ensures.1 in
+    let none : T.client_kept ≡ [] = ap (λ (z : TalkState). z.client_kept) c.self.view_is ∙ subst (λ side. kept_on side c.args.self.now ≡ []) c.in-Client.is c.requires.given_up in
     let next = subst (λ z. IsNextClient z s.count T.waiting (drop 4 s.held) f.0) c.profile-profile.ensures f.1.0 in
-    rw (c.in-Client.is, ← c.self.view_is) (FromClient f.0, (a.1, (λ l. a.0), makes Client T c.args.piece.now s c.pass_client.new.stream c.self.invariant.0.same refl used a c.self.invariant.2 (FromClient f.0) c.pass_client.new.waiting (next, f.1.1) (k.passed c.if-not-pass_client.false)))
+    rw (c.in-Client.is, ← c.self.view_is) (FromClient f.0, (a.1, (λ l. a.0), makes Client T c.args.piece.now s c.pass_client.new.stream c.self.invariant.0.same refl used a c.self.invariant.2 (FromClient f.0) c.pass_client.new.waiting (next, f.1.1) none (k.passed c.if-not-pass_client.false)))
 
 pub returns-in_ok-pass_server-in-Server-clause-some : goal.returns-in_ok-pass_server-in-Server-clause-some
 returns-in_ok-pass_server-in-Server-clause-some c =
@@ -25,5 +27,6 @@ returns-in_ok-pass_server-in-Server-clause-some c =
     let s = held_in c.self.inside.server (take used c.args.piece.now) in
     let k = c.in_ok-pass_server-in-Server.ensures in
     let f = k.found T.client_frames in
+    let none : T.server_kept ≡ [] = ap (λ (z : TalkState). z.server_kept) c.self.view_is ∙ subst (λ side. kept_on side c.args.self.now ≡ []) c.in-Server.is c.requires.given_up in
     let a = c.in_ok-used-in-Server.ensures.1 in
-    rw (c.in-Server.is, ← c.self.view_is) (FromServer f.0, (a.1, (λ l. a.0), makes Server T c.args.piece.now s c.pass_server.new.stream c.self.invariant.1.same refl used a c.self.invariant.2 (FromServer f.0) c.pass_server.new.waiting (f.1.0, f.1.1) k.passed))
+    rw (c.in-Server.is, ← c.self.view_is) (FromServer f.0, (a.1, (λ l. a.0), makes Server T c.args.piece.now s c.pass_server.new.stream c.self.invariant.1.same refl used a c.self.invariant.2 (FromServer f.0) c.pass_server.new.waiting (f.1.0, f.1.1) none k.passed))

@@ -1,0 +1,76 @@
+//! `Row`: what is at one place: an item of each column.
+ghost use Rattle.std.specs.Prelude.{◌≡◌};
+ghost use Rattle.zk_waiting.specs.Columns.{number_in, with_column};
+
+use crate::entry::Entry;
+use zk_records::PartOp;
+
+/// A list of `Rows`: a lane, or the operations of the plain lane's parts.
+#[derive(Clone, Copy)]
+pub enum Column {
+    /// The frames of pings, by their numbers.
+    Ping,
+    /// Those of auths.
+    Auth,
+    /// Those of setWatches.
+    Watches,
+    /// All other requests.
+    Plain,
+    /// The operations of their parts, one after another.
+    Part,
+}
+
+/// An item of each column.
+#[derive(Clone, Copy)]
+pub struct Row {
+    pub plain: Entry,
+    pub ping: u64,
+    pub auth: u64,
+    pub watches: u64,
+    pub part: PartOp,
+}
+
+impl Row {
+    /// The column's number; `None` for a column of other items.
+    #[inline(always)]
+    pub fn number(&self, column: Column) -> Option<u64>
+        ensures { result ≡ number_in column self.now }
+    {
+        match column {
+            Column::Ping => Some(self.ping),
+            Column::Auth => Some(self.auth),
+            Column::Watches => Some(self.watches),
+            Column::Plain => None,
+            Column::Part => None,
+        }
+    }
+
+    /// The row with the column's item of `from`.
+    #[inline(always)]
+    pub fn with_column(self, column: Column, from: Row) -> Row
+        ensures { result ≡ with_column column from self }
+    {
+        match column {
+            Column::Ping => Row {
+                ping: from.ping,
+                ..self
+            },
+            Column::Auth => Row {
+                auth: from.auth,
+                ..self
+            },
+            Column::Watches => Row {
+                watches: from.watches,
+                ..self
+            },
+            Column::Plain => Row {
+                plain: from.plain,
+                ..self
+            },
+            Column::Part => Row {
+                part: from.part,
+                ..self
+            },
+        }
+    }
+}
